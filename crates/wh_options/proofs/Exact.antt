@@ -1,0 +1,387 @@
+-- Words that give options are not refused.
+use Rattle.std.proofs.Common.{◌≡◌, ◌⊎◌, ◌≤◌, ◌<◌, ◌^◌, ℕ, List, [], ◌∷◌, ◌++◌, length, map, refl, sym, ap, ◌∙◌, Bool, true, false, cond, None, Some, Option, subst, inl, inr, codes, arith, ◌==◌, ◌||◌, ◌&&◌, nat_lt, lt-ltb, le-leb, lit<, true≢false, is_some, option_map, eqb-true}
+use Rattle.std.specs.Prelude.{MatchOption, find, fold}
+use Rattle.std.specs.List.{AllByRecursion, IsDistinct, flat_map, list_all, list_any}
+use Rattle.std.specs.Char.{digit_value}
+use Rattle.std.specs.Str.{bytes_eq}
+use Rattle.std.specs.Str.Parse.{AllDigits, IsNumeral, digits_value, without_leading_plus}
+use Rattle.clap.proofs.WalkLemmas.{list_any-map}
+use Rattle.clap.proofs.FaultLemmas.{stopped_fault}
+use Rattle.clap.specs.Facts.{parser_of_value}
+use Rattle.clap.specs.Lexer.{has_byte, strip_byte}
+use Rattle.clap.specs.Kinds.{Kinds, or_else, range_kinds}
+use Rattle.clap.specs.Values.{refused_kind}
+use Rattle.clap.specs.ValueTests.{accepts}
+use Rattle.clap.specs.Walk.{Held, Names, Row, Rule, Text, Walk, action_of, answers_to, arg_by_long, finished, has_row, nothing_held, reading_by, settled, stop_after, texts, used, walk, walk_from, walked, with_default}
+use Rattle.clap.specs.Faults.{action_fault, built_fault, check_fault, default_fault, defaults_fault, entered_fault, fault_of, level_fault, repeat_fault, set_fault, settle_fault, turn_fault, use_fault, values_fault, walk_fault}
+use Rattle.clap.specs.Simple.{App, Shape, built, entered, filled, label_of, names_of}
+use Rattle.clap.specs.declared.builder.value_parser.ValueParser.TheVariants as vp
+use Rattle.wh_options.specs.Setting.{IsLine, Setting, spelled, value_of}
+use Rattle.wh_options.specs.Options.{GivesFleet, GivesNumber, GivesPlanner, GivesTail, IsWritten, WordsGive, live_names, planner_text, replay_names, tail_text}
+use Rattle.wh_options.specs.Menu.{Choices, IsMenu, choice_rule, menu, number_rule, planner_words, tail_words}
+use Rattle.wh_options.specs.declared.chosen.Options.{Options}
+use Rattle.wh_options.specs.declared.chosen.Options.TheVariants.{Check, Replay, Verify, Live}
+use Rattle.wh_options.specs.declared.chosen.Fleet.{Fleet}
+use Rattle.wh_options.specs.declared.chosen.ReplayOptions.{ReplayOptions}
+use Rattle.wh_options.specs.declared.chosen.LiveOptions.{LiveOptions}
+use Rattle.wh_options.specs.declared.chosen.PlannerKind.{PlannerKind}
+use Rattle.wh_options.specs.declared.chosen.PlannerKind.TheVariants.{Near, Patient}
+use Rattle.wh_options.specs.declared.chosen.Tail.{Tail}
+use Rattle.wh_options.specs.declared.chosen.Tail.TheVariants.{Nothing, Log, Ledger}
+use Rattle.wh_options.proofs.Shapes.{bytes_same}
+use Rattle.wh_options.proofs.Leaf.{ArePlain, IsOption, long_plain}
+use Rattle.wh_options.proofs.Turns.{idle_at}
+use Rattle.wh_options.proofs.Words.{IsFine, self_same}
+use Rattle.wh_options.proofs.Rows.{either_false, row, use_is}
+use Rattle.wh_options.proofs.Spells.{AllTaken, none_both, settings_fine}
+use Rattle.wh_options.proofs.Top.{stopped_walk}
+use Rattle.wh_options.proofs.Menus.{asking_plain, leaf_at, live_plain, replay_plain}
+
+-- ---- one use
+
+range_fine : (least most : ℕ) → least ≡ 1 → most ≡ 1 → range_kinds least most 1 ≡ []
+range_fine least most one once = subst (λ k. range_kinds k most 1 ≡ []) (sym one) (subst (λ k. range_kinds 1 k 1 ≡ []) (sym once) refl)
+
+value_fine : (a : Rule) (v : Text) → accepts a.ignore_case (parser_of_value a.parser) v ≡ true → values_fault a (v ∷ []) ≡ []
+value_fine a v e = go (accepts a.ignore_case (parser_of_value a.parser) v) e
+  where
+    go : (b : Bool) → b ≡ true → or_else (cond b [] (refused_kind (parser_of_value a.parser) ∷ [])) [] ≡ []
+    go true e = refl
+    go false e = cc
+
+once_fine : (again : Bool) (id : Text) (rows : List Row) → has_row id rows ≡ false → repeat_fault again id rows ≡ []
+once_fine again id rows e = rw e refl
+
+use_passes : (again : Bool) (a : Rule) (v : Text) (rows : List Row) → IsOption a → has_row a.id rows ≡ false → accepts a.ignore_case (parser_of_value a.parser) v ≡ true
+    → use_fault again a (v ∷ []) rows ≡ []
+use_passes again a v rows opt new taken =
+    let setting : set_fault again a (v ∷ []) rows ≡ [] = none_both _ _ (once_fine again a.id rows new) (value_fine a v taken) in
+    let acted : action_fault (action_of a) again a (v ∷ []) rows ≡ [] = subst (λ x. action_fault x again a (v ∷ []) rows ≡ []) (sym opt.action) setting in
+    none_both _ _ (range_fine _ _ opt.least opt.most) acted
+
+-- ---- many uses
+
+pub record IsValid (s : Shape) (x : Setting) : Type 0 where
+  pub rule : Rule
+  pub found : arg_by_long s.rules x.name ≡ Some rule
+  pub option : IsOption rule
+  pub accepted : accepts rule.ignore_case (parser_of_value rule.parser) x.value ≡ true
+  pub first : ℕ
+  pub others : Text
+  pub named : x.name ≡ first ∷ others
+  pub no_equals : has_byte 61 x.name ≡ false
+  pub no_flag : strip_byte 45 x.value ≡ None
+
+abbrev Fresh : List Row → List Setting → Type 0
+Fresh rows = AllByRecursion (λ (x : Setting). has_row x.name rows ≡ false)
+
+has_row_join : (id : Text) (rows : List Row) (r : Row) → has_row id rows ≡ false → bytes_eq r.id id ≡ false → has_row id (rows ++ r ∷ []) ≡ false
+has_row_join id [] r e f = rw f refl
+has_row_join id (q ∷ qs) r e f =
+    let both = either_false (bytes_eq q.id id) (has_row id qs) e in
+    rw (both.0, has_row_join id qs r both.1 f) refl
+
+fresh_join : (rows : List Row) (r : Row) (xs : List Setting) → Fresh rows xs → AllByRecursion (λ y. bytes_eq r.id y ≡ false) (map (λ (x : Setting). x.name) xs) → Fresh (rows ++ r ∷ []) xs
+fresh_join rows r [] all apart = tt
+fresh_join rows r (x ∷ xs) all apart = (has_row_join x.name rows r all.0 apart.0, fresh_join rows r xs all.1 apart.1)
+
+valid_taken : (s : Shape) (settings : List Setting) (rows : List Row) → ArePlain s.rules → s.args_override_self ≡ false → AllByRecursion (IsValid s) settings → Fresh rows settings
+    → IsDistinct bytes_eq (map (λ (x : Setting). x.name) settings) → AllTaken s settings rows
+unfolding IsDistinct
+valid_taken s [] rows all never valid fresh once = tt
+valid_taken s (x ∷ xs) rows all never valid fresh once =
+    let v = valid.0 in
+    let id = (long_plain s.rules x.name v.rule all v.found).1 in
+    let new : has_row v.rule.id rows ≡ false = subst (λ n. has_row n rows ≡ false) (sym id) fresh.0 in
+    let passes = use_passes s.args_override_self v.rule x.value rows v.option new v.accepted in
+    let r = row v.rule.id (reading_by v.rule) x.value in
+    let makes : used v.rule (x.value ∷ []) rows ≡ rows ++ r ∷ [] = (use_is s.args_override_self v.rule x.value rows never v.option passes).makes in
+    let apart : AllByRecursion (λ y. bytes_eq r.id y ≡ false) (map (λ (x : Setting). x.name) xs) = subst (λ n. AllByRecursion (λ y. bytes_eq n y ≡ false) (map (λ (x : Setting). x.name) xs)) (sym id) once.0 in
+    let more : AllTaken s xs (rows ++ r ∷ []) = valid_taken s xs (rows ++ r ∷ []) all never valid.1 (fresh_join rows r xs fresh.1 apart) once.1 in
+    record {
+      now = record { rule = v.rule; found = v.found; option = v.option; passes = passes; first = v.first; others = v.others; named = v.named; no_equals = v.no_equals; no_flag = v.no_flag };
+      later = subst (AllTaken s xs) (sym makes) more;
+    }
+
+none_fresh : (xs : List Setting) → Fresh [] xs
+none_fresh [] = tt
+none_fresh (x ∷ xs) = (refl, none_fresh xs)
+
+-- ---- levels
+
+either_way : (b c : Bool) (k : Kinds) → c ≡ true → cond (b || c) [] k ≡ []
+either_way true c k e = refl
+either_way false c k e = rw e refl
+
+one_default : (rows : List Row) (a : Rule) → a.defaults ≡ [] → default_fault rows a ≡ []
+one_default rows a e = either_way (has_row a.id rows) (length a.defaults == 0) _ (ap (λ l. length l == 0) e)
+
+no_default_fault : (rows : List Row) (c : List Rule) → ArePlain c → defaults_fault rows c ≡ []
+unfolding defaults_fault
+no_default_fault rows [] all = refl
+no_default_fault rows (a ∷ rest) all = none_both _ _ (one_default rows a all.0.defaults) (no_default_fault (with_default rows a) rest all.1)
+
+level_fine : (s : Shape) (after : List Text) → ArePlain s.rules → ((rows : List Row) → check_fault s rows false ≡ []) → IsFine s (idle_at [] None 1) after → level_fault s [] nothing_held after false [] ≡ []
+level_fine s after all checks f =
+    none_both _ _ f.walks (none_both _ _ f.ends (none_both _ _ (no_default_fault _ s.rules all) (checks (finished s.rules (walk s.rules [] nothing_held after).held))))
+
+stopped_held : (c : List Rule) (names : Names) (w : Walk) (p : Text × List Text) (rest : List Text) → (fold (walked c names) (record w { stopped = Some p }) rest).held ≡ w.held
+unfolding walked
+stopped_held c names w p [] = refl
+stopped_held c names w p (x ∷ rest) = stopped_held c names w (p.0, p.1 ++ x ∷ []) rest
+
+-- a first word that names a subcommand whose words are fine
+pub record Enters (b : App) (name : Text) (leaf : Shape) : Type 0 where
+  pub turns : turn_fault b.top (names_of b) (walk_from nothing_held) name ≡ []
+  pub stops : walked b.top.rules (names_of b) (walk_from nothing_held) name ≡ record (walk_from nothing_held) { stopped = Some (name, []) }
+  pub found : find (λ s. answers_to name (label_of s)) b.subs ≡ Some leaf
+  pub defaults : defaults_fault [] b.top.rules ≡ []
+  pub checks : (rows : List Row) → check_fault b.top rows true ≡ []
+
+top_fine : (b : App) (name : Text) (leaf : Shape) (after : List Text) → Enters b name leaf → level_fault leaf [] nothing_held after false [] ≡ [] → built_fault b nothing_held (name ∷ after) ≡ []
+unfolding walk_fault
+top_fine b name leaf after e f =
+    let w : Walk = record (walk_from nothing_held) { stopped = Some (name, []) } in
+    let rest : walk_fault b.top (names_of b) (walked b.top.rules (names_of b) (walk_from nothing_held) name) after ≡ [] =
+    subst (λ (x : Walk). walk_fault b.top (names_of b) x after ≡ []) (sym e.stops) (stopped_fault b.top (names_of b) (walk_from nothing_held) (name, []) after) in
+    let walks : walk_fault b.top (names_of b) (walk_from nothing_held) (name ∷ after) ≡ [] = none_both _ _ e.turns rest in
+    let ends : walk b.top.rules (names_of b) nothing_held (name ∷ after) ≡ fold (walked b.top.rules (names_of b)) w after = ap (λ (x : Walk). fold (walked b.top.rules (names_of b)) x after) e.stops in
+    let stop : stop_after b.top.rules (names_of b) (name ∷ after) ≡ Some (name, after) = ap (λ (x : Walk). x.stopped) ends ∙ stopped_walk b.top.rules (names_of b) (walk_from nothing_held) name [] after in
+    let held_is : (walk b.top.rules (names_of b) nothing_held (name ∷ after)).held ≡ nothing_held = ap (λ (x : Walk). x.held) ends ∙ stopped_held b.top.rules (names_of b) (walk_from nothing_held) (name, []) after in
+    let below : entered_fault b (Some (name, after)) ≡ [] = rw e.found f in
+    let has : is_some (entered b (Some (name, after))) ≡ true = rw e.found refl in
+    let lower : entered_fault b (stop_after b.top.rules (names_of b) (name ∷ after)) ≡ [] = subst (λ o. entered_fault b o ≡ []) (sym stop) below in
+    let is_in : is_some (entered b (stop_after b.top.rules (names_of b) (name ∷ after))) ≡ true = subst (λ o. is_some (entered b o) ≡ true) (sym stop) has in
+    let settles : settle_fault b.top.rules b.top.args_override_self (walk b.top.rules (names_of b) nothing_held (name ∷ after)).held ≡ [] = subst (λ (h : Held). settle_fault b.top.rules b.top.args_override_self h ≡ []) (sym held_is) refl in
+    let defaults : defaults_fault (settled b.top.rules (walk b.top.rules (names_of b) nothing_held (name ∷ after)).held).rows b.top.rules ≡ [] = subst (λ (h : Held). defaults_fault (settled b.top.rules h).rows b.top.rules ≡ []) (sym held_is) e.defaults in
+    let checked : (rows : List Row) → check_fault b.top rows (is_some (entered b (stop_after b.top.rules (names_of b) (name ∷ after)))) ≡ [] = λ rows. subst (λ k. check_fault b.top rows k ≡ []) (sym is_in) (e.checks rows) in
+    none_both _ _ walks (none_both _ _ lower (none_both _ _ settles (none_both _ _ defaults (checked (finished b.top.rules (walk b.top.rules (names_of b) nothing_held (name ∷ after)).held)))))
+
+-- ---- the program's command
+
+pub check_enters : (p t q : Choices) → Enters (built (menu p t q)) (codes "check") (leaf_at 0 p t q)
+unfolding walked defaults_fault
+check_enters p t q = record { turns = refl; stops = refl; found = refl; defaults = refl; checks = λ rows. refl }
+
+pub replay_enters : (p t q : Choices) → Enters (built (menu p t q)) (codes "replay") (leaf_at 1 p t q)
+unfolding walked defaults_fault
+replay_enters p t q = record { turns = refl; stops = refl; found = refl; defaults = refl; checks = λ rows. refl }
+
+pub verify_enters : (p t q : Choices) → Enters (built (menu p t q)) (codes "verify") (leaf_at 2 p t q)
+unfolding walked defaults_fault
+verify_enters p t q = record { turns = refl; stops = refl; found = refl; defaults = refl; checks = λ rows. refl }
+
+pub live_enters : (p t q : Choices) → Enters (built (menu p t q)) (codes "live") (leaf_at 3 p t q)
+unfolding walked defaults_fault
+live_enters p t q = record { turns = refl; stops = refl; found = refl; defaults = refl; checks = λ rows. refl }
+
+-- ---- the value of each setting
+
+cond_skip : (b : Bool) (x : Setting) (o : Option Setting) → b ≡ false → cond b (Some x) o ≡ o
+cond_skip true x o e = cc
+cond_skip false x o e = refl
+
+later_value : (x : Setting) (xs ys : List Setting) → AllByRecursion (λ y. bytes_eq x.name y ≡ false) (map (λ (s : Setting). s.name) ys)
+    → AllByRecursion (λ (y : Setting). value_of y.name xs ≡ Some y.value) ys → AllByRecursion (λ (y : Setting). value_of y.name (x ∷ xs) ≡ Some y.value) ys
+later_value x xs [] apart all = tt
+later_value x xs (y ∷ ys) apart all =
+    (ap (option_map (λ (s : Setting). s.value)) (cond_skip (bytes_eq x.name y.name) x (find (λ (s : Setting). bytes_eq s.name y.name) xs) apart.0) ∙ all.0, later_value x xs ys apart.1 all.1)
+
+first_value : (x : Setting) (xs : List Setting) → value_of x.name (x ∷ xs) ≡ Some x.value
+first_value x xs = ap (λ b. option_map (λ (s : Setting). s.value) (cond b (Some x) (find (λ (s : Setting). bytes_eq s.name x.name) xs))) (self_same x.name)
+
+-- where no two settings have one name, each is the one that its name gives
+each_value : (settings : List Setting) → IsDistinct bytes_eq (map (λ (x : Setting). x.name) settings) → AllByRecursion (λ (x : Setting). value_of x.name settings ≡ Some x.value) settings
+unfolding IsDistinct
+each_value [] once = tt
+each_value (x ∷ xs) once = (first_value x xs, later_value x xs xs once.0 (each_value xs once.1))
+
+all_zip : (P Q R : Setting → Type 0) → ((x : Setting) → P x → Q x → R x) → (xs : List Setting) → AllByRecursion P xs → AllByRecursion Q xs → AllByRecursion R xs
+all_zip P Q R f [] p q = tt
+all_zip P Q R f (x ∷ xs) p q = (f x p.0 q.0, all_zip P Q R f xs p.1 q.1)
+
+-- ---- what an option takes
+
+digits_pass : (ds : List ℕ) → AllDigits 10 ds → list_all (λ d. nat_lt (digit_value d) 10) ds ≡ true
+digits_pass [] e = refl
+digits_pass (d ∷ ds) e = rw (lt-ltb (digit_value d) 10 e.0, digits_pass ds e.1) refl
+
+both_true : (a b : Bool) → a ≡ true → b ≡ true → (a && b) ≡ true
+both_true true b p q = q
+both_true false b p q = cc
+
+number_taken : (text : Text) (least most n : ℕ) → most < 2 ^ 32 → IsWritten n text → least ≤ n → n ≤ most → accepts false (vp.Unsigned least most) text ≡ true
+number_taken text least most n fits is low high =
+    let ds = without_leading_plus text in
+    let value : n ≡ digits_value 10 ds = is.1 in
+    let from : least ≤ digits_value 10 ds = rw (← value) low in
+    let upto : digits_value 10 ds ≤ most = rw (← value) high in
+    let small : digits_value 10 ds < 2 ^ 64 = omega arith in
+    both_true _ _ (both_true _ _ (lt-ltb 0 (length ds) is.0.0) (digits_pass ds is.0.1))
+    (both_true _ _ (lt-ltb (digits_value 10 ds) (2 ^ 64) small) (both_true _ _ (le-leb least (digits_value 10 ds) from) (le-leb (digits_value 10 ds) most upto)))
+
+number_is_no_flag : (text : Text) → IsNumeral 10 (without_leading_plus text) → strip_byte 45 text ≡ None
+number_is_no_flag [] is = refl
+number_is_no_flag (x ∷ xs) is = go (x == 45) refl
+  where
+    go : (b : Bool) → (x == 45) ≡ b → cond b (Some xs) None ≡ None
+    go false e = refl
+    go true e =
+        let at : x ≡ 45 = eqb-true x 45 e in
+        let bad : IsNumeral 10 (without_leading_plus (45 ∷ xs)) = subst (λ k. IsNumeral 10 (without_leading_plus (k ∷ xs))) at is in
+        absurd (omega (arith, bad.1.0))
+
+word_taken : (choices : Choices) (words : List Text) (text : Text) → texts choices.now ≡ words → list_any (λ w. bytes_eq w text) words ≡ true → accepts false (vp.Names choices) text ≡ true
+word_taken choices words text is e = list_any-map (λ w. bytes_eq w text) (λ s. s.now) choices.now ∙ subst (λ ws. list_any (λ w. bytes_eq w text) ws ≡ true) (sym is) e
+
+planner_listed : (planner : PlannerKind) → (list_any (λ w. bytes_eq w (planner_text planner)) planner_words ≡ true) × (strip_byte 45 (planner_text planner) ≡ None)
+planner_listed Near = (refl, refl)
+planner_listed Patient = (refl, refl)
+
+tail_listed : (tail : Tail) → (list_any (λ w. bytes_eq w (tail_text tail)) tail_words ≡ true) × (strip_byte 45 (tail_text tail) ≡ None)
+tail_listed Nothing = (refl, refl)
+tail_listed Log = (refl, refl)
+tail_listed Ledger = (refl, refl)
+
+-- a text that is not empty
+abbrev has_some : Text → Bool
+has_some [] = false
+has_some (b ∷ bs) = true
+
+parts_of : (t : Text) → has_some t ≡ true → (b : ℕ) × (bs : Text) × (t ≡ b ∷ bs)
+parts_of [] e = cc
+parts_of (b ∷ bs) e = (b, bs, refl)
+
+-- a setting of a known option whose value the option takes
+valid_setting : (s : Shape) (x : Setting) (name : Text) (r : Rule) → x.name ≡ name → arg_by_long s.rules name ≡ Some r → IsOption r → has_some name ≡ true → has_byte 61 name ≡ false
+    → accepts r.ignore_case (parser_of_value r.parser) x.value ≡ true → strip_byte 45 x.value ≡ None → IsValid s x
+valid_setting s x name r is found opt some plain taken no_flag =
+    let cut = parts_of name some in
+    record {
+      rule = r;
+      found = ap (arg_by_long s.rules) is ∙ found;
+      option = opt;
+      accepted = taken;
+      first = cut.0;
+      others = cut.1;
+      named = is ∙ cut.2;
+      no_equals = ap (has_byte 61) is ∙ plain;
+      no_flag = no_flag;
+    }
+
+number_option : (name : Text) (least most : ℕ) → IsOption (filled (number_rule name least most))
+number_option name least most = record { short = refl; short_aliases = refl; action = refl; least = refl; most = refl; missing = refl }
+
+choice_option : (name : Text) (choices : Choices) → IsOption (filled (choice_rule name choices))
+choice_option name choices = record { short = refl; short_aliases = refl; action = refl; least = refl; most = refl; missing = refl }
+
+value_at : (settings : List Setting) (x : Setting) (name : Text) → x.name ≡ name → value_of x.name settings ≡ Some x.value → value_of name settings ≡ Some x.value
+value_at settings x name is e = ap (λ n. value_of n settings) (sym is) ∙ e
+
+valid_number : (s : Shape) (settings : List Setting) (x : Setting) (name : Text) (least most default n : ℕ) → x.name ≡ name → value_of x.name settings ≡ Some x.value
+    → arg_by_long s.rules name ≡ Some (filled (number_rule name least most)) → has_some name ≡ true → has_byte 61 name ≡ false → most < 2 ^ 32
+    → GivesNumber settings name default least most n → IsValid s x
+valid_number s settings x name least most default n is value found some plain fits gives =
+    let given : IsWritten n x.value × (least ≤ n) × (n ≤ most) = subst (λ o. MatchOption o (n ≡ default) (λ text. IsWritten n text × (least ≤ n) × (n ≤ most))) (value_at settings x name is value) gives in
+    valid_setting s x name (filled (number_rule name least most)) is found (number_option name least most) some plain
+    (number_taken x.value least most n fits given.0 given.1 given.2) (number_is_no_flag x.value given.0.0)
+
+valid_planner : (s : Shape) (settings : List Setting) (x : Setting) (choices : Choices) (planner : PlannerKind) → x.name ≡ codes "planner" → value_of x.name settings ≡ Some x.value
+    → arg_by_long s.rules (codes "planner") ≡ Some (filled (choice_rule (codes "planner") choices)) → texts choices.now ≡ planner_words → GivesPlanner settings planner → IsValid s x
+valid_planner s settings x choices planner is value found words gives =
+    let given : x.value ≡ planner_text planner = subst (λ o. MatchOption o (planner ≡ Near) (λ text. text ≡ planner_text planner)) (value_at settings x (codes "planner") is value) gives in
+    let listed = planner_listed planner in
+    valid_setting s x (codes "planner") (filled (choice_rule (codes "planner") choices)) is found (choice_option (codes "planner") choices) refl refl
+    (word_taken choices planner_words x.value words (subst (λ t. list_any (λ w. bytes_eq w t) planner_words ≡ true) (sym given) listed.0))
+    (ap (strip_byte 45) given ∙ listed.1)
+
+valid_tail : (s : Shape) (settings : List Setting) (x : Setting) (choices : Choices) (tail : Tail) → x.name ≡ codes "tail" → value_of x.name settings ≡ Some x.value
+    → arg_by_long s.rules (codes "tail") ≡ Some (filled (choice_rule (codes "tail") choices)) → texts choices.now ≡ tail_words → GivesTail settings tail → IsValid s x
+valid_tail s settings x choices tail is value found words gives =
+    let given : x.value ≡ tail_text tail = subst (λ o. MatchOption o (tail ≡ Nothing) (λ text. text ≡ tail_text tail)) (value_at settings x (codes "tail") is value) gives in
+    let listed = tail_listed tail in
+    valid_setting s x (codes "tail") (filled (choice_rule (codes "tail") choices)) is found (choice_option (codes "tail") choices) refl refl
+    (word_taken choices tail_words x.value words (subst (λ t. list_any (λ w. bytes_eq w t) tail_words ≡ true) (sym given) listed.0))
+    (ap (strip_byte 45) given ∙ listed.1)
+
+-- ---- the settings of a subcommand
+
+pub either_true : (a b : Bool) → (a || b) ≡ true → (a ≡ true) ⊎ (b ≡ true)
+either_true true b e = inl refl
+either_true false b e = inr e
+
+abbrev Found : Shape → Text → ℕ → ℕ → Type 0
+Found s name least most = arg_by_long s.rules name ≡ Some (filled (number_rule name least most))
+
+fleet_valid : (s : Shape) (settings : List Setting) (choices : Choices) (fleet : Fleet) (others : List Text) → texts choices.now ≡ planner_words → GivesFleet settings fleet
+    → arg_by_long s.rules (codes "planner") ≡ Some (filled (choice_rule (codes "planner") choices)) → Found s (codes "slots") 2 64 → Found s (codes "bank") 2 65536 → Found s (codes "spares") 0 16
+    → (x : Setting) → value_of x.name settings ≡ Some x.value → (list_any (bytes_eq x.name) others ≡ true → IsValid s x)
+    → list_any (bytes_eq x.name) (codes "planner" ∷ codes "slots" ∷ codes "bank" ∷ codes "spares" ∷ others) ≡ true → IsValid s x
+fleet_valid s settings choices fleet others words gives planner slots bank spares x value rest e = elim (either_true _ _ e) [
+  | inl is ↦ valid_planner s settings x choices fleet.planner (bytes_same _ _ is) value planner words gives.planner
+  | inr f ↦ elim (either_true _ _ f) [
+    | inl is ↦ valid_number s settings x (codes "slots") 2 64 4 fleet.slots (bytes_same _ _ is) value slots refl refl (lit< tt) gives.slots
+    | inr g ↦ elim (either_true _ _ g) [
+      | inl is ↦ valid_number s settings x (codes "bank") 2 65536 1024 fleet.bank (bytes_same _ _ is) value bank refl refl (lit< tt) gives.bank
+      | inr h ↦ elim (either_true _ _ h) [
+        | inl is ↦ valid_number s settings x (codes "spares") 0 16 0 fleet.spares (bytes_same _ _ is) value spares refl refl (lit< tt) gives.spares
+        | inr i ↦ rest i
+      ]
+    ]
+  ]
+]
+
+replay_valid : (p t q : Choices) (settings : List Setting) (o : ReplayOptions) → texts p.now ≡ planner_words → texts t.now ≡ tail_words → GivesFleet settings o.fleet → GivesTail settings o.tail
+    → (x : Setting) → list_any (bytes_eq x.name) replay_names ≡ true → value_of x.name settings ≡ Some x.value → IsValid (leaf_at 1 p t q) x
+replay_valid p t q settings o planners tails fleet tail x listed value =
+    fleet_valid (leaf_at 1 p t q) settings p o.fleet (codes "tail" ∷ []) planners fleet refl refl refl refl x value
+    (λ e. elim (either_true _ _ e) [
+      | inl is ↦ valid_tail (leaf_at 1 p t q) settings x t o.tail (bytes_same _ _ is) value refl tails tail
+      | inr none ↦ absurd (true≢false (sym none))
+    ]) listed
+
+live_valid : (p t q : Choices) (settings : List Setting) (o : LiveOptions) → texts q.now ≡ planner_words → GivesFleet settings o.fleet
+    → GivesNumber settings (codes "turns") 64 1 100000 o.turns → GivesNumber settings (codes "journal") 10000 1 1000000 o.journal
+    → (x : Setting) → list_any (bytes_eq x.name) live_names ≡ true → value_of x.name settings ≡ Some x.value → IsValid (leaf_at 3 p t q) x
+live_valid p t q settings o planners fleet turns journal x listed value =
+    fleet_valid (leaf_at 3 p t q) settings q o.fleet (codes "turns" ∷ codes "journal" ∷ []) planners fleet refl refl refl refl x value
+    (λ e. elim (either_true _ _ e) [
+      | inl is ↦ valid_number (leaf_at 3 p t q) settings x (codes "turns") 1 100000 64 o.turns (bytes_same _ _ is) value refl refl refl (lit< tt) turns
+      | inr f ↦ elim (either_true _ _ f) [
+        | inl is ↦ valid_number (leaf_at 3 p t q) settings x (codes "journal") 1 1000000 10000 o.journal (bytes_same _ _ is) value refl refl refl (lit< tt) journal
+        | inr none ↦ absurd (true≢false (sym none))
+      ]
+    ]) listed
+
+-- ---- the whole line
+
+line_fine : (p t q : Choices) (words : List Text) (name told : Text) (settings : List Setting) (leaf : Shape) → told ≡ name → Enters (built (menu p t q)) name leaf → ArePlain leaf.rules
+    → ((rows : List Row) → check_fault leaf rows false ≡ []) → AllTaken leaf settings [] → IsLine words told settings → fault_of (menu p t q) words ≡ []
+line_fine p t q words name told settings leaf is enters all checks taken line =
+    let after : line.after ≡ flat_map spelled settings ++ line.spelling.rest = line.spelling.words_are in
+    let fine = settings_fine leaf settings line.spelling.rest all line.spelling.closes taken in
+    let fine_after : IsFine leaf (idle_at [] None 1) line.after = subst (λ ws. IsFine leaf (idle_at [] None 1) ws) (sym after) fine in
+    let whole : words ≡ line.program ∷ name ∷ line.after = line.words_are ∙ ap (λ n. line.program ∷ n ∷ line.after) is in
+    let built_fine : fault_of (menu p t q) (line.program ∷ name ∷ line.after) ≡ [] = top_fine (built (menu p t q)) name leaf line.after enters (level_fine leaf line.after all checks fine_after) in
+    subst (λ ws. fault_of (menu p t q) ws ≡ []) (sym whole) built_fine
+
+menu_fine : (p t q : Choices) (words : List Text) (o : Options) → texts p.now ≡ planner_words → texts t.now ≡ tail_words → texts q.now ≡ planner_words → WordsGive words o → fault_of (menu p t q) words ≡ []
+menu_fine p t q words Check planners tails others gives =
+    line_fine p t q words (codes "check") gives.0 gives.1 (leaf_at 0 p t q) gives.3.0 (check_enters p t q) asking_plain (λ rows. refl)
+    (subst (λ xs. AllTaken (leaf_at 0 p t q) xs []) (sym gives.3.1) tt) gives.2
+menu_fine p t q words Verify planners tails others gives =
+    line_fine p t q words (codes "verify") gives.0 gives.1 (leaf_at 2 p t q) gives.3.0 (verify_enters p t q) asking_plain (λ rows. refl)
+    (subst (λ xs. AllTaken (leaf_at 2 p t q) xs []) (sym gives.3.1) tt) gives.2
+menu_fine p t q words (Replay o) planners tails others gives =
+    let valid = all_zip _ _ _ (replay_valid p t q gives.1 o planners tails gives.3.2 gives.3.3) gives.1 gives.3.1 (each_value gives.1 gives.2.once) in
+    line_fine p t q words (codes "replay") gives.0 gives.1 (leaf_at 1 p t q) gives.3.0 (replay_enters p t q) (replay_plain p t q) (λ rows. refl)
+    (valid_taken (leaf_at 1 p t q) gives.1 [] (replay_plain p t q) refl valid (none_fresh gives.1) gives.2.once) gives.2
+menu_fine p t q words (Live o) planners tails others gives =
+    let valid = all_zip _ _ _ (live_valid p t q gives.1 o others gives.3.2 gives.3.3 gives.3.4) gives.1 gives.3.1 (each_value gives.1 gives.2.once) in
+    line_fine p t q words (codes "live") gives.0 gives.1 (leaf_at 3 p t q) gives.3.0 (live_enters p t q) (live_plain p t q) (λ rows. refl)
+    (valid_taken (leaf_at 3 p t q) gives.1 [] (live_plain p t q) refl valid (none_fresh gives.1) gives.2.once) gives.2
+
+-- words that give options are not refused
+pub given_is_taken : (a : App) (words : List Text) (o : Options) → IsMenu a → WordsGive words o → fault_of a words ≡ []
+given_is_taken a words o m gives =
+    subst (λ (x : App). fault_of x words ≡ []) (sym m.is) (menu_fine m.planners m.tails m.others words o m.planner_texts m.tail_texts m.other_texts gives)

@@ -1,0 +1,13 @@
+-- The lemmas of the crate.
+pub mod Shapes
+pub mod Leaf
+pub mod Turns
+pub mod Words
+pub mod Rows
+pub mod Top
+pub mod Values
+pub mod Menus
+pub mod Spells
+pub mod Exact
+pub mod Once
+pub mod Asks

@@ -1,0 +1,215 @@
+-- Words give at most one set of options.
+use Rattle.std.proofs.Common.{◌≡◌, ◌≤◌, ℕ, List, [], ◌∷◌, ◌++◌, drop, refl, sym, ap, ap₂, ◌∙◌, Bool, true, false, cond, None, Some, Option, subst, inl, inr, codes, ◌||◌, not, true≢false, option_map, append_assoc}
+use Rattle.std.specs.Prelude.{MatchOption, find}
+use Rattle.std.specs.List.{AllByRecursion, after_first, before_first, flat_map, list_all, list_any}
+use Rattle.std.specs.Str.{bytes_eq}
+use Rattle.clap.proofs.WalkLemmas.{both}
+use Rattle.clap.specs.Lexer.{has_byte}
+use Rattle.wh_options.specs.Setting.{Closes, Setting, Text, spelled, value_of}
+use Rattle.wh_options.specs.Options.{GivesFleet, GivesNumber, GivesPlanner, GivesTail, HasOnly, IsWritten, Means, WordsGive, live_names, planner_text, replay_names, tail_text}
+use Rattle.wh_options.specs.declared.chosen.Options.{Options}
+use Rattle.wh_options.specs.declared.chosen.Options.TheVariants.{Check, Replay, Verify, Live}
+use Rattle.wh_options.specs.declared.chosen.Fleet.{Fleet}
+use Rattle.wh_options.specs.declared.chosen.PlannerKind.{PlannerKind}
+use Rattle.wh_options.specs.declared.chosen.PlannerKind.TheVariants.{Near, Patient}
+use Rattle.wh_options.specs.declared.chosen.Tail.{Tail}
+use Rattle.wh_options.specs.declared.chosen.Tail.TheVariants.{Nothing, Log, Ledger}
+use Rattle.wh_options.proofs.Shapes.{bytes_same, is_equals}
+use Rattle.wh_options.proofs.Spells.{cut_at_equals, has_equals}
+use Rattle.wh_options.proofs.Menus.{other_word}
+
+-- ---- one setting
+
+-- a name of an option: not empty, and without `=`
+abbrev plain_name : Text → Bool
+plain_name [] = false
+plain_name (b ∷ bs) = not (has_byte 61 (b ∷ bs))
+
+no_equals : (n : Text) → plain_name n ≡ true → has_byte 61 n ≡ false
+no_equals [] e = cc
+no_equals (b ∷ bs) e = go (has_byte 61 (b ∷ bs)) e
+  where
+    go : (c : Bool) → not c ≡ true → c ≡ false
+    go true f = cc
+    go false f = refl
+
+abbrev first_or : List Text → Text
+first_or [] = []
+first_or (w ∷ ws) = w
+
+abbrev written : Text → Text → Text
+written n v = codes "--" ++ (n ++ (codes "=" ++ v))
+
+same_written : (n v m w : Text) → has_byte 61 n ≡ false → has_byte 61 m ≡ false → written n v ≡ written m w → (n ≡ m) × (v ≡ w)
+same_written n v m w p q e =
+    let bare : n ++ 61 ∷ v ≡ m ++ 61 ∷ w = ap (drop 2) e in
+    let one = cut_at_equals n v p in
+    let two = cut_at_equals m w q in
+    (sym one.0 ∙ ap (before_first is_equals) bare ∙ two.0, sym one.1 ∙ ap (after_first is_equals) bare ∙ two.1)
+
+unlike : (n v m : Text) → has_byte 61 m ≡ false → written n v ≡ codes "--" ++ m → ⊥
+unlike n v m q e =
+    let bare : n ++ 61 ∷ v ≡ m = ap (drop 2) e in
+    true≢false (sym (has_equals n v) ∙ ap (has_byte 61) bare ∙ q)
+
+abbrev Same : Text → Text → Text → Text → List Text → List Text → Type 0
+Same n v m w a b = (n ≡ m) × (v ≡ w) × (a ≡ b)
+
+one_setting : (n v m w : Text) (j k : Bool) (a b : List Text) → has_byte 61 n ≡ false → has_byte 61 m ≡ false
+    → spelled (record { name = n; value = v; is_joined = j }) ++ a ≡ spelled (record { name = m; value = w; is_joined = k }) ++ b → Same n v m w a b
+one_setting n v m w true true a b p q e =
+    let same = same_written n v m w p q (ap first_or e) in
+    (same.0, same.1, ap (drop 1) e)
+one_setting n v m w true false a b p q e = absurd (unlike n v m q (ap first_or e))
+one_setting n v m w false true a b p q e = absurd (unlike m w n p (sym (ap first_or e)))
+one_setting n v m w false false a b p q e = (ap (λ ws. drop 2 (first_or ws)) e, ap (λ ws. first_or (drop 1 ws)) e, ap (drop 2) e)
+
+no_setting : (rest : List Text) (m w : Text) (k : Bool) (b : List Text) → Closes rest → plain_name m ≡ true → rest ≡ spelled (record { name = m; value = w; is_joined = k }) ++ b → ⊥
+no_setting rest m w true b (inl none) p e =
+    let bad : ◌≡◌ {A = List Text} [] (written m w ∷ b) = sym none ∙ e in
+    cc
+no_setting rest m w false b (inl none) p e =
+    let bad : ◌≡◌ {A = List Text} [] ((codes "--" ++ m) ∷ w ∷ b) = sym none ∙ e in
+    cc
+no_setting rest m w true b (inr one) p e = unlike m w [] refl (sym (ap first_or (sym one ∙ e)))
+no_setting rest [] w false b (inr one) p e = cc
+no_setting rest (c ∷ cs) w false b (inr one) p e =
+    let bad : ◌≡◌ {A = List ℕ} [] (c ∷ cs) = ap (λ ws. drop 2 (first_or ws)) (sym one ∙ e) in
+    cc
+
+-- ---- many settings
+
+abbrev Named : List Setting → Type 0
+Named = AllByRecursion (λ (x : Setting). plain_name x.name ≡ true)
+
+abbrev Agree : List Setting → List Setting → Type 0
+Agree xs ys = (id : Text) → value_of id xs ≡ value_of id ys
+
+value_step : (id : Text) (x : Setting) (xs : List Setting) (b : Bool) → option_map (λ (s : Setting). s.value) (cond b (Some x) (find (λ (s : Setting). bytes_eq s.name id) xs))
+    ≡ cond b (Some x.value) (value_of id xs)
+value_step id x xs true = refl
+value_step id x xs false = refl
+
+agree_cons : (x y : Setting) (xs ys : List Setting) → x.name ≡ y.name → x.value ≡ y.value → Agree xs ys → Agree (x ∷ xs) (y ∷ ys)
+agree_cons x y xs ys name value rest = λ id.
+    value_step id x xs (bytes_eq x.name id)
+    ∙ ap₂ (λ b v. cond b (Some v) (value_of id xs)) (ap (λ n. bytes_eq n id) name) value
+    ∙ ap (cond (bytes_eq y.name id) (Some y.value)) (rest id)
+    ∙ sym (value_step id y ys (bytes_eq y.name id))
+
+one_list : (xs ys : List Setting) (a b : List Text) → Named xs → Named ys → Closes a → Closes b → flat_map spelled xs ++ a ≡ flat_map spelled ys ++ b → Agree xs ys
+one_list [] [] a b p q c d e = λ id. refl
+one_list [] (y ∷ ys) a b p q c d e = absurd (no_setting a y.name y.value y.is_joined (flat_map spelled ys ++ b) c q.0 (e ∙ append_assoc (spelled y) (flat_map spelled ys) b))
+one_list (x ∷ xs) [] a b p q c d e = absurd (no_setting b x.name x.value x.is_joined (flat_map spelled xs ++ a) d p.0 (sym e ∙ append_assoc (spelled x) (flat_map spelled xs) a))
+one_list (x ∷ xs) (y ∷ ys) a b p q c d e =
+    let same = one_setting x.name x.value y.name y.value x.is_joined y.is_joined (flat_map spelled xs ++ a) (flat_map spelled ys ++ b) (no_equals x.name p.0) (no_equals y.name q.0)
+    (sym (append_assoc (spelled x) (flat_map spelled xs) a) ∙ e ∙ append_assoc (spelled y) (flat_map spelled ys) b) in
+    agree_cons x y xs ys same.0 same.1 (one_list xs ys a b p.1 q.1 c d same.2)
+
+-- ---- names
+
+listed_step : (test : Text → Bool) (n m : Text) (ms : List Text) (b : Bool) → bytes_eq n m ≡ b → test m ≡ true → (b || list_any (bytes_eq n) ms) ≡ true
+    → (list_any (bytes_eq n) ms ≡ true → test n ≡ true) → test n ≡ true
+listed_step test n m ms true e here f rest = ap test (bytes_same n m e) ∙ here
+listed_step test n m ms false e here f rest = rest f
+
+listed_passes : (test : Text → Bool) (n : Text) (names : List Text) → list_all test names ≡ true → list_any (bytes_eq n) names ≡ true → test n ≡ true
+listed_passes test n [] all any = cc
+listed_passes test n (m ∷ ms) all any = listed_step test n m ms (bytes_eq n m) refl (both _ _ all).0 any (listed_passes test n ms (both _ _ all).1)
+
+only_named : (names : List Text) (xs : List Setting) → list_all plain_name names ≡ true → HasOnly names xs → Named xs
+only_named names [] all only = tt
+only_named names (x ∷ xs) all only = (listed_passes plain_name x.name names all only.0, only_named names xs all only.1)
+
+means_named : (name : Text) (xs : List Setting) (o : Options) → Means name xs o → Named xs
+means_named name xs Check m = subst Named (sym m.1) tt
+means_named name xs Verify m = subst Named (sym m.1) tt
+means_named name xs (Replay o) m = only_named replay_names xs refl m.1
+means_named name xs (Live o) m = only_named live_names xs refl m.1
+
+-- ---- meanings
+
+one_number : (v : Option Text) (default least most n m : ℕ) → MatchOption v (n ≡ default) (λ text. IsWritten n text × (least ≤ n) × (n ≤ most))
+    → MatchOption v (m ≡ default) (λ text. IsWritten m text × (least ≤ m) × (m ≤ most)) → n ≡ m
+one_number None default least most n m p q = p ∙ sym q
+one_number (Some text) default least most n m p q = p.0.1 ∙ sym q.0.1
+
+number_once : (xs ys : List Setting) (name : Text) (default least most n m : ℕ) → Agree xs ys → GivesNumber xs name default least most n → GivesNumber ys name default least most m → n ≡ m
+number_once xs ys name default least most n m agree p q =
+    one_number (value_of name xs) default least most n m p (subst (λ v. MatchOption v (m ≡ default) (λ text. IsWritten m text × (least ≤ m) × (m ≤ most))) (sym (agree name)) q)
+
+planner_same : (p q : PlannerKind) → planner_text p ≡ planner_text q → p ≡ q
+planner_same Near Near e = refl
+planner_same Near Patient e = absurd (other_word (codes "near") (codes "patient") refl e)
+planner_same Patient Near e = absurd (other_word (codes "patient") (codes "near") refl e)
+planner_same Patient Patient e = refl
+
+one_planner : (v : Option Text) (p q : PlannerKind) → MatchOption v (p ≡ Near) (λ text. text ≡ planner_text p) → MatchOption v (q ≡ Near) (λ text. text ≡ planner_text q) → p ≡ q
+one_planner None p q a b = a ∙ sym b
+one_planner (Some text) p q a b = planner_same p q (sym a ∙ b)
+
+planner_once : (xs ys : List Setting) (p q : PlannerKind) → Agree xs ys → GivesPlanner xs p → GivesPlanner ys q → p ≡ q
+planner_once xs ys p q agree a b =
+    one_planner (value_of (codes "planner") xs) p q a (subst (λ v. MatchOption v (q ≡ Near) (λ text. text ≡ planner_text q)) (sym (agree (codes "planner"))) b)
+
+tail_same : (p q : Tail) → tail_text p ≡ tail_text q → p ≡ q
+tail_same Nothing Nothing e = refl
+tail_same Nothing Log e = absurd (other_word (codes "none") (codes "log") refl e)
+tail_same Nothing Ledger e = absurd (other_word (codes "none") (codes "ledger") refl e)
+tail_same Log Nothing e = absurd (other_word (codes "log") (codes "none") refl e)
+tail_same Log Log e = refl
+tail_same Log Ledger e = absurd (other_word (codes "log") (codes "ledger") refl e)
+tail_same Ledger Nothing e = absurd (other_word (codes "ledger") (codes "none") refl e)
+tail_same Ledger Log e = absurd (other_word (codes "ledger") (codes "log") refl e)
+tail_same Ledger Ledger e = refl
+
+one_tail : (v : Option Text) (p q : Tail) → MatchOption v (p ≡ Nothing) (λ text. text ≡ tail_text p) → MatchOption v (q ≡ Nothing) (λ text. text ≡ tail_text q) → p ≡ q
+one_tail None p q a b = a ∙ sym b
+one_tail (Some text) p q a b = tail_same p q (sym a ∙ b)
+
+tail_once : (xs ys : List Setting) (p q : Tail) → Agree xs ys → GivesTail xs p → GivesTail ys q → p ≡ q
+tail_once xs ys p q agree a b =
+    one_tail (value_of (codes "tail") xs) p q a (subst (λ v. MatchOption v (q ≡ Nothing) (λ text. text ≡ tail_text q)) (sym (agree (codes "tail"))) b)
+
+fleet_once : (xs ys : List Setting) (f g : Fleet) → Agree xs ys → GivesFleet xs f → GivesFleet ys g → f ≡ g
+fleet_once xs ys f g agree a b =
+    let planner = planner_once xs ys f.planner g.planner agree a.planner b.planner in
+    let slots = number_once xs ys (codes "slots") 4 2 64 f.slots g.slots agree a.slots b.slots in
+    let bank = number_once xs ys (codes "bank") 1024 2 65536 f.bank g.bank agree a.bank b.bank in
+    let spares = number_once xs ys (codes "spares") 0 0 16 f.spares g.spares agree a.spares b.spares in
+    λ i. record { planner = planner i; slots = slots i; bank = bank i; spares = spares i }
+
+means_once : (name told : Text) (xs ys : List Setting) (o p : Options) → name ≡ told → Agree xs ys → Means name xs o → Means told ys p → o ≡ p
+means_once name told xs ys Check Check is agree m n = refl
+means_once name told xs ys Check (Replay p) is agree m n = absurd (other_word (codes "check") (codes "replay") refl (sym m.0 ∙ is ∙ n.0))
+means_once name told xs ys Check Verify is agree m n = absurd (other_word (codes "check") (codes "verify") refl (sym m.0 ∙ is ∙ n.0))
+means_once name told xs ys Check (Live p) is agree m n = absurd (other_word (codes "check") (codes "live") refl (sym m.0 ∙ is ∙ n.0))
+means_once name told xs ys (Replay o) Check is agree m n = absurd (other_word (codes "replay") (codes "check") refl (sym m.0 ∙ is ∙ n.0))
+means_once name told xs ys (Replay o) (Replay p) is agree m n =
+    let fleet = fleet_once xs ys o.fleet p.fleet agree m.2 n.2 in
+    let tail = tail_once xs ys o.tail p.tail agree m.3 n.3 in
+    λ i. Replay (record { fleet = fleet i; tail = tail i })
+means_once name told xs ys (Replay o) Verify is agree m n = absurd (other_word (codes "replay") (codes "verify") refl (sym m.0 ∙ is ∙ n.0))
+means_once name told xs ys (Replay o) (Live p) is agree m n = absurd (other_word (codes "replay") (codes "live") refl (sym m.0 ∙ is ∙ n.0))
+means_once name told xs ys Verify Check is agree m n = absurd (other_word (codes "verify") (codes "check") refl (sym m.0 ∙ is ∙ n.0))
+means_once name told xs ys Verify (Replay p) is agree m n = absurd (other_word (codes "verify") (codes "replay") refl (sym m.0 ∙ is ∙ n.0))
+means_once name told xs ys Verify Verify is agree m n = refl
+means_once name told xs ys Verify (Live p) is agree m n = absurd (other_word (codes "verify") (codes "live") refl (sym m.0 ∙ is ∙ n.0))
+means_once name told xs ys (Live o) Check is agree m n = absurd (other_word (codes "live") (codes "check") refl (sym m.0 ∙ is ∙ n.0))
+means_once name told xs ys (Live o) (Replay p) is agree m n = absurd (other_word (codes "live") (codes "replay") refl (sym m.0 ∙ is ∙ n.0))
+means_once name told xs ys (Live o) Verify is agree m n = absurd (other_word (codes "live") (codes "verify") refl (sym m.0 ∙ is ∙ n.0))
+means_once name told xs ys (Live o) (Live p) is agree m n =
+    let fleet = fleet_once xs ys o.fleet p.fleet agree m.2 n.2 in
+    let turns = number_once xs ys (codes "turns") 64 1 100000 o.turns p.turns agree m.3 n.3 in
+    let journal = number_once xs ys (codes "journal") 10000 1 1000000 o.journal p.journal agree m.4 n.4 in
+    λ i. Live (record { fleet = fleet i; turns = turns i; journal = journal i })
+
+-- words give at most one set of options
+pub given_once : (words : List Text) (o p : Options) → WordsGive words o → WordsGive words p → o ≡ p
+given_once words o p a b =
+    let heads : a.2.program ∷ a.0 ∷ a.2.after ≡ b.2.program ∷ b.0 ∷ b.2.after = sym a.2.words_are ∙ b.2.words_are in
+    let name : a.0 ≡ b.0 = ap (λ ws. first_or (drop 1 ws)) heads in
+    let after : a.2.after ≡ b.2.after = ap (drop 2) heads in
+    let spells = sym a.2.spelling.words_are ∙ after ∙ b.2.spelling.words_are in
+    let agree = one_list a.1 b.1 a.2.spelling.rest b.2.spelling.rest (means_named a.0 a.1 o a.3) (means_named b.0 b.1 p b.3) a.2.spelling.closes b.2.spelling.closes spells in
+    means_once a.0 b.0 a.1 b.1 o p name agree a.3 b.3

@@ -1,0 +1,163 @@
+-- From what `clap` takes to what the settings mean.
+use Rattle.std.proofs.Common.{◌≡◌, ◌≤◌, ◌<◌, ◌^◌, ℕ, List, [], ◌∷◌, refl, sym, ap, ◌∙◌, Bool, true, false, cond, None, Some, Option, subst, is_some, codes, ◌&&◌, ◌||◌, not, option_map, nat_lt, arith, ltb-true, leb-true}
+use Rattle.std.specs.Prelude.{MatchOption, find}
+use Rattle.std.specs.List.{AllByRecursion, list_all, list_any}
+use Rattle.std.specs.Str.{bytes_eq}
+use Rattle.std.specs.Char.{digit_value}
+use Rattle.std.specs.Str.Parse.{AllDigits, IsNumeral, digits_value, without_leading_plus}
+use Rattle.clap.proofs.WalkLemmas.{both, list_any-map}
+use Rattle.clap.specs.Facts.{parser_of_value}
+use Rattle.clap.specs.ValueTests.{accepts}
+use Rattle.clap.specs.Walk.{Rule, Text, arg_by_long, takes_values, has_long, texts}
+use Rattle.clap.specs.declared.builder.value_parser.ValueParser.TheVariants as vp
+use Rattle.wh_options.specs.Setting.{Setting, value_of}
+use Rattle.wh_options.specs.Options.{GivesNumber, GivesPlanner, GivesTail, HasOnly, IsWritten, planner_text, tail_text}
+use Rattle.wh_options.specs.Reads.{ReadsNumber, planner_of, tail_of}
+use Rattle.wh_options.specs.Menu.{Choices, planner_words, tail_words}
+use Rattle.wh_options.specs.declared.chosen.PlannerKind.{PlannerKind}
+use Rattle.wh_options.specs.declared.chosen.PlannerKind.TheVariants.{Near}
+use Rattle.wh_options.specs.declared.chosen.Tail.{Tail}
+use Rattle.wh_options.specs.declared.chosen.Tail.TheVariants.{Nothing}
+use Rattle.wh_options.proofs.Shapes.{bytes_same, find_in}
+use Rattle.wh_options.proofs.Leaf.{ArePlain, IsOption, long_plain}
+use Rattle.wh_options.proofs.Turns.{option_takes}
+use Rattle.wh_options.proofs.Words.{self_same}
+use Rattle.wh_options.proofs.Rows.{IsTaken}
+
+pub some_same : {X : Type 0} (x y : X) → ◌≡◌ {A = Option X} (Some x) (Some y) → x ≡ y
+some_same x y e = cc
+
+-- ---- the names that a command takes
+
+-- the ids of the options
+abbrev pub option_ids : List Rule → List Text
+option_ids [] = []
+option_ids (r ∷ rs) = cond (takes_values r) (r.id ∷ option_ids rs) (option_ids rs)
+
+more_ids : (name id : Text) (b : Bool) (ids : List Text) → list_any (bytes_eq name) ids ≡ true → list_any (bytes_eq name) (cond b (id ∷ ids) ids) ≡ true
+more_ids name id true ids e = go (bytes_eq name id)
+  where
+    go : (c : Bool) → (c || list_any (bytes_eq name) ids) ≡ true
+    go true = refl
+    go false = e
+more_ids name id false ids e = e
+
+listed_step : (name : Text) (r a : Rule) (rs : List Rule) (b : Bool) → IsOption a → a.id ≡ name → cond b (Some r) (arg_by_long rs name) ≡ Some a
+    → (arg_by_long rs name ≡ Some a → list_any (bytes_eq name) (option_ids rs) ≡ true)
+    → list_any (bytes_eq name) (option_ids (r ∷ rs)) ≡ true
+listed_step name r a rs true opt id e ih =
+    let is : r ≡ a = some_same r a e in
+    let takes : takes_values r ≡ true = ap takes_values is ∙ option_takes a opt in
+    let same : bytes_eq name r.id ≡ true = subst (λ n. bytes_eq name n ≡ true) (sym (ap (λ (x : Rule). x.id) is ∙ id)) (self_same name) in
+    rw (takes, same) refl
+listed_step name r a rs false opt id e ih = more_ids name r.id (takes_values r) (option_ids rs) (ih e)
+
+listed : (c : List Rule) (name : Text) (a : Rule) → IsOption a → a.id ≡ name → arg_by_long c name ≡ Some a → list_any (bytes_eq name) (option_ids c) ≡ true
+listed [] name a opt id e = cc
+listed (r ∷ rs) name a opt id e = listed_step name r a rs (not (is_some r.index) && has_long r name) opt id e (listed rs name a opt id)
+
+pub only_names : (c : List Rule) (settings : List Setting) → ArePlain c → AllByRecursion (IsTaken c) settings → HasOnly (option_ids c) settings
+only_names c [] all taken = tt
+only_names c (x ∷ xs) all taken =
+    let t = taken.0 in
+    (listed c x.name t.0 t.2 (long_plain c x.name t.0 all t.1).1 t.1, only_names c xs all taken.1)
+
+-- a command without options takes no setting
+pub no_settings : (c : List Rule) (settings : List Setting) → ((name : Text) (a : Rule) → arg_by_long c name ≡ Some a → IsOption a → ⊥) → AllByRecursion (IsTaken c) settings → settings ≡ []
+no_settings c [] none taken = refl
+no_settings c (x ∷ xs) none taken = absurd (none x.name taken.0.0 taken.0.1 taken.0.2)
+
+-- ---- the value of a name
+
+with_value : (o : Option Setting) (text : Text) → option_map (λ (s : Setting). s.value) o ≡ Some text → (x : Setting) × (o ≡ Some x) × (x.value ≡ text)
+with_value None text e = cc
+with_value (Some x) text e = (x, refl, cc)
+
+-- the value given for a name passes the parser of that name's option
+taken_value : (c : List Rule) (settings : List Setting) (name text : Text) (r : Rule) → AllByRecursion (IsTaken c) settings → arg_by_long c name ≡ Some r
+    → value_of name settings ≡ Some text → accepts r.ignore_case (parser_of_value r.parser) text ≡ true
+taken_value c settings name text r taken is e =
+    let got = with_value (find (λ (s : Setting). bytes_eq s.name name) settings) text e in
+    let fact = find_in (IsTaken c) (λ (s : Setting). bytes_eq s.name name) settings got.0 taken got.1 in
+    let same_name : got.0.name ≡ name = bytes_same _ _ fact.1 in
+    let rule : Some fact.0.0 ≡ Some r = sym fact.0.1 ∙ ap (arg_by_long c) same_name ∙ is in
+    let same_rule : fact.0.0 ≡ r = some_same _ _ rule in
+    let passed : accepts r.ignore_case (parser_of_value r.parser) got.0.value ≡ true = subst (λ (q : Rule). accepts q.ignore_case (parser_of_value q.parser) got.0.value ≡ true) same_rule fact.0.3 in
+    subst (λ t. accepts r.ignore_case (parser_of_value r.parser) t ≡ true) got.2 passed
+
+-- ---- numbers
+
+all_digits : (ds : List ℕ) → list_all (λ d. nat_lt (digit_value d) 10) ds ≡ true → AllDigits 10 ds
+all_digits [] e = tt
+all_digits (d ∷ ds) e =
+    let b = both _ _ e in
+    (ltb-true (digit_value d) 10 b.0, all_digits ds b.1)
+
+number_step : (o : Option Text) (least most default n : ℕ) → most < 2 ^ 32
+    → ((text : Text) → o ≡ Some text → accepts false (vp.Unsigned least most) text ≡ true)
+    → ReadsNumber o default n → MatchOption o (n ≡ default) (λ text. IsWritten n text × (least ≤ n) × (n ≤ most))
+number_step None least most default n fits passes reads = reads
+number_step (Some text) least most default n fits passes reads =
+    let p = both _ _ (passes text refl) in
+    let digits = both _ _ p.0 in
+    let within = both _ _ (both _ _ p.1).1 in
+    let numeral : IsNumeral 10 (without_leading_plus text) = (ltb-true _ _ digits.0, all_digits (without_leading_plus text) digits.1) in
+    let low : least ≤ digits_value 10 (without_leading_plus text) = leb-true _ _ within.0 in
+    let high : digits_value 10 (without_leading_plus text) ≤ most = leb-true _ _ within.1 in
+    let is : n ≡ digits_value 10 (without_leading_plus text) = reads numeral (omega arith) in
+    ((numeral, is), rw is low, rw is high)
+
+pub number_given : (c : List Rule) (settings : List Setting) (name : Text) (least most default n : ℕ) → most < 2 ^ 32 → AllByRecursion (IsTaken c) settings
+    → (r : Rule) → arg_by_long c name ≡ Some r → r.ignore_case ≡ false → r.parser ≡ Some (vp.Unsigned least most)
+    → (o : Option Text) → o ≡ value_of name settings → ReadsNumber o default n → GivesNumber settings name default least most n
+number_given c settings name least most default n fits taken r is case parser o same reads =
+    number_step (value_of name settings) least most default n fits
+    (λ text e. let p = taken_value c settings name text r taken is e in rw (case, parser) at p)
+    (subst (λ q. ReadsNumber q default n) same reads)
+
+-- ---- words
+
+one_of_words : (choices : Choices) (words : List Text) (text : Text) → texts choices.now ≡ words → accepts false (vp.Names choices) text ≡ true
+    → list_any (λ w. bytes_eq w text) words ≡ true
+one_of_words choices words text is e = subst (λ ws. list_any (λ w. bytes_eq w text) ws ≡ true) is (sym (list_any-map (λ w. bytes_eq w text) (λ s. s.now) choices.now) ∙ e)
+
+planner_text_is : (text : Text) (near patient : Bool) → bytes_eq (codes "near") text ≡ near → bytes_eq (codes "patient") text ≡ patient
+    → (near || (patient || false)) ≡ true → text ≡ planner_text (planner_of (Some text))
+planner_text_is text near true n p e = subst (λ t. t ≡ planner_text (planner_of (Some t))) (bytes_same (codes "patient") text p) refl
+planner_text_is text true false n p e = subst (λ t. t ≡ planner_text (planner_of (Some t))) (bytes_same (codes "near") text n) refl
+planner_text_is text false false n p e = cc
+
+pub planner_given : (c : List Rule) (settings : List Setting) (planner : PlannerKind) → AllByRecursion (IsTaken c) settings
+    → (choices : Choices) → texts choices.now ≡ planner_words
+    → (r : Rule) → arg_by_long c (codes "planner") ≡ Some r → r.ignore_case ≡ false → r.parser ≡ Some (vp.Names choices)
+    → (o : Option Text) → o ≡ value_of (codes "planner") settings → planner ≡ planner_of o → GivesPlanner settings planner
+planner_given c settings planner taken choices words r is case parser o same reads =
+    go (value_of (codes "planner") settings) refl (reads ∙ ap planner_of same)
+  where
+    go : (v : Option Text) → value_of (codes "planner") settings ≡ v → planner ≡ planner_of v → MatchOption v (planner ≡ Near) (λ text. text ≡ planner_text planner)
+    go None e p = p
+    go (Some text) e p =
+        let t = taken_value c settings (codes "planner") text r taken is e in
+        let one = one_of_words choices planner_words text words (rw (case, parser) at t) in
+        planner_text_is text _ _ refl refl one ∙ ap planner_text (sym p)
+
+tail_text_is : (text : Text) (a b d : Bool) → bytes_eq (codes "none") text ≡ a → bytes_eq (codes "log") text ≡ b → bytes_eq (codes "ledger") text ≡ d
+    → (a || (b || (d || false))) ≡ true → text ≡ tail_text (tail_of (Some text))
+tail_text_is text a b true p q r e = subst (λ t. t ≡ tail_text (tail_of (Some t))) (bytes_same (codes "ledger") text r) refl
+tail_text_is text a true false p q r e = subst (λ t. t ≡ tail_text (tail_of (Some t))) (bytes_same (codes "log") text q) refl
+tail_text_is text true false false p q r e = subst (λ t. t ≡ tail_text (tail_of (Some t))) (bytes_same (codes "none") text p) refl
+tail_text_is text false false false p q r e = cc
+
+pub tail_given : (c : List Rule) (settings : List Setting) (tail : Tail) → AllByRecursion (IsTaken c) settings
+    → (choices : Choices) → texts choices.now ≡ tail_words
+    → (r : Rule) → arg_by_long c (codes "tail") ≡ Some r → r.ignore_case ≡ false → r.parser ≡ Some (vp.Names choices)
+    → (o : Option Text) → o ≡ value_of (codes "tail") settings → tail ≡ tail_of o → GivesTail settings tail
+tail_given c settings tail taken choices words r is case parser o same reads =
+    go (value_of (codes "tail") settings) refl (reads ∙ ap tail_of same)
+  where
+    go : (v : Option Text) → value_of (codes "tail") settings ≡ v → tail ≡ tail_of v → MatchOption v (tail ≡ Nothing) (λ text. text ≡ tail_text tail)
+    go None e p = p
+    go (Some text) e p =
+        let t = taken_value c settings (codes "tail") text r taken is e in
+        let one = one_of_words choices tail_words text words (rw (case, parser) at t) in
+        tail_text_is text _ _ _ refl refl refl one ∙ ap tail_text (sym p)

@@ -1,0 +1,19 @@
+-- The shape of the command `replay`, from those of its parts.
+use Rattle.std.proofs.Common.{rules, ◌∙◌, ap₂}
+use Rattle.std.proofs.lemmas.Result.{IfOk-weaker}
+use Rattle.clap.specs.Words.{with_rule}
+use Rattle.wh_options.proofs.command.replay_command.Goals as goal
+
+pub returns : goal.returns
+returns c =
+    let below = c.in_ok-fleet_command.ensures in
+    IfOk-weaker c.arg.result _ _ (λ made added. record {
+      planners = below.planners;
+      tails = c.as_slice.result;
+      planner_texts = below.words;
+      tail_texts = search rules;
+      is = record {
+        shape = added.shape c.choice_arg-tail.ensures.local ∙ ap₂ with_rule below.is.shape c.choice_arg-tail.ensures.rule;
+        local = search rules;
+      };
+    }) c.arg.ensures

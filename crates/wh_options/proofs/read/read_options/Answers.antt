@@ -1,0 +1,39 @@
+-- What the entered subcommand's rows say is what its reader reads.
+use Rattle.std.proofs.Common.{◌≡◌, ◌∙◌, List, Option, Some, None, sym, ap, refl, subst, codes, option_map}
+use Rattle.std.specs.Prelude.{Box}
+use Rattle.std.specs.Box.{box_value}
+use Rattle.clap.proofs.WalkLemmas.{first_value-rows}
+use Rattle.clap.specs.Words.{Row, Text, first_of, first_value, found_of, rows_of, subcommand_name_of, subcommand_rows, subcommand_rows_of}
+use Rattle.clap.specs.declared.parser.matches.ArgMatches.{ArgMatches}
+use Rattle.clap.specs.declared.parser.matches.SubCommand.{SubCommand}
+use Rattle.clap.specs.declared.parser.matches.ArgMatches.TheViews.{out-ArgMatches, out-SubCommand}
+use Rattle.wh_options.specs.Reads.{ReadsLive, ReadsReplay}
+use Rattle.wh_options.proofs.Values.{some_same}
+use Rattle.wh_options.proofs.read.read_options.Goals as goal
+
+names_agree : {Z : Type 0} (o : Option (Box SubCommand Z)) → option_map (λ p. p.0) (subcommand_rows o) ≡ option_map (λ b. (out-SubCommand (box_value b)).name.now) o
+names_agree None = refl
+names_agree (Some b) = refl
+
+name_is : (m : ArgMatches) (name : Text) (rows : List Row) → subcommand_rows_of m ≡ Some (name, rows) → subcommand_name_of m ≡ Some name
+name_is m name rows e = sym (names_agree (out-ArgMatches m).subcommand) ∙ ap (option_map (λ (p : Text × List Row). p.0)) e
+
+rows_are : (m inner : ArgMatches) (name : Text) (rows : List Row) → subcommand_rows_of m ≡ Some (name, rows)
+    → option_map (λ (p : Text × List Row). p.1) (subcommand_rows_of m) ≡ Some (rows_of (found_of inner)) → rows_of (found_of inner) ≡ rows
+rows_are m inner name rows e f = some_same _ _ (sym f ∙ ap (option_map (λ (p : Text × List Row). p.1)) e)
+
+given_are : (m inner : ArgMatches) (name : Text) (rows : List Row) → subcommand_rows_of m ≡ Some (name, rows)
+    → option_map (λ (p : Text × List Row). p.1) (subcommand_rows_of m) ≡ Some (rows_of (found_of inner)) → (id : Text) → first_value (found_of inner) id ≡ first_of id rows
+given_are m inner name rows e f id = first_value-rows (found_of inner) id ∙ ap (first_of id) (rows_are m inner name rows e f)
+
+pub returns-in-Some : goal.returns-in-Some
+returns-in-Some c = λ name rows e.
+    let same = given_are c.args.matches.now c.in-Some.replay.now name rows e c.in-Some.ensures.rows in
+    let is : Some name ≡ Some (codes "replay") = sym (name_is c.args.matches.now name rows e) ∙ c.in-Some.ensures.found.0 refl in
+    (some_same _ _ is, subst (λ (f : Text → Option Text). ReadsReplay f c.replay_options.result) (λ i id. same id i) c.replay_options.ensures)
+
+pub returns-in-Some-subcommand_matches : goal.returns-in-Some-subcommand_matches
+returns-in-Some-subcommand_matches c = λ name rows e.
+    let same = given_are c.args.matches.now c.in-Some-subcommand_matches.live.now name rows e c.in-Some-subcommand_matches.ensures.rows in
+    let is : Some name ≡ Some (codes "live") = sym (name_is c.args.matches.now name rows e) ∙ c.in-Some-subcommand_matches.ensures.found.0 refl in
+    (some_same _ _ is, subst (λ (f : Text → Option Text). ReadsLive f c.live_options.result) (λ i id. same id i) c.live_options.ensures)

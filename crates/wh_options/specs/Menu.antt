@@ -1,0 +1,97 @@
+-- The subcommands and their options, as `clap` sees them.
+use Rattle.std.specs.Prelude.{◌≡◌, ℕ, List, [], ◌∷◌, Some, codes, true, false}
+use Rattle.std.specs.Borrow.{Bor}
+use Rattle.clap.specs.Words.{App, Rule, app_of, new_app, new_rule, with_rule, with_subcommand}
+use Rattle.clap.specs.Walk.{texts}
+use Rattle.clap.specs.declared.builder.command.Command.TheViews.{out-Command as fields_of}
+use Rattle.clap.specs.declared.builder.action.ArgAction.TheVariants.{Set}
+use Rattle.clap.specs.declared.builder.command.Command.{Command}
+use Rattle.clap.specs.declared.builder.value_parser.ValueParser.TheVariants as vp
+use Rattle.wh_options.specs.Setting.{Text}
+
+-- the references to a list of words
+abbrev pub Choices : Type 0
+Choices = Bor (List (Bor Text))
+
+-- an option whose value is a number in a range
+abbrev pub number_rule : Text → ℕ → ℕ → Rule
+number_rule name least most = record (new_rule name) {
+  long = Some name;
+  action = Some Set;
+  value_names = 1;
+  parser = Some (vp.Unsigned least most);
+}
+
+-- an option whose value is one of some words
+abbrev pub choice_rule : Text → Choices → Rule
+choice_rule name choices = record (new_rule name) {
+  long = Some name;
+  action = Some Set;
+  value_names = 1;
+  parser = Some (vp.Names choices);
+}
+
+abbrev pub planner_words : List Text
+planner_words = codes "near" ∷ codes "patient" ∷ []
+
+abbrev pub tail_words : List Text
+tail_words = codes "none" ∷ codes "log" ∷ codes "ledger" ∷ []
+
+-- the options that say which planners there are
+abbrev pub fleet_app : Text → Choices → App
+fleet_app name planners = with_rule (with_rule (with_rule (with_rule (new_app name)
+    (choice_rule (codes "planner") planners)) (number_rule (codes "slots") 2 64))
+    (number_rule (codes "bank") 2 65536)) (number_rule (codes "spares") 0 16)
+
+abbrev pub replay_app : Choices → Choices → App
+replay_app planners tails =
+    with_rule (fleet_app (codes "replay") planners) (choice_rule (codes "tail") tails)
+
+abbrev pub live_app : Choices → App
+live_app planners = with_rule (with_rule (fleet_app (codes "live") planners)
+    (number_rule (codes "turns") 1 100000)) (number_rule (codes "journal") 1 1000000)
+
+-- a subcommand must follow, and each command tells the version
+abbrev pub with_settings : App → App
+with_settings a = record a {
+  top = record a.top { subcommand_required = true; has_version = true; propagate_version = true };
+}
+
+-- the whole command
+abbrev pub menu : Choices → Choices → Choices → App
+menu planners tails others = with_subcommand (with_subcommand (with_subcommand (with_subcommand
+    (with_settings (new_app (codes "warehouse")))
+    (new_app (codes "check")).top) (replay_app planners tails).top)
+    (new_app (codes "verify")).top) (live_app others).top
+
+-- a command with this shape, and no argument that reaches below it
+pub record HasShape (c : Command) (a : App) : Type 0 where
+  pub shape : app_of c ≡ a
+  pub local : (fields_of c).has_globals ≡ false
+
+pub record IsFleetCommand (c : Command) (name : Text) : Type 0 where
+  pub planners : Choices
+  pub words : texts planners.now ≡ planner_words
+  pub is : HasShape c (fleet_app name planners)
+
+pub record IsReplayCommand (c : Command) : Type 0 where
+  pub planners : Choices
+  pub tails : Choices
+  pub planner_texts : texts planners.now ≡ planner_words
+  pub tail_texts : texts tails.now ≡ tail_words
+  pub is : HasShape c (replay_app planners tails)
+
+pub record IsLiveCommand (c : Command) : Type 0 where
+  pub planners : Choices
+  pub planner_texts : texts planners.now ≡ planner_words
+  pub is : HasShape c (live_app planners)
+
+-- the command of the program
+pub record IsMenu (a : App) : Type 0 where
+  pub planners : Choices
+  pub tails : Choices
+  pub others : Choices
+  pub planner_texts : texts planners.now ≡ planner_words
+  pub tail_texts : texts tails.now ≡ tail_words
+  pub other_texts : texts others.now ≡ planner_words
+  pub is : a ≡ menu planners tails others

@@ -1,0 +1,81 @@
+-- Which options the words of a command line give.
+use Rattle.std.specs.Prelude.{◌≡◌, ◌≤◌, ℕ, List, [], ◌∷◌, MatchOption, codes, true}
+use Rattle.std.specs.List.{AllByRecursion, list_any}
+use Rattle.std.specs.Str.{bytes_eq}
+use Rattle.std.specs.Str.Parse.{IsNumeral, digits_value, without_leading_plus}
+use Rattle.wh_options.specs.Setting.{IsLine, Setting, Text, value_of}
+use Rattle.wh_options.specs.declared.chosen.PlannerKind.{PlannerKind}
+use Rattle.wh_options.specs.declared.chosen.PlannerKind.TheVariants.{Near, Patient}
+use Rattle.wh_options.specs.declared.chosen.Tail.{Tail}
+use Rattle.wh_options.specs.declared.chosen.Tail.TheVariants.{Nothing, Log, Ledger}
+use Rattle.wh_options.specs.declared.chosen.Fleet.{Fleet}
+use Rattle.wh_options.specs.declared.chosen.Options.{Options}
+use Rattle.wh_options.specs.declared.chosen.Options.TheVariants.{Check, Replay, Verify, Live}
+
+-- the text is n in decimal digits, perhaps after a plus
+abbrev pub IsWritten : ℕ → Text → Type 0
+IsWritten n text =
+    IsNumeral 10 (without_leading_plus text) × (n ≡ digits_value 10 (without_leading_plus text))
+
+-- n is the number given, in its range, or the default where none is given
+abbrev pub GivesNumber : List Setting → Text → ℕ → ℕ → ℕ → ℕ → Type 0
+GivesNumber settings name default least most n = MatchOption (value_of name settings)
+    (n ≡ default) (λ text. IsWritten n text × (least ≤ n) × (n ≤ most))
+
+abbrev pub planner_text : PlannerKind → Text
+planner_text Near = codes "near"
+planner_text Patient = codes "patient"
+
+abbrev pub tail_text : Tail → Text
+tail_text Nothing = codes "none"
+tail_text Log = codes "log"
+tail_text Ledger = codes "ledger"
+
+-- the planner given by its word, or `near`
+abbrev pub GivesPlanner : List Setting → PlannerKind → Type 0
+GivesPlanner settings planner = MatchOption (value_of (codes "planner") settings)
+    (planner ≡ Near) (λ text. text ≡ planner_text planner)
+
+-- the tail given by its word, or none
+abbrev pub GivesTail : List Setting → Tail → Type 0
+GivesTail settings tail = MatchOption (value_of (codes "tail") settings)
+    (tail ≡ Nothing) (λ text. text ≡ tail_text tail)
+
+-- the settings give these planners
+pub record GivesFleet (settings : List Setting) (fleet : Fleet) : Type 0 where
+  pub planner : GivesPlanner settings fleet.planner
+  pub slots : GivesNumber settings (codes "slots") 4 2 64 fleet.slots
+  pub bank : GivesNumber settings (codes "bank") 1024 2 65536 fleet.bank
+  pub spares : GivesNumber settings (codes "spares") 0 0 16 fleet.spares
+
+-- each setting is of one of these names
+abbrev pub HasOnly : List Text → List Setting → Type 0
+HasOnly names =
+    AllByRecursion (λ (s : Setting). list_any (bytes_eq s.name) names ≡ true)
+
+abbrev pub fleet_names : List Text
+fleet_names = codes "planner" ∷ codes "slots" ∷ codes "bank" ∷ codes "spares" ∷ []
+
+abbrev pub replay_names : List Text
+replay_names =
+    codes "planner" ∷ codes "slots" ∷ codes "bank" ∷ codes "spares" ∷ codes "tail" ∷ []
+
+abbrev pub live_names : List Text
+live_names = codes "planner" ∷ codes "slots" ∷ codes "bank" ∷ codes "spares" ∷ codes "turns"
+    ∷ codes "journal" ∷ []
+
+-- the subcommand and its settings mean these options
+abbrev pub Means : Text → List Setting → Options → Type 0
+Means name settings Check = (name ≡ codes "check") × (settings ≡ [])
+Means name settings (Replay o) = (name ≡ codes "replay") × HasOnly replay_names settings
+    × GivesFleet settings o.fleet × GivesTail settings o.tail
+Means name settings Verify = (name ≡ codes "verify") × (settings ≡ [])
+Means name settings (Live o) = (name ≡ codes "live") × HasOnly live_names settings
+    × GivesFleet settings o.fleet
+    × GivesNumber settings (codes "turns") 64 1 100000 o.turns
+    × GivesNumber settings (codes "journal") 10000 1 1000000 o.journal
+
+-- the words give these options
+abbrev pub WordsGive : List Text → Options → Type 0
+WordsGive words options = (name : Text) × (settings : List Setting)
+    × IsLine words name settings × Means name settings options

@@ -1,0 +1,53 @@
+-- How the values that `clap` found are read.
+use Rattle.std.specs.Prelude.{◌≡◌, ◌≢◌, ◌<◌, ◌^◌, ℕ, Option, Some, None, if◌then◌else◌, codes}
+use Rattle.std.specs.Str.{bytes_eq}
+use Rattle.std.specs.Str.Parse.{IsNumeral, digits_value, without_leading_plus}
+use Rattle.clap.specs.Words.{Text}
+use Rattle.wh_options.specs.declared.chosen.PlannerKind.{PlannerKind}
+use Rattle.wh_options.specs.declared.chosen.PlannerKind.TheVariants.{Near, Patient}
+use Rattle.wh_options.specs.declared.chosen.Tail.{Tail}
+use Rattle.wh_options.specs.declared.chosen.Tail.TheVariants.{Nothing, Log, Ledger}
+use Rattle.wh_options.specs.declared.chosen.Fleet.{Fleet}
+use Rattle.wh_options.specs.declared.chosen.ReplayOptions.{ReplayOptions}
+use Rattle.wh_options.specs.declared.chosen.LiveOptions.{LiveOptions}
+use Rattle.wh_options.specs.declared.chosen.Options.{Options}
+use Rattle.wh_options.specs.declared.chosen.Options.TheVariants.{Check, Replay, Verify, Live}
+
+-- n is the number that the text writes, where it writes one of 32 bits
+abbrev pub ReadsNumber : Option Text → ℕ → ℕ → Type 0
+ReadsNumber None default n = n ≡ default
+ReadsNumber (Some text) default n = IsNumeral 10 (without_leading_plus text)
+    → digits_value 10 (without_leading_plus text) < 2 ^ 32
+    → n ≡ digits_value 10 (without_leading_plus text)
+
+abbrev pub planner_of : Option Text → PlannerKind
+planner_of None = Near
+planner_of (Some text) = if bytes_eq text (codes "patient") then Patient else Near
+
+abbrev pub tail_of : Option Text → Tail
+tail_of None = Nothing
+tail_of (Some text) = if bytes_eq text (codes "log") then Log
+    else (if bytes_eq text (codes "ledger") then Ledger else Nothing)
+
+-- the planners read from what was found
+pub record ReadsFleet (given : Text → Option Text) (fleet : Fleet) : Type 0 where
+  pub planner : fleet.planner ≡ planner_of (given (codes "planner"))
+  pub slots : ReadsNumber (given (codes "slots")) 4 fleet.slots
+  pub bank : ReadsNumber (given (codes "bank")) 1024 fleet.bank
+  pub spares : ReadsNumber (given (codes "spares")) 0 fleet.spares
+
+pub record ReadsReplay (given : Text → Option Text) (o : ReplayOptions) : Type 0 where
+  pub fleet : ReadsFleet given o.fleet
+  pub tail : o.tail ≡ tail_of (given (codes "tail"))
+
+pub record ReadsLive (given : Text → Option Text) (o : LiveOptions) : Type 0 where
+  pub fleet : ReadsFleet given o.fleet
+  pub turns : ReadsNumber (given (codes "turns")) 64 o.turns
+  pub journal : ReadsNumber (given (codes "journal")) 10000 o.journal
+
+-- the subcommand and what was found for its arguments, as options
+abbrev pub Reads : Text → (Text → Option Text) → Options → Type 0
+Reads name given Check = (name ≢ codes "replay") × (name ≢ codes "live") × (name ≢ codes "verify")
+Reads name given (Replay o) = (name ≡ codes "replay") × ReadsReplay given o
+Reads name given Verify = name ≡ codes "verify"
+Reads name given (Live o) = (name ≡ codes "live") × ReadsLive given o

@@ -1,0 +1,67 @@
+//! What a command line asks for: a subcommand with its options.
+
+/// Which kind of planner drives the agents.
+#[derive(Clone, Copy, Debug, PartialEq, Eq)]
+pub enum PlannerKind {
+    /// Plans a path of least length among the others.
+    Near,
+    /// Waits until the others rest.
+    Patient,
+}
+
+/// What follows the replies of a replay.
+#[derive(Clone, Copy, Debug, PartialEq, Eq)]
+pub enum Tail {
+    /// Nothing.
+    Nothing,
+    /// The log of the run.
+    Log,
+    /// The rows of the delivery ledger.
+    Ledger,
+}
+
+/// The planners that a run is given, and the slots that they share.
+#[derive(Clone, Copy, Debug, PartialEq, Eq)]
+pub struct Fleet {
+    /// The kind of each planner.
+    pub planner: PlannerKind,
+    /// How many distance fields each planner may keep, 2 to 64.
+    pub slots: u32,
+    /// How many slots the planners share in all, 2 to 65536.
+    pub bank: u32,
+    /// How many planners stand by to replace others, 0 to 16.
+    pub spares: u32,
+}
+
+/// The options of `replay`.
+#[derive(Clone, Copy, Debug, PartialEq, Eq)]
+pub struct ReplayOptions {
+    /// The planners of the run.
+    pub fleet: Fleet,
+    /// What follows the replies.
+    pub tail: Tail,
+}
+
+/// The options of `live`.
+#[derive(Clone, Copy, Debug, PartialEq, Eq)]
+pub struct LiveOptions {
+    /// The planners of the run; each client has its own `spares`.
+    pub fleet: Fleet,
+    /// How many requests each agent makes, and how many ticks the clock, 1 to 100000.
+    pub turns: u32,
+    /// How many entries the journal may hold, 1 to 1000000.
+    pub journal: u32,
+}
+
+/// A subcommand with its options.
+#[derive(Clone, Copy, Debug, PartialEq, Eq)]
+pub enum Options {
+    /// `check`: whether the warehouse is well-formed.
+    Check,
+    /// `replay`: the replies to a script.
+    Replay(ReplayOptions),
+    /// `verify`: whether a log is a run.
+    Verify,
+    /// `live`: clients, agents and a clock in threads.
+    Live(LiveOptions),
+}

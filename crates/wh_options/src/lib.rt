@@ -1,0 +1,17 @@
+//! The command line of `warehouse`: which words give which options, and what any other words come to.
+//!
+//! `options` reads the words, and `refusal_of` tells what became of words that give none. The
+//! grammar of the words stands in `specs/Setting.antt` and `specs/Options.antt`.
+#![tactic(auto)]
+
+mod chosen;
+mod command;
+mod read;
+mod refused;
+
+pub use chosen::{Fleet, LiveOptions, Options, PlannerKind, ReplayOptions, Tail};
+pub use read::options;
+pub use refused::{Refusal, refusal_of};
+
+#[cfg(test)]
+mod tests;

@@ -1,0 +1,127 @@
+//! From the words of a command line to the options that they give.
+ghost use Rattle.std.specs.Prelude.{◌≡◌, IfErr, IfOk, IsErrAnd, List, Some, codes, map, option_map, ℕ};
+ghost use Rattle.clap.specs.Words.{Row, Text, first_of, first_value, found_of, kind_of, rows_of, subcommand_rows_of};
+ghost use Rattle.wh_options.specs.Options.{WordsGive};
+ghost use Rattle.wh_options.specs.Requests.{AsksBy, IsKind, help_flags, version_flags};
+ghost use Rattle.wh_options.specs.Reads.{Reads, ReadsFleet, ReadsLive, ReadsNumber, ReadsReplay, planner_of, tail_of};
+
+use crate::chosen::{Fleet, LiveOptions, Options, PlannerKind, ReplayOptions, Tail};
+use crate::command::warehouse_command;
+use clap::error::ErrorKind;
+use clap::{ArgMatches, Error};
+use std::alloc::Global;
+use std::convert::AsStr;
+
+fn number(matches: &ArgMatches<'_>, name: &str, default: u32) -> u32
+    ensures { ReadsNumber (first_value (found_of matches.now) name.now) default result }
+{
+    match matches.get_str(name) {
+        Some(text) => text.parse::<u32>().unwrap_or(default),
+        None => default,
+    }
+}
+
+fn planner(matches: &ArgMatches<'_>) -> PlannerKind
+    ensures { result ≡ planner_of (first_value (found_of matches.now) (codes "planner")) }
+{
+    match matches.get_str("planner") {
+        Some(text) => {
+            if text == "patient" {
+                PlannerKind::Patient
+            } else {
+                PlannerKind::Near
+            }
+        }
+        None => PlannerKind::Near,
+    }
+}
+
+fn tail(matches: &ArgMatches<'_>) -> Tail
+    ensures { result ≡ tail_of (first_value (found_of matches.now) (codes "tail")) }
+{
+    match matches.get_str("tail") {
+        Some(text) => {
+            if text == "log" {
+                Tail::Log
+            } else if text == "ledger" {
+                Tail::Ledger
+            } else {
+                Tail::Nothing
+            }
+        }
+        None => Tail::Nothing,
+    }
+}
+
+fn fleet(matches: &ArgMatches<'_>) -> Fleet
+    ensures { ReadsFleet (first_value (found_of matches.now)) result }
+{
+    Fleet {
+        planner: planner(matches),
+        slots: number(matches, "slots", 4),
+        bank: number(matches, "bank", 1024),
+        spares: number(matches, "spares", 0),
+    }
+}
+
+fn replay_options(matches: &ArgMatches<'_>) -> ReplayOptions
+    ensures { ReadsReplay (first_value (found_of matches.now)) result }
+{
+    ReplayOptions {
+        fleet: fleet(matches),
+        tail: tail(matches),
+    }
+}
+
+fn live_options(matches: &ArgMatches<'_>) -> LiveOptions
+    ensures { ReadsLive (first_value (found_of matches.now)) result }
+{
+    LiveOptions {
+        fleet: fleet(matches),
+        turns: number(matches, "turns", 64),
+        journal: number(matches, "journal", 10_000),
+    }
+}
+
+// What the subcommand's matches say.
+fn read_options(matches: &ArgMatches<'_>) -> Options
+    ensures { (name : Text) (rows : List Row) → subcommand_rows_of matches.now ≡ Some (name, rows)
+        → Reads name (λ id. first_of id rows) result }
+{
+    if let Some(replay) = matches.subcommand_matches("replay") {
+        return Options::Replay(replay_options(replay));
+    }
+    if let Some(live) = matches.subcommand_matches("live") {
+        return Options::Live(live_options(live));
+    }
+    if matches.subcommand_matches("verify").is_some() {
+        return Options::Verify;
+    }
+    Options::Check
+}
+
+/// The options that the words of a command line give; the first word is the program's name, and may
+/// be any. An option that is not given has its default.
+///
+/// # Errors
+///
+/// A mistake in the words, a request for help or the version, or want of memory: `refusal_of` tells
+/// which, and the error's `Display` is the text for the user.
+pub fn options<W: AsStr>(alloc: Global, words: &[W]) -> Result<Options, Error>
+    // The words give the options that are answered.
+    ensures ok { IfOk result (WordsGive (map W.text words.now)) }
+    // They give no others.
+    ensures only { IfOk result (λ o. (p : Options) → WordsGive (map W.text words.now) p → p ≡ o) }
+    // Where the words give any options, only want of memory is an error.
+    ensures refused { IfErr result (λ e. (o : Options) → WordsGive (map W.text words.now) o
+        → kind_of e ≡ ErrorKind.OutOfMemory) }
+    // Words that ask for help by a flag are answered with help, whatever follows.
+    ensures help { AsksBy help_flags (map W.text words.now)
+        → IsErrAnd result (IsKind ErrorKind.DisplayHelp) }
+    // Words that ask for the version by a flag are answered with it, whatever follows.
+    ensures version { AsksBy version_flags (map W.text words.now)
+        → IsErrAnd result (IsKind ErrorKind.DisplayVersion) }
+{
+    let matches = warehouse_command(alloc)?.try_get_matches_from(words)?;
+    Ok(read_options(&matches))
+}

@@ -1,0 +1,116 @@
+//! The command line from outside: each subcommand, both spellings of an option, and refusals.
+use super::*;
+use clap::error::ErrorKind;
+use std::test::*;
+
+const FLEET: Fleet = Fleet {
+    planner: PlannerKind::Near,
+    slots: 4,
+    bank: 1024,
+    spares: 0,
+};
+
+#[test]
+fn subcommands_with_their_defaults(rt: HostRuntime) -> Result<(), Fail> {
+    let alloc = rt.alloc();
+    let words = ["warehouse", "check", "--"];
+    assert_eq!(rt; options(alloc, words.as_slice())?, Options::Check);
+    let words = ["warehouse", "verify"];
+    assert_eq!(rt; options(alloc, words.as_slice())?, Options::Verify);
+    let words = ["warehouse", "replay"];
+    let replay = ReplayOptions {
+        fleet: FLEET,
+        tail: Tail::Nothing,
+    };
+    assert_eq!(rt; options(alloc, words.as_slice())?, Options::Replay(replay));
+    let words = ["warehouse", "live"];
+    let live = LiveOptions {
+        fleet: FLEET,
+        turns: 64,
+        journal: 10_000,
+    };
+    assert_eq!(rt; options(alloc, words.as_slice())?, Options::Live(live));
+    Ok(())
+}
+
+#[test]
+fn an_option_in_one_word_or_two(rt: HostRuntime) -> Result<(), Fail> {
+    let alloc = rt.alloc();
+    let replay = ReplayOptions {
+        fleet: Fleet { slots: 8, ..FLEET },
+        tail: Tail::Ledger,
+    };
+    let joined = ["warehouse", "replay", "--slots=8", "--tail=ledger"];
+    assert_eq!(rt; options(alloc, joined.as_slice())?, Options::Replay(replay));
+    let apart = ["warehouse", "replay", "--tail", "ledger", "--slots", "8"];
+    assert_eq!(rt; options(alloc, apart.as_slice())?, Options::Replay(replay));
+    Ok(())
+}
+
+#[test]
+fn every_option_of_live(rt: HostRuntime) -> Result<(), Fail> {
+    let words = [
+        "warehouse",
+        "live",
+        "--journal=1000000",
+        "--planner",
+        "patient",
+        "--turns",
+        "007",
+        "--slots=+64",
+        "--bank",
+        "65536",
+        "--spares=16",
+    ];
+    let live = LiveOptions {
+        fleet: Fleet {
+            planner: PlannerKind::Patient,
+            slots: 64,
+            bank: 65536,
+            spares: 16,
+        },
+        turns: 7,
+        journal: 1_000_000,
+    };
+    assert_eq!(rt; options(rt.alloc(), words.as_slice())?, Options::Live(live));
+    Ok(())
+}
+
+#[test]
+fn mistakes(rt: HostRuntime) {
+    let range = ["warehouse", "replay", "--slots", "65"];
+    let error = options(rt.alloc(), range.as_slice()).expect_err(&rt, "range");
+    assert!(rt; error.kind() == ErrorKind::ValueValidation);
+    assert_eq!(rt; refusal_of(&error), Refusal::Mistake);
+    let unknown = ["warehouse", "go"];
+    let error = options(rt.alloc(), unknown.as_slice()).expect_err(&rt, "unknown");
+    assert!(rt; error.kind() == ErrorKind::InvalidSubcommand);
+    assert_eq!(rt; refusal_of(&error), Refusal::Mistake);
+    let twice = ["warehouse", "replay", "--slots=4", "--slots=4"];
+    let error = options(rt.alloc(), twice.as_slice()).expect_err(&rt, "twice");
+    assert!(rt; error.kind() == ErrorKind::ArgumentConflict && error.use_stderr());
+}
+
+#[test]
+fn help_and_version(rt: HostRuntime) -> Result<(), Fail> {
+    let alloc = rt.alloc();
+    let words = ["warehouse", "replay", "--help"];
+    let help = options(alloc, words.as_slice()).expect_err(&rt, "help");
+    assert_eq!(rt; refusal_of(&help), Refusal::Asked);
+    let text = format!(in alloc; "{help}")?;
+    assert!(rt;
+        text.as_str()
+            .contains("Usage: warehouse replay [OPTIONS]\n"),
+        "{text}"
+    );
+    assert!(rt; text.as_str().contains("--slots <N>"), "{text}");
+    let words = ["warehouse", "--version"];
+    let version = options(alloc, words.as_slice()).expect_err(&rt, "version");
+    assert_eq!(rt; refusal_of(&version), Refusal::Asked);
+    let text = format!(in alloc; "{version}")?;
+    assert!(rt; text.as_str() == "warehouse 0.1.0\n", "{text}");
+    let words = ["warehouse", "live", "-V"];
+    let version = options(alloc, words.as_slice()).expect_err(&rt, "version");
+    assert!(rt; version.kind() == ErrorKind::DisplayVersion && !version.use_stderr());
+    Ok(())
+}
