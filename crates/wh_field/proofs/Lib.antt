@@ -1,0 +1,10 @@
+pub mod Descents
+pub mod DistanceLaws
+pub mod Early
+pub mod Forgets
+pub mod NearestRoutes
+pub mod Starts
+pub mod Places
+pub mod Tables
+pub mod Walks
+pub mod Sides

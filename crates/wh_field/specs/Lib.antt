@@ -1,0 +1,6 @@
+pub mod Distances
+pub mod Fields
+pub mod Lazy
+pub mod Places
+pub mod Tables
+pub mod Sides

@@ -1,0 +1,103 @@
+//! A field that is filled only as far as asked.
+#![tactic(auto)]
+
+ghost use Rattle.std.specs.Prelude.{◌≡◌, ℕ, ◌+◌, ◌*◌, ◌<◌, ◌≤◌, IfOk};
+ghost use Rattle.wh_field.specs.Distances.{IsDistance, distance};
+
+use crate::opening::{begin, begin_again, open_table, place_of};
+use crate::table::{BLOCKED, Front, fill_until};
+use std::alloc::{AllocError, Global};
+use std::marker::Model;
+use std::snapshot::Snapshot;
+use wh_grid::{Cell, Grid};
+
+/// How far each cell of a grid is from one cell, its source. The distances are found layer by
+/// layer as they are asked for.
+#[derive(Drop)]
+pub struct LazyField {
+    grid: Snapshot<Grid>,
+    source: Cell,
+    width: u16,
+    height: u16,
+    table: Vec<u32>,
+    queue: Vec<u32>,
+    front: Front,
+}
+
+impl Model for LazyField {
+    ghost use Rattle.wh_field.specs.Fields.{Source};
+
+    ghost Value = { Source };
+
+    ghost use Rattle.wh_field.specs.Lazy.{lazy_source, IsLazyField};
+
+    ghost view = { lazy_source };
+
+    ghost invariant = { IsLazyField };
+}
+
+impl LazyField {
+    /// The distances from a cell over a grid. The error comes where memory is wanting: eight bytes a
+    /// cell. No other call takes memory.
+    pub fn from(alloc: Global, grid: &Grid, source: Cell) -> Result<Self, AllocError>
+        ensures { IfOk result (λ f. f ≡ record { grid = grid.now; cell = source }) }
+    {
+        let mut table = open_table(alloc, grid)?;
+        let mut queue = Vec::with_capacity(alloc, table.len())?;
+        begin(&mut table, &mut queue, grid, &[source], &[]);
+        Ok(LazyField {
+            grid: Snapshot::of(grid),
+            source,
+            width: grid.width(),
+            height: grid.height(),
+            table,
+            queue,
+            front: Front {
+                head: 0,
+                distance: 0,
+            },
+        })
+    }
+
+    /// The same field from another cell. It clears only what was met: its time is that of the
+    /// distances that were asked for.
+    pub fn again(&mut self, source: Cell)
+        ensures { self.new ≡ record { grid = self.old.grid; cell = source } }
+    {
+        begin_again(
+            &mut self.table,
+            &mut self.queue,
+            self.width,
+            self.height,
+            source,
+        );
+        self.source = source;
+        self.front = Front {
+            head: 0,
+            distance: 0,
+        };
+    }
+
+    /// How many steps a least walk from the source to a cell has; none where there is no walk.
+    pub fn dist(&mut self, cell: Cell) -> Option<u32>
+        ensures same { self.new ≡ self.old }
+        ensures value { result ≡ distance self.old.grid self.old.cell cell }
+        ensures exact { IsDistance self.old.grid self.old.cell cell result }
+    {
+        match place_of(self.width, self.height, cell) {
+            Some(place) => {
+                let stride = self.width as usize + 1;
+                self.front = fill_until(
+                    &mut self.table,
+                    &mut self.queue,
+                    stride,
+                    self.front,
+                    place,
+                );
+                let steps = self.table[place];
+                if steps < BLOCKED { Some(steps) } else { None }
+            }
+            None => None,
+        }
+    }
+}

@@ -1,0 +1,10 @@
+pub mod Pigeons
+pub mod Removed
+pub mod OpenCells
+pub mod RowLemmas
+pub mod WorkedRows
+pub mod Steps
+pub mod HeadLemmas
+pub mod GrammarLemmas
+pub mod Laws
+pub mod FirstFault

@@ -1,0 +1,11 @@
+pub mod AtLemmas
+pub mod Advance
+pub mod Freedom
+pub mod Fleet
+pub mod HorizonLemmas
+pub mod Chains
+pub mod Trips
+pub mod Tours
+pub mod Waiting
+pub mod WalkLemmas
+pub mod LeastWalks

@@ -1,0 +1,4 @@
+pub mod Paths
+pub mod Conflicts
+pub mod Walks
+pub mod Laws

@@ -1,0 +1,84 @@
+//! What every planner promises.
+#![tactic(auto)]
+
+ghost use Rattle.std.specs.Prelude.{◌≡◌, ◌<◌, ℕ, Bool, true, IfOk, IfErr, length};
+ghost use Rattle.wh_grid.specs.Grids.{Floor};
+ghost use Rattle.wh_path.specs.Paths.{AllFree, steps_left};
+ghost use Rattle.wh_planner.specs.Duties.{IsLawful, HasNoClearWay};
+ghost use Rattle.wh_planner.specs.Asked.{IsDuty, Serves, legs};
+
+use crate::duty::Duty;
+use std::alloc::Global;
+use wh_grid::Grid;
+use wh_path::TimedPath;
+
+/// What a planner sees of the warehouse.
+#[derive(Clone, Copy)]
+pub struct Scene<'a> {
+    /// The grid on which all agents walk.
+    pub grid: &'a Grid,
+    /// Whether no agent may follow another.
+    pub nofollow: bool,
+    /// The paths of all agents from now on, by the agent's number.
+    pub paths: &'a [TimedPath],
+    /// The number of the agent that asks.
+    pub agent: usize,
+}
+
+/// Why there is no path.
+#[derive(Clone, Copy, Debug, PartialEq, Eq)]
+pub enum PlanFault {
+    /// No clear way leads there: each way meets a cell where another's path ends.
+    NoPath,
+    /// Memory was wanting.
+    NoMemory,
+}
+
+/// Plans for one agent at a time, on one grid, and may keep some distance fields between the plans.
+pub trait Planner: Send + Drop {
+    // the grids that it plans on
+    ghost fits_map: { Self → Floor → Bool };
+
+    // how many distance fields it may keep
+    ghost slot_count: { Self → ℕ };
+
+    /// Whether it plans on this grid.
+    fn fits(&self, grid: &Grid) -> bool
+        ensures { result ≡ fits_map self.now grid.now };
+
+    /// How many distance fields it may keep.
+    fn slots(&self) -> u32
+        ensures { result ≡ slot_count self.now };
+
+    /// A lawful path for the duty of an agent that has no steps left. `NoPath` comes only where there is no clear way, and
+    /// `NoMemory` where memory is wanting: the planner then fits the same grids and has the same slots.
+    fn plan(&mut self, alloc: Global, scene: &Scene, duty: Duty) -> Result<TimedPath, PlanFault>
+        requires fits { fits_map self.old scene.now.grid.now ≡ true }
+        requires agent { scene.now.agent < length scene.now.paths.now }
+        requires resting { steps_left scene.now.paths.now scene.now.agent ≡ 0 }
+        requires free { AllFree scene.now.nofollow scene.now.paths.now }
+        requires duty { IsDuty duty }
+        ensures fits_stays { (g : Floor) → fits_map self.new g ≡ fits_map self.old g }
+        ensures slots_stay { slot_count self.new ≡ slot_count self.old }
+        ensures lawful { IfOk result (IsLawful scene.now.grid.now scene.now.nofollow scene.now.paths.now scene.now.agent (legs duty.entry) (Serves duty.entry)) }
+        ensures no_path { IfErr result (λ fault. fault ≡ PlanFault.NoPath → HasNoClearWay scene.now.grid.now scene.now.paths.now scene.now.agent (Serves duty.entry)) };
+}
+
+/// A boxed planner plans as the planner in the box.
+impl Planner for Box<dyn Planner> {
+    ghost fits_map = { λ b. (Planner-box b).fits_map b.value };
+
+    ghost slot_count = { λ b. (Planner-box b).slot_count b.value };
+
+    fn fits(&self, grid: &Grid) -> bool {
+        (**self).fits(grid)
+    }
+
+    fn slots(&self) -> u32 {
+        (**self).slots()
+    }
+
+    fn plan(&mut self, alloc: Global, scene: &Scene, duty: Duty) -> Result<TimedPath, PlanFault> {
+        (**self).plan(alloc, scene, duty)
+    }
+}

@@ -1,0 +1,6 @@
+pub mod Parkings
+pub mod Lookups
+pub mod Additions
+pub mod LineSteps
+pub mod ReadSteps
+pub mod LayoutLaws

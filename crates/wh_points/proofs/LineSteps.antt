@@ -1,0 +1,87 @@
+-- What the parts of a line's code find is what the line says.
+use Rattle.std.proofs.Common.{◌≡◌, ℕ, suc, zero, ◌<◌, ◌≤◌, ◌+◌, ◌*◌, Bool, true, false, cond, ◌&&◌, ◌||◌, if◌then◌else◌, eqb, Option, Some, None, Result, Ok, Err, List, [], ◌∷◌, ◌++◌, length, get_or, slice_get, map, refl, ap, sym, ◌∙◌, subst, arith}
+use Rattle.std.specs.List.{list_any}
+use Rattle.std.specs.Bool.{Decides}
+use Rattle.std.proofs.Math.Dec.{ltb}
+use Rattle.std.proofs.lemmas.Bool.{lt-ltb, ltb-true}
+use Rattle.std.proofs.lemmas.List.{map-append}
+use Rattle.std.proofs.lemmas.Option.{slice_get-get_or, get_or_from_slice_get}
+use Rattle.wh_text.specs.Names.{is_name, name_of}
+use Rattle.wh_grid.specs.declared.cell.Cell.{Cell}
+use Rattle.wh_grid.specs.Grids.{Floor, IsPassable}
+use Rattle.wh_points.specs.declared.points.Kind.{Kind}
+use Rattle.wh_points.specs.declared.points.Point.{Point}
+use Rattle.wh_points.specs.Points.{Layout}
+use Rattle.wh_points.specs.PointLines.{is_open, has_name, has_cell, with_point, with_agent, placed, starts_at}
+use Rattle.wh_points.proofs.Lookups.{list_any-map}
+
+pub and_three : (a b c : Bool) → (a && b && c) ≡ true → (a ≡ true) × (b ≡ true) × (c ≡ true)
+and_three true true true h = (refl, refl, refl)
+and_three true true false h = absurd cc
+and_three true false c h = absurd cc
+and_three false b c h = absurd cc
+
+pub cases_Bool : (b : Bool) → (b ≡ true → ⊥) → b ≡ false
+cases_Bool true h = absurd (h refl)
+cases_Bool false h = refl
+
+in_range : (xs : List Bool) (k : ℕ) → get_or xs k false ≡ true → k < length xs
+in_range [] k h = absurd cc
+in_range (x ∷ xs) zero h = omega arith
+in_range (x ∷ xs) (suc k) h = let r = in_range xs k h in omega arith
+
+-- a place is open where its cell may be walked on
+pub open_passable : (g : Floor) (x y : ℕ) → is_open g x y ≡ true → IsPassable g (record { x = x; y = y })
+open_passable g x y h =
+    let three = and_three (ltb x g.width) (ltb y g.height) (get_or g.walkable (y * g.width + x) false) h in
+    record {
+      in_width = ltb-true _ _ three.0;
+      in_height = ltb-true _ _ three.1;
+      is_walkable = slice_get-get_or g.walkable (y * g.width + x) false (in_range g.walkable (y * g.width + x) three.2) ∙ ap (λ (b : Bool). Some b) three.2;
+    }
+
+pub passable_open : (g : Floor) (x y : ℕ) → IsPassable g (record { x = x; y = y }) → is_open g x y ≡ true
+passable_open g x y p =
+    let a = lt-ltb x g.width p.in_width in
+    let b = lt-ltb y g.height p.in_height in
+    let c = get_or_from_slice_get g.walkable (y * g.width + x) true false p.is_walkable in
+    rw (a, b, c) refl
+
+pub not_open : (g : Floor) (x y : ℕ) → (IsPassable g (record { x = x; y = y }) → ⊥) → is_open g x y ≡ false
+not_open g x y none = cases_Bool (is_open g x y) (λ h. none (open_passable g x y h))
+
+pub some_if : {A : Type 0} (b : Bool) (x y : A) → cond b (Some x) None ≡ Some y → (b ≡ true) × (x ≡ y)
+some_if true x y h = (refl, cc)
+some_if false x y h = absurd cc
+
+pub agent_started : (layout new : Layout) (n : ℕ) → list_any (λ m. eqb m n) layout.agents ≡ false → length layout.agents < 256 → new ≡ with_agent layout n → starts_at layout (Some n) ≡ Ok new
+agent_started layout new n fresh room e = rw (fresh, lt-ltb (length layout.agents) 256 room) (ap (λ (l : Layout). Ok l) (sym e))
+
+pub point_placed : (g : Floor) (layout new : Layout) (kind : Kind) (word name : List ℕ) (x y : ℕ) (cell : Cell)
+    → name_of word ≡ Some name → has_name name layout.points ≡ false → cond (is_open g x y) (Some (record { x = x; y = y })) None ≡ Some cell
+    → has_cell cell.x cell.y layout.points ≡ false → length layout.points < 4096 → new ≡ with_point layout (record { name = name; cell = cell; kind = kind })
+    → placed g layout kind word x y ≡ Ok new
+point_placed g layout new kind word name x y cell is fresh at apart room e =
+    let n = some_if (is_name word) word name is in
+    let made : Cell = record { x = x; y = y } in
+    let o = some_if (is_open g x y) made cell at in
+    let f : has_name word layout.points ≡ false = ap (λ (w : List ℕ). has_name w layout.points) n.1 ∙ fresh in
+    let a : has_cell x y layout.points ≡ false = ap (λ (c : Cell). has_cell c.x c.y layout.points) o.1 ∙ apart in
+    let p : Point = record { name = word; cell = made; kind = kind } in
+    let q : Point = record { name = name; cell = cell; kind = kind } in
+    let same : p ≡ q = (λ i. record { name = n.1 i; cell = o.1 i; kind = kind }) in
+    rw (n.0, f, o.0, a, lt-ltb (length layout.points) 4096 room) (ap (λ (v : Point). Ok (with_point layout v)) same ∙ ap (λ (l : Layout). Ok l) (sym e))
+
+-- a place among the cells is the place of the point
+pub has_cell-among : (cell : Cell) (cells : List Cell) (points : List Point) → cells ≡ map (λ p. p.cell) points
+    → list_any (λ d. eqb cell.x d.x && eqb cell.y d.y) cells ≡ has_cell cell.x cell.y points
+has_cell-among cell cells points e =
+    ap (λ (cs : List Cell). list_any (λ d. eqb cell.x d.x && eqb cell.y d.y) cs) e ∙ list_any-map (λ (d : Cell). eqb cell.x d.x && eqb cell.y d.y) (λ (p : Point). p.cell) points
+
+-- a new cell goes last, as its point does
+pub cells_pushed : (cells new : List Cell) (points : List Point) (point : Point) → cells ≡ map (λ p. p.cell) points
+    → new ≡ (if list_any (λ d. eqb point.cell.x d.x && eqb point.cell.y d.y) cells then cells else cells ++ point.cell ∷ []) → has_cell point.cell.x point.cell.y points ≡ false
+    → new ≡ map (λ p. p.cell) (points ++ point ∷ [])
+cells_pushed cells new points point e n none =
+    n ∙ ap (λ (b : Bool). if b then cells else cells ++ point.cell ∷ []) (has_cell-among point.cell cells points e ∙ none)
+    ∙ ap (λ (cs : List Cell). cs ++ point.cell ∷ []) e ∙ sym (map-append (λ (p : Point). p.cell) points (point ∷ []))

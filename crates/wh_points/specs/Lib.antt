@@ -1,0 +1,5 @@
+pub mod Points
+pub mod Layouts
+pub mod Formed
+pub mod PointLines
+pub mod PointFiles

@@ -1,0 +1,301 @@
+//! Tasks and loads.
+#![tactic(auto)]
+
+ghost use Rattle.std.specs.Prelude.{◌≡◌, ◌+◌, ◌<◌, ◌≤◌, ◌++◌, ◌∷◌, [], length};
+ghost use Rattle.wh_tasks.specs.Arrivals.{stops_here};
+
+use arrayvec::ArrayVec;
+use std::marker::Model;
+use wh_grid::Cell;
+use wh_text::Name;
+
+/// The cells of a task's stops, 2 to 8 of them, in their order.
+#[derive(Drop)]
+pub struct Places {
+    cells: ArrayVec<Cell, 8>,
+}
+
+impl Model for Places {
+    ghost use Rattle.std.specs.Prelude.{List, ◌≤◌, length};
+    ghost use Rattle.wh_grid.specs.declared.cell.Cell.{Cell};
+
+    ghost Value = { List Cell };
+
+    ghost view = { λ p. p.cells.items };
+
+    ghost invariant = { λ p. (2 ≤ length p.cells.items) × (length p.cells.items ≤ 8) };
+}
+
+impl Places {
+    /// These cells.
+    pub fn of(cells: &[Cell]) -> Places
+        requires two { 2 ≤ length cells.now }
+        requires eight { length cells.now ≤ 8 }
+        ensures { result ≡ cells.now }
+    {
+        let mut places = ArrayVec::new();
+        for cell in cells {
+            places.push(*cell);
+        }
+        Places { cells: places }
+    }
+
+    pub fn as_slice(&self) -> &[Cell]
+        ensures value { result.now ≡ self.now }
+        ensures two { 2 ≤ length self.now }
+        ensures eight { length self.now ≤ 8 }
+    {
+        self.cells.as_slice()
+    }
+}
+
+/// The clocks of a task's visits, one for each stop that was visited, in their order. There is always room for 8.
+#[derive(Drop)]
+pub struct Visits {
+    clocks: ArrayVec<u32, 8>,
+}
+
+impl Model for Visits {
+    ghost use Rattle.std.specs.Prelude.{ℕ, List};
+
+    ghost Value = { List ℕ };
+
+    ghost view = { λ v. v.clocks.items };
+}
+
+impl Visits {
+    /// No visit.
+    pub fn none() -> Visits
+        ensures { result ≡ [] }
+    {
+        Visits {
+            clocks: ArrayVec::new(),
+        }
+    }
+
+    pub fn as_slice(&self) -> &[u32]
+        ensures value { result.now ≡ self.now }
+        ensures eight { length self.now ≤ 8 }
+    {
+        self.clocks.as_slice()
+    }
+
+    /// A further visit at this clock. It takes no memory.
+    pub fn push(&mut self, clock: u32)
+        requires { length self.old < 8 }
+        ensures { self.new ≡ self.old ++ clock ∷ [] }
+    {
+        self.clocks.push(clock);
+    }
+}
+
+/// A task: who asked for it, its stops, when it was submitted, the agent that it is assigned to, and its visits.
+#[derive(Drop)]
+pub struct Task {
+    pub client: Name,
+    pub stops: Places,
+    pub submitted: u32,
+    pub agent: Option<u32>,
+    pub visits: Visits,
+}
+
+/// How far a task has come.
+#[derive(Clone, Copy, Debug, PartialEq, Eq)]
+pub enum Phase {
+    /// No agent has it.
+    Open,
+    /// An agent is on its way to the first stop.
+    Assigned,
+    /// The first stop was visited, and not yet the last.
+    Carried,
+    /// The last stop was visited.
+    Done,
+}
+
+/// Which of a task's stops was visited.
+#[derive(Clone, Copy, Debug, PartialEq, Eq)]
+pub enum Visit {
+    First,
+    Between,
+    Last,
+}
+
+/// What an agent is doing.
+#[derive(Clone, Copy, Debug, PartialEq, Eq)]
+pub enum Load {
+    /// It has no task.
+    None,
+    /// It is on its way to the first stop of a task.
+    Fetching(u32),
+    /// It has visited so many stops of a task, and not yet the last.
+    Carrying { task: u32, visited: u32 },
+}
+
+/// How many tasks are in each phase.
+#[derive(Clone, Copy, Debug, PartialEq, Eq)]
+pub struct Counts {
+    pub open_tasks: u32,
+    pub assigned: u32,
+    pub carried: u32,
+    pub done: u32,
+}
+
+impl Task {
+    ghost use Rattle.wh_tasks.specs.Tasks.{phase, visited, stops_left, pickup, delivery, load_for};
+    ghost use Rattle.wh_tasks.specs.Changes.{visited_once, visit_of};
+
+    /// How far it has come.
+    pub fn phase(&self) -> Phase
+        ensures { result ≡ phase self.now }
+    {
+        if self.agent.is_none() {
+            return Phase::Open;
+        }
+        let seen = self.visits.as_slice().len();
+        if seen == 0 {
+            Phase::Assigned
+        } else if seen < self.stops.as_slice().len() {
+            Phase::Carried
+        } else {
+            Phase::Done
+        }
+    }
+
+    /// The cell of the first stop.
+    pub fn pickup(&self) -> Cell
+        ensures { result ≡ pickup self.now }
+    {
+        self.stops.as_slice()[0]
+    }
+
+    /// The cell of the last stop.
+    pub fn delivery(&self) -> Cell
+        ensures { result ≡ delivery self.now }
+    {
+        let stops = self.stops.as_slice();
+        stops[stops.len() - 1]
+    }
+
+    /// What its agent is doing for it, where n is its number.
+    pub fn load(&self, n: u32) -> Load
+        ensures { result ≡ load_for n self.now }
+    {
+        match self.phase() {
+            Phase::Open | Phase::Done => Load::None,
+            Phase::Assigned => Load::Fetching(n),
+            Phase::Carried => Load::Carrying {
+                task: n,
+                visited: self.visits.as_slice().len() as u32,
+            },
+        }
+    }
+
+    /// How many of the stops that are left, from the next one on, are this cell.
+    pub fn stops_here(&self, here: Cell) -> usize
+        requires { visited self.now ≤ length self.now.stops }
+        ensures here { result ≡ stops_here here (stops_left self.now) }
+        ensures within { visited self.now + result ≤ length self.now.stops }
+    {
+        let seen = self.visits.as_slice().len();
+        count_here(here, &self.stops.as_slice()[seen..])
+    }
+
+    /// The next stop is visited at this clock.
+    pub fn visit(&mut self, clock: u32) -> Visit
+        requires { visited self.old < length self.old.stops }
+        ensures task { self.new ≡ visited_once clock self.old }
+        ensures visit { result ≡ visit_of self.old }
+    {
+        let stops = self.stops.as_slice().len();
+        let seen = self.visits.as_slice().len();
+        self.visits.push(clock);
+        if seen == 0 {
+            Visit::First
+        } else if seen + 1 < stops {
+            Visit::Between
+        } else {
+            Visit::Last
+        }
+    }
+}
+
+impl Load {
+    ghost use Rattle.wh_tasks.specs.Loads.{task_of};
+
+    /// The number of its task, if it has one.
+    pub fn task(self) -> Option<u32>
+        ensures { result ≡ task_of self }
+    {
+        match self {
+            Load::None => None,
+            Load::Fetching(n) => Some(n),
+            Load::Carrying { task, .. } => Some(task),
+        }
+    }
+}
+
+/// How many of the stops, from the first on, are this cell.
+fn count_here(here: Cell, stops: &[Cell]) -> usize
+    ensures here { result ≡ stops_here here stops.now }
+    ensures within { result ≤ length stops.now }
+{
+    for (k, stop) in stops.iter().enumerate() {
+        if here != *stop {
+            return k;
+        }
+    }
+    stops.len()
+}
+
+impl Counts {
+    ghost use Rattle.wh_tasks.specs.Changes.{counted_submit, counted_assign, counted_visit, AreFew, CanCount};
+
+    /// No task.
+    pub(crate) fn none() -> Counts
+        ensures { result ≡ record { open_tasks = 0; assigned = 0; carried = 0; done = 0 } }
+    {
+        Counts {
+            open_tasks: 0,
+            assigned: 0,
+            carried: 0,
+            done: 0,
+        }
+    }
+
+    /// A task was submitted.
+    pub(crate) fn submit(&mut self)
+        requires { AreFew self.old }
+        ensures { self.new ≡ counted_submit self.old }
+    {
+        self.open_tasks += 1;
+    }
+
+    /// An open task was assigned.
+    pub(crate) fn assign(&mut self)
+        requires few { AreFew self.old }
+        requires there { 1 ≤ self.old.open_tasks }
+        ensures { self.new ≡ counted_assign self.old }
+    {
+        self.open_tasks -= 1;
+        self.assigned += 1;
+    }
+
+    /// A stop was visited.
+    pub(crate) fn visit(&mut self, visit: Visit)
+        requires few { AreFew self.old }
+        requires there { CanCount visit self.old }
+        ensures { self.new ≡ counted_visit visit self.old }
+    {
+        match visit {
+            Visit::First => {
+                self.assigned -= 1;
+                self.carried += 1;
+            }
+            Visit::Between => {}
+            Visit::Last => {
+                self.carried -= 1;
+                self.done += 1;
+            }
+        }
+    }
+}

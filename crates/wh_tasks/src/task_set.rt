@@ -1,0 +1,262 @@
+//! The tasks in order of arrival.
+#![tactic(auto)]
+
+ghost use Rattle.std.specs.Prelude.{◌≡◌, ℕ, ◌+◌, ◌-◌, ◌<◌, ◌≤◌, ◌↔◌, ◌≢◌, List, [], ◌∷◌, ◌++◌, length, IsTrue, IfSome, IfNone, OnOk, OnErr, All, Contains, slice_get, slice_index, slice_index_or, Some, remove, slice_set, MatchOption};
+ghost use Rattle.wh_tasks.specs.Tasks.{IsTask, IsOpen, phase, delivery};
+ghost use Rattle.wh_tasks.specs.Choice.{IsEligible, IsNearest, NoneEligible};
+ghost use Rattle.wh_tasks.specs.Bests.{IsNearer, IsBetter};
+ghost use Rattle.wh_tasks.specs.Changes.{fresh, assigned, visited_once, visit_of, IsUnderway, IsInTime, IsOrderly, counts_of};
+ghost use Rattle.wh_tasks.specs.declared.task.Task.{Task as Job};
+
+use crate::distances::Distances;
+use crate::ends::EndSet;
+use crate::task::{Counts, Phase, Places, Task, Visit, Visits};
+use std::alloc::{AllocError, Global};
+use std::marker::Model;
+use wh_grid::Cell;
+use wh_text::Name;
+
+/// The tasks in order of arrival, with a list of those that are open, and how many are in each phase.
+#[derive(Drop)]
+pub struct TaskSet {
+    tasks: Vec<Task>,
+    open: Vec<u32>,
+    counts: Counts,
+}
+
+impl Model for TaskSet {
+    ghost use Rattle.std.specs.Prelude.{◌-◌, min, vec_capacity, vec_len};
+    ghost use Rattle.wh_tasks.specs.Sets.{Stored, IsIndexed};
+
+    ghost Value = { Stored };
+
+    ghost view = { λ s. record {
+      tasks = s.tasks.items;
+      room = min (vec_capacity s.tasks - vec_len s.tasks) (vec_capacity s.«open» - vec_len s.«open»);
+    } };
+
+    ghost invariant = { λ s. IsIndexed s.tasks.items (s.«open»).items s.counts };
+}
+
+impl TaskSet {
+    /// No task.
+    pub fn new(alloc: Global) -> TaskSet
+        ensures { result.tasks ≡ [] }
+    {
+        TaskSet {
+            tasks: Vec::new(alloc),
+            open: Vec::new(alloc),
+            counts: Counts::none(),
+        }
+    }
+
+    /// Makes room for one task. It fails only where there was none.
+    pub fn reserve(&mut self, _alloc: Global) -> Result<(), AllocError>
+        ensures tasks { self.new.tasks ≡ self.old.tasks }
+        ensures kept { self.old.room ≤ self.new.room }
+        ensures room { OnOk result (1 ≤ self.new.room) }
+        ensures full { OnErr result (self.old.room ≡ 0) }
+    {
+        self.tasks.reserve(1)?;
+        self.open.reserve(1)?;
+        Ok(())
+    }
+
+    /// Whether there is room for one task.
+    pub fn room(&self) -> bool
+        ensures { IsTrue result ↔ (1 ≤ self.now.room) }
+    {
+        self.tasks.len() < self.tasks.capacity() && self.open.len() < self.open.capacity()
+    }
+
+    /// How many tasks there are.
+    pub fn len(&self) -> u32
+        ensures count { result ≡ length self.now.tasks }
+        ensures few { result ≤ 1000000 }
+    {
+        self.tasks.len() as u32
+    }
+
+    /// The task of a number.
+    pub fn task(&self, n: u32) -> &Task
+        requires { n < length self.now.tasks }
+        ensures task { IsTask self.now.tasks n result.now }
+        ensures orderly { IsOrderly result.now }
+    {
+        &self.tasks[n as usize]
+    }
+
+    /// How far the task of a number has come.
+    pub fn phase(&self, n: u32) -> Phase
+        requires { n < length self.now.tasks }
+        ensures { (task : Job) × IsTask self.now.tasks n task × (result ≡ phase task) }
+    {
+        self.task(n).phase()
+    }
+
+    /// Whether the task of a number stands, and no agent has it.
+    pub fn is_open(&self, n: u32) -> bool
+        ensures { IsTrue result ↔ ((task : Job) × IsTask self.now.tasks n task × IsOpen task) }
+    {
+        match self.tasks.get(n as usize) {
+            None => false,
+            Some(task) => task.agent.is_none(),
+        }
+    }
+
+    /// Whether an open task is to be delivered at the cell. It looks at the open tasks alone.
+    pub fn delivers_at(&self, cell: Cell) -> bool
+        ensures { IsTrue result ↔ ((n : ℕ) × (task : Job) × IsTask self.now.tasks n task × IsOpen task × (delivery task ≡ cell)) }
+    {
+        for n in &self.open {
+            if self.task(*n).delivery().is(cell) {
+                return true;
+            }
+        }
+        false
+    }
+
+    /// How many tasks are in each phase.
+    pub fn counts(&self) -> Counts
+        ensures { result ≡ counts_of self.now.tasks }
+    {
+        self.counts
+    }
+
+    /// Adds an open task, and answers its number. It takes no memory.
+    pub fn submit(&mut self, client: Name, stops: Places, clock: u32) -> u32
+        requires room { 1 ≤ self.old.room }
+        requires few { length self.old.tasks < 1000000 }
+        ensures number { result ≡ length self.old.tasks }
+        ensures tasks { self.new.tasks ≡ self.old.tasks ++ fresh client stops clock ∷ [] }
+        ensures room { self.new.room + 1 ≡ self.old.room }
+    {
+        let n = self.tasks.len() as u32;
+        let _stops = stops.as_slice();
+        self.tasks.push_reserved(Task {
+            client,
+            stops,
+            submitted: clock,
+            agent: None,
+            visits: Visits::none(),
+        });
+        self.open.push_reserved(n);
+        self.counts.submit();
+        n
+    }
+
+    /// Whether an agent may choose the task of a number, where the others' paths have these ends.
+    pub fn eligible(&self, n: u32, ends: &EndSet) -> bool
+        ensures { IsTrue result ↔ ((task : Job) × IsEligible self.now.tasks ends.now.cells n task) }
+    {
+        match self.tasks.get(n as usize) {
+            None => false,
+            Some(task) => task.agent.is_none() && none_in(task.stops.as_slice(), ends),
+        }
+    }
+
+    /// The task that may be chosen whose first stop is nearest; of several the first. It looks at the open tasks alone.
+    pub fn nearest<F: Distances>(&self, field: &F, ends: &EndSet) -> Option<u32>
+        ensures none { IfNone result (NoneEligible self.now.tasks ends.now.cells) }
+        ensures nearest { IfSome result (λ n. (task : Job) × IsNearest (F.grid field.now) self.now.tasks ends.now.cells (F.source field.now) n task) }
+    {
+        let mut best: Option<Choice> = None;
+        for n in &self.open {
+            let task = self.task(*n);
+            let distance = field.dist(task.pickup());
+            best = better(
+                best,
+                Choice { n: *n, distance },
+                task.stops.as_slice(),
+                ends,
+            );
+        }
+        match best {
+            None => None,
+            Some(choice) => Some(choice.n),
+        }
+    }
+
+    /// Gives an open task to an agent. It takes no memory.
+    pub fn assign(&mut self, n: u32, agent: u32)
+        requires { (task : Job) × IsTask self.old.tasks n task × IsOpen task }
+        ensures tasks { (task : Job) × IsTask self.old.tasks n task × (self.new.tasks ≡ slice_set self.old.tasks n (assigned agent task)) }
+        ensures room { self.old.room ≤ self.new.room }
+    {
+        let place = place_of(&self.open, n);
+        self.open.remove(place);
+        let task = &mut self.tasks[n as usize];
+        task.agent = Some(agent);
+        self.counts.assign();
+    }
+
+    /// The next stop of a task is visited at this clock. It takes no memory.
+    pub fn visit(&mut self, n: u32, clock: u32) -> Visit
+        requires underway { (task : Job) × IsUnderway self.old.tasks n task × IsInTime clock task }
+        ensures tasks { (task : Job) × IsTask self.old.tasks n task × (self.new.tasks ≡ slice_set self.old.tasks n (visited_once clock task)) }
+        ensures visit { (task : Job) × IsTask self.old.tasks n task × (result ≡ visit_of task) }
+        ensures room { self.new.room ≡ self.old.room }
+    {
+        let task = &mut self.tasks[n as usize];
+        let visit = task.visit(clock);
+        self.counts.visit(visit);
+        visit
+    }
+}
+
+/// A task that may be chosen, and how far its first stop is.
+#[derive(Clone, Copy)]
+struct Choice {
+    n: u32,
+    distance: Option<u32>,
+}
+
+/// Whether a distance is less than that of the choice so far. None is greater than every number.
+fn is_nearer(distance: Option<u32>, best: Option<Choice>) -> bool
+    ensures { IsTrue result ↔ IsNearer distance best }
+{
+    match best {
+        None => true,
+        Some(choice) => match (distance, choice.distance) {
+            (Some(near), Some(far)) => near < far,
+            (Some(_), None) => true,
+            (None, _) => false,
+        },
+    }
+}
+
+/// The next choice where it is nearer than the best so far and none of its stops is an end; else the best so far.
+fn better(best: Option<Choice>, next: Choice, stops: &[Cell], ends: &EndSet) -> Option<Choice>
+    ensures { IsBetter (All (λ stop. ¬ Contains ends.now.cells stop) stops.now) best next result }
+{
+    if is_nearer(next.distance, best) && none_in(stops, ends) {
+        return Some(next);
+    }
+    best
+}
+
+/// Whether none of the cells is among the ends.
+fn none_in(cells: &[Cell], ends: &EndSet) -> bool
+    ensures { IsTrue result ↔ All (λ cell. ¬ Contains ends.now.cells cell) cells.now }
+{
+    for cell in cells {
+        if ends.has(*cell) {
+            return false;
+        }
+    }
+    true
+}
+
+/// Where a number stands in a list.
+fn place_of(numbers: &[u32], n: u32) -> usize
+    requires { Contains numbers.now n }
+    ensures within { result < length numbers.now }
+    ensures there { slice_index numbers.now result ≡ n }
+{
+    for (k, number) in numbers.iter().enumerate() {
+        if *number == n {
+            return k;
+        }
+    }
+    unreachable!()
+}
