@@ -21,7 +21,7 @@ surveying_on g avoid sources d e t layer now new_layer s same p =
     record { ground = ground_stays g avoid sources t now s.ground same; spreading = p }
 
 -- up to the distance to which a table is filled its numbers never exceed the steps of a path from a source
-met_early : (g : Floor) (avoid sources : List Cell) (d : ℕ) (t layer : List ℕ) (from to : Cell) (p : List Cell) → d < blocked → IsSurveying g avoid sources d t layer → Contains sources from → IsRoute g from to avoid p → (k : ℕ) → k ≤ d → value t (place g (at p k)) ≤ k
+pub met_early : (g : Floor) (avoid sources : List Cell) (d : ℕ) (t layer : List ℕ) (from to : Cell) (p : List Cell) → d < blocked → IsSurveying g avoid sources d t layer → Contains sources from → IsRoute g from to avoid p → (k : ℕ) → k ≤ d → value t (place g (at p k)) ≤ k
 met_early g avoid sources d t layer from to p f s c h zero few =
     let z : value t (place g (at p 0)) ≡ 0 = (s.ground.zero (place g (at p 0))).1 (record { cell = at p 0; source = subst (Contains sources) (sym h.walk.starts) c; here = refl; allowed = route_allowed g from to avoid p h 0 }) in
     omega arith

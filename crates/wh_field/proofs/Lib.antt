@@ -8,3 +8,4 @@ pub mod Places
 pub mod Tables
 pub mod Walks
 pub mod Sides
+pub mod Limits

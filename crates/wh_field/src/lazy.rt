@@ -1,11 +1,12 @@
 //! A field that is filled only as far as asked.
 #![tactic(auto)]
 
-ghost use Rattle.std.specs.Prelude.{◌≡◌, ℕ, ◌+◌, ◌*◌, ◌<◌, ◌≤◌, IfOk};
+ghost use Rattle.std.specs.Prelude.{◌≡◌, ℕ, ◌+◌, ◌*◌, ◌<◌, ◌≤◌, IfOk, IfSome, IfNone, Some};
 ghost use Rattle.wh_field.specs.Distances.{IsDistance, distance};
+ghost use Rattle.wh_field.specs.Tables.{blocked};
 
 use crate::opening::{begin, begin_again, open_table, place_of};
-use crate::table::{BLOCKED, Front, fill_until};
+use crate::table::{BLOCKED, Front, fill_until, fill_within};
 use std::alloc::{AllocError, Global};
 use std::marker::Model;
 use std::snapshot::Snapshot;
@@ -99,5 +100,41 @@ impl LazyField {
             }
             None => None,
         }
+    }
+
+    /// The distance of a cell where it is at most the limit; none where it is greater, or there is
+    /// no walk. The field is filled no further than to the limit.
+    pub fn within(&mut self, cell: Cell, limit: u32) -> Option<u32>
+        ensures same { self.new ≡ self.old }
+        ensures found { IfSome result (λ n. IsDistance self.old.grid self.old.cell cell (Some n) × (n ≤ limit)) }
+        ensures farther { IfNone result ((n : ℕ) → IsDistance self.old.grid self.old.cell cell (Some n) → limit < n) }
+    {
+        match place_of(self.width, self.height, cell) {
+            Some(place) => {
+                let stride = self.width as usize + 1;
+                self.front = fill_within(
+                    &mut self.table,
+                    &mut self.queue,
+                    stride,
+                    self.front,
+                    place,
+                    limit,
+                );
+                up_to(limit, self.table[place])
+            }
+            None => None,
+        }
+    }
+}
+
+/// A number of a table as a distance, where it is at most the limit.
+fn up_to(limit: u32, steps: u32) -> Option<u32>
+    ensures known { IfSome result (λ n. (n ≡ steps) × (n < blocked) × (n ≤ limit)) }
+    ensures unknown { IfNone result ((steps < blocked) × (steps ≤ limit) → ⊥) }
+{
+    if steps < BLOCKED && steps <= limit {
+        Some(steps)
+    } else {
+        None
     }
 }

@@ -103,6 +103,41 @@ pub fn fill_until(
     front
 }
 
+/// Fills a table layer by layer until a place is met, or all up to a distance are, or no layer is
+/// left.
+pub fn fill_within(
+    table: &mut [u32],
+    queue: &mut Vec<u32>,
+    stride: usize,
+    front: Front,
+    place: usize,
+    limit: u32,
+) -> Front
+    requires walled { IsWalled stride table.old }
+    requires spreading { IsSpreading stride front.distance table.old [] (drop front.head queue.old.items) }
+    requires head { front.head ≤ length queue.old.items }
+    requires room { HasRoom (vec_capacity queue.old) table.old queue.old.items }
+    requires listed { IsListed table.old queue.old.items }
+    requires inside { place < length table.old }
+    ensures ground { IsSameGround table.old table.new }
+    ensures spreading { IsSpreading stride result.distance table.new [] (drop result.head queue.new.items) }
+    ensures head { result.head ≤ length queue.new.items }
+    ensures room { HasRoom (vec_capacity queue.new) table.new queue.new.items }
+    ensures listed { IsListed table.new queue.new.items }
+    ensures met { value table.new place ≡ unseen → IsLevelled stride table.new ⊎ (limit ≤ result.distance) }
+{
+    let mut front = front;
+    while front.head < queue.len() && front.distance < limit && table[place] == UNSEEN {
+        let end = queue.len();
+        next_layer(table, queue, front.head, stride, front.distance);
+        front = Front {
+            head: end,
+            distance: front.distance + 1,
+        };
+    }
+    front
+}
+
 /// Fills a table with the distances from the places at which it has 0, layer by layer.
 pub fn fill(table: &mut [u32], queue: &mut Vec<u32>, stride: usize)
     requires ready { IsReady stride table.old queue.old.items }

@@ -63,6 +63,30 @@ fn all_distances(rt: HostRuntime) -> Result<(), Fail> {
     Ok(())
 }
 
+// A row of 12 cells, of which the one at 9 is blocked.
+#[test]
+fn no_further_than_the_limit(rt: HostRuntime) -> Result<(), Fail> {
+    let mut row = vec![in rt.alloc(); true; 12]?;
+    row[9] = false;
+    let grid = Grid::new(12, 1, row);
+    let mut lazy = LazyField::from(rt.alloc(), &grid, Cell { x: 0, y: 0 })?;
+    for (x, limit, steps) in [
+        (5, 4, None),
+        (5, 5, Some(5)),
+        (3, 2, None),
+        (0, 0, Some(0)),
+        (8, 7, None),
+        (8, 100, Some(8)),
+        (9, 100, None),
+        (10, 100, None),
+        (12, 100, None),
+    ] {
+        assert_eq!(rt; lazy.within(Cell { x, y: 0 }, limit), steps);
+    }
+    assert_eq!(rt; lazy.dist(Cell { x: 8, y: 0 }), Some(8));
+    Ok(())
+}
+
 #[test]
 fn around_a_cell(rt: HostRuntime) -> Result<(), Fail> {
     let grid = tree(&rt)?;

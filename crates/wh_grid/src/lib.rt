@@ -11,3 +11,6 @@ mod rows;
 pub use cell::Cell;
 pub use fault::{Fault, MapFault, MapKind};
 pub use grid::Grid;
+
+#[cfg(test)]
+mod tests;

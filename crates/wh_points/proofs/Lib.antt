@@ -4,3 +4,5 @@ pub mod Additions
 pub mod LineSteps
 pub mod ReadSteps
 pub mod LayoutLaws
+pub mod GrammarLaws
+pub mod FirstFault

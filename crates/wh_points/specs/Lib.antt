@@ -3,3 +3,4 @@ pub mod Layouts
 pub mod Formed
 pub mod PointLines
 pub mod PointFiles
+pub mod PointGrammar

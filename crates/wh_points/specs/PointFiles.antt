@@ -52,3 +52,13 @@ Gives (Err (At fault)) read = read ≡ Err fault
 abbrev pub fault_of : ℕ → Refused → PointFault
 fault_of number refused.NoMemory = NoMemory
 fault_of number (refused.Line kind) = At (record { kind = kind; line = number })
+
+-- a fault's line is one of these, counted from 1
+abbrev pub IsWithin : ℕ → PointFault → Type 0
+IsWithin last NoMemory = Unit {0}
+IsWithin last (At fault) = (1 ≤ fault.line) × (fault.line ≤ last)
+
+-- nothing that stands after a fault's line changes it
+abbrev pub IsFirst : Floor → List (List ℕ) → PointFault → Type 0
+IsFirst g lines NoMemory = Unit {0}
+IsFirst g lines (At fault) = fault.line ≤ length lines → (more : List (List ℕ)) → layout_from g empty 0 (take fault.line lines ++ more) ≡ Err fault

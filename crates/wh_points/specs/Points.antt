@@ -1,3 +1,4 @@
+-- the points of a warehouse, and what holds of them
 use Rattle.std.specs.Prelude.{◌≢◌, ℕ, ◌<◌, List, [], Bool, true, false, length, slice_index, slice_index_or, map, count_by, All, Contains}
 use Rattle.wh_grid.specs.declared.cell.Cell.{Cell}
 use Rattle.wh_points.specs.declared.points.Point.{Point}

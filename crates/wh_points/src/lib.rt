@@ -10,3 +10,6 @@ mod reader;
 pub use fault::{Fault, FaultKind, PointFault};
 pub use layout::Points;
 pub use points::{Kind, Point};
+
+#[cfg(test)]
+mod tests;

@@ -1,9 +1,10 @@
 //! Reading a points file.
 
-ghost use Rattle.std.specs.Prelude.{◌≡◌, ◌+◌, ◌<◌, ◌^◌, List, ℕ, IfOk, IfErr, length};
+ghost use Rattle.std.specs.Prelude.{◌≡◌, ◌+◌, ◌<◌, ◌^◌, List, ℕ, Ok, IfOk, IfErr, length};
 ghost use Rattle.wh_text.specs.Lines.{lines_of};
-ghost use Rattle.wh_points.specs.PointFiles.{layout_at, fault_of, Gives};
-ghost use Rattle.wh_points.specs.Points.{IsLayout};
+ghost use Rattle.wh_points.specs.PointFiles.{layout_at, fault_of, Gives, IsWithin, IsFirst};
+ghost use Rattle.wh_points.specs.Points.{Layout, IsLayout};
+ghost use Rattle.wh_points.specs.PointGrammar.{IsPointsFile};
 
 use crate::draft::Draft;
 use crate::fault::{Fault, PointFault, Refused};
@@ -44,9 +45,16 @@ impl Points {
     /// An error is `NoMemory`, or the fault of the first line that has one; where only an agent is missing, that
     /// is a fault of the line after the last.
     pub fn read(alloc: Global, grid: &Grid, text: &[u8]) -> Result<Points, PointFault>
+        // What is read is a points file, and this layout is what its lines spell.
+        ensures found { IfOk result (IsPointsFile grid.now (lines_of text.now)) }
+        // Each points file is read, unless memory runs out.
+        ensures only { (layout : Layout) → IsPointsFile grid.now (lines_of text.now) layout → Gives result (Ok layout) }
         // Which layout it is, or which fault at which line.
         ensures exact { Gives result (layout_at grid.now text.now) }
         ensures layout { IfOk result (IsLayout grid.now) }
+        ensures line { IfErr result (IsWithin (length (lines_of text.now) + 1)) }
+        // Nothing that stands after the fault's line changes it.
+        ensures first { IfErr result (IsFirst grid.now (lines_of text.now)) }
     {
         read_all(alloc, grid, text)
     }

@@ -1,5 +1,5 @@
 -- the nearest task is determined
-use Rattle.std.proofs.Common.{◌≡◌, ℕ, inl, inr, List, Option, Some, None, refl, ap, arith}
+use Rattle.std.proofs.Common.{◌≡◌, ℕ, inl, inr, List, Option, Some, None, arith}
 use Rattle.wh_grid.specs.declared.cell.Cell.{Cell}
 use Rattle.wh_grid.specs.Grids.{Floor}
 use Rattle.wh_tasks.specs.declared.task.Task.{Task}

@@ -1,3 +1,4 @@
+-- what an agent does where it stands: it visits each next stop that is its cell
 use Rattle.std.specs.Prelude.{ℕ, ◌++◌, List, [], ◌∷◌, Bool, Option, Some, None, cond, ◌&&◌, ◌==◌, nat_lt, length, map, replicate, slice_get, count_by}
 use Prim.Native.Nat.{suc}
 use Rattle.wh_grid.specs.declared.cell.Cell.{Cell}
@@ -5,6 +6,7 @@ use Rattle.wh_tasks.specs.declared.task.Task.{Task}
 use Rattle.wh_tasks.specs.declared.task.Load.{Load}
 use Rattle.wh_tasks.specs.Tasks.{visited, stops_left, load_for}
 
+-- whether two cells are one
 abbrev pub is_cell : Cell → Cell → Bool
 is_cell c d = (c.x == d.x) && (c.y == d.y)
 
@@ -17,6 +19,7 @@ stops_here here (stop ∷ stops) = cond (is_cell here stop) (suc (stops_here her
 abbrev pub visited_at : ℕ → Cell → Task → Task
 visited_at clock here task = record task { visits = task.visits ++ replicate (stops_here here (stops_left task)) clock }
 
+-- the arrivals of a task's agent, if it has one
 abbrev pub arrived_by : ℕ → (ℕ → Cell) → Option ℕ → Task → Task
 arrived_by clock place None task = task
 arrived_by clock place (Some agent) task = visited_at clock (place agent) task
@@ -25,9 +28,11 @@ arrived_by clock place (Some agent) task = visited_at clock (place agent) task
 abbrev pub arrived_task : ℕ → (ℕ → Cell) → Task → Task
 arrived_task clock place task = arrived_by clock place task.agent task
 
+-- all tasks after the arrivals
 abbrev pub arrived_tasks : ℕ → (ℕ → Cell) → List Task → List Task
 arrived_tasks clock place tasks = map (arrived_task clock place) tasks
 
+-- what a task, if it stands, leaves its agent to do
 abbrev pub load_of_task : ℕ → Option Task → Load
 load_of_task n None = Load.None
 load_of_task n (Some task) = load_for n task

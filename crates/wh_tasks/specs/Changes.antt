@@ -1,3 +1,4 @@
+-- what a set does to its tasks: one is submitted, given to an agent, visited; and how many are in each phase
 use Rattle.std.specs.Prelude.{◌≡◌, ℕ, ◌+◌, ◌-◌, ◌≤◌, ◌⊎◌, ◌++◌, List, [], ◌∷◌, Bool, true, false, Some, None, cond, nat_lt, length, count_by, All, AllPairs}
 use Prim.Native.Nat.{zero, suc}
 use Rattle.wh_grid.specs.declared.cell.Cell.{Cell}
@@ -30,6 +31,7 @@ abbrev pub visit_after : ℕ → ℕ → Visit
 visit_after zero stops = Visit.First
 visit_after (suc seen) stops = cond (nat_lt (suc (suc seen)) stops) Visit.Between Visit.Last
 
+-- which of the task's stops is visited next
 abbrev pub visit_of : Task → Visit
 visit_of task = visit_after (visited task) (length task.stops)
 
@@ -52,6 +54,7 @@ pub record IsOrderly (task : Task) : Type 0 where
   pub after : All (λ clock. task.submitted ≤ clock) task.visits
   pub rising : AllPairs (λ earlier later. earlier ≤ later) task.visits
 
+-- whether two phases are one
 abbrev pub is_phase : Phase → Phase → Bool
 is_phase Phase.Open Phase.Open = true
 is_phase Phase.Assigned Phase.Assigned = true

@@ -1,3 +1,4 @@
+-- the laws of tasks
 use Rattle.std.specs.Prelude.{◌≡◌, ◌≢◌, ℕ, ◌+◌, ◌<◌, ◌≤◌, ◌↔◌, List, ◌++◌, Some, None, length, replicate}
 use Rattle.wh_grid.specs.declared.cell.Cell.{Cell}
 use Rattle.wh_grid.specs.Grids.{Floor}
@@ -19,6 +20,7 @@ pub record PhasesAre (task : Task) : Type 0 where
   pub is_carried : (phase task ≡ Phase.Carried) ↔ (HasAgent task × (1 ≤ visited task) × (visited task < length task.stops))
   pub is_done : (phase task ≡ Phase.Done) ↔ (HasAgent task × (1 ≤ visited task) × (length task.stops ≤ visited task))
 
+-- and so it is of every task
 abbrev pub PhasesAreAsSaid : Type 0
 PhasesAreAsSaid = (task : Task) → PhasesAre task
 

@@ -1,3 +1,4 @@
+-- what callers see of a set of ends, and the marks by which it answers
 use Rattle.std.specs.Prelude.{◌≡◌, ℕ, ◌+◌, ◌*◌, ◌<◌, ◌↔◌, List, Bool, true, false, length, All, Contains, slice_index_or}
 use Rattle.wh_grid.specs.declared.cell.Cell.{Cell}
 

@@ -1,3 +1,4 @@
+-- what a task is: its phases, its stops that are left, and what its agent does for it
 use Rattle.std.specs.Prelude.{◌≡◌, ℕ, ◌-◌, List, Bool, true, false, Option, Some, None, length, drop, slice_get, nat_lt}
 use Prim.Native.Nat.{zero, suc}
 use Rattle.wh_grid.specs.declared.cell.Cell.{Cell}
@@ -37,6 +38,7 @@ phase_of (Some agent) (suc seen) stops = carried_or_done (nat_lt (suc seen) stop
 abbrev pub phase : Task → Phase
 phase task = phase_of task.agent (visited task) (length task.stops)
 
+-- no agent has it
 abbrev pub IsOpen : Task → Type 0
 IsOpen task = task.agent ≡ None
 

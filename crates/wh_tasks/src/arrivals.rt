@@ -15,8 +15,11 @@ use wh_grid::Cell;
 /// What an agent's arrivals leave it to do, and whether they pick up its task or deliver it.
 #[derive(Clone, Copy, Debug, PartialEq, Eq)]
 pub struct Arrived {
+    /// What is left to do.
     pub load: Load,
+    /// The first stop is among those visited.
     pub picked: bool,
+    /// The last stop is among those visited.
     pub dropped: bool,
 }
 
@@ -43,7 +46,9 @@ pub fn arrive(tasks: &mut TaskSet, n: u32, clock: u32, here: Cell) -> Arrived
 /// Whether arrivals to come pick up a task, and whether they deliver it.
 #[derive(Clone, Copy, Debug, PartialEq, Eq)]
 pub struct Foretold {
+    /// The first stop would be among those visited.
     pub picked: bool,
+    /// The last stop would be among those visited.
     pub dropped: bool,
 }
 
@@ -56,9 +61,10 @@ pub fn foretell(tasks: &TaskSet, n: u32, here: Cell) -> Foretold
     let seen = task.visits.as_slice().len();
     let stops = task.stops.as_slice().len();
     let count = task.stops_here(here);
+    let after = seen + count;
     Foretold {
-        picked: begins(seen, seen + count),
-        dropped: finishes(seen, seen + count, stops),
+        picked: begins(seen, after),
+        dropped: finishes(seen, after, stops),
     }
 }
 

@@ -47,7 +47,8 @@ impl Model for EndSet {
 }
 
 impl EndSet {
-    /// The empty set over a grid of these sides, with room for so many cells.
+    /// The empty set over a grid of these sides, with room for so many cells. The error comes where memory is wanting; no
+    /// other call takes memory.
     pub fn new(alloc: Global, width: u16, height: u16, most: usize) -> Result<EndSet, AllocError>
         ensures { IfOk result (λ ends. ends ≡ record { width = width; height = height; cells = []; room = most }) }
     {

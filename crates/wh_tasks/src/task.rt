@@ -1,7 +1,7 @@
 //! Tasks and loads.
 #![tactic(auto)]
 
-ghost use Rattle.std.specs.Prelude.{◌≡◌, ◌+◌, ◌<◌, ◌≤◌, ◌++◌, ◌∷◌, [], length};
+ghost use Rattle.std.specs.Prelude.{◌≡◌, ◌+◌, ◌<◌, ◌≤◌, ◌++◌, ◌∷◌, ◌↔◌, ◌⊎◌, [], length, IsTrue, All};
 ghost use Rattle.wh_tasks.specs.Arrivals.{stops_here};
 
 use arrayvec::ArrayVec;
@@ -27,7 +27,7 @@ impl Model for Places {
 }
 
 impl Places {
-    /// These cells.
+    /// These cells, of which there are 2 to 8. It takes no memory.
     pub fn of(cells: &[Cell]) -> Places
         requires two { 2 ≤ length cells.now }
         requires eight { length cells.now ≤ 8 }
@@ -40,6 +40,7 @@ impl Places {
         Places { cells: places }
     }
 
+    /// The cells, 2 to 8 of them.
     pub fn as_slice(&self) -> &[Cell]
         ensures value { result.now ≡ self.now }
         ensures two { 2 ≤ length self.now }
@@ -73,6 +74,7 @@ impl Visits {
         }
     }
 
+    /// The clocks, at most 8 of them.
     pub fn as_slice(&self) -> &[u32]
         ensures value { result.now ≡ self.now }
         ensures eight { length self.now ≤ 8 }
@@ -92,10 +94,15 @@ impl Visits {
 /// A task: who asked for it, its stops, when it was submitted, the agent that it is assigned to, and its visits.
 #[derive(Drop)]
 pub struct Task {
+    /// Who asked for it.
     pub client: Name,
+    /// The cells that it leads over, from the first, where it is picked up, to the last, where it is delivered.
     pub stops: Places,
+    /// The clock at which it was submitted.
     pub submitted: u32,
+    /// The agent that it is assigned to; None while it is open.
     pub agent: Option<u32>,
+    /// The clocks of the visits, one for each stop that was visited.
     pub visits: Visits,
 }
 
@@ -115,8 +122,11 @@ pub enum Phase {
 /// Which of a task's stops was visited.
 #[derive(Clone, Copy, Debug, PartialEq, Eq)]
 pub enum Visit {
+    /// The first: the task is picked up.
     First,
+    /// One between the first and the last.
     Between,
+    /// The last: the task is delivered.
     Last,
 }
 
@@ -128,21 +138,31 @@ pub enum Load {
     /// It is on its way to the first stop of a task.
     Fetching(u32),
     /// It has visited so many stops of a task, and not yet the last.
-    Carrying { task: u32, visited: u32 },
+    Carrying {
+        /// The number of the task.
+        task: u32,
+        /// How many of its stops were visited: 1 or more.
+        visited: u32,
+    },
 }
 
 /// How many tasks are in each phase.
 #[derive(Clone, Copy, Debug, PartialEq, Eq)]
 pub struct Counts {
+    /// How many no agent has.
     pub open_tasks: u32,
+    /// How many are assigned, and not yet picked up.
     pub assigned: u32,
+    /// How many are carried.
     pub carried: u32,
+    /// How many are done.
     pub done: u32,
 }
 
 impl Task {
     ghost use Rattle.wh_tasks.specs.Tasks.{phase, visited, stops_left, pickup, delivery, load_for};
-    ghost use Rattle.wh_tasks.specs.Changes.{visited_once, visit_of};
+    ghost use Rattle.wh_tasks.specs.Changes.{visited_once, visit_of, IsInTime};
+    ghost use Rattle.wh_tasks.specs.declared.task.Phase.{Phase as Stage};
 
     /// How far it has come.
     pub fn phase(&self) -> Phase
@@ -200,6 +220,23 @@ impl Task {
         count_here(here, &self.stops.as_slice()[seen..])
     }
 
+    /// Whether an agent has it, and a stop is left.
+    pub fn is_underway(&self) -> bool
+        ensures { IsTrue result ↔ ((phase self.now ≡ Stage.Assigned) ⊎ (phase self.now ≡ Stage.Carried)) }
+    {
+        match self.phase() {
+            Phase::Assigned | Phase::Carried => true,
+            Phase::Open | Phase::Done => false,
+        }
+    }
+
+    /// Whether none of its clocks is later than this one.
+    pub fn is_in_time(&self, clock: u32) -> bool
+        ensures { IsTrue result ↔ IsInTime clock self.now }
+    {
+        self.submitted <= clock && none_later(self.visits.as_slice(), clock)
+    }
+
     /// The next stop is visited at this clock.
     pub fn visit(&mut self, clock: u32) -> Visit
         requires { visited self.old < length self.old.stops }
@@ -232,6 +269,13 @@ impl Load {
             Load::Carrying { task, .. } => Some(task),
         }
     }
+}
+
+/// Whether none of the clocks is later than one.
+fn none_later(clocks: &[u32], clock: u32) -> bool
+    ensures { IsTrue result ↔ All (λ earlier. earlier ≤ clock) clocks.now }
+{
+    clocks.iter().all(|earlier| *earlier <= clock)
 }
 
 /// How many of the stops, from the first on, are this cell.

@@ -6,6 +6,7 @@ ghost use Rattle.wh_tasks.specs.Tasks.{IsTask, IsOpen, phase, delivery};
 ghost use Rattle.wh_tasks.specs.Choice.{IsEligible, IsNearest, NoneEligible};
 ghost use Rattle.wh_tasks.specs.Bests.{IsNearer, IsBetter};
 ghost use Rattle.wh_tasks.specs.Changes.{fresh, assigned, visited_once, visit_of, IsUnderway, IsInTime, IsOrderly, counts_of};
+ghost use Rattle.wh_tasks.specs.Visiting.{IsGoing};
 ghost use Rattle.wh_tasks.specs.declared.task.Task.{Task as Job};
 
 use crate::distances::Distances;
@@ -15,6 +16,12 @@ use std::alloc::{AllocError, Global};
 use std::marker::Model;
 use wh_grid::Cell;
 use wh_text::Name;
+
+/// How far away the nearest task is looked for at first.
+const FIRST_LIMIT: u32 = 8;
+
+/// How often that is doubled: then the limit is above the distances of all maps.
+const DOUBLINGS: u32 = 21;
 
 /// The tasks in order of arrival, with a list of those that are open, and how many are in each phase.
 #[derive(Drop)]
@@ -50,7 +57,7 @@ impl TaskSet {
         }
     }
 
-    /// Makes room for one task. It fails only where there was none.
+    /// Makes room for one task. The error comes where memory is wanting, and only where there was no room.
     pub fn reserve(&mut self, _alloc: Global) -> Result<(), AllocError>
         ensures tasks { self.new.tasks ≡ self.old.tasks }
         ensures kept { self.old.room ≤ self.new.room }
@@ -155,10 +162,67 @@ impl TaskSet {
         }
     }
 
-    /// The task that may be chosen whose first stop is nearest; of several the first. It looks at the open tasks alone.
-    pub fn nearest<F: Distances>(&self, field: &F, ends: &EndSet) -> Option<u32>
+    /// The task that may be chosen whose first stop is nearest; of several the first. It looks at the open tasks alone,
+    /// once for each limit: it asks for distances up to a limit, and doubles it until a task is found. So the field is not
+    /// asked for what lies far behind the nearest task.
+    pub fn nearest<F: Distances>(&self, field: &mut F, ends: &EndSet) -> Option<u32>
         ensures none { IfNone result (NoneEligible self.now.tasks ends.now.cells) }
-        ensures nearest { IfSome result (λ n. (task : Job) × IsNearest (F.grid field.now) self.now.tasks ends.now.cells (F.source field.now) n task) }
+        ensures nearest { IfSome result (λ n. (task : Job) × IsNearest (F.grid field.old) self.now.tasks ends.now.cells (F.source field.old) n task) }
+        ensures grid { F.grid field.new ≡ F.grid field.old }
+        ensures source { F.source field.new ≡ F.source field.old }
+    {
+        if !self.any_eligible(ends) {
+            return None;
+        }
+        for doublings in 0..DOUBLINGS {
+            if let Some(n) = self.nearest_within(field, ends, FIRST_LIMIT << doublings) {
+                return Some(n);
+            }
+        }
+        self.nearest_of_all(field, ends)
+    }
+
+    /// Whether any task may be chosen.
+    fn any_eligible(&self, ends: &EndSet) -> bool
+        ensures { IsTrue result ↔ ((n : ℕ) × (task : Job) × IsEligible self.now.tasks ends.now.cells n task) }
+    {
+        for n in &self.open {
+            if none_in(self.task(*n).stops.as_slice(), ends) {
+                return true;
+            }
+        }
+        false
+    }
+
+    /// The nearest task, if it is at most so far away.
+    fn nearest_within<F: Distances>(&self, field: &mut F, ends: &EndSet, limit: u32) -> Option<u32>
+        ensures nearest { IfSome result (λ n. (task : Job) × IsNearest (F.grid field.old) self.now.tasks ends.now.cells (F.source field.old) n task) }
+        ensures grid { F.grid field.new ≡ F.grid field.old }
+        ensures source { F.source field.new ≡ F.source field.old }
+    {
+        let mut best: Option<Choice> = None;
+        for n in &self.open {
+            let task = self.task(*n);
+            let distance = field.within(task.pickup(), limit);
+            best = better_known(
+                best,
+                Choice { n: *n, distance },
+                task.stops.as_slice(),
+                ends,
+            );
+        }
+        match best {
+            None => None,
+            Some(choice) => Some(choice.n),
+        }
+    }
+
+    /// The nearest task, however far it is.
+    fn nearest_of_all<F: Distances>(&self, field: &mut F, ends: &EndSet) -> Option<u32>
+        ensures none { IfNone result (NoneEligible self.now.tasks ends.now.cells) }
+        ensures nearest { IfSome result (λ n. (task : Job) × IsNearest (F.grid field.old) self.now.tasks ends.now.cells (F.source field.old) n task) }
+        ensures grid { F.grid field.new ≡ F.grid field.old }
+        ensures source { F.source field.new ≡ F.source field.old }
     {
         let mut best: Option<Choice> = None;
         for n in &self.open {
@@ -188,6 +252,18 @@ impl TaskSet {
         let task = &mut self.tasks[n as usize];
         task.agent = Some(agent);
         self.counts.assign();
+    }
+
+    /// Whether the next stop of a task may be visited at this clock: a stop of it is left, an agent has it, and none of its
+    /// clocks is later.
+    pub fn may_visit(&self, n: u32, clock: u32) -> bool
+        ensures visit { IsTrue result ↔ ((task : Job) × IsUnderway self.now.tasks n task × IsInTime clock task) }
+        ensures arrive { IsTrue result ↔ ((task : Job) × IsGoing self.now.tasks n 1 task × IsInTime clock task) }
+    {
+        match self.tasks.get(n as usize) {
+            None => false,
+            Some(task) => task.is_underway() && task.is_in_time(clock),
+        }
     }
 
     /// The next stop of a task is visited at this clock. It takes no memory.
@@ -233,6 +309,17 @@ fn better(best: Option<Choice>, next: Choice, stops: &[Cell], ends: &EndSet) -> 
         return Some(next);
     }
     best
+}
+
+/// The better of the two where the distance of the next is known; else the best so far.
+fn better_known(best: Option<Choice>, next: Choice, stops: &[Cell], ends: &EndSet) -> Option<Choice>
+    ensures known { IfSome next.distance (λ n. IsBetter (All (λ stop. ¬ Contains ends.now.cells stop) stops.now) best next result) }
+    ensures unknown { IfNone next.distance (result ≡ best) }
+{
+    if next.distance.is_none() {
+        return best;
+    }
+    better(best, next, stops, ends)
 }
 
 /// Whether none of the cells is among the ends.

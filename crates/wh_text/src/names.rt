@@ -69,7 +69,7 @@ fn kept(word: &[u8]) -> ArrayVec<u8, 16>
 }
 
 impl Name {
-    /// The name that a word is.
+    /// The name that a word is: `None` where it has no bytes, more than 16, or another byte than a name has.
     pub fn read(word: &[u8]) -> Option<Name>
         ensures { result ≡ name_of word.now }
     {
@@ -80,6 +80,7 @@ impl Name {
     }
 
     /// The bytes, 1 to 16.
+    /// Its bytes, 1 to 16.
     pub fn as_slice(&self) -> &[u8]
         ensures value { result.now ≡ self.now }
         ensures name { names.is_name self.now ≡ true }
@@ -88,17 +89,20 @@ impl Name {
     }
 
     /// The same name.
+    /// The same name, in a place of its own.
     pub fn copy(&self) -> Name
         ensures { result ≡ self.now }
     {
-        Name { bytes: kept(self.bytes.as_slice()) }
+        Name {
+            bytes: kept(self.bytes.as_slice()),
+        }
     }
 
     /// Whether two names are the same.
     pub fn same(&self, other: &Name) -> bool
         ensures { IsTrue result ↔ (self.now ≡ other.now) }
     {
-        self.as_slice() == other.as_slice()
+        self.bytes.as_slice() == other.bytes.as_slice()
     }
 }
 

@@ -1,0 +1,141 @@
+-- what is ready for the book, and what the laws give where it is prepared
+use Rattle.std.proofs.Common.{◌≡◌, ◌≢◌, ℕ, ◌<◌, ◌≤◌, ◌∙◌, List, [], ◌∷◌, ◌++◌, length, get_or, sym, subst, refl, ap, arith}
+use Prim.Native.Nat.{suc}
+use Rattle.std.specs.Prelude.{Some, slice_get, All}
+use Rattle.std.proofs.lemmas.Option.{same_Some, slice_get-get_or}
+use Rattle.std.proofs.lemmas.List.{get_or_default}
+use Rattle.wh_grid.specs.declared.cell.Cell.{Cell}
+use Rattle.wh_path.specs.Paths.{end, AllFree, last_index}
+use Rattle.wh_points.specs.Points.{Site, IsLayout}
+use Rattle.wh_tasks.specs.declared.task.Task.{Task}
+use Rattle.wh_tasks.specs.declared.task.Load.{Load}
+use Rattle.wh_tasks.specs.Marks.{IsInside}
+use Rattle.wh_planner.specs.Duties.{IsLawful, Delivers}
+use Rattle.wh_core.specs.States.{State, opened, arrived, adopted, assigned}
+use Rattle.wh_core.specs.Steps.{Step, Run, IsDue, IsNext, last_clock}
+use Rattle.wh_core.specs.Laws.{IsReached, IsOpening}
+use Rattle.wh_event.specs.declared.entry.Entry.{Entry}
+use Rattle.wh_event.specs.declared.event.Event.{Event}
+use Rattle.wh_event.specs.declared.reply.Reply.{Reply}
+use Rattle.wh_core.proofs.StepKinds.{run-join}
+use Rattle.wh_core.proofs.Opening.{orderly-reached}
+use Rattle.wh_core.proofs.Settled.{no_load_at_rest}
+use Rattle.wh_core.proofs.Seats.{seats-reached}
+use Rattle.wh_core.proofs.Ways.{none_is_refused_a_path}
+use Rattle.wh_event.specs.declared.reply.Refusal.{Refusal}
+use Rattle.wh_points.specs.Formed.{IsFormed}
+use Rattle.std.proofs.lemmas.List.Elements.{Contains-push}
+use Rattle.wh_book.specs.declared.draft.Change.{Change}
+use Rattle.wh_book.specs.declared.draft.Draft.{Draft}
+use Rattle.wh_book.specs.Drafts.{Seen, IsKept, Drafts, IsDraftOf, Changes, CanChange, AllServed}
+
+-- what a book keeps is what the laws are about
+pub kept-reached : (site : Site) (opening : State) (history : List Entry) (state : State) → IsKept site opening history state → IsReached site history state
+kept-reached site opening history state kept = record { opening = opening; is_opening = kept.is_opening; run = kept.run }
+
+-- a book with no entry is kept
+pub kept-opened : (site : Site) (clock : ℕ) (slots first : List ℕ) (history : List Entry) (state : State) → IsLayout site.grid site.layout →
+    clock ≤ last_clock → length slots ≡ length site.layout.agents → first ≡ slots → history ≡ [] → state ≡ opened site.layout clock slots →
+    IsKept site (opened site.layout clock first) history state
+kept-opened site clock slots first history state layout fits seats same none stands = record {
+  is_opening = record {
+    layout = layout;
+    clock = clock;
+    clock_fits = fits;
+    slots = first;
+    seats = ap length same ∙ seats;
+    is_opened = refl;
+  };
+  run = subst (λ (entries : List Entry). Run site (opened site.layout clock first) entries state) (sym none) (stands ∙ ap (opened site.layout clock) (sym same));
+}
+
+-- a run goes on by one step
+pub run-more : (site : Site) (old : State) (entries : List Entry) (mid : State) (entry : Entry) (new : State) →
+    Run site old entries mid → Step site mid entry new → Run site old (entries ++ entry ∷ []) new
+run-more site old entries mid entry new run step = run-join site old entries mid (entry ∷ []) new run (new, step, refl)
+
+-- the paths are free of each other, so that a planner may be asked
+pub kept-free : (site : Site) (opening : State) (history : List Entry) (state : State) → IsKept site opening history state → AllFree site.layout.nofollow state.paths
+kept-free site opening history state kept = (orderly-reached site history state (kept-reached site opening history state kept)).free
+
+-- the paths end within the sides of the grid
+pub kept-inside : (site : Site) (opening : State) (history : List Entry) (state : State) → IsKept site opening history state →
+    All (λ path. IsInside site.grid.width site.grid.height (end path)) state.paths
+kept-inside site opening history state kept = λ k d lt.
+    let orderly = orderly-reached site history state (kept-reached site opening history state kept) in
+    let path = get_or state.paths k [] in
+    let passable = (orderly.course k lt).walk.passable (last_index path) in
+    let here : IsInside site.grid.width site.grid.height (end path) = record { in_width = passable.in_width; in_height = passable.in_height } in
+    subst (λ p. IsInside site.grid.width site.grid.height (end p)) (get_or_default state.paths k [] d lt) here
+
+-- an agent that may be given something to do has no load
+pub kept-idle : (site : Site) (opening : State) (history : List Entry) (state : State) (agent : ℕ) → IsKept site opening history state → IsDue state agent →
+    slice_get state.loads agent ≡ Some Load.None
+kept-idle site opening history state agent kept due =
+    let reached = kept-reached site opening history state kept in
+    let seats = seats-reached site history state reached in
+    let lt : agent < length state.loads = rw (seats.loads, ← seats.paths) due.known.known in
+    slice_get-get_or state.loads agent Load.None lt ∙ ap (λ l. Some l) (no_load_at_rest site history state agent reached due.known.known due.resting)
+
+-- a task that is taken
+pub took-drafts : (book : Seen) (caller agent n : ℕ) (path : List Cell) (task : Task) (draft : Draft) → IsKept book.site book.opening book.history book.state →
+    IsDue book.state agent → IsNext book.site book.state agent n task →
+    IsLawful book.site.grid book.site.layout.nofollow book.state.paths agent (length task.stops) (Delivers task.stops) path → 1 ≤ book.entry_room →
+    IsDraftOf (record { caller = caller; event = Event.Request agent; reply = Reply.Took n path }) (Change.Take agent n path) draft →
+    Drafts book caller (Event.Request agent) draft
+took-drafts book caller agent n path task draft kept due next lawful room is =
+    let entry : Entry = record { caller = caller; event = Event.Request agent; reply = Reply.Took n path } in
+    let step : (new : State) → Changes (Change.Take agent n path) book.state new → Step book.site book.state entry new =
+    λ new changes.
+    let same : changes.0 ≡ task = same_Some changes.0 task (sym changes.1 ∙ next.eligible.there) in
+    (due, (task, next, lawful, changes.2 ∙ ap (λ t. arrived (adopted agent path (assigned agent n t book.state))) same)) in
+    let can : CanChange (Change.Take agent n path) (record { state = book.state; room = book.task_room }) =
+    (due.known.known, kept-idle book.site book.opening book.history book.state agent kept due, (task, next.eligible.there, next.eligible.is_open)) in
+    record {
+      caller_is = ap (λ (e : Entry). e.caller) is.entry_is;
+      event_is = ap (λ (e : Entry). e.event) is.entry_is;
+      ready = record {
+        told = is.told_is ∙ sym is.entry_is;
+        step = rw (is.change_is, is.entry_is) step;
+        can = rw is.change_is can;
+        room = room;
+      };
+    }
+
+-- one step more is kept
+pub kept-more : (site : Site) (opening : State) (history : List Entry) (state : State) (entry : Entry) (new : State) → IsKept site opening history state →
+    Step site state entry new → IsKept site opening (history ++ entry ∷ []) new
+kept-more site opening history state entry new kept step = record {
+  is_opening = kept.is_opening;
+  run = run-more site opening history state entry new kept.run step;
+}
+
+-- the agents stay as many
+pub kept-seats : (site : Site) (opening : State) (history : List Entry) (state : State) (entry : Entry) (new : State) → IsKept site opening history state →
+    Step site state entry new → length new.paths ≡ length state.paths
+kept-seats site opening history state entry new kept step =
+    let next = kept-more site opening history state entry new kept step in
+    (seats-reached site _ new (kept-reached site opening _ new next)).paths ∙ sym (seats-reached site _ state (kept-reached site opening history state kept)).paths
+
+pub kept-served : (site : Site) (opening : State) (history : List Entry) (state : State) → IsKept site opening history state → IsFormed site → AllServed history
+kept-served site opening history state kept formed = none_is_refused_a_path site history state formed (kept-reached site opening history state kept)
+
+-- on a well-formed instance no entry that is added is a refusal for want of a path
+pub step-served : (site : Site) (opening : State) (history : List Entry) (state : State) (entry : Entry) (new : State) → IsKept site opening history state →
+    Step site state entry new → IsFormed site → entry.reply ≢ Reply.Refused Refusal.NoPath
+step-served site opening history state entry new kept step formed =
+    let all = kept-served site opening (history ++ entry ∷ []) new (kept-more site opening history state entry new kept step) formed in
+    let last = Contains-push history entry in
+    subst (λ (e : Entry). e.reply ≢ Reply.Refused Refusal.NoPath) last.2 (all last.0 entry last.1)
+
+all-right : {X : Type 0} (P : X → Type 0) (xs ys : List X) → All P (xs ++ ys) → All P ys
+all-right P [] ys all = all
+all-right P (x ∷ xs) ys all = all-right P xs ys (λ k d lt. all (suc k) d (let l : suc k < length (x ∷ (xs ++ ys)) = omega arith in l))
+
+-- nor any entry of a run that goes on from there
+pub run-served : (site : Site) (opening : State) (history : List Entry) (state : State) (added : List Entry) (new : State) → IsOpening site opening →
+    Run site opening history state → Run site state added new → IsFormed site → AllServed added
+run-served site opening history state added new is_opening run more formed =
+    let joined = run-join site opening history state added new run more in
+    let all = none_is_refused_a_path site (history ++ added) new formed (record { opening = opening; is_opening = is_opening; run = joined }) in
+    all-right (λ (entry : Entry). entry.reply ≢ Reply.Refused Refusal.NoPath) history added all

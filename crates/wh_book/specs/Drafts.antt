@@ -1,0 +1,98 @@
+use Rattle.std.specs.Prelude.{◌≡◌, ◌≢◌, ℕ, ◌+◌, ◌<◌, ◌≤◌, List, Some, length, slice_get, All, Contains}
+use Rattle.wh_points.specs.Points.{Site}
+use Rattle.wh_tasks.specs.declared.task.Task.{Task}
+use Rattle.wh_tasks.specs.declared.task.Load.{Load}
+use Rattle.wh_tasks.specs.Tasks.{IsTask, IsOpen}
+use Rattle.wh_core.specs.States.{State, arrived, submitted, adopted, assigned, moved, reseated, shut}
+use Rattle.wh_core.specs.Steps.{Step, Run, IsDeliveryCell, most_tasks, last_clock}
+use Rattle.wh_grid.specs.declared.cell.Cell.{Cell}
+use Rattle.wh_grid.specs.Grids.{Floor}
+use Rattle.wh_tasks.specs.Marks.{Ends}
+use Rattle.wh_core.specs.Laws.{IsOpening}
+use Rattle.wh_event.specs.declared.entry.Entry.{Entry}
+use Rattle.wh_event.specs.declared.event.Event.{Event}
+use Rattle.wh_event.specs.declared.reply.Reply.{Reply}
+use Rattle.wh_event.specs.declared.reply.Refusal.{Refusal}
+use Rattle.wh_state.specs.Floors.{Standing}
+use Rattle.wh_book.specs.declared.draft.Change.{Change}
+use Rattle.wh_book.specs.declared.draft.Draft.{Draft}
+
+-- the change leads from the old state to the new one
+abbrev pub Changes : Change → State → State → Type 0
+Changes Change.Nothing old new = new ≡ old
+Changes (Change.Add client stops) old new = new ≡ submitted client stops old
+Changes (Change.Take agent n path) old new =
+    (task : Task) × IsTask old.tasks n task × (new ≡ arrived (adopted agent path (assigned agent n task old)))
+Changes (Change.Park agent path) old new = new ≡ adopted agent path old
+Changes Change.Tick old new = new ≡ arrived (moved old)
+Changes (Change.Seat agent slots) old new = new ≡ reseated agent slots old
+Changes Change.Shut old new = new ≡ shut old
+
+-- the change names agents and tasks that are there, and has its room
+abbrev pub CanChange : Change → Standing → Type 0
+CanChange Change.Nothing f = Unit {0}
+CanChange (Change.Add client stops) f = (1 ≤ f.room) × (length f.state.tasks < most_tasks)
+CanChange (Change.Take agent n path) f =
+    (agent < length f.state.paths) × (slice_get f.state.loads agent ≡ Some Load.None)
+    × ((task : Task) × IsTask f.state.tasks n task × IsOpen task)
+CanChange (Change.Park agent path) f = agent < length f.state.paths
+CanChange Change.Tick f = f.state.clock < last_clock
+CanChange (Change.Seat agent slots) f = agent < length f.state.paths
+CanChange Change.Shut f = Unit {0}
+
+-- What callers see of a book: the setting, the opening state, the state, the history that led to it, and for how many
+-- more entries and tasks it has room.
+pub record Seen : Type 0 where
+  pub site : Site
+  pub opening : State
+  pub state : State
+  pub history : List Entry
+  pub entry_room : ℕ
+  pub task_room : ℕ
+
+-- what a book keeps: the history is a run from the opening state to the state
+pub record IsKept (site : Site) (opening : State) (history : List Entry) (state : State) : Type 0 where
+  pub is_opening : IsOpening site opening
+  pub run : Run site opening history state
+
+-- the book tells what it told, but for its room
+pub record IsSame (old new : Seen) : Type 0 where
+  pub site : new.site ≡ old.site
+  pub opening : new.opening ≡ old.opening
+  pub state : new.state ≡ old.state
+  pub history : new.history ≡ old.history
+
+-- The draft may be committed to the book as it is: what its change makes of the state is a step by its entry, and the
+-- change can be made with the room that there is.
+pub record IsReady (book : Seen) (draft : Draft) : Type 0 where
+  pub told : draft.told ≡ draft.entry
+  pub step : (new : State) → Changes draft.change book.state new → Step book.site book.state draft.entry new
+  pub can : CanChange draft.change (record { state = book.state; room = book.task_room })
+  pub room : 1 ≤ book.entry_room
+
+-- the draft answers this event of the caller, and may be committed to the book as it is
+pub record Drafts (book : Seen) (caller : ℕ) (event : Event) (draft : Draft) : Type 0 where
+  pub caller_is : draft.entry.caller ≡ caller
+  pub event_is : draft.entry.event ≡ event
+  pub ready : IsReady book draft
+
+-- the draft has this entry, also for the caller, and this change
+pub record IsDraftOf (entry : Entry) (change : Change) (draft : Draft) : Type 0 where
+  pub entry_is : draft.entry ≡ entry
+  pub told_is : draft.told ≡ entry
+  pub change_is : draft.change ≡ change
+
+-- no open task is delivered at the cell, and it is none of these ends
+pub record MayEnd (s : State) (ends : List Cell) (cell : Cell) : Type 0 where
+  pub no_delivery : ¬ IsDeliveryCell s cell
+  pub no_end : ¬ Contains ends cell
+
+-- no entry is a refusal for want of a path
+abbrev pub AllServed : List Entry → Type 0
+AllServed entries = All (λ entry. entry.reply ≢ Reply.Refused Refusal.NoPath) entries
+
+-- the set of cells is over the grid, and has place for so many
+pub record Suits (ends : Ends) (g : Floor) (count : ℕ) : Type 0 where
+  pub width : ends.width ≡ g.width
+  pub height : ends.height ≡ g.height
+  pub place : count ≤ ends.room + length ends.cells

@@ -1,0 +1,482 @@
+//! The book.
+#![tactic(auto)]
+
+ghost use Rattle.std.specs.Prelude.{◌≡◌, ◌≢◌, ℕ, ◌+◌, ◌-◌, ◌<◌, ◌≤◌, ◌↔◌, List, [], ◌∷◌, ◌++◌, true, false, Some, length, slice_get, IfOk, OnOk, OnErr, IsTrue, Contains};
+ghost use Rattle.wh_path.specs.Paths.{AllFree, place_of};
+ghost use Rattle.wh_points.specs.Points.{Site};
+ghost use Rattle.wh_tasks.specs.declared.task.Task.{Task as Job};
+ghost use Rattle.wh_tasks.specs.Tasks.{IsTask};
+ghost use Rattle.wh_planner.specs.Duties.{IsLawful, Delivers, ParksAt};
+ghost use Rattle.wh_core.specs.States.{State, opened};
+ghost use Rattle.wh_core.specs.Steps.{Step, Run, Refuses, IsDue, IsNext, NoneIsNext, IsDeliveryCell, MakesWay, IsAllowed, other_ends, last_clock};
+ghost use Rattle.wh_core.specs.Laws.{IsOpening};
+ghost use Rattle.wh_event.specs.declared.event.Event.{Event as Asked};
+ghost use Rattle.wh_grid.specs.declared.cell.Cell.{Cell as Place};
+ghost use Rattle.wh_event.specs.declared.reply.Reply.{Reply as Answer};
+ghost use Rattle.wh_event.specs.declared.reply.Refusal.{Refusal as Reason};
+ghost use Rattle.wh_points.specs.Formed.{IsFormed};
+ghost use Rattle.wh_book.specs.Settings.{IsStop, faulty};
+ghost use Rattle.wh_book.specs.Drafts.{Seen, IsSame, IsReady, Drafts, Changes, CanChange, MayEnd, AllServed, Suits};
+
+use crate::draft::{Change, Draft};
+use crate::setting::{Fault, Setting};
+use std::alloc::{AllocError, Global};
+use std::marker::Model;
+use wh_event::{Entry, Event, Refusal, Reply, Spare, Stops};
+use wh_grid::Cell;
+use wh_path::TimedPath;
+use wh_state::Floor;
+use wh_tasks::{EndSet, Load, TaskSet};
+use wh_text::Name;
+
+/// The state, the history that led to it, and what the opening state was made of.
+#[derive(Drop)]
+pub struct Book {
+    setting: Setting,
+    first_clock: u32,
+    first_slots: Vec<u32>,
+    floor: Floor,
+    history: Vec<Entry>,
+}
+
+impl Model for Book {
+    ghost use Rattle.std.specs.Prelude.{◌-◌, vec_capacity, vec_len};
+    ghost use Rattle.wh_core.specs.States.{opened};
+    ghost use Rattle.wh_grid.specs.declared.cell.Cell.{Cell as Place};
+    ghost use Rattle.wh_book.specs.Settings.{IsStop, faulty};
+    ghost use Rattle.wh_book.specs.Drafts.{Seen, IsKept};
+
+    ghost Value = { Seen };
+
+    ghost view = { λ b. record {
+      site = b.setting;
+      opening = opened b.setting.layout b.first_clock b.first_slots.items;
+      state = b.floor.state;
+      history = b.history.items;
+      entry_room = vec_capacity b.history - vec_len b.history;
+      task_room = b.floor.room;
+    } };
+
+    ghost invariant = { λ b. IsKept b.setting (opened b.setting.layout b.first_clock b.first_slots.items) b.history.items b.floor.state };
+}
+
+impl Book {
+    /// The book with no entry.
+    pub fn open(
+        alloc: Global,
+        setting: Setting,
+        clock: u32,
+        slots: Vec<u32>,
+    ) -> Result<Book, AllocError>
+        requires clock { clock ≤ last_clock }
+        requires seats { length slots.items ≡ length setting.layout.agents }
+        ensures site { IfOk result (λ book. book.site ≡ setting) }
+        ensures opening { IfOk result (λ book. book.opening ≡ opened setting.layout clock slots.items) }
+        ensures state { IfOk result (λ book. book.state ≡ book.opening) }
+        ensures history { IfOk result (λ book. book.history ≡ []) }
+    {
+        let _agents = setting.agents();
+        let first_slots = Vec::from_slice(alloc, slots.as_slice())?;
+        let starts = setting.starts(alloc)?;
+        let floor = Floor::open(alloc, clock, starts.as_slice(), slots)?;
+        Ok(Book {
+            setting,
+            first_clock: clock,
+            first_slots,
+            floor,
+            history: Vec::new(alloc),
+        })
+    }
+
+    /// The grid and the points.
+    pub fn setting(&self) -> &Setting
+        ensures { result.now ≡ self.now.site }
+    {
+        &self.setting
+    }
+
+    /// All entries so far: a run from the opening state to the state.
+    pub fn history(&self) -> &[Entry]
+        ensures value { result.now ≡ self.now.history }
+        ensures opening { IsOpening self.now.site self.now.opening }
+        ensures run { Run self.now.site self.now.opening self.now.history self.now.state }
+        ensures served { IsFormed self.now.site → AllServed self.now.history }
+    {
+        self.history.as_slice()
+    }
+
+    /// Whether it is closed.
+    pub fn closed(&self) -> bool
+        ensures { result ≡ self.now.state.closed }
+    {
+        self.floor.closed()
+    }
+
+    /// The clock, in ticks, at most 1,000,000,000.
+    pub fn clock(&self) -> u32
+        ensures value { result ≡ self.now.state.clock }
+        ensures fits { result ≤ last_clock }
+    {
+        self.floor.clock()
+    }
+
+    /// The paths, any two of them free of each other.
+    pub fn paths(&self) -> &[TimedPath]
+        ensures value { result.now ≡ self.now.state.paths }
+        ensures free { AllFree self.now.site.layout.nofollow self.now.state.paths }
+        ensures few { length result.now ≤ 256 }
+    {
+        self.floor.paths()
+    }
+
+    /// The tasks.
+    pub fn tasks(&self) -> &TaskSet
+        ensures { result.now.tasks ≡ self.now.state.tasks }
+    {
+        self.floor.tasks()
+    }
+
+    /// The agents' loads.
+    pub fn loads(&self) -> &[Load]
+        ensures value { result.now ≡ self.now.state.loads }
+        ensures each { length result.now ≡ length self.now.state.paths }
+    {
+        self.floor.loads()
+    }
+
+    /// The slots of the agents' planners.
+    pub fn slots(&self) -> &[u32]
+        ensures value { result.now ≡ self.now.state.slots }
+        ensures each { length result.now ≡ length self.now.state.paths }
+    {
+        self.floor.slots()
+    }
+
+    /// The clock of the opening state.
+    pub fn first_clock(&self) -> u32
+        ensures { result ≡ self.now.opening.clock }
+    {
+        self.first_clock
+    }
+
+    /// The slots of the agents' planners in the opening state.
+    pub fn first_slots(&self) -> &[u32]
+        ensures { result.now ≡ self.now.opening.slots }
+    {
+        self.first_slots.as_slice()
+    }
+
+    /// Makes room for one entry.
+    pub fn reserve_entry(&mut self) -> Result<(), AllocError>
+        ensures same { IsSame self.old self.new }
+        ensures room { OnOk result (1 ≤ self.new.entry_room) }
+    {
+        self.history.reserve(1)
+    }
+
+    /// Makes room for one task.
+    pub fn reserve_task(&mut self, alloc: Global) -> Result<(), AllocError>
+        ensures same { IsSame self.old self.new }
+        ensures entry_room { self.new.entry_room ≡ self.old.entry_room }
+        ensures room { OnOk result (1 ≤ self.new.task_room) }
+    {
+        self.floor.reserve_task(alloc)
+    }
+
+    /// Adds the entry and makes its change. It takes no memory and always succeeds.
+    pub fn commit(&mut self, draft: Draft) -> Entry
+        requires { IsReady self.old draft }
+        ensures entry { result ≡ draft.entry }
+        ensures site { self.new.site ≡ self.old.site }
+        ensures opening { self.new.opening ≡ self.old.opening }
+        ensures history { self.new.history ≡ self.old.history ++ draft.entry ∷ [] }
+        ensures step { Step self.old.site self.old.state result self.new.state }
+        ensures seats { length self.new.state.paths ≡ length self.old.state.paths }
+        ensures served { IsFormed self.old.site → result.reply ≢ Answer.Refused Reason.NoPath }
+    {
+        let Draft {
+            entry,
+            told,
+            change,
+        } = draft;
+        apply(&mut self.floor, change);
+        self.history.push_reserved(entry);
+        told
+    }
+
+    /// Refuses the event.
+    pub fn refuse(
+        &self,
+        alloc: Global,
+        caller: u32,
+        event: Event,
+        refusal: Refusal,
+    ) -> Result<Draft, AllocError>
+        requires refuses { Refuses self.now.site self.now.state refusal event }
+        requires room { 1 ≤ self.now.entry_room }
+        ensures { IfOk result (Drafts self.now caller event) }
+    {
+        let entry = Entry {
+            caller,
+            event,
+            reply: Reply::Refused(refusal),
+        };
+        Draft::new(alloc, entry, Change::Nothing)
+    }
+
+    /// Accepts a task; or refuses it, where a stop is no station or the tasks are full.
+    pub fn draft_submit(
+        &mut self,
+        alloc: Global,
+        caller: u32,
+        client: Name,
+        stops: Stops,
+    ) -> Result<Draft, AllocError>
+        requires not_closed { self.old.state.closed ≡ false }
+        requires room { 1 ≤ self.old.entry_room }
+        ensures same { IsSame self.old self.new }
+        ensures drafts { IfOk result (Drafts self.new caller (Asked.Submit client stops)) }
+    {
+        let places = match self.setting.places(&stops) {
+            Ok(places) => places,
+            Err(fault) => {
+                let refusal = refusal_of(fault, &stops);
+                return self.refuse(alloc, caller, Event::Submit { client, stops }, refusal);
+            }
+        };
+        let task = self.floor.tasks().len();
+        if task == 1_000_000 {
+            return self.refuse(
+                alloc,
+                caller,
+                Event::Submit { client, stops },
+                Refusal::TasksFull,
+            );
+        }
+        self.reserve_task(alloc)?;
+        let change = Change::Add {
+            client: client.copy(),
+            stops: places,
+        };
+        let entry = Entry {
+            caller,
+            event: Event::Submit { client, stops },
+            reply: Reply::Accepted { task },
+        };
+        Draft::new(alloc, entry, change)
+    }
+
+    /// One step of time, or a refusal where the clock is full.
+    pub fn draft_tick(&self, alloc: Global, caller: u32) -> Result<Draft, AllocError>
+        requires not_closed { self.now.state.closed ≡ false }
+        requires room { 1 ≤ self.now.entry_room }
+        ensures { IfOk result (Drafts self.now caller Asked.Tick) }
+    {
+        let clock = self.clock();
+        if clock == 1_000_000_000 {
+            return self.refuse(alloc, caller, Event::Tick, Refusal::ClockFull);
+        }
+        let arrivals = self.floor.next_arrivals();
+        let reply = Reply::Clock {
+            now: clock + 1,
+            picked: arrivals.picked,
+            dropped: arrivals.dropped,
+        };
+        let entry = Entry {
+            caller,
+            event: Event::Tick,
+            reply,
+        };
+        Draft::new(alloc, entry, Change::Tick)
+    }
+
+    /// The warehouse closes.
+    pub fn draft_close(&self, alloc: Global, caller: u32) -> Result<Draft, AllocError>
+        requires not_closed { self.now.state.closed ≡ false }
+        requires room { 1 ≤ self.now.entry_room }
+        ensures { IfOk result (Drafts self.now caller Asked.Close) }
+    {
+        let entry = Entry {
+            caller,
+            event: Event::Close,
+            reply: Reply::Closed,
+        };
+        Draft::new(alloc, entry, Change::Shut)
+    }
+
+    /// The agent gets a spare planner, where there is one that fits.
+    pub fn draft_replace(
+        &self,
+        alloc: Global,
+        caller: u32,
+        agent: u32,
+        spare: Spare,
+    ) -> Result<Draft, AllocError>
+        requires not_closed { self.now.state.closed ≡ false }
+        requires room { 1 ≤ self.now.entry_room }
+        ensures { IfOk result (Drafts self.now caller (Asked.Replace agent spare)) }
+    {
+        let event = Event::Replace { agent, spare };
+        if agent as usize >= self.paths().len() {
+            return self.refuse(alloc, caller, event, Refusal::UnknownAgent(agent));
+        }
+        match spare {
+            Spare::None => self.refuse(alloc, caller, event, Refusal::NoSpare),
+            Spare::Foreign => self.refuse(alloc, caller, event, Refusal::ForeignPlanner),
+            Spare::Fits { slots } => {
+                let entry = Entry {
+                    caller,
+                    event,
+                    reply: Reply::Replaced { slots },
+                };
+                Draft::new(alloc, entry, Change::Seat { agent, slots })
+            }
+        }
+    }
+
+    /// The agent takes the task by the path.
+    pub fn draft_took(
+        &self,
+        alloc: Global,
+        caller: u32,
+        agent: u32,
+        task: u32,
+        path: TimedPath,
+    ) -> Result<Draft, AllocError>
+        requires due { IsDue self.now.state agent }
+        requires lawful { (job : Job) × IsNext self.now.site self.now.state agent task job
+            × IsLawful self.now.site.grid self.now.site.layout.nofollow self.now.state.paths agent (length job.stops) (Delivers job.stops) path }
+        requires room { 1 ≤ self.now.entry_room }
+        ensures { IfOk result (Drafts self.now caller (Asked.Request agent)) }
+    {
+        let _kept = &self.history;
+        let entry = Entry {
+            caller,
+            event: Event::Request { agent },
+            reply: Reply::Took {
+                task,
+                path: path.copy(alloc)?,
+            },
+        };
+        Draft::new(alloc, entry, Change::Take { agent, task, path })
+    }
+
+    /// The agent has nothing to do, and is in nobody's way.
+    pub fn draft_rested(&self, alloc: Global, caller: u32, agent: u32) -> Result<Draft, AllocError>
+        requires due { IsDue self.now.state agent }
+        requires none { NoneIsNext self.now.state agent }
+        requires out_of_the_way { ¬ IsDeliveryCell self.now.state (place_of self.now.state.paths agent) }
+        requires room { 1 ≤ self.now.entry_room }
+        ensures { IfOk result (Drafts self.now caller (Asked.Request agent)) }
+    {
+        let entry = Entry {
+            caller,
+            event: Event::Request { agent },
+            reply: Reply::Rested,
+        };
+        Draft::new(alloc, entry, Change::Nothing)
+    }
+
+    /// The agent makes way by the path.
+    pub fn draft_parked(
+        &self,
+        alloc: Global,
+        caller: u32,
+        agent: u32,
+        path: TimedPath,
+    ) -> Result<Draft, AllocError>
+        requires due { IsDue self.now.state agent }
+        requires makes_way { MakesWay self.now.state agent }
+        requires lawful { IsLawful self.now.site.grid self.now.site.layout.nofollow self.now.state.paths agent 2 (ParksAt (IsAllowed self.now.site self.now.state agent)) path }
+        requires room { 1 ≤ self.now.entry_room }
+        ensures { IfOk result (Drafts self.now caller (Asked.Request agent)) }
+    {
+        let point = self.setting.point_at(path.end());
+        let entry = Entry {
+            caller,
+            event: Event::Request { agent },
+            reply: Reply::Parked {
+                point: point.name.copy(),
+                path: path.copy(alloc)?,
+            },
+        };
+        Draft::new(alloc, entry, Change::Park { agent, path })
+    }
+
+    /// An empty set of cells that suits the grid and the agents.
+    pub fn no_ends(&self, alloc: Global) -> Result<EndSet, AllocError>
+        ensures { IfOk result (λ marks. Suits marks self.now.site.grid (length self.now.state.paths)) }
+    {
+        let grid = self.setting.grid();
+        EndSet::new(alloc, grid.width(), grid.height(), self.paths().len())
+    }
+
+    /// Puts the cells where the others' paths end into the set, in place of what it has. It takes no memory.
+    pub fn other_ends(&self, agent: u32, marks: &mut EndSet)
+        requires known { agent < length self.now.state.paths }
+        requires suits { Suits marks.old self.now.site.grid (length self.now.state.paths) }
+        ensures suits { Suits marks.new self.now.site.grid (length self.now.state.paths) }
+        ensures ends { marks.new.cells ≡ other_ends self.now.state agent }
+    {
+        let _kept = &self.history;
+        self.floor.other_ends(agent, marks);
+    }
+
+    /// The cells at which the agent may park, where these are the others' ends.
+    pub fn allowed(
+        &self,
+        alloc: Global,
+        agent: u32,
+        marks: &EndSet,
+    ) -> Result<Vec<Cell>, AllocError>
+        requires { marks.now.cells ≡ other_ends self.now.state agent }
+        ensures { IfOk result (λ cells. (cell : Place) → Contains cells.items cell ↔ IsAllowed self.now.site self.now.state agent cell) }
+    {
+        let mut cells = Vec::new(alloc);
+        for point in self.setting.points() {
+            if self.may_end(point.cell, marks) {
+                cells.push(point.cell)?;
+            }
+        }
+        Ok(cells)
+    }
+
+    /// Whether no open task is delivered at the cell, and no other's path ends there.
+    fn may_end(&self, cell: Cell, marks: &EndSet) -> bool
+        ensures { IsTrue result ↔ MayEnd self.now.state marks.now.cells cell }
+    {
+        !self.floor.tasks().delivers_at(cell) && !marks.has(cell)
+    }
+}
+
+/// Makes the change. It takes no memory.
+fn apply(floor: &mut Floor, change: Change)
+    requires { CanChange change floor.old }
+    ensures { Changes change floor.old.state floor.new.state }
+{
+    match change {
+        Change::Nothing => {}
+        Change::Add { client, stops } => {
+            let _task = floor.submit(client, stops);
+        }
+        Change::Take { agent, task, path } => floor.take(agent, task, path),
+        Change::Park { agent, path } => floor.park(agent, path),
+        Change::Tick => {
+            let _arrivals = floor.tick();
+        }
+        Change::Seat { agent, slots } => floor.seat(agent, slots),
+        Change::Shut => floor.shut(),
+    }
+}
+
+/// The refusal of a task with such a stop.
+fn refusal_of(fault: Fault, stops: &Stops) -> Refusal
+    requires { IsStop fault (length stops.now) }
+    ensures { result ≡ faulty stops.now fault }
+{
+    let names = stops.as_slice();
+    match fault {
+        Fault::Unknown(k) => Refusal::UnknownPoint(names[k].copy()),
+        Fault::Parking(k) => Refusal::NotStation(names[k].copy()),
+    }
+}

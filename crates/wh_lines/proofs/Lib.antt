@@ -1,0 +1,5 @@
+pub mod Room
+pub mod ReadCounts
+pub mod Cuts
+pub mod Parts
+pub mod Collecting

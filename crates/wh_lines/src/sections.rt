@@ -1,0 +1,175 @@
+//! Sections: the bytes up to a line `%%`, or up to the end.
+ghost use Rattle.std.specs.Prelude.{◌≡◌, ◌<◌, ◌≤◌, ◌⊎◌, ◌++◌, length, take, drop, nat_lt, ◌≢◌, true, false, IfOk, IfErr, OnOk, OnErr};
+ghost use Rattle.std.specs.List.{position_or_len};
+ghost use Rattle.std.specs.Io.KnownBytes.{Keeps, IsAtEnd};
+ghost use Rattle.wh_text.specs.Lines.{is_line_feed, without_cr};
+ghost use Rattle.wh_lines.specs.Text.{is_separator};
+ghost use Rattle.wh_lines.specs.Input.{left, with_waiting, part_len, GoesOn};
+ghost use Rattle.wh_lines.specs.Section.{Closed, Sectioned, Overflows};
+
+use crate::ends::{line_end, trimmed};
+use crate::lines::{Lines, ReadFault};
+use std::alloc::{AllocError, Global};
+use std::io::Read;
+
+/// Why a section was not read.
+#[derive(Clone, Copy, Debug, PartialEq, Eq)]
+pub enum SectionFault {
+    /// The reader failed, or a fault came before.
+    Broken,
+    /// The reader was asked 100,000,000 times.
+    Endless,
+    /// The section has more bytes than the limit.
+    TooLong,
+    /// Memory is short.
+    NoMemory,
+}
+
+/// Whether a line stands between two sections.
+#[tactic(auto, unfolding(crate::specs::Text::is_separator))]
+fn is_mark(line: &[u8]) -> bool
+    ensures { result ≡ is_separator (without_cr line.now) }
+{
+    trimmed(line) == b"%%".as_slice()
+}
+
+/// Whether bytes wait, after a read where none did.
+fn more_waits<R: Read>(lines: &mut Lines<R>) -> Result<bool, SectionFault>
+    ensures left { OnOk result (Keeps (left lines.old) (left lines.new)) }
+    ensures end { IfOk result (λ more. more ≡ false → IsAtEnd (left lines.new)) }
+    ensures failed { OnOk result (lines.new.failed ≡ lines.old.failed) }
+    ensures ended { lines.new.ended ≡ lines.old.ended }
+    ensures goes_on { OnOk result (GoesOn lines.old lines.new) }
+    ensures too_long { IfErr result (λ fault. fault ≢ SectionFault.TooLong) }
+    ensures broken { result ≡ Err SectionFault.Broken → lines.old.reads < lines.new.reads }
+    ensures endless { result ≡ Err SectionFault.Endless → lines.new.reads ≡ 100000000 }
+{
+    if !lines.waiting().is_empty() {
+        return Ok(true);
+    }
+    match lines.fill() {
+        Ok(more) => Ok(more),
+        Err(ReadFault::Broken) => Err(SectionFault::Broken),
+        Err(ReadFault::Endless) => Err(SectionFault::Endless),
+    }
+}
+
+/// How many bytes wait of the line, with its line feed, and whether it is whole.
+fn part(waiting: &[u8]) -> (usize, bool)
+    ensures count { take result.0 waiting.now ≡ take (part_len waiting.now) waiting.now }
+    ensures rest { drop result.0 waiting.now ≡ drop (part_len waiting.now) waiting.now }
+    ensures within { result.0 ≤ length waiting.now }
+    ensures whole { result.1 ≡ nat_lt (position_or_len is_line_feed waiting.now) (length waiting.now) }
+{
+    match line_end(waiting) {
+        Some(end) => (end + 1, true),
+        None => (waiting.len(), false),
+    }
+}
+
+/// Moves what waits of the line, with its line feed, to the end of the text. True: the line is whole.
+fn append_part<R: Read>(lines: &mut Lines<R>, text: &mut Vec<u8>) -> Result<bool, AllocError>
+    ensures text { OnOk result (text.new.items ≡ text.old.items ++ take (part_len lines.old.waiting) lines.old.waiting) }
+    ensures lines { OnOk result (lines.new ≡ with_waiting lines.old (drop (part_len lines.old.waiting) lines.old.waiting)) }
+    ensures whole { IfOk result (λ whole. whole ≡ nat_lt (position_or_len is_line_feed lines.old.waiting) (length lines.old.waiting)) }
+    ensures err { OnErr result (lines.new ≡ lines.old) }
+{
+    let waiting = lines.waiting();
+    let (count, whole) = part(waiting);
+    text.extend_from_slice(&waiting[..count])?;
+    lines.take(count);
+    Ok(whole)
+}
+
+/// A section, and whether the end of the input closed it.
+#[derive(Drop)]
+struct Collected {
+    text: Vec<u8>,
+    by_end: bool,
+}
+
+/// The next section, while no fault has come.
+fn collect<R: Read>(
+    lines: &mut Lines<R>,
+    alloc: Global,
+    limit: usize,
+) -> Result<Collected, SectionFault>
+    ensures ok { IfOk result (λ c. Closed c.by_end lines.old lines.new c.text.items) }
+    ensures within { IfOk result (λ c. length c.text.items ≤ limit) }
+    ensures too_long { result ≡ Err SectionFault.TooLong → Overflows lines.old lines.new limit }
+    ensures broken { result ≡ Err SectionFault.Broken → lines.old.reads < lines.new.reads }
+    ensures endless { result ≡ Err SectionFault.Endless → lines.new.reads ≡ 100000000 }
+    ensures failed { OnOk result (lines.new.failed ≡ lines.old.failed) }
+    ensures ended { OnErr result (lines.new.ended ≡ lines.old.ended) }
+{
+    let mut text = Vec::new(alloc);
+    let mut start = 0;
+    loop {
+        if !more_waits(lines)? {
+            if is_mark(&text[start..]) {
+                text.truncate(start);
+                return Ok(Collected {
+                    text,
+                    by_end: false,
+                });
+            }
+            if text.len() > limit {
+                return Err(SectionFault::TooLong);
+            }
+            return Ok(Collected { text, by_end: true });
+        }
+        let whole = match append_part(lines, &mut text) {
+            Ok(whole) => whole,
+            Err(_) => return Err(SectionFault::NoMemory),
+        };
+        if !whole {
+            // A begun line of up to three bytes may still become `%%` with a carriage return.
+            if text.len().saturating_sub(3) > limit {
+                return Err(SectionFault::TooLong);
+            }
+            continue;
+        }
+        if is_mark(&text[start..text.len() - 1]) {
+            text.truncate(start);
+            return Ok(Collected {
+                text,
+                by_end: false,
+            });
+        }
+        if text.len() > limit {
+            return Err(SectionFault::TooLong);
+        }
+        start = text.len();
+    }
+}
+
+impl<R: Read> Lines<R> {
+    /// The bytes of the next section as they came: up to a line `%%`, which is taken too, or up to the end. At most
+    /// `limit` bytes. A missing section is empty. After a fault each later call answers `Broken`.
+    pub fn section(&mut self, alloc: Global, limit: usize) -> Result<Vec<u8>, SectionFault>
+        ensures ok { IfOk result (λ text. Sectioned self.old self.new text.items) }
+        ensures within { IfOk result (λ text. length text.items ≤ limit) }
+        ensures too_long { result ≡ Err SectionFault.TooLong → Overflows self.old self.new limit }
+        // The reader failed when it was asked, or a fault came before.
+        ensures broken { result ≡ Err SectionFault.Broken → (self.old.failed ≡ true) ⊎ (self.old.reads < self.new.reads) }
+        ensures endless { result ≡ Err SectionFault.Endless → self.new.reads ≡ 100000000 }
+        ensures open { OnOk result ((self.old.failed ≡ false) × (self.new.failed ≡ false)) }
+        ensures failed { OnErr result (self.new.failed ≡ true) }
+        ensures again { self.old.failed ≡ true → (result ≡ Err SectionFault.Broken) × (self.new ≡ self.old) }
+        ensures ended { OnErr result (self.new.ended ≡ self.old.ended) }
+    {
+        if self.has_failed() {
+            return Err(SectionFault::Broken);
+        }
+        match collect(self, alloc, limit) {
+            Ok(section) => {
+                self.set_ended(section.by_end);
+                Ok(section.text)
+            }
+            Err(fault) => {
+                self.fail();
+                Err(fault)
+            }
+        }
+    }
+}

@@ -1,0 +1,6 @@
+pub mod Pointwise
+pub mod Below
+pub mod Ties
+pub mod Steps
+pub mod FloorLemmas
+pub mod Foretelling

@@ -1,0 +1,278 @@
+//! The floor: the state of the warehouse, by columns.
+#![tactic(auto)]
+
+ghost use Rattle.std.specs.Prelude.{◌≡◌, ◌≢◌, ℕ, ◌+◌, ◌-◌, ◌<◌, ◌≤◌, List, [], ◌∷◌, ◌++◌, length, map, IfOk, OnOk, OnErr, Some, slice_get, IsTrue, ◌↔◌, All};
+ghost use Rattle.wh_path.specs.Paths.{advanced, end, ends, others};
+ghost use Rattle.wh_tasks.specs.Marks.{IsInside};
+ghost use Rattle.wh_tasks.specs.declared.task.Load.{Load as Burden};
+ghost use Rattle.wh_tasks.specs.declared.task.Task.{Task as Job};
+ghost use Rattle.wh_tasks.specs.Tasks.{IsTask, IsOpen};
+ghost use Rattle.wh_core.specs.States.{State, arrived, picked, dropped, submitted, adopted, assigned, moved, reseated, shut};
+ghost use Rattle.wh_state.specs.Floors.{Standing, standing_at};
+
+use crate::arrivals::{Arrivals, arrive_all, foretell_all};
+use std::alloc::{AllocError, Global};
+use std::marker::Model;
+use wh_grid::Cell;
+use wh_path::TimedPath;
+use wh_tasks::{EndSet, Load, Places, TaskSet};
+use wh_text::Name;
+
+/// The state of the warehouse. For each agent it has a path from now on, a load, and its planner's slots.
+#[derive(Drop)]
+pub struct Floor {
+    clock: u32,
+    closed: bool,
+    paths: Vec<TimedPath>,
+    loads: Vec<Load>,
+    slots: Vec<u32>,
+    tasks: TaskSet,
+}
+
+impl Model for Floor {
+    ghost use Rattle.wh_state.specs.Floors.{Standing, IsSound};
+
+    ghost Value = { Standing };
+
+    ghost view = { λ f. record {
+      state = record {
+        clock = f.clock;
+        closed = f.closed;
+        paths = f.paths.items;
+        loads = f.loads.items;
+        slots = f.slots.items;
+        tasks = f.tasks.tasks;
+      };
+      room = f.tasks.room;
+    } };
+
+    ghost invariant = { λ f. IsSound f.clock f.paths.items f.loads.items f.slots.items f.tasks.tasks };
+}
+
+impl Floor {
+    /// The floor at the opening: each agent stands at its start and has no load, and there are no tasks.
+    pub fn open(
+        alloc: Global,
+        clock: u32,
+        starts: &[Cell],
+        slots: Vec<u32>,
+    ) -> Result<Floor, AllocError>
+        requires clock { clock ≤ 1000000000 }
+        requires few { length starts.now ≤ 256 }
+        requires seats { length slots.items ≡ length starts.now }
+        ensures { IfOk result (λ floor. floor.state ≡ standing_at starts.now clock slots.items) }
+    {
+        let mut paths = Vec::new(alloc);
+        let mut loads = Vec::new(alloc);
+        for start in starts {
+            paths.push(TimedPath::one(alloc, *start)?)?;
+            loads.push(Load::None)?;
+        }
+        Ok(Floor {
+            clock,
+            closed: false,
+            paths,
+            loads,
+            slots,
+            tasks: TaskSet::new(alloc),
+        })
+    }
+
+    pub fn clock(&self) -> u32
+        ensures value { result ≡ self.now.state.clock }
+        ensures fits { result ≤ 1000000000 }
+    {
+        self.clock
+    }
+
+    pub fn closed(&self) -> bool
+        ensures { result ≡ self.now.state.closed }
+    {
+        self.closed
+    }
+
+    /// The paths of all agents.
+    pub fn paths(&self) -> &[TimedPath]
+        ensures value { result.now ≡ self.now.state.paths }
+        ensures few { length result.now ≤ 256 }
+    {
+        self.paths.as_slice()
+    }
+
+    /// The loads of all agents.
+    pub fn loads(&self) -> &[Load]
+        ensures value { result.now ≡ self.now.state.loads }
+        ensures each { length result.now ≡ length self.now.state.paths }
+    {
+        self.loads.as_slice()
+    }
+
+    /// The slots of all agents' planners.
+    pub fn slots(&self) -> &[u32]
+        ensures value { result.now ≡ self.now.state.slots }
+        ensures each { length result.now ≡ length self.now.state.paths }
+    {
+        self.slots.as_slice()
+    }
+
+    /// Whether the agent is known and has no load.
+    pub fn is_idle(&self, agent: u32) -> bool
+        ensures { IsTrue result ↔ (slice_get self.now.state.loads agent ≡ Some Burden.None) }
+    {
+        match self.loads.get(agent as usize) {
+            None => false,
+            Some(load) => *load == Load::None,
+        }
+    }
+
+    /// Puts the cells where the paths of all agents but this one end into a set, in place of what it has.
+    pub fn other_ends(&self, agent: u32, marks: &mut EndSet)
+        requires known { agent < length self.now.state.paths }
+        requires inside { All (λ path. IsInside marks.old.width marks.old.height (end path)) self.now.state.paths }
+        requires room { length self.now.state.paths ≤ marks.old.room + length marks.old.cells }
+        ensures cells { marks.new.cells ≡ ends (others self.now.state.paths agent) }
+        ensures width { marks.new.width ≡ marks.old.width }
+        ensures height { marks.new.height ≡ marks.old.height }
+        ensures room { marks.new.room + length marks.new.cells ≡ marks.old.room + length marks.old.cells }
+    {
+        let paths = self.paths.as_slice();
+        marks.clear();
+        add_ends(marks, &paths[..agent as usize]);
+        add_ends(marks, &paths[agent as usize + 1..]);
+    }
+
+    /// The tasks.
+    pub fn tasks(&self) -> &TaskSet
+        ensures tasks { result.now.tasks ≡ self.now.state.tasks }
+        ensures room { result.now.room ≡ self.now.room }
+    {
+        &self.tasks
+    }
+
+    /// Makes room for one task.
+    pub fn reserve_task(&mut self, alloc: Global) -> Result<(), AllocError>
+        ensures state { self.new.state ≡ self.old.state }
+        ensures room { OnOk result (1 ≤ self.new.room) }
+        ensures full { OnErr result (self.old.room ≡ 0) }
+    {
+        self.tasks.reserve(alloc)
+    }
+
+    /// Adds an open task, and answers its number. It takes no memory.
+    pub fn submit(&mut self, client: Name, stops: Places) -> u32
+        requires room { 1 ≤ self.old.room }
+        requires few { length self.old.state.tasks < 1000000 }
+        ensures number { result ≡ length self.old.state.tasks }
+        ensures state { self.new.state ≡ submitted client stops self.old.state }
+    {
+        self.tasks.submit(client, stops, self.clock)
+    }
+
+    /// One step of time: each path loses its first cell where a second follows, the clock grows, and the agents arrive.
+    /// It takes time by the number of agents alone, and no memory.
+    pub fn tick(&mut self) -> Arrivals
+        requires { self.old.state.clock < 1000000000 }
+        ensures state { self.new.state ≡ arrived (moved self.old.state) }
+        ensures picked { result.picked ≡ picked (moved self.old.state) }
+        ensures dropped { result.dropped ≡ dropped (moved self.old.state) }
+        ensures room { self.new.room ≡ self.old.room }
+    {
+        self.step();
+        self.arrive()
+    }
+
+    /// What the next tick's arrivals will be. Nothing changes.
+    pub fn next_arrivals(&self) -> Arrivals
+        ensures picked { result.picked ≡ picked (moved self.now.state) }
+        ensures dropped { result.dropped ≡ dropped (moved self.now.state) }
+    {
+        foretell_all(&self.paths, &self.loads, &self.tasks)
+    }
+
+    /// An agent without a load goes by a path from now on to fetch an open task, and the agents arrive.
+    pub fn take(&mut self, agent: u32, n: u32, path: TimedPath)
+        requires known { agent < length self.old.state.paths }
+        requires idle { slice_get self.old.state.loads agent ≡ Some Burden.None }
+        requires is_open { (task : Job) × IsTask self.old.state.tasks n task × IsOpen task }
+        ensures { (task : Job) × IsTask self.old.state.tasks n task × (self.new.state ≡ arrived (adopted agent path (assigned agent n task self.old.state))) }
+    {
+        self.assign(agent, n, path);
+        self.arrive();
+    }
+
+    /// An agent goes by a path from now on.
+    pub fn park(&mut self, agent: u32, path: TimedPath)
+        requires { agent < length self.old.state.paths }
+        ensures { self.new.state ≡ adopted agent path self.old.state }
+    {
+        self.paths[agent as usize] = path;
+    }
+
+    /// An agent's planner has so many slots from now on.
+    pub fn seat(&mut self, agent: u32, slots: u32)
+        requires { agent < length self.old.state.paths }
+        ensures { self.new.state ≡ reseated agent slots self.old.state }
+    {
+        self.slots[agent as usize] = slots;
+    }
+
+    /// Every later event is refused.
+    pub fn shut(&mut self)
+        ensures { self.new.state ≡ shut self.old.state }
+    {
+        self.closed = true;
+    }
+
+    /// One step of time, without the arrivals.
+    fn step(&mut self)
+        requires { self.old.state.clock < 1000000000 }
+        ensures state { self.new.state ≡ moved self.old.state }
+        ensures room { self.new.room ≡ self.old.room }
+    {
+        self.clock += 1;
+        advance_all(&mut self.paths);
+    }
+
+    /// The arrivals of all agents.
+    fn arrive(&mut self) -> Arrivals
+        ensures state { self.new.state ≡ arrived self.old.state }
+        ensures picked { result.picked ≡ picked self.old.state }
+        ensures dropped { result.dropped ≡ dropped self.old.state }
+        ensures room { self.new.room ≡ self.old.room }
+    {
+        arrive_all(self.clock, &self.paths, &mut self.loads, &mut self.tasks)
+    }
+
+    /// An agent without a load goes by a path from now on to fetch an open task.
+    fn assign(&mut self, agent: u32, n: u32, path: TimedPath)
+        requires known { agent < length self.old.state.paths }
+        requires idle { slice_get self.old.state.loads agent ≡ Some Burden.None }
+        requires is_open { (task : Job) × IsTask self.old.state.tasks n task × IsOpen task }
+        ensures { (task : Job) × IsTask self.old.state.tasks n task × (self.new.state ≡ adopted agent path (assigned agent n task self.old.state)) }
+    {
+        let _task = self.tasks.task(n);
+        self.paths[agent as usize] = path;
+        self.loads[agent as usize] = Load::Fetching(n);
+        self.tasks.assign(n, agent);
+    }
+}
+
+/// Each path loses its first cell where a second follows.
+fn advance_all(paths: &mut [TimedPath])
+    ensures { paths.new ≡ map advanced paths.old }
+{
+    for path in paths.iter_mut() {
+        path.advance();
+    }
+}
+
+/// Puts the cells where these paths end into a set.
+fn add_ends(marks: &mut EndSet, paths: &[TimedPath])
+    requires inside { All (λ path. IsInside marks.old.width marks.old.height (end path)) paths.now }
+    requires room { length paths.now ≤ marks.old.room }
+    ensures { marks.new ≡ record marks.old { cells = marks.old.cells ++ map end paths.now; room = marks.old.room - length paths.now } }
+{
+    for path in paths {
+        marks.add(path.end());
+    }
+}

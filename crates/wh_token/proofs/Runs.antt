@@ -1,0 +1,84 @@
+use Rattle.std.proofs.Common.{◌≡◌, ℕ, ◌+◌, ◌<◌, take, get_or, length-append, List, [], ◌∷◌, ◌++◌, length, ap, sym, subst, arith, refl, ◌∙◌, Bool, true, false, append_assoc}
+use Rattle.std.specs.Prelude.{Option, Some, None, is_some}
+use Rattle.std.proofs.lemmas.List.{take_more}
+use Rattle.wh_core.specs.States.{State}
+use Rattle.wh_grid.specs.Grids.{Floor}
+use Rattle.wh_points.specs.Points.{Site}
+use Rattle.wh_core.specs.Steps.{Run}
+use Rattle.wh_token.specs.Runs.{Moves, Ran, entries_of}
+use Rattle.wh_event.specs.declared.event.Command.{Command}
+use Rattle.wh_event.specs.declared.entry.Entry.{Entry}
+
+pub ran-more : {X : Type 0} (fits : X → Bool) (count : X → ℕ) (site : Site) (caller : ℕ) (commands : List Command) (outcomes : List (Option Entry))
+    (command : Command) (outcome : Option Entry) (s : State) (spares : List X) (mid : State) (left : List X) (new : State) (rest : List X) →
+    Ran fits count site caller commands outcomes s spares mid left →
+    Moves fits count site caller command outcome mid left new rest →
+    Ran fits count site caller (commands ++ command ∷ []) (outcomes ++ outcome ∷ []) s spares new rest
+ran-more {X} fits count site caller [] [] command outcome s spares mid left new rest ran moves =
+    let M : State → List X → Type 0 = λ t xs. Moves fits count site caller command outcome t xs new rest in
+    let N : List X → Type 0 = λ xs. M s xs in
+    let P : State → Type 0 = λ t. M t left in
+    (new, rest, subst N ran.1 (subst P ran.0 moves), (refl, refl))
+ran-more fits count site caller (c ∷ cs) (o ∷ os) command outcome s spares mid left new rest ran moves =
+    (ran.0, ran.1, ran.2, ran-more fits count site caller cs os command outcome ran.0 ran.1 mid left new rest ran.3 moves)
+ran-more fits count site caller [] (o ∷ os) command outcome s spares mid left new rest ran moves = absurd ran
+ran-more fits count site caller (c ∷ cs) [] command outcome s spares mid left new rest ran moves = absurd ran
+
+pub entries_of-more : (os : List (Option Entry)) (o : Option Entry) → entries_of (os ++ o ∷ []) ≡ entries_of os ++ entries_of (o ∷ [])
+entries_of-more [] o = refl
+entries_of-more (None ∷ os) o = entries_of-more os o
+entries_of-more (Some e ∷ os) o = ap (λ es. e ∷ es) (entries_of-more os o)
+
+-- the entries of a list of commands are a run
+pub ran-run : {X : Type 0} (fits : X → Bool) (count : X → ℕ) (site : Site) (caller : ℕ) (commands : List Command) (outcomes : List (Option Entry))
+    (s : State) (spares : List X) (new : State) (rest : List X) →
+    Ran fits count site caller commands outcomes s spares new rest → Run site s (entries_of outcomes) new
+ran-run fits count site caller [] [] s spares new rest ran = ran.0
+ran-run {X} fits count site caller (c ∷ cs) (None ∷ os) s spares new rest ran =
+    let P : State → Type 0 = λ t. Run site t (entries_of os) new in
+    subst P ran.2.0 (ran-run fits count site caller cs os ran.0 ran.1 new rest ran.3)
+ran-run fits count site caller (c ∷ cs) (Some e ∷ os) s spares new rest ran =
+    (ran.0, ran.2.1, ran-run fits count site caller cs os ran.0 ran.1 new rest ran.3)
+ran-run fits count site caller [] (o ∷ os) s spares new rest ran = absurd ran
+ran-run fits count site caller (c ∷ cs) [] s spares new rest ran = absurd ran
+
+pub length-one : (o : Option Entry) → is_some o ≡ true → length (entries_of (o ∷ [])) ≡ 1
+length-one None h = cc
+length-one (Some e) h = refl
+
+pub length-none : (o : Option Entry) → is_some o ≡ false → length (entries_of (o ∷ [])) ≡ 0
+length-none None h = refl
+length-none (Some e) h = cc
+
+-- the step of a loop over the commands
+pub ran-take : {X : Type 0} (fits : X → Bool) (count : X → ℕ) (site : Site) (caller : ℕ) (commands : List Command) (i : ℕ) (d : Command) (outcomes : List (Option Entry))
+    (outcome : Option Entry) (s : State) (spares : List X) (mid : State) (left : List X) (new : State) (rest : List X) → i < length commands →
+    Ran fits count site caller (take i commands) outcomes s spares mid left →
+    Moves fits count site caller (get_or commands i d) outcome mid left new rest →
+    Ran fits count site caller (take (i + 1) commands) (outcomes ++ outcome ∷ []) s spares new rest
+ran-take fits count site caller commands i d outcomes outcome s spares mid left new rest lt ran moves =
+    rw (take_more commands i d lt) (ran-more fits count site caller (take i commands) outcomes (get_or commands i d) outcome s spares mid left new rest ran moves)
+
+pub history-more : (first mid new : List Entry) (os : List (Option Entry)) (o : Option Entry) →
+    mid ≡ first ++ entries_of os → new ≡ mid ++ entries_of (o ∷ []) → new ≡ first ++ entries_of (os ++ o ∷ [])
+history-more first mid new os o e d =
+    d ∙ ap (λ h. h ++ entries_of (o ∷ [])) e ∙ append_assoc first (entries_of os) (entries_of (o ∷ [])) ∙ ap (λ t. first ++ t) (sym (entries_of-more os o))
+
+pub length-added : (os : List (Option Entry)) (o : Option Entry) (n : ℕ) → length (entries_of os) ≡ n → is_some o ≡ true →
+    length (entries_of (os ++ o ∷ [])) ≡ n + 1
+length-added os o n e h = rw (entries_of-more os o, length-append, length-one o h, e)
+
+pub length-kept : (os : List (Option Entry)) (o : Option Entry) (n : ℕ) → length (entries_of os) ≡ n → is_some o ≡ false →
+    length (entries_of (os ++ o ∷ [])) ≡ n
+length-kept os o n e h = rw (entries_of-more os o, length-append, length-none o h, e) (omega arith)
+
+-- the same where the step was taken at a site that is the same, by a command that was read
+pub ran-take-at : {X : Type 0} (fits : Floor → X → Bool) (count : X → ℕ) (site here : Site) (caller : ℕ) (commands : List Command) (i : ℕ) (command : Command) (outcomes : List (Option Entry))
+    (outcome : Option Entry) (s : State) (spares : List X) (mid : State) (left : List X) (new : State) (rest : List X) → here ≡ site → i < length commands →
+    command ≡ get_or commands i command → Ran (fits site.grid) count site caller (take i commands) outcomes s spares mid left →
+    Moves (fits here.grid) count here caller command outcome mid left new rest →
+    Ran (fits site.grid) count site caller (take (i + 1) commands) (outcomes ++ outcome ∷ []) s spares new rest
+ran-take-at fits count site here caller commands i command outcomes outcome s spares mid left new rest same lt read ran moves =
+    ran-take (fits site.grid) count site caller commands i command outcomes outcome s spares mid left new rest lt ran
+    (subst (λ c. Moves (fits site.grid) count site caller c outcome mid left new rest) read
+    (subst (λ (t : Site). Moves (fits t.grid) count t caller command outcome mid left new rest) same moves))

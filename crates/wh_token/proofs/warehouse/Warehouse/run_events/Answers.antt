@@ -1,0 +1,43 @@
+use Rattle.std.proofs.Common.{◌∷◌, [], ◌++◌, ◌∙◌, arith}
+use Rattle.wh_token.proofs.Runs.{ran-take-at, ran-run, history-more, length-added, length-kept}
+use Rattle.wh_book.proofs.Kept.{run-served}
+use Rattle.wh_token.specs.Runs.{entries_of}
+use Rattle.wh_token.proofs.warehouse.Warehouse.run_events.Goals.{then-added, else-added}
+use Rattle.wh_token.proofs.warehouse.Warehouse.run_events.Goals as goal
+
+pub loop-command-preserved : goal.loop-command-preserved
+loop-command-preserved g c =
+    let before = c.loop-command.invariant in
+    let moves = c.run_event-added.ensures.moves in
+    let tied = rw before.site at c.run_event-added.ensures.tied in
+    let outcomes = before.ran.0 in
+    let outcome = moves.0 in
+    record {
+      site = c.run_event-added.ensures.site ∙ before.site;
+      opening = c.run_event-added.ensures.opening ∙ before.opening;
+      count = elim c.if-added.branch [ then-added w ↦ omega arith | else-added w ↦ omega arith ];
+      ran = (
+        outcomes ++ outcome ∷ [],
+        history-more _ _ _ outcomes outcome before.ran.1 moves.2,
+        elim c.if-added.branch [
+          | then-added w ↦ rw w.entries-is (length-added outcomes outcome _ before.ran.2 (moves.1 ∙ w.if-added.true))
+          | else-added w ↦ rw w.entries-is (length-kept outcomes outcome _ before.ran.2 (moves.1 ∙ w.if-added.false))
+        ],
+        ran-take-at (λ grid b. g.P.Planner.fits_map b grid) (λ b. g.P.Planner.slot_count b) c.args.self.now.book.site c.loop-command.self.book.site c.args.caller c.args.commands.now c.loop-command.command-index c.command-item.result outcomes outcome
+            c.args.self.now.book.state c.args.spares.now.items _ _ c.run_event-added.new.self.book.state c.run_event-added.new.spares.items
+            before.site c.loop-command-test.true c.command-item.is before.ran.3 moves.3,
+      );
+      tied = λ first. tied (before.tied first);
+    }
+
+pub returns-clause-run : goal.returns-clause-run
+returns-clause-run g c =
+    let before = c.loop-command.invariant in
+    let book = c.args.self.now.book in
+    let run = ran-run _ _ book.site c.args.caller _ before.ran.0 book.state c.args.spares.now.items _ _ before.ran.3 in (
+      entries_of before.ran.0,
+      before.ran.1,
+      before.ran.2,
+      run,
+      λ formed. run-served book.site book.opening book.history book.state (entries_of before.ran.0) _ c.history-before.ensures.opening c.history-before.ensures.run run formed,
+    )

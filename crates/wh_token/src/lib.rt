@@ -1,0 +1,9 @@
+//! The warehouse as a state machine: the book and the agents' planners.
+#![tactic(auto)]
+
+mod command;
+mod roster;
+mod warehouse;
+
+pub use roster::OpenFault;
+pub use warehouse::{Committed, NoMemory, Ran, Ready, Warehouse};

@@ -1,0 +1,633 @@
+//! The warehouse.
+#![tactic(auto)]
+
+ghost use Rattle.std.specs.Prelude.{◌≡◌, ◌≢◌, ℕ, ◌+◌, ◌-◌, ◌<◌, ◌≤◌, ◌↔◌, List, [], ◌∷◌, ◌++◌, Option, Some, true, false, is_some, length, map, slice_index, slice_set, slice_get, All, Contains, IfOk, IfErr, IfNone, IfSome, IsTrue, MatchResult};
+ghost use Rattle.wh_grid.specs.declared.cell.Cell.{Cell as Place};
+ghost use Rattle.wh_grid.specs.Grids.{Floor};
+ghost use Rattle.wh_points.specs.Formed.{IsFormed};
+ghost use Rattle.wh_points.specs.Points.{IsLayout};
+ghost use Rattle.wh_path.specs.Paths.{AllFree, place_of, steps_left};
+ghost use Rattle.wh_tasks.specs.declared.task.Task.{Task as Job};
+ghost use Rattle.wh_tasks.specs.Tasks.{IsTask};
+ghost use Rattle.wh_event.specs.declared.event.Event.{Event as Asked};
+ghost use Rattle.wh_event.specs.declared.reply.Reply.{Reply as Answer};
+ghost use Rattle.wh_event.specs.declared.reply.Refusal.{Refusal as Reason};
+ghost use Rattle.wh_event.specs.declared.entry.Entry.{Entry as Line};
+ghost use Rattle.wh_event.specs.declared.event.Spare.{Spare as Told};
+ghost use Rattle.wh_planner.specs.Duties.{IsLawful, HasNoClearWay, Delivers, ParksAt};
+ghost use Rattle.wh_core.specs.States.{State, opened};
+ghost use Rattle.wh_core.specs.Laws.{IsOpening};
+ghost use Rattle.wh_core.specs.Steps.{Step, Run, IsDue, IsNext, NoneIsNext, IsAllowed, MakesWay, other_ends, last_clock};
+ghost use Rattle.wh_planner.specs.Asked.{IsDuty, Serves, legs};
+ghost use Rattle.wh_book.specs.Drafts.{Seen, IsSame, IsReady, Drafts, AllServed, Suits};
+ghost use Rattle.wh_token.specs.Commands.{event_of};
+ghost use Rattle.wh_token.specs.Fleet.{IsTied, AllFit, RefusesToOpen, TellsSpare, TellsFor, Swaps, IsSeated, replaced_agent};
+ghost use Rattle.wh_token.specs.Runs.{Moves, Ran as RanBy, WantsSpare, entries_of};
+
+use crate::command::{event_of, replaced};
+use crate::roster::{OpenFault, first_foreign, slots_of};
+use std::alloc::{AllocError, Global};
+use std::mem;
+use std::sync::Arc;
+use wh_book::{Book, Draft, Setting};
+use wh_event::{Command, Entry, Event, Refusal, Spare};
+use wh_field::LazyField;
+use wh_grid::{Cell, Grid};
+use wh_path::TimedPath;
+use wh_planner::{Duty, PlanFault, Planner, Scene};
+use wh_points::Points;
+use wh_tasks::{EndSet, Load, Task};
+
+/// The book and the agents' planners.
+#[derive(Drop)]
+pub struct Warehouse<P = Box<dyn Planner>> {
+    book: Book,
+    planners: Vec<P>,
+    marks: EndSet,
+    near: LazyField,
+    ghost seats: { length planners.items ≡ length book.state.paths },
+    ghost suits: { Suits marks book.site.grid (length book.state.paths) },
+    ghost over: { near.grid ≡ book.site.grid },
+}
+
+impl<P: Planner> Warehouse<P> {
+    /// The warehouse in its opening state, at a clock of at most 1,000,000,000, with one planner for each agent, in the
+    /// agents' order. It refuses a wrong count of planners, then the first planner of another map, then wants memory;
+    /// on a refusal what was handed in is dropped.
+    pub fn open(
+        alloc: Global,
+        grid: Arc<Grid>,
+        points: Points,
+        planners: Vec<P>,
+        start: u32,
+    ) -> Result<Warehouse<P>, OpenFault>
+        requires layout { IsLayout grid.value points }
+        requires start { start ≤ last_clock }
+        ensures site { IfOk result (λ w. w.book.site ≡ record { grid = grid.value; layout = points }) }
+        ensures opening { IfOk result (λ w. ((slots : List ℕ) × (w.book.opening ≡ opened points start slots) × (w.book.state ≡ w.book.opening))) }
+        ensures history { IfOk result (λ w. w.book.history ≡ []) }
+        ensures planners { IfOk result (λ w. w.planners ≡ planners) }
+        ensures tied { IfOk result (λ w. IsTied (λ b. P.fits_map b grid.value) (λ b. P.slot_count b) w.planners.items w.book.state.slots) }
+        ensures refused { IfErr result (RefusesToOpen (λ b. P.fits_map b grid.value) planners.items (length points.agents)) }
+    {
+        if planners.len() != points.agents().len() {
+            return Err(OpenFault::WrongCount);
+        }
+        if let Some(agent) = first_foreign(planners.as_slice(), &grid) {
+            return Err(OpenFault::Foreign { agent });
+        }
+        match Warehouse::furnish(alloc, grid, points, planners, start) {
+            Ok(warehouse) => Ok(warehouse),
+            Err(AllocError) => Err(OpenFault::NoMemory),
+        }
+    }
+
+    /// The warehouse of planners that all plan on the grid, one for each agent.
+    fn furnish(
+        alloc: Global,
+        grid: Arc<Grid>,
+        points: Points,
+        planners: Vec<P>,
+        start: u32,
+    ) -> Result<Warehouse<P>, AllocError>
+        requires layout { IsLayout grid.value points }
+        requires start { start ≤ last_clock }
+        requires seats { length planners.items ≡ length points.agents }
+        requires fit { AllFit (λ b. P.fits_map b grid.value) planners.items }
+        ensures site { IfOk result (λ w. w.book.site ≡ record { grid = grid.value; layout = points }) }
+        ensures opening { IfOk result (λ w. ((slots : List ℕ) × (w.book.opening ≡ opened points start slots) × (w.book.state ≡ w.book.opening))) }
+        ensures history { IfOk result (λ w. w.book.history ≡ []) }
+        ensures planners { IfOk result (λ w. w.planners ≡ planners) }
+        ensures tied { IfOk result (λ w. IsTied (λ b. P.fits_map b grid.value) (λ b. P.slot_count b) w.planners.items w.book.state.slots) }
+    {
+        let slots = slots_of(alloc, planners.as_slice(), &grid)?;
+        let near = LazyField::from(alloc, &grid, Cell { x: 0, y: 0 })?;
+        let book = Book::open(alloc, Setting::new(grid, points), start, slots)?;
+        let marks = book.no_ends(alloc)?;
+        Ok(Warehouse {
+            book,
+            planners,
+            marks,
+            near,
+        })
+    }
+
+    /// The state, and the history that led to it.
+    pub fn book(&self) -> &Book
+        ensures { result.now ≡ self.now.book }
+    {
+        &self.book
+    }
+
+    /// How many agents there are, at most 256.
+    pub fn agents(&self) -> u32
+        ensures value { result ≡ length self.now.book.state.paths }
+        ensures few { result ≤ 256 }
+    {
+        self.book.paths().len() as u32
+    }
+
+    /// The clock, in ticks, at most 1,000,000,000.
+    pub fn clock(&self) -> u32
+        ensures value { result ≡ self.now.book.state.clock }
+        ensures fits { result ≤ last_clock }
+    {
+        self.book.clock()
+    }
+
+    /// Whether it is closed: every later event is refused.
+    pub fn closed(&self) -> bool
+        ensures { result ≡ self.now.book.state.closed }
+    {
+        self.book.closed()
+    }
+
+    /// Where the agent is now.
+    pub fn cell(&self, agent: u32) -> Cell
+        requires { agent < length self.now.book.state.paths }
+        ensures { result ≡ place_of self.now.book.state.paths agent }
+    {
+        self.book.paths()[agent as usize].start()
+    }
+
+    /// How many steps the agent has left.
+    pub fn remaining(&self, agent: u32) -> u64
+        requires { agent < length self.now.book.state.paths }
+        ensures { result ≡ steps_left self.now.book.state.paths agent }
+    {
+        self.book.paths()[agent as usize].remaining()
+    }
+
+    /// What the agent has to do.
+    pub fn load(&self, agent: u32) -> Load
+        requires { agent < length self.now.book.state.paths }
+        ensures { slice_get self.now.book.state.loads agent ≡ Some result }
+    {
+        self.book.loads()[agent as usize]
+    }
+
+    /// How many distance fields the agent's planner may keep.
+    pub fn slots(&self, agent: u32) -> u32
+        requires { agent < length self.now.book.state.paths }
+        ensures { slice_get self.now.book.state.slots agent ≡ Some result }
+    {
+        self.book.slots()[agent as usize]
+    }
+
+    /// The task of a number, from 0.
+    pub fn task(&self, n: u32) -> &Task
+        requires { n < length self.now.book.state.tasks }
+        ensures { IsTask self.now.book.state.tasks n result.now }
+    {
+        self.book.tasks().task(n)
+    }
+
+    /// All entries so far: a run from the opening state to the state. On a well-formed instance none of them is a refusal
+    /// for want of a path.
+    pub fn history(&self) -> &[Entry]
+        ensures value { result.now ≡ self.now.book.history }
+        ensures opening { IsOpening self.now.book.site self.now.book.opening }
+        ensures run { Run self.now.book.site self.now.book.opening self.now.book.history self.now.book.state }
+        ensures served { IsFormed self.now.book.site → AllServed self.now.book.history }
+    {
+        self.book.history()
+    }
+
+    /// The slots of the agents' planners in the opening state.
+    pub fn first_slots(&self) -> &[u32]
+        ensures { result.now ≡ self.now.book.opening.slots }
+    {
+        self.book.first_slots()
+    }
+
+    /// The clock of the opening state.
+    pub fn start(&self) -> u32
+        ensures { result ≡ self.now.book.opening.clock }
+    {
+        self.book.first_clock()
+    }
+
+    /// What is told of a spare.
+    fn tell(&self, spare: &Option<P>) -> Spare
+        ensures { TellsSpare (λ b. P.fits_map b self.now.book.site.grid) (λ b. P.slot_count b) spare.now result }
+    {
+        match spare {
+            None => Spare::None,
+            Some(planner) => {
+                if planner.fits(self.book.setting().grid()) {
+                    Spare::Fits {
+                        slots: planner.slots(),
+                    }
+                } else {
+                    Spare::Foreign
+                }
+            }
+        }
+    }
+
+    /// The task that the agent takes: of those that it may take, the nearest one. It takes no memory.
+    fn nearest(&mut self, agent: u32) -> Option<u32>
+        requires agent { agent < length self.old.book.state.paths }
+        requires marks { self.old.marks.cells ≡ other_ends self.old.book.state agent }
+        ensures book { self.new.book ≡ self.old.book }
+        ensures planners { self.new.planners ≡ self.old.planners }
+        ensures marks { self.new.marks ≡ self.old.marks }
+        ensures none { IfNone result (NoneIsNext self.old.book.state agent) }
+        ensures nearest { IfSome result (λ n. (task : Job) × IsNext self.old.book.site self.old.book.state agent n task) }
+    {
+        let here = self.book.paths()[agent as usize].start();
+        self.near.again(here);
+        self.book.tasks().nearest(&mut self.near, &self.marks)
+    }
+
+    /// A path for the agent, which stands, to deliver the task.
+    fn plan_delivery(
+        &mut self,
+        alloc: Global,
+        agent: u32,
+        task: u32,
+    ) -> Result<TimedPath, PlanFault>
+        requires due { IsDue self.old.book.state agent }
+        requires task { task < length self.old.book.state.tasks }
+        ensures book { self.new.book ≡ self.old.book }
+        ensures lawful { IfOk result (λ path. (job : Job) × IsTask self.old.book.state.tasks task job
+            × IsLawful self.old.book.site.grid self.old.book.site.layout.nofollow self.old.book.state.paths agent (length job.stops) (Delivers job.stops) path) }
+        ensures no_path { IfErr result (λ fault. fault ≡ PlanFault.NoPath → ((job : Job) × IsTask self.old.book.state.tasks task job
+            × HasNoClearWay self.old.book.site.grid self.old.book.state.paths agent (Delivers job.stops))) }
+        ensures tied { IsTied (λ b. P.fits_map b self.old.book.site.grid) (λ b. P.slot_count b) self.old.planners.items self.old.book.state.slots
+            → IsTied (λ b. P.fits_map b self.old.book.site.grid) (λ b. P.slot_count b) self.new.planners.items self.old.book.state.slots }
+    {
+        let scene = Scene {
+            grid: self.book.setting().grid(),
+            nofollow: self.book.setting().nofollow(),
+            paths: self.book.paths(),
+            agent: agent as usize,
+        };
+        let duty = Duty::Deliver {
+            stops: self.book.tasks().task(task).stops.as_slice(),
+        };
+        ask(&mut self.planners[agent as usize], alloc, &scene, duty)
+    }
+
+    /// A path for the agent, which stands, to one of these cells.
+    fn plan_parking(
+        &mut self,
+        alloc: Global,
+        agent: u32,
+        allowed: &[Cell],
+    ) -> Result<TimedPath, PlanFault>
+        requires due { IsDue self.old.book.state agent }
+        ensures book { self.new.book ≡ self.old.book }
+        ensures lawful { IfOk result (IsLawful self.old.book.site.grid self.old.book.site.layout.nofollow self.old.book.state.paths agent 2 (ParksAt (Contains allowed.now))) }
+        ensures no_path { IfErr result (λ fault. fault ≡ PlanFault.NoPath → HasNoClearWay self.old.book.site.grid self.old.book.state.paths agent (ParksAt (Contains allowed.now))) }
+        ensures tied { IsTied (λ b. P.fits_map b self.old.book.site.grid) (λ b. P.slot_count b) self.old.planners.items self.old.book.state.slots
+            → IsTied (λ b. P.fits_map b self.old.book.site.grid) (λ b. P.slot_count b) self.new.planners.items self.old.book.state.slots }
+    {
+        let scene = Scene {
+            grid: self.book.setting().grid(),
+            nofollow: self.book.setting().nofollow(),
+            paths: self.book.paths(),
+            agent: agent as usize,
+        };
+        ask(
+            &mut self.planners[agent as usize],
+            alloc,
+            &scene,
+            Duty::Park { allowed },
+        )
+    }
+
+    /// The draft of a request by a due agent, for which this task is next.
+    fn draft_delivery(
+        &mut self,
+        alloc: Global,
+        caller: u32,
+        agent: u32,
+        task: u32,
+    ) -> Result<Draft, AllocError>
+        requires due { IsDue self.old.book.state agent }
+        requires next { (job : Job) × IsNext self.old.book.site self.old.book.state agent task job }
+        requires room { 1 ≤ self.old.book.entry_room }
+        ensures book { self.new.book ≡ self.old.book }
+        ensures drafts { IfOk result (Drafts self.old.book caller (Asked.Request agent)) }
+        ensures tied { IsTied (λ b. P.fits_map b self.old.book.site.grid) (λ b. P.slot_count b) self.old.planners.items self.old.book.state.slots
+            → IsTied (λ b. P.fits_map b self.old.book.site.grid) (λ b. P.slot_count b) self.new.planners.items self.old.book.state.slots }
+    {
+        match self.plan_delivery(alloc, agent, task) {
+            Ok(path) => self.book.draft_took(alloc, caller, agent, task, path),
+            Err(PlanFault::NoPath) => {
+                let event = Event::Request { agent };
+                self.book.refuse(alloc, caller, event, Refusal::NoPath)
+            }
+            Err(PlanFault::NoMemory) => Err(AllocError),
+        }
+    }
+
+    /// The draft of a request by a due agent, for which there is no task.
+    fn draft_parking(&mut self, alloc: Global, caller: u32, agent: u32) -> Result<Draft, AllocError>
+        requires due { IsDue self.old.book.state agent }
+        requires none { NoneIsNext self.old.book.state agent }
+        requires marks { self.old.marks.cells ≡ other_ends self.old.book.state agent }
+        requires room { 1 ≤ self.old.book.entry_room }
+        ensures book { self.new.book ≡ self.old.book }
+        ensures drafts { IfOk result (Drafts self.old.book caller (Asked.Request agent)) }
+        ensures tied { IsTied (λ b. P.fits_map b self.old.book.site.grid) (λ b. P.slot_count b) self.old.planners.items self.old.book.state.slots
+            → IsTied (λ b. P.fits_map b self.old.book.site.grid) (λ b. P.slot_count b) self.new.planners.items self.old.book.state.slots }
+    {
+        let here = self.book.paths()[agent as usize].start();
+        if !self.book.tasks().delivers_at(here) {
+            return self.book.draft_rested(alloc, caller, agent);
+        }
+        let allowed = self.book.allowed(alloc, agent, &self.marks)?;
+        match self.plan_parking(alloc, agent, allowed.as_slice()) {
+            Ok(path) => self.book.draft_parked(alloc, caller, agent, path),
+            Err(PlanFault::NoPath) => {
+                let event = Event::Request { agent };
+                self.book.refuse(alloc, caller, event, Refusal::NoPath)
+            }
+            Err(PlanFault::NoMemory) => Err(AllocError),
+        }
+    }
+
+    /// The draft of a request.
+    fn draft_request(&mut self, alloc: Global, caller: u32, agent: u32) -> Result<Draft, AllocError>
+        requires not_closed { self.old.book.state.closed ≡ false }
+        requires room { 1 ≤ self.old.book.entry_room }
+        ensures book { self.new.book ≡ self.old.book }
+        ensures drafts { IfOk result (Drafts self.old.book caller (Asked.Request agent)) }
+        ensures tied { IsTied (λ b. P.fits_map b self.old.book.site.grid) (λ b. P.slot_count b) self.old.planners.items self.old.book.state.slots
+            → IsTied (λ b. P.fits_map b self.old.book.site.grid) (λ b. P.slot_count b) self.new.planners.items self.new.book.state.slots }
+    {
+        let event = Event::Request { agent };
+        if agent as usize >= self.book.paths().len() {
+            return self
+                .book
+                .refuse(alloc, caller, event, Refusal::UnknownAgent(agent));
+        }
+        let left = self.book.paths()[agent as usize].remaining();
+        if left != 0 {
+            return self
+                .book
+                .refuse(alloc, caller, event, Refusal::Moving(left));
+        }
+        self.book.other_ends(agent, &mut self.marks);
+        match self.nearest(agent) {
+            Some(task) => self.draft_delivery(alloc, caller, agent, task),
+            None => self.draft_parking(alloc, caller, agent),
+        }
+    }
+
+    /// The draft of a command. It makes every growth that the commit needs.
+    fn draft(
+        &mut self,
+        alloc: Global,
+        caller: u32,
+        command: Command,
+        told: Spare,
+    ) -> Result<Draft, AllocError>
+        ensures same { IsSame self.old.book self.new.book }
+        ensures drafts { IfOk result (Drafts self.new.book caller (event_of command told)) }
+        ensures tied { IsTied (λ b. P.fits_map b self.old.book.site.grid) (λ b. P.slot_count b) self.old.planners.items self.old.book.state.slots
+            → IsTied (λ b. P.fits_map b self.old.book.site.grid) (λ b. P.slot_count b) self.new.planners.items self.new.book.state.slots }
+    {
+        self.book.reserve_entry()?;
+        if self.book.closed() {
+            let event = event_of(command, told);
+            return self.book.refuse(alloc, caller, event, Refusal::Closed);
+        }
+        match command {
+            Command::Submit { client, stops } => self
+                .book
+                .draft_submit(alloc, caller, client, stops),
+            Command::Token { agent } => self.draft_request(alloc, caller, agent),
+            Command::Tick => self.book.draft_tick(alloc, caller),
+            Command::Replace { agent } => self.book.draft_replace(alloc, caller, agent, told),
+            Command::Close => self.book.draft_close(alloc, caller),
+        }
+    }
+
+    /// Plans and makes every growth; the state and the history stay.
+    pub fn prepare(
+        &mut self,
+        alloc: Global,
+        caller: u32,
+        command: Command,
+        spare: Option<P>,
+    ) -> Result<Ready<P>, (NoMemory, Option<P>)>
+        ensures same { IsSame self.old.book self.new.book }
+        ensures tied { IsTied (λ b. P.fits_map b self.old.book.site.grid) (λ b. P.slot_count b) self.old.planners.items self.old.book.state.slots
+            → IsTied (λ b. P.fits_map b self.old.book.site.grid) (λ b. P.slot_count b) self.new.planners.items self.new.book.state.slots }
+        ensures ready { IfOk result (λ ready. IsReady self.new.book ready.draft) }
+        ensures caller { IfOk result (λ ready. ready.draft.entry.caller ≡ caller) }
+        ensures event { IfOk result (λ ready. ((told : Told) × (ready.draft.entry.event ≡ event_of command told))) }
+        ensures tells { IfOk result (λ ready. TellsFor (λ b. P.fits_map b self.old.book.site.grid) (λ b. P.slot_count b) spare ready.draft.entry.event) }
+        ensures spare { MatchResult result (λ ready. ready.spare ≡ spare) (λ fault. fault.1 ≡ spare) }
+    {
+        let told = self.tell(&spare);
+        match self.draft(alloc, caller, command, told) {
+            Ok(draft) => Ok(Ready { draft, spare }),
+            Err(AllocError) => Err((NoMemory, spare)),
+        }
+    }
+
+    /// Commits what was prepared. It takes no memory and always succeeds.
+    pub fn commit(&mut self, ready: Ready<P>) -> Committed<P>
+        requires ready { IsReady self.old.book ready.draft }
+        requires tells { TellsFor (λ b. P.fits_map b self.old.book.site.grid) (λ b. P.slot_count b) ready.spare ready.draft.entry.event }
+        ensures entry { result.entry ≡ ready.draft.entry }
+        ensures site { self.new.book.site ≡ self.old.book.site }
+        ensures opening { self.new.book.opening ≡ self.old.book.opening }
+        ensures history { self.new.book.history ≡ self.old.book.history ++ result.entry ∷ [] }
+        ensures step { Step self.old.book.site self.old.book.state result.entry self.new.book.state }
+        ensures served { IsFormed self.old.book.site → result.entry.reply ≢ Answer.Refused Reason.NoPath }
+        ensures swaps { Swaps (replaced_agent result.entry) self.old.planners.items ready.spare self.new.planners.items result.back }
+        ensures tied { IsTied (λ b. P.fits_map b self.old.book.site.grid) (λ b. P.slot_count b) self.old.planners.items self.old.book.state.slots
+            → IsTied (λ b. P.fits_map b self.old.book.site.grid) (λ b. P.slot_count b) self.new.planners.items self.new.book.state.slots }
+    {
+        let Ready { draft, spare } = ready;
+        let agent = replaced(&draft.entry);
+        let entry = self.book.commit(draft);
+        let back = swap(&mut self.planners, agent, spare);
+        Committed { entry, back }
+    }
+
+    /// Prepares and commits.
+    pub fn step(
+        &mut self,
+        alloc: Global,
+        caller: u32,
+        command: Command,
+        spare: Option<P>,
+    ) -> Result<Committed<P>, (NoMemory, Option<P>)>
+        ensures site { self.new.book.site ≡ self.old.book.site }
+        ensures opening { self.new.book.opening ≡ self.old.book.opening }
+        ensures history { MatchResult result (λ done. self.new.book.history ≡ self.old.book.history ++ done.entry ∷ []) (λ _. self.new.book.history ≡ self.old.book.history) }
+        ensures step { MatchResult result (λ done. Step self.old.book.site self.old.book.state done.entry self.new.book.state) (λ _. self.new.book.state ≡ self.old.book.state) }
+        ensures served { IfOk result (λ done. IsFormed self.old.book.site → done.entry.reply ≢ Answer.Refused Reason.NoPath) }
+        ensures caller { IfOk result (λ done. done.entry.caller ≡ caller) }
+        ensures event { IfOk result (λ done. ((told : Told) × (done.entry.event ≡ event_of command told))) }
+        ensures tells { IfOk result (λ done. TellsFor (λ b. P.fits_map b self.old.book.site.grid) (λ b. P.slot_count b) spare done.entry.event) }
+        ensures spare { IfErr result (λ fault. fault.1 ≡ spare) }
+        ensures tied { IsTied (λ b. P.fits_map b self.old.book.site.grid) (λ b. P.slot_count b) self.old.planners.items self.old.book.state.slots
+            → IsTied (λ b. P.fits_map b self.old.book.site.grid) (λ b. P.slot_count b) self.new.planners.items self.new.book.state.slots }
+    {
+        let ready = self.prepare(alloc, caller, command, spare)?;
+        Ok(self.commit(ready))
+    }
+
+    /// Whether the command is a Replace of a known agent, while open.
+    fn wants_spare(&self, command: &Command) -> bool
+        ensures { IsTrue result ↔ WantsSpare self.now.book.state command.now }
+    {
+        match command {
+            Command::Replace { agent } => !self.book.closed()
+                && (*agent as usize) < self.book.paths().len(),
+            _ => false,
+        }
+    }
+
+    /// One command of a list: whether it added an entry. After want of memory the spare goes back to its place.
+    fn run_event(
+        &mut self,
+        alloc: Global,
+        caller: u32,
+        command: &Command,
+        spares: &mut Vec<P>,
+    ) -> bool
+        ensures site { self.new.book.site ≡ self.old.book.site }
+        ensures opening { self.new.book.opening ≡ self.old.book.opening }
+        ensures moves { ((outcome : Option Line) × (is_some outcome ≡ result) × (self.new.book.history ≡ self.old.book.history ++ entries_of (outcome ∷ []))
+            × Moves (λ b. P.fits_map b self.old.book.site.grid) (λ b. P.slot_count b) self.old.book.site caller command.now outcome self.old.book.state spares.old.items self.new.book.state spares.new.items) }
+        ensures tied { IsTied (λ b. P.fits_map b self.old.book.site.grid) (λ b. P.slot_count b) self.old.planners.items self.old.book.state.slots
+            → IsTied (λ b. P.fits_map b self.old.book.site.grid) (λ b. P.slot_count b) self.new.planners.items self.new.book.state.slots }
+    {
+        let wants = self.wants_spare(command);
+        let spare = if wants { spares.pop() } else { None };
+        match self.step(alloc, caller, command.copy(), spare) {
+            Ok(done) => {
+                drop(done);
+                true
+            }
+            Err((NoMemory, spare)) => {
+                if let Some(planner) = spare {
+                    spares.push_reserved(planner);
+                }
+                false
+            }
+        }
+    }
+
+    /// Runs the commands one after another.
+    pub fn run_events(
+        &mut self,
+        alloc: Global,
+        caller: u32,
+        commands: &[Command],
+        spares: &mut Vec<P>,
+    ) -> Ran
+        ensures site { self.new.book.site ≡ self.old.book.site }
+        ensures opening { self.new.book.opening ≡ self.old.book.opening }
+        ensures count { result.entries + result.starved ≡ length commands.now }
+        ensures ran { ((outcomes : List (Option Line)) × (self.new.book.history ≡ self.old.book.history ++ entries_of outcomes)
+            × (length (entries_of outcomes) ≡ result.entries)
+            × RanBy (λ b. P.fits_map b self.old.book.site.grid) (λ b. P.slot_count b) self.old.book.site caller commands.now outcomes self.old.book.state spares.old.items self.new.book.state spares.new.items) }
+        ensures run { ((added : List Line) × (self.new.book.history ≡ self.old.book.history ++ added)
+            × (length added ≡ result.entries) × Run self.old.book.site self.old.book.state added self.new.book.state
+            × (IsFormed self.old.book.site → AllServed added)) }
+        ensures tied { IsTied (λ b. P.fits_map b self.old.book.site.grid) (λ b. P.slot_count b) self.old.planners.items self.old.book.state.slots
+            → IsTied (λ b. P.fits_map b self.old.book.site.grid) (λ b. P.slot_count b) self.new.planners.items self.new.book.state.slots }
+    {
+        let _before = self.book.history();
+        let mut entries = 0u64;
+        let mut starved = 0u64;
+        for command in commands {
+            let added = self.run_event(alloc, caller, command, spares);
+            if added {
+                entries += 1;
+            } else {
+                starved += 1;
+            }
+        }
+        Ran { entries, starved }
+    }
+}
+
+/// The planner's answer; no memory where it does not fit the grid.
+fn ask<P: Planner>(
+    planner: &mut P,
+    alloc: Global,
+    scene: &Scene,
+    duty: Duty,
+) -> Result<TimedPath, PlanFault>
+    requires agent { scene.now.agent < length scene.now.paths.now }
+    requires resting { steps_left scene.now.paths.now scene.now.agent ≡ 0 }
+    requires free { AllFree scene.now.nofollow scene.now.paths.now }
+    requires duty { IsDuty duty }
+    ensures fits_stays { (g : Floor) → P.fits_map planner.new g ≡ P.fits_map planner.old g }
+    ensures slots_stay { P.slot_count planner.new ≡ P.slot_count planner.old }
+    ensures lawful { IfOk result (IsLawful scene.now.grid.now scene.now.nofollow scene.now.paths.now scene.now.agent (legs duty.entry) (Serves duty.entry)) }
+    ensures no_path { IfErr result (λ fault. fault ≡ PlanFault.NoPath → HasNoClearWay scene.now.grid.now scene.now.paths.now scene.now.agent (Serves duty.entry)) }
+{
+    if !planner.fits(scene.grid) {
+        return Err(PlanFault::NoMemory);
+    }
+    planner.plan(alloc, scene, duty)
+}
+
+/// Puts the spare in the agent's place, and answers the box that is left over.
+fn swap<P>(planners: &mut Vec<P>, replaced: Option<u32>, spare: Option<P>) -> Option<P>
+    requires { IsSeated replaced planners.old.items }
+    ensures swaps { Swaps replaced planners.old.items spare planners.new.items result }
+    ensures len { length planners.new.items ≡ length planners.old.items }
+{
+    match (replaced, spare) {
+        (Some(agent), Some(planner)) => {
+            let seat = &mut planners[agent as usize];
+            Some(mem::replace(seat, planner))
+        }
+        (_, spare) => spare,
+    }
+}
+
+/// How many commands added an entry, and how many were refused for memory.
+#[derive(Clone, Copy, Debug, PartialEq, Eq)]
+pub struct Ran {
+    pub entries: u64,
+    pub starved: u64,
+}
+
+/// A growth was refused.
+#[derive(Clone, Copy, Debug, PartialEq, Eq)]
+pub struct NoMemory;
+
+/// An event that is ready to be committed, and the box that was handed in with it.
+#[derive(Drop)]
+pub struct Ready<P = Box<dyn Planner>> {
+    draft: Draft,
+    spare: Option<P>,
+}
+
+impl<P: Drop> Ready<P> {
+    /// The entry that the commit will add.
+    pub fn entry(&self) -> &Entry
+        ensures { result.now ≡ self.now.draft.entry }
+    {
+        &self.draft.entry
+    }
+
+    /// Gives the box back; nothing is committed.
+    pub fn withdraw(self) -> Option<P>
+        ensures { result ≡ self.spare }
+    {
+        let Ready { draft, spare } = self;
+        drop(draft);
+        spare
+    }
+}
+
+/// The entry that was added, and the box that is not in the warehouse.
+#[derive(Drop)]
+pub struct Committed<P = Box<dyn Planner>> {
+    pub entry: Entry,
+    pub back: Option<P>,
+}
