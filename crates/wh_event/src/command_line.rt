@@ -1,0 +1,145 @@
+//! Reads one line of a script.
+
+ghost use Rattle.std.specs.Prelude.{◌≡◌, ◌<◌, ◌≤◌, ◌↔◌, length, Some, None, Ok, Err, IfOk, IfSome};
+ghost use Rattle.wh_text.specs.Words.{words_of};
+ghost use Rattle.wh_event.specs.declared.event.Command.{Command};
+ghost use Rattle.wh_event.specs.declared.fault.LineFault.TheVariants as faults;
+ghost use Rattle.wh_event.specs.CommandLines as lines;
+ghost use Rattle.wh_event.specs.CommandLines.{command_of, command_by, named};
+ghost use Rattle.wh_event.specs.Grammar.{Asks, IsSkipped};
+
+use crate::event::Command;
+use crate::fault::LineFault;
+use crate::stops::Stops;
+use arrayvec::ArrayVec;
+use wh_text::{Name, Words, small_number};
+
+/// The stops that all words which are left name.
+fn stops_of(mut words: Words) -> Option<Stops>
+    ensures { result ≡ lines.stops_of words.entry }
+{
+    let mut names: ArrayVec<Name, 8> = ArrayVec::new();
+    while let Some(word) = words.next_word() {
+        if names.is_full() {
+            return None;
+        }
+        names.push(Name::read(word)?);
+    }
+    if names.len() < 2 {
+        return None;
+    }
+    Some(Stops::of(names))
+}
+
+fn submit_of(mut words: Words) -> Option<Command>
+    ensures { result ≡ lines.submit_of words.entry }
+{
+    let client = Name::read(words.next_word()?)?;
+    let stops = stops_of(words)?;
+    Some(Command::Submit { client, stops })
+}
+
+fn token_of(mut words: Words) -> Option<Command>
+    ensures { result ≡ lines.token_of words.entry }
+{
+    let agent = words.next_word()?;
+    if words.next_word().is_some() {
+        return None;
+    }
+    let agent = small_number(agent)?;
+    Some(Command::Token { agent })
+}
+
+fn replace_of(mut words: Words) -> Option<Command>
+    ensures { result ≡ lines.replace_of words.entry }
+{
+    let agent = words.next_word()?;
+    if words.next_word().is_some() {
+        return None;
+    }
+    let agent = small_number(agent)?;
+    Some(Command::Replace { agent })
+}
+
+fn tick_of(mut words: Words) -> Option<Command>
+    ensures { result ≡ lines.tick_of words.entry }
+{
+    match words.next_word() {
+        Some(_) => None,
+        None => Some(Command::Tick),
+    }
+}
+
+fn close_of(mut words: Words) -> Option<Command>
+    ensures { result ≡ lines.close_of words.entry }
+{
+    match words.next_word() {
+        Some(_) => None,
+        None => Some(Command::Close),
+    }
+}
+
+/// The command that a line's first word names.
+fn command_named(name: &[u8], rest: Words) -> Option<Command>
+    ensures { result ≡ named name.now rest.entry }
+{
+    if name == b"submit".as_slice() {
+        submit_of(rest)
+    } else if name == b"token".as_slice() {
+        token_of(rest)
+    } else if name == b"tick".as_slice() {
+        tick_of(rest)
+    } else if name == b"replace".as_slice() {
+        replace_of(rest)
+    } else if name == b"close".as_slice() {
+        close_of(rest)
+    } else {
+        None
+    }
+}
+
+fn begins_comment(word: &[u8]) -> bool
+    ensures { result ≡ lines.begins_comment word.now }
+{
+    matches!(word, [b'#', ..])
+}
+
+fn read_words(mut words: Words) -> Result<Option<Command>, LineFault>
+    ensures { result ≡ command_by words.entry }
+{
+    let Some(name) = words.next_word() else {
+        return Ok(None);
+    };
+    if begins_comment(name) {
+        return Ok(None);
+    }
+    match command_named(name, words) {
+        Some(command) => Ok(Some(command)),
+        None => Err(LineFault::Form),
+    }
+}
+
+/// What a line of a script asks, without its line's end: a command, or None where it is empty, of blanks, or a
+/// comment, whose first word begins with `#`. Words are the longest runs of bytes that are neither space nor tab.
+///
+/// | Line | Command |
+/// |---|---|
+/// | `submit CLIENT S1 .. Sn`, n from 2 to 8, all of them names | Submit |
+/// | `token AGENT`, AGENT of 1 to 9 digits | Token |
+/// | `tick` | Tick |
+/// | `replace AGENT`, AGENT of 1 to 9 digits | Replace |
+/// | `close` | Close |
+///
+/// Errors: `TooLong` (C2) for a line of more than 256 bytes, whatever it says; `Form` (C1) for a line of any other form.
+pub fn read_line(line: &[u8]) -> Result<Option<Command>, LineFault>
+    ensures exact { result ≡ command_of line.now }
+    ensures command { (command : Command) → (result ≡ Ok (Some command)) ↔ ((length line.now ≤ 256) × Asks command (words_of line.now)) }
+    ensures skipped { (result ≡ Ok None) ↔ ((length line.now ≤ 256) × IsSkipped (words_of line.now)) }
+    ensures form { (result ≡ Err faults.Form) ↔ ((length line.now ≤ 256) × ¬ IsSkipped (words_of line.now) × ((command : Command) → ¬ Asks command (words_of line.now))) }
+    ensures too_long { (result ≡ Err faults.TooLong) ↔ (256 < length line.now) }
+{
+    if line.len() > 256 {
+        return Err(LineFault::TooLong);
+    }
+    read_words(Words::of(line))
+}

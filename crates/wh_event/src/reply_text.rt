@@ -1,0 +1,119 @@
+//! Writes a reply.
+
+ghost use Rattle.std.specs.Prelude.{◌≡◌, ◌+◌, ◌++◌, ◌≤◌, length, decimal};
+ghost use Rattle.wh_event.specs.declared.reply.Reply.{Reply};
+ghost use Rattle.wh_event.specs.ReplyTexts.{refusal_text, reply_text, ReplyHolds, TellSame};
+
+use crate::reply::{Refusal, Reply};
+use arrayvec::ArrayVec;
+
+/// Writes a text at the end.
+pub fn put(line: &mut ArrayVec<u8, 64>, text: &[u8])
+    requires { length line.old.items + length text.now ≤ 64 }
+    ensures { line.new.items ≡ line.old.items ++ text.now }
+{
+    match line.try_extend_from_slice(text) {
+        Ok(()) => {}
+        Err(_) => unreachable!(),
+    }
+}
+
+/// Writes a number's digits.
+fn put_digits(line: &mut ArrayVec<u8, 64>, number: u64)
+    requires { length line.old.items + length (decimal number) ≤ 64 }
+    ensures { line.new.items ≡ line.old.items ++ decimal number }
+{
+    if number >= 10 {
+        put_digits(line, number / 10);
+    }
+    line.push(b'0' + (number % 10) as u8);
+}
+
+/// Writes a text at the end, and behind it a number in decimal without leading zeros, of at most 20 digits.
+pub fn put_number(line: &mut ArrayVec<u8, 64>, text: &[u8], number: u64)
+    requires { length line.old.items + length text.now ≤ 44 }
+    ensures text { line.new.items ≡ line.old.items ++ text.now ++ decimal number }
+    ensures room { length line.new.items ≤ length line.old.items + length text.now + 20 }
+{
+    put(line, text);
+    put_digits(line, number);
+}
+
+/// Writes a text, and a number of at most 10 digits.
+fn put_small(line: &mut ArrayVec<u8, 64>, text: &[u8], number: u32)
+    requires { length line.old.items + length text.now ≤ 54 }
+    ensures text { line.new.items ≡ line.old.items ++ text.now ++ decimal number }
+    ensures room { length line.new.items ≤ length line.old.items + length text.now + 10 }
+{
+    put(line, text);
+    put_digits(line, u64::from(number));
+}
+
+fn put_refusal(line: &mut ArrayVec<u8, 64>, refusal: &Refusal)
+    requires { length line.old.items ≤ 30 }
+    ensures text { line.new.items ≡ line.old.items ++ refusal_text refusal.now }
+    ensures room { length line.new.items ≤ length line.old.items + 23 }
+{
+    match refusal {
+        Refusal::UnknownPoint(name) => {
+            put(line, b"E1 ");
+            put(line, name.as_slice());
+        }
+        Refusal::NotStation(name) => {
+            put(line, b"E2 ");
+            put(line, name.as_slice());
+        }
+        Refusal::TasksFull => put(line, b"E3"),
+        Refusal::UnknownAgent(agent) => put_small(line, b"E4 ", *agent),
+        Refusal::Moving(steps) => put_number(line, b"E5 ", *steps),
+        Refusal::NoPath => put(line, b"E6"),
+        Refusal::ClockFull => put(line, b"E7"),
+        Refusal::Closed => put(line, b"E8"),
+        Refusal::ForeignPlanner => put(line, b"E9"),
+        Refusal::NoSpare => put(line, b"E10"),
+    }
+}
+
+/// A reply's text, without the line's end: words with one space between, numbers in decimal without leading zeros, and
+/// of a path its last index alone.
+pub fn write_reply(reply: &Reply) -> ArrayVec<u8, 64>
+    ensures text { result.items ≡ reply_text reply.now }
+    // So a line's end has room behind it.
+    ensures short { length result.items ≤ 53 }
+{
+    let mut line = ArrayVec::new();
+    match reply {
+        Reply::Accepted { task } => put_small(&mut line, b"accepted ", *task),
+        Reply::Took { task, path } => {
+            put_small(&mut line, b"took ", *task);
+            put_number(&mut line, b" end ", path.remaining());
+        }
+        Reply::Rested => put(&mut line, b"rested"),
+        Reply::Parked { point, path } => {
+            put(&mut line, b"parked ");
+            put(&mut line, point.as_slice());
+            put_number(&mut line, b" end ", path.remaining());
+        }
+        Reply::Clock {
+            now,
+            picked,
+            dropped,
+        } => {
+            put_small(&mut line, b"clock ", *now);
+            put_small(&mut line, b" picked ", *picked);
+            put_small(&mut line, b" dropped ", *dropped);
+        }
+        Reply::Replaced { slots } => put_small(&mut line, b"replaced ", *slots),
+        Reply::Closed => put(&mut line, b"closed"),
+        Reply::Refused(refusal) => {
+            put(&mut line, b"refused ");
+            put_refusal(&mut line, refusal);
+        }
+    }
+    line
+}
+
+/// Replies of one text tell the same. No function calls this.
+pub fn replies_tell()
+    ensures { (a b : Reply) → ReplyHolds a → ReplyHolds b → reply_text a ≡ reply_text b → TellSame a b }
+{}

@@ -1,0 +1,5 @@
+pub mod Verdicts
+pub mod Cuts
+pub mod Fills
+pub mod Rounds
+pub mod Labels

@@ -1,0 +1,104 @@
+//! The check of an instance.
+#![tactic(auto)]
+
+ghost use Rattle.std.specs.Prelude.{◌≡◌, ◌<◌, ◌≤◌, ◌*◌, ◌^◌, IfOk, length};
+ghost use Rattle.wh_formed.specs.declared.verdict.Verdict.{Verdict};
+ghost use Rattle.wh_formed.specs.Cuts.{AreCuts, IsFirstFailing, cells_of, nth_cell};
+ghost use Rattle.wh_formed.specs.Labels.{AreLinked};
+ghost use Rattle.wh_formed.specs.Verdicts.{IsVerdict};
+
+use crate::gather::verdict_of;
+use crate::labels::{are_linked, label};
+use crate::table::open_table;
+use crate::verdict::{NoMemory, Verdict};
+use rayon::prelude::*;
+use std::alloc::{AllocError, Global};
+use std::thread::Threads;
+use wh_grid::{Cell, Grid};
+use wh_points::Points;
+
+/// The first cell after the a-th that is not linked with it.
+fn first_unlinked(grid: &Grid, numbers: &[u32], cells: &[Cell], a: usize) -> Option<u32>
+    requires size { length numbers.now ≡ grid.now.width * grid.now.height }
+    requires few { length cells.now < 2 ^ 32 }
+    requires inside { a < length cells.now }
+    ensures { IsFirstFailing (λ b. AreLinked grid.now numbers.now (nth_cell cells.now a) (nth_cell cells.now b)) a (length cells.now) result }
+{
+    let from = cells[a];
+    for b in a + 1..cells.len() {
+        if !are_linked(grid, numbers, from, cells[b]) {
+            return Some(b as u32);
+        }
+    }
+    None
+}
+
+/// The cells of the points, in the order of their file.
+fn cells_of(alloc: Global, points: &Points) -> Result<Vec<Cell>, AllocError>
+    ensures cells { IfOk result (λ v. v.items ≡ cells_of points.now) }
+    ensures bound { IfOk result (λ v. length v.items ≤ 4096) }
+{
+    points
+        .as_slice()
+        .iter()
+        .map(|point| point.cell)
+        .collect(alloc)
+}
+
+/// For each point the first later one that is not joined to it, found by several threads.
+fn cuts(
+    rt: &(impl Threads + Sync),
+    alloc: Global,
+    grid: &Grid,
+    points: &Points,
+) -> Result<Vec<Option<u32>>, AllocError>
+    ensures cuts { IfOk result (λ v. AreCuts (record { grid = grid.now; layout = points.now }) v.items) }
+    ensures bound { IfOk result (λ v. length v.items ≤ 4096) }
+{
+    let list = cells_of(alloc, points)?;
+    let cells: &[Cell] = &list;
+    let open_cells = open_table(alloc, grid, cells)?;
+    let labels = label(alloc, grid, &open_cells)?;
+    let numbers: &[u32] = &labels;
+    let found: Vec<Option<u32>> = (0..cells.len())
+        .into_par_iter()
+        // else fewer than 2,048 points would be left to one thread
+        .with_min_len(16)
+        .map(
+            |a: usize| -> Option<u32>
+                requires size { length numbers.now ≡ grid.now.width * grid.now.height }
+                requires few { length cells.now < 2 ^ 32 }
+                requires inside { a < length cells.now }
+                ensures { IsFirstFailing (λ b. AreLinked grid.entry.now numbers.entry.now (nth_cell cells.entry.now a) (nth_cell cells.entry.now b)) a (length cells.entry.now) result }
+            { first_unlinked(grid, numbers, cells, a) },
+        )
+        .collect(rt, alloc)?;
+    Ok(found)
+}
+
+/// Whether an instance is well-formed: there are as many parkings as agents, and any two points are
+/// joined by a walk that meets no third one (Ma, Li, Kumar and Koenig, AAMAS 2017).
+///
+/// Parts of the grid without points are numbered in one pass, and then each pair of points is
+/// compared. `Err` comes only where memory ran out. The answer is the same for every number of
+/// threads.
+pub fn check(
+    rt: &(impl Threads + Sync),
+    alloc: Global,
+    grid: &Grid,
+    points: &Points,
+) -> Result<Verdict, NoMemory>
+    // Which verdict it is.
+    ensures verdict { IfOk result (IsVerdict (record { grid = grid.now; layout = points.now })) }
+    // No other verdict holds.
+    ensures only { (v : Verdict) → IsVerdict (record { grid = grid.now; layout = points.now }) v → IfOk result (λ w. w ≡ v) }
+{
+    // The proof reads here that no cell has two points.
+    points.are_apart();
+    let (have, need) = (points.parkings(), points.agents().len() as u32);
+    if have < need {
+        return Ok(Verdict::FewParkings { have, need });
+    }
+    let cuts = cuts(rt, alloc, grid, points)?;
+    Ok(verdict_of(&cuts))
+}

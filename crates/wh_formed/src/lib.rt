@@ -1,0 +1,15 @@
+//! Whether an instance is well-formed.
+#![tactic(auto)]
+
+mod checker;
+mod fill;
+mod gather;
+mod labels;
+mod stamps;
+mod table;
+#[cfg(test)]
+mod tests;
+mod verdict;
+
+pub use checker::check;
+pub use verdict::{NoMemory, Verdict};

@@ -1,0 +1,5 @@
+pub mod LinkLemmas
+pub mod Away
+pub mod Notes
+pub mod Walks
+pub mod Marking

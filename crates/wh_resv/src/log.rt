@@ -1,0 +1,73 @@
+//! Visits of cells, in chains by cell.
+#![tactic(auto)]
+
+ghost use Rattle.std.specs.Prelude.{◌≡◌, ℕ, ◌+◌, ◌*◌, ◌%◌, ◌<◌, ◌≤◌, ◌^◌, List, IfOk, OnOk, length};
+ghost use Rattle.wh_grid.specs.declared.cell.Cell.{Cell};
+ghost use Rattle.wh_resv.specs.Logs.{slot, IsLog, IsNoted, KeepsNotes};
+
+use std::alloc::{AllocError, Global};
+use wh_grid::Cell;
+
+/// The greatest number that a visit holds. Where there would be a greater one, memory has run out.
+const MOST: u64 = 4294967295;
+
+/// A path is at a cell from one time until another. `next` is the place of the next visit in
+/// the chain of the cell: one more than its index, and 0 at the end.
+#[derive(Clone, Copy)]
+pub struct Visit {
+    pub cell: Cell,
+    pub since: u64,
+    pub until: u64,
+    pub path: u32,
+    pub next: u32,
+}
+
+/// The place of the first visit of each chain, and the visits.
+#[derive(Drop)]
+pub struct Log {
+    pub heads: Vec<u32>,
+    pub visits: Vec<Visit>,
+}
+
+/// The number of a cell's chain.
+pub fn slot_of(cell: Cell) -> usize
+    ensures value { result ≡ slot cell }
+    ensures bound { result < 8192 }
+{
+    (cell.x as usize + cell.y as usize * 128) % 8192
+}
+
+impl Log {
+    /// A log with no visit.
+    pub fn new(alloc: Global) -> Result<Self, AllocError>
+        ensures { IfOk result (λ l. IsLog l.heads.items l.visits.items) }
+    {
+        Ok(Log {
+            heads: vec![in alloc; 0; 8192]?,
+            visits: Vec::new(alloc),
+        })
+    }
+
+    /// Adds a visit.
+    pub fn add(&mut self, cell: Cell, since: u64, until: u64, path: usize) -> Result<(), AllocError>
+        requires { IsLog self.old.heads.items self.old.visits.items }
+        ensures log { IsLog self.new.heads.items self.new.visits.items }
+        ensures kept { KeepsNotes self.old.heads.items self.old.visits.items self.new.heads.items self.new.visits.items }
+        ensures noted { OnOk result ((k : ℕ) → since ≤ k → k ≤ until → IsNoted self.new.heads.items self.new.visits.items path cell k) }
+    {
+        if path as u64 > MOST || self.visits.len() as u64 >= MOST {
+            return Err(AllocError);
+        }
+        let slot = slot_of(cell);
+        let next = self.heads[slot];
+        self.visits.push(Visit {
+            cell,
+            since,
+            until,
+            path: path as u32,
+            next,
+        })?;
+        self.heads[slot] = self.visits.len() as u32;
+        Ok(())
+    }
+}

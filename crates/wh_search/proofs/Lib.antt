@@ -1,0 +1,15 @@
+pub mod Times
+pub mod Cells
+pub mod BestFirst
+pub mod Reach
+pub mod Bound
+pub mod Visits
+pub mod Paths
+pub mod Bins
+pub mod Kept
+pub mod Expands
+pub mod Searches
+pub mod Trails
+pub mod Stops
+pub mod Parks
+pub mod Nearest

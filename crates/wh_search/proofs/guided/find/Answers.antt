@@ -1,0 +1,57 @@
+use Rattle.std.proofs.Common.{◌≡◌, ◌+◌, ◌-◌, ◌*◌, ◌≤◌, List, length, take, drop, length-drop, MatchOption, Contains, refl, ap, sym, subst, ◌∙◌, arith}
+use Rattle.std.proofs.lemmas.List.{take_all}
+use Rattle.std.proofs.lemmas.Nat.{mul-le}
+use Rattle.wh_grid.specs.declared.cell.Cell.{Cell}
+use Rattle.wh_grid.specs.Grids.{passable_cells}
+use Rattle.wh_path.specs.Paths.{last_index, cell_at}
+use Rattle.wh_search.specs.Deliveries.{IsDelivery, IsLeast}
+use Rattle.wh_search.specs.Guides.{IsOnward}
+use Rattle.wh_search.specs.Tours.{IsTour, IsLeastTour}
+use Rattle.wh_resv.specs.Others.{MayRest}
+use Rattle.wh_search.proofs.Stops.{ok_weaker, path_weaker, delivery_rests, stops_estimates, via_size, last_only, one_only}
+use Rattle.wh_search.proofs.guided.find.Goals as goal
+
+pub returns-in_default : goal.returns-in_default
+returns-in_default c = λ q d. c.in_default.ensures.none (last_index q) (delivery_rests c.args.grid.now c.args.others.now c.args.loc c.args.stops.now q d)
+
+last_part : (stops : List Cell) → take (length stops - (length stops - 1)) (drop (length stops - 1) stops) ≡ drop (length stops - 1) stops
+last_part stops = take_all (length stops - (length stops - 1)) (drop (length stops - 1) stops) (omega (arith, length-drop (length stops - 1) stops))
+
+pub search-requires-clause-errand : goal.search-requires-clause-errand
+search-requires-clause-errand c =
+    let g = c.args.grid.now in
+    let stops = c.args.stops.now in
+    let n = length stops - 1 in
+    let via = take n stops in
+    let ends = take (length stops - n) (drop n stops) in
+    let many = c.requires.stops.0 in
+    let few = c.requires.stops.1 in
+    let cells : c.from.result ≡ passable_cells g = c.from.ensures ∙ c.cells.ensures.value in
+    let small : length stops * c.from.result ≤ 8 * 4294967296 = mul-le (length stops) c.from.result 8 4294967296 few (omega (arith, c.from.ensures)) in
+    let size : length via + 1 ≡ length stops = (let z = via_size stops in omega arith) in
+    let product : (length via + 1) * passable_cells g ≡ length stops * c.from.result = ap (λ k. k * passable_cells g) size ∙ ap (λ k. length stops * k) (sym cells) in
+    let on : IsOnward c.args.fields.now stops c.deref.result.now = subst (IsOnward c.args.fields.now stops) (sym c.deref.ensures.value) c.in_ok-onward.ensures in
+    record {
+      inside = c.requires.inside;
+      arrives = c.arrive.ensures;
+      horizon_is = c.horizon-horizon.ensures.value;
+      limit_is = omega (arith, c.horizon-horizon.ensures.value);
+      small = omega (arith, c.horizon-horizon.ensures.bound);
+      guided = stops_estimates g stops via ends c.args.fields.now c.deref.result.now many refl (last_part stops) c.requires.fields on;
+      not_sooner = λ k s e.
+          let is : cell_at stops n ≡ s.cell = one_only (cell_at stops n) s.cell (subst (λ (w : List Cell). Contains w s.cell) (last_part stops ∙ last_only stops n (omega arith)) e.delivered) in
+          c.in-Some.ensures.some k (subst (λ (d : Cell). MayRest c.args.others.now d k) (sym is) e.rests);
+    }
+
+pub returns : goal.returns
+returns c =
+    let g = c.args.grid.now in
+    let o = c.args.others.now in
+    let stops = c.args.stops.now in
+    let n = length stops - 1 in
+    let via = take n stops in
+    let ends = take (length stops - n) (drop n stops) in
+    ok_weaker c.search.result
+    (λ found. MatchOption found.path ((q : List Cell) → IsTour g o c.args.loc via ends q → ⊥) (λ p. IsLeastTour g o c.args.loc via ends p))
+    (λ found. MatchOption found.path ((q : List Cell) → IsDelivery g o c.args.loc stops q → ⊥) (λ p. IsLeast g o c.args.loc stops p))
+    (λ found h. path_weaker g o c.args.loc stops via ends found.path c.requires.stops.0 refl (last_part stops) h) c.search.ensures

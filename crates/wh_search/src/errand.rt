@@ -1,0 +1,78 @@
+//! What is searched for.
+#![tactic(auto)]
+
+ghost use Rattle.std.specs.Prelude.{◌≡◌, ℕ, ◌+◌, ◌*◌, ◌<◌, ◌≤◌, ◌^◌, ◌↔◌, IsTrue, length};
+ghost use Rattle.wh_grid.specs.declared.cell.Cell.{Cell};
+ghost use Rattle.wh_grid.specs.Grids.{IsPassable};
+ghost use Rattle.wh_resv.specs.Others.{MayStep, MayRest};
+ghost use Rattle.wh_resv.specs.Calls.{IsVacant};
+ghost use Rattle.wh_search.specs.Guides.{guide_estimate};
+ghost use Rattle.wh_search.specs.States.{Arrives};
+
+use crate::guide::Guide;
+use wh_grid::{Cell, Grid};
+use wh_resv::Reservations;
+
+/// What an agent is to do: from where, through which stops in order, and to which ends; how
+/// many stops it has behind it at once, the time from which all others rest, the last time that
+/// is looked at, and a time before which no end can be.
+#[derive(Clone, Copy)]
+pub struct Errand<'a> {
+    pub grid: &'a Grid,
+    pub others: &'a Reservations<'a>,
+    pub loc: Cell,
+    pub via: &'a [Cell],
+    pub ends: &'a [Cell],
+    pub guide: Guide<'a>,
+    pub first: usize,
+    pub horizon: u64,
+    pub limit: u64,
+    pub soonest: u64,
+}
+
+impl<'a> Errand<'a> {
+    /// Whether an agent may go from one cell, where nobody else is at k, to another between k
+    /// and k + 1.
+    pub fn allows(&self, from: Cell, to: Cell, k: u64) -> bool
+        requires alone { IsVacant self.now.others.now.paths from k }
+        requires time { k + 1 < 2 ^ 64 }
+        ensures { IsTrue result ↔ (IsPassable self.now.grid.now to × MayStep self.now.others.now from to k) }
+    {
+        self.grid.passable(to) && self.others.may_enter(from, to, k)
+    }
+
+    /// The estimate for an agent at a cell with so many stops behind it, where that for another
+    /// number of stops is known.
+    pub fn estimate_by(&self, known: u64, behind: usize, leg: usize, cell: Cell) -> u64
+        requires { known ≡ guide_estimate self.now.guide behind cell }
+        ensures { result ≡ guide_estimate self.now.guide leg cell }
+    {
+        if leg == behind {
+            return known;
+        }
+        self.guide.estimate(leg, cell)
+    }
+
+    /// Up to which bound the states are met to which a node leads: only those of its own time
+    /// and estimate at first, and then all.
+    pub fn upto(&self, own: u64, bound: u64) -> u64
+        requires { bound ≤ self.now.limit }
+        ensures bound { bound ≤ result }
+        ensures limit { result ≤ self.now.limit }
+    {
+        if own < bound { self.limit } else { bound }
+    }
+}
+
+/// How many stops an agent has behind it when it comes to a cell with so many behind it.
+pub fn arrive(via: &[Cell], leg: usize, cell: Cell) -> usize
+    requires { leg ≤ length via.now }
+    ensures { Arrives via.now leg cell result }
+{
+    for l in leg..via.len() {
+        if !via[l].is(cell) {
+            return l;
+        }
+    }
+    via.len()
+}

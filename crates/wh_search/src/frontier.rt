@@ -1,0 +1,213 @@
+//! The states that were met, and those of them that are still to be looked at.
+#![tactic(auto)]
+
+ghost use Rattle.std.specs.Prelude.{◌≡◌, ℕ, ◌+◌, ◌*◌, ◌<◌, ◌≤◌, ◌^◌, ◌↔◌, ◌⊎◌, Option, Some, None, [], ◌∷◌, ◌++◌, IsTrue, OnOk, IfOk, List, Contains, length, vec_len, slice_index_or};
+ghost use Rattle.wh_grid.specs.declared.cell.Cell.{Cell};
+ghost use Rattle.wh_resv.specs.Calls.{IsVacant};
+ghost use Rattle.wh_search.specs.Queues.{IsQueue, Waiting};
+ghost use Rattle.wh_search.specs.Guides.{guide_estimate};
+ghost use Rattle.wh_search.specs.Frontiers.{problem, node_at, state_of, HasState, IsExpanded, Meets, IsKept, IsErrand};
+ghost use Rattle.wh_search.specs.States.{IsEnd, State};
+
+use crate::errand::{Errand, arrive};
+use crate::moves::moves_from;
+use crate::queue::Queue;
+use crate::seen::{Seen, Slot, spread};
+use std::alloc::{AllocError, Global};
+use wh_grid::Cell;
+
+/// The greatest number that a node holds. Where there would be a greater one, memory has run out.
+const MOST: u64 = 4294967295;
+
+/// An agent that is at a cell at some time with so many stops behind it, and the number of the
+/// node from which it came.
+#[derive(Clone, Copy)]
+pub struct Node {
+    pub time: u32,
+    pub leg: u32,
+    pub cell: Cell,
+    pub parent: u32,
+}
+
+/// What a look among the met states found: whether there is one that stands for the state, and
+/// where to note it if not.
+#[derive(Clone, Copy)]
+pub struct Look {
+    pub known: bool,
+    pub place: usize,
+    pub mark: u64,
+}
+
+/// The states that were met, those of them that wait, where to find them again, and how many of
+/// them were expanded.
+#[derive(Drop)]
+pub struct Frontier {
+    pub nodes: Vec<Node>,
+    pub queue: Queue,
+    pub seen: Seen,
+    pub expanded: u64,
+}
+
+/// Whether a node stands for another: the same state, at the same time or earlier from the horizon on.
+pub fn stands_for(errand: &Errand, old: Node, new: Node) -> bool
+    ensures { IsTrue result → (state_of old ≡ state_of new) × ((old.time ≡ new.time) ⊎ ((errand.now.horizon ≤ old.time) × (old.time ≤ new.time))) }
+{
+    if old.leg != new.leg || !old.cell.is(new.cell) {
+        return false;
+    }
+    old.time == new.time || (errand.horizon <= old.time as u64 && old.time <= new.time)
+}
+
+/// Whether a cell is one of some.
+fn holds(cells: &[Cell], cell: Cell) -> bool
+    ensures { IsTrue result ↔ Contains cells.now cell }
+{
+    for c in cells {
+        if c.is(cell) {
+            return true;
+        }
+    }
+    false
+}
+
+impl Frontier {
+    pub fn new(alloc: Global, base: u64, stride: usize) -> Result<Self, AllocError>
+        requires { 0 < stride }
+        ensures nodes { IfOk result (λ f. f.nodes.items ≡ []) }
+        ensures sound { IfOk result (λ f. IsQueue f.queue) }
+        ensures base { IfOk result (λ f. f.queue.base ≡ base) }
+        ensures none { IfOk result (λ f. (bound node : ℕ) → Waiting f.queue bound node → ⊥) }
+    {
+        Ok(Frontier {
+            nodes: Vec::with_capacity(alloc, 512)?,
+            queue: Queue::new(alloc, base, stride)?,
+            seen: Seen::new(alloc, stride)?,
+            expanded: 0,
+        })
+    }
+
+    /// Looks for a state at a time among those that were met.
+    pub fn look(&self, errand: &Errand, time: u64, leg: usize, cell: Cell) -> Look
+        ensures { IsTrue result.known → HasState (problem errand.now) self.now.nodes.items time (record { leg = leg; cell = cell }) }
+    {
+        if time > MOST || leg as u64 > MOST {
+            return Look {
+                known: false,
+                place: 0,
+                mark: 0,
+            };
+        }
+        let node = Node {
+            time: time as u32,
+            leg: leg as u32,
+            cell,
+            parent: 0,
+        };
+        let mark = spread(errand, node);
+        match self.seen.find(errand, &self.nodes, node, mark) {
+            // the table is a hint, and the node is looked at
+            Slot::There(index) => Look {
+                known: index < self.nodes.len() && stands_for(errand, self.nodes[index], node),
+                place: 0,
+                mark,
+            },
+            Slot::Empty(place) => Look {
+                known: false,
+                place,
+                mark,
+            },
+        }
+    }
+
+    /// Adds a node with this estimate, unless it is too late. It is noted where the look says.
+    pub fn meet(
+        &mut self,
+        errand: &Errand,
+        time: u64,
+        leg: usize,
+        cell: Cell,
+        parent: usize,
+        left: u64,
+        look: Look,
+    ) -> Result<(), AllocError>
+        requires limit { errand.now.limit < 2 ^ 62 }
+        requires left { left ≡ guide_estimate errand.now.guide leg cell }
+        requires queue { IsQueue self.old.queue }
+        ensures { OnOk result (Meets (problem errand.now) self.old.nodes.items self.old.queue self.new.nodes.items self.new.queue (record { time = time; leg = leg; cell = cell; parent = parent })) }
+    {
+        if time > errand.limit || left > errand.limit - time {
+            return Ok(());
+        }
+        if time > MOST || leg as u64 > MOST || parent as u64 > MOST {
+            return Err(AllocError);
+        }
+        let node = Node {
+            time: time as u32,
+            leg: leg as u32,
+            cell,
+            parent: parent as u32,
+        };
+        let index = self.nodes.len();
+        self.queue.push(time + left, left, index)?;
+        self.nodes.push(node)?;
+        self.seen.add(errand, &self.nodes, look.place, look.mark)
+    }
+
+    /// Whether a node is an end of the search.
+    pub fn is_end(&self, errand: &Errand, index: usize) -> bool
+        requires within { index < vec_len self.now.nodes }
+        requires few { (node_at self.now.nodes.items index).leg ≤ length errand.now.via.now }
+        ensures { IsTrue result ↔ IsEnd errand.now.others.now errand.now.via.now errand.now.ends.now (node_at self.now.nodes.items index).time (state_of (node_at self.now.nodes.items index)) }
+    {
+        let node = self.nodes[index];
+        node.leg as usize == errand.via.len()
+            && holds(errand.ends, node.cell)
+            && errand.others.may_rest(node.cell, node.time as u64)
+    }
+
+    /// Meets each state to which a node leads with just this bound by time and estimate, and
+    /// lets the node wait for the next one; where it waited before, meets all that are left.
+    pub fn expand(&mut self, errand: &Errand, index: usize, bound: u64) -> Result<(), AllocError>
+        requires errand { IsErrand errand.now }
+        requires within { index < vec_len self.old.nodes }
+        requires kept { IsKept (problem errand.now) self.old.nodes.items self.old.queue (Some index) }
+        requires expanded { IsExpanded (problem errand.now) self.old.nodes.items (node_at self.old.nodes.items index).time (state_of (node_at self.old.nodes.items index)) bound }
+        requires alone { IsVacant errand.now.others.now.paths (node_at self.old.nodes.items index).cell (node_at self.old.nodes.items index).time }
+        requires total { (node_at self.old.nodes.items index).time + guide_estimate errand.now.guide (node_at self.old.nodes.items index).leg (node_at self.old.nodes.items index).cell ≤ bound }
+        requires small { bound ≤ errand.now.limit }
+        requires no_end { IsEnd errand.now.others.now errand.now.via.now errand.now.ends.now (node_at self.old.nodes.items index).time (state_of (node_at self.old.nodes.items index)) → ⊥ }
+        ensures { OnOk result (IsKept (problem errand.now) self.new.nodes.items self.new.queue None) }
+    {
+        let _width = errand.grid.width();
+        let _height = errand.grid.height();
+        let from = self.nodes[index];
+        let moves = moves_from(from.cell);
+        let time = from.time as u64;
+        let behind = from.leg as usize;
+        let lefts = errand.guide.around(behind, from.cell);
+        let here = lefts[0];
+        let own = time.saturating_add(here);
+        // a node that waited before was counted then
+        self.expanded = self.expanded.saturating_add(u64::from(own == bound));
+        let upto = errand.upto(own, bound);
+        let mut next = u64::MAX;
+        for i in 0..5 {
+            let to = moves[i];
+            let leg = arrive(errand.via, behind, to);
+            let left = errand.estimate_by(lefts[i], behind, leg, to);
+            let total = (time + 1).saturating_add(left);
+            if total > upto {
+                next = next.min(total);
+            } else if total >= bound {
+                let look = self.look(errand, time + 1, leg, to);
+                if !look.known && errand.allows(from.cell, to, time) {
+                    self.meet(errand, time + 1, leg, to, index, left, look)?;
+                }
+            }
+        }
+        if next <= errand.limit {
+            self.queue.push(next, here, index)?;
+        }
+        Ok(())
+    }
+}

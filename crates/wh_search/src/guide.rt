@@ -1,0 +1,146 @@
+//! The estimate that leads the search.
+#![tactic(auto)]
+
+ghost use Rattle.std.specs.Prelude.{◌≡◌, ℕ, ◌+◌, ◌*◌, ◌<◌, ◌≤◌, ◌^◌, Option, IfOk, length, map, slice_index, [], ◌∷◌};
+ghost use Rattle.wh_grid.specs.declared.cell.Cell.{Cell};
+ghost use Rattle.wh_field.specs.Sides.{around};
+ghost use Rattle.wh_search.specs.Fields.{far};
+ghost use Rattle.wh_search.specs.Guides.{by_field, guide_estimate, nearest_estimate, IsOnward};
+
+use crate::moves::moves_from;
+use std::alloc::{AllocError, Global};
+use wh_field::{Field, NearestField};
+use wh_grid::Cell;
+
+/// By what the steps left are estimated.
+#[derive(Clone, Copy)]
+pub enum Guide<'a> {
+    /// The field of all ends at once, any of which will do.
+    Nearest {
+        field: &'a NearestField,
+    },
+    /// The field of each stop, where it is there, and the estimate from each stop on.
+    Stops {
+        fields: &'a [Option<&'a Field>],
+        onward: &'a [u64],
+    },
+}
+
+/// A distance and a number of further steps; the greatest number where there is no distance.
+fn far(distance: Option<u32>, further: u64) -> u64
+    ensures { result ≡ far distance further }
+{
+    match distance {
+        Some(steps) => further.saturating_add(u64::from(steps)),
+        None => u64::MAX,
+    }
+}
+
+/// The distance and what is further on; 0 where the field is absent.
+pub fn by_field(field: Option<&Field>, further: u64, cell: Cell) -> u64
+    ensures { result ≡ by_field field.entry further cell }
+{
+    match field {
+        Some(field) => far(field.dist(cell), further),
+        None => 0,
+    }
+}
+
+/// The distance to the nearest of several cells; the greatest number where there is none.
+fn to_nearest(field: &NearestField, cell: Cell) -> u64
+    ensures { result ≡ nearest_estimate field.now.grid field.now.cells cell }
+{
+    far(field.dist(cell), 0)
+}
+
+/// The estimates at a cell and at those beside it, by the field of several cells.
+fn to_nearest_around(field: &NearestField, cell: Cell) -> [u64; 5]
+    ensures { result ≡ map (nearest_estimate field.now.grid field.now.cells) (around cell) }
+{
+    let beside = moves_from(cell);
+    [
+        to_nearest(field, beside[0]),
+        to_nearest(field, beside[1]),
+        to_nearest(field, beside[2]),
+        to_nearest(field, beside[3]),
+        to_nearest(field, beside[4]),
+    ]
+}
+
+/// The number at a place, 0 past the end.
+fn number_at(numbers: &[u64], i: usize) -> u64
+    ensures { result ≡ slice_index numbers.now i }
+{
+    if i < numbers.len() { numbers[i] } else { 0 }
+}
+
+/// From the last stop back: the estimate from each stop on.
+pub fn onward_of(
+    alloc: Global,
+    stops: &[Cell],
+    fields: &[Option<&Field>],
+) -> Result<Vec<u64>, AllocError>
+    requires stops { 2 ≤ length stops.now }
+    requires fields { length fields.now ≡ length stops.now }
+    ensures { IfOk result (λ onward. IsOnward fields.now stops.now onward.items) }
+{
+    let mut onward = vec![in alloc; 0; stops.len()]?;
+    for done in 1..stops.len() {
+        let leg = stops.len() - 1 - done;
+        onward[leg] = by_field(fields[leg + 1], onward[leg + 1], stops[leg]);
+    }
+    Ok(onward)
+}
+
+/// The estimates at a cell and at those beside it, by a field and what is further on.
+fn by_field_around(field: Option<&Field>, further: u64, cell: Cell) -> [u64; 5]
+    ensures { result ≡ map (by_field field.entry further) (around cell) }
+{
+    match field {
+        Some(field) => {
+            let near = field.around(cell);
+            [
+                far(near.here, further),
+                far(near.left, further),
+                far(near.right, further),
+                far(near.above, further),
+                far(near.below, further),
+            ]
+        }
+        None => [0, 0, 0, 0, 0],
+    }
+}
+
+impl<'a> Guide<'a> {
+    /// The estimates for an agent at a cell and at those beside it, with so many stops behind it.
+    pub fn around(&self, leg: usize, cell: Cell) -> [u64; 5]
+        ensures { result ≡ map (guide_estimate self.now leg) (around cell) }
+    {
+        match self {
+            Guide::Nearest { field } => to_nearest_around(field, cell),
+            Guide::Stops { fields, onward } => {
+                if leg < fields.len() {
+                    by_field_around(fields[leg], number_at(onward, leg), cell)
+                } else {
+                    [0, 0, 0, 0, 0]
+                }
+            }
+        }
+    }
+
+    /// The estimated number of steps left for an agent at a cell with so many stops behind it.
+    pub fn estimate(&self, leg: usize, cell: Cell) -> u64
+        ensures { result ≡ guide_estimate self.now leg cell }
+    {
+        match self {
+            Guide::Nearest { field } => to_nearest(field, cell),
+            Guide::Stops { fields, onward } => {
+                if leg < fields.len() {
+                    by_field(fields[leg], number_at(onward, leg), cell)
+                } else {
+                    0
+                }
+            }
+        }
+    }
+}

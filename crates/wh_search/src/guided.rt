@@ -1,0 +1,134 @@
+//! The calls for a task of two to eight stops.
+#![tactic(auto)]
+
+ghost use Rattle.std.specs.Prelude.{◌≡◌, ℕ, ◌+◌, ◌-◌, ◌*◌, ◌<◌, ◌≤◌, ◌^◌, List, IfOk, MatchOption, length};
+ghost use Rattle.wh_grid.specs.declared.cell.Cell.{Cell};
+ghost use Rattle.wh_grid.specs.Grids.{IsPassable};
+ghost use Rattle.wh_resv.specs.Others.{MayRest};
+ghost use Rattle.wh_path.specs.Paths.{last_index};
+ghost use Rattle.wh_search.specs.Deliveries.{IsDelivery, IsLawful, IsLeast, IfNoPath, AreStops};
+ghost use Rattle.wh_search.specs.Fields.{AreFieldsOf};
+ghost use Rattle.wh_search.specs.Guides.{IsOnward};
+
+use crate::errand::{Errand, arrive};
+use crate::guide::{Guide, onward_of};
+use crate::search::{Found, search};
+use std::alloc::{AllocError, Global};
+use wh_field::Field;
+use wh_grid::{Cell, Grid};
+use wh_path::TimedPath;
+use wh_resv::Reservations;
+
+/// Why there is no path.
+#[derive(Clone, Copy, Debug, PartialEq, Eq)]
+pub enum Fault {
+    /// No path exists that does it, however long.
+    NoPath,
+    /// Memory ran out.
+    NoMemory,
+}
+
+/// A least path, or none where there is no delivery, and how many states were expanded.
+fn find<'x>(
+    alloc: Global,
+    grid: &'x Grid,
+    others: &'x Reservations<'x>,
+    loc: Cell,
+    stops: &'x [Cell],
+    fields: &'x [Option<&'x Field>],
+) -> Result<Found, AllocError>
+    requires inside { IsPassable grid.now loc }
+    requires clear { MayRest others.now loc 0 }
+    requires stops { AreStops stops.now }
+    requires fields { AreFieldsOf grid.now stops.now fields.now }
+    ensures { IfOk result (λ found. MatchOption found.path
+        ((q : List Cell) → IsDelivery grid.now others.now loc stops.now q → ⊥)
+        (λ p. IsLeast grid.now others.now loc stops.now p)) }
+{
+    let Some(soonest) = others.not_before(stops[stops.len() - 1]) else {
+        return Ok(Found {
+            path: None,
+            states: 0,
+        });
+    };
+    let onward = onward_of(alloc, stops, fields)?;
+    let last = stops.len() - 1;
+    let via = &stops[..last];
+    let ends = &stops[last..];
+    let horizon = others.horizon();
+    let errand = Errand {
+        grid,
+        others,
+        loc,
+        via,
+        ends,
+        guide: Guide::Stops {
+            fields,
+            onward: &onward,
+        },
+        first: arrive(via, 0, loc),
+        horizon,
+        limit: horizon + stops.len() as u64 * u64::from(grid.cells()),
+        soonest,
+    };
+    search(alloc, &errand)
+}
+
+/// A lawful path from loc through the stops, with the least last index of all. The fields that are
+/// there guide the search. `NoPath` exactly where no path delivers, however long; else `NoMemory`
+/// where memory ran out.
+pub fn deliver_guided<'x>(
+    alloc: Global,
+    grid: &'x Grid,
+    others: &'x Reservations<'x>,
+    loc: Cell,
+    stops: &'x [Cell],
+    fields: &'x [Option<&'x Field>],
+) -> Result<TimedPath, Fault>
+    requires inside { IsPassable grid.now loc }
+    requires clear { MayRest others.now loc 0 }
+    requires stops { AreStops stops.now }
+    requires fields { AreFieldsOf grid.now stops.now fields.now }
+    ensures lawful { IfOk result (λ p. IsLawful grid.now others.now loc stops.now p) }
+    ensures least { IfOk result (λ p. (q : List Cell) → IsDelivery grid.now others.now loc stops.now q → last_index p ≤ last_index q) }
+    ensures none { IfNoPath result ((q : List Cell) → IsDelivery grid.now others.now loc stops.now q → ⊥) }
+{
+    match find(alloc, grid, others, loc, stops, fields) {
+        Ok(
+            Found {
+                path: Some(path),
+                ..
+            },
+        ) => Ok(path),
+        Ok(Found { path: None, .. }) => Err(Fault::NoPath),
+        Err(_) => Err(Fault::NoMemory),
+    }
+}
+
+/// How many states, each of a cell, a time and a number of stops behind, have their successors
+/// made by `deliver_guided` on these arguments; or its fault.
+pub fn guided_steps<'x>(
+    alloc: Global,
+    grid: &'x Grid,
+    others: &'x Reservations<'x>,
+    loc: Cell,
+    stops: &'x [Cell],
+    fields: &'x [Option<&'x Field>],
+) -> Result<u64, Fault>
+    requires inside { IsPassable grid.now loc }
+    requires clear { MayRest others.now loc 0 }
+    requires stops { AreStops stops.now }
+    requires fields { AreFieldsOf grid.now stops.now fields.now }
+    ensures none { IfNoPath result ((q : List Cell) → IsDelivery grid.now others.now loc stops.now q → ⊥) }
+{
+    match find(alloc, grid, others, loc, stops, fields) {
+        Ok(
+            Found {
+                path: Some(_),
+                states,
+            },
+        ) => Ok(states),
+        Ok(Found { path: None, .. }) => Err(Fault::NoPath),
+        Err(_) => Err(Fault::NoMemory),
+    }
+}

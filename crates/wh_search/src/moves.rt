@@ -1,0 +1,37 @@
+//! The cells to which one step leads.
+#![tactic(auto)]
+
+ghost use Rattle.std.specs.Prelude.{◌≡◌, ℕ, ◌<◌, ◌^◌, All, Contains, length};
+ghost use Rattle.wh_grid.specs.declared.cell.Cell.{Cell};
+ghost use Rattle.wh_grid.specs.Grids.{IsMove};
+ghost use Rattle.wh_field.specs.Sides.{around};
+
+use wh_grid::Cell;
+
+/// The cells to which one step leads. At the border some of them are the cell itself.
+pub fn moves_from(from: Cell) -> [Cell; 5]
+    ensures five { length result ≡ 5 }
+    ensures same { result ≡ around from }
+    ensures moves { All (λ c. IsMove from c) result }
+    ensures complete { (c : Cell) → c.x < 2 ^ 16 → c.y < 2 ^ 16 → IsMove from c → Contains result c }
+{
+    [
+        from,
+        Cell {
+            x: from.x.saturating_sub(1),
+            y: from.y,
+        },
+        Cell {
+            x: from.x.saturating_add(1),
+            y: from.y,
+        },
+        Cell {
+            x: from.x,
+            y: from.y.saturating_sub(1),
+        },
+        Cell {
+            x: from.x,
+            y: from.y.saturating_add(1),
+        },
+    ]
+}

@@ -1,0 +1,78 @@
+//! The call for parking.
+#![tactic(auto)]
+
+ghost use Rattle.std.specs.Prelude.{◌≡◌, ℕ, ◌+◌, ◌*◌, ◌<◌, ◌≤◌, ◌^◌, List, IfOk, MatchOption, length};
+ghost use Rattle.wh_grid.specs.declared.cell.Cell.{Cell};
+ghost use Rattle.wh_grid.specs.Grids.{IsPassable};
+ghost use Rattle.wh_resv.specs.Others.{MayRest};
+ghost use Rattle.wh_path.specs.Paths.{last_index};
+ghost use Rattle.wh_search.specs.Deliveries.{IfNoPath};
+ghost use Rattle.wh_search.specs.Parkings.{IsParking, IsLeastParking};
+
+use crate::errand::Errand;
+use crate::guide::Guide;
+use crate::guided::Fault;
+use crate::search::{Found, search};
+use std::alloc::{AllocError, Global};
+use wh_field::NearestField;
+use wh_grid::{Cell, Grid};
+use wh_path::TimedPath;
+use wh_resv::Reservations;
+
+/// A least path to one of the allowed cells, or none.
+fn find_parking<'x>(
+    alloc: Global,
+    grid: &'x Grid,
+    others: &'x Reservations<'x>,
+    loc: Cell,
+    allowed: &'x [Cell],
+) -> Result<Found, AllocError>
+    requires inside { IsPassable grid.now loc }
+    requires clear { MayRest others.now loc 0 }
+    ensures { IfOk result (λ found. MatchOption found.path
+        ((q : List Cell) → IsParking grid.now others.now loc allowed.now q → ⊥)
+        (λ p. IsLeastParking grid.now others.now loc allowed.now p)) }
+{
+    let field = NearestField::from(alloc, grid, allowed)?;
+    let horizon = others.horizon();
+    let errand = Errand {
+        grid,
+        others,
+        loc,
+        via: &[],
+        ends: allowed,
+        guide: Guide::Nearest { field: &field },
+        first: 0,
+        horizon,
+        limit: horizon + u64::from(grid.cells()),
+        soonest: 0,
+    };
+    search(alloc, &errand)
+}
+
+/// A lawful path from loc to one of the allowed cells, with the least last index of all; it makes
+/// the field of them all. `NoPath` exactly where no path parks, however long; else `NoMemory` where
+/// memory ran out.
+pub fn park<'x>(
+    alloc: Global,
+    grid: &'x Grid,
+    others: &'x Reservations<'x>,
+    loc: Cell,
+    allowed: &'x [Cell],
+) -> Result<TimedPath, Fault>
+    requires inside { IsPassable grid.now loc }
+    requires clear { MayRest others.now loc 0 }
+    ensures least { IfOk result (λ p. IsLeastParking grid.now others.now loc allowed.now p) }
+    ensures none { IfNoPath result ((q : List Cell) → IsParking grid.now others.now loc allowed.now q → ⊥) }
+{
+    match find_parking(alloc, grid, others, loc, allowed) {
+        Ok(
+            Found {
+                path: Some(path),
+                ..
+            },
+        ) => Ok(path),
+        Ok(Found { path: None, .. }) => Err(Fault::NoPath),
+        Err(_) => Err(Fault::NoMemory),
+    }
+}

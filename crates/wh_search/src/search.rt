@@ -1,0 +1,54 @@
+//! The search, guided by an estimate, for a least lawful path.
+#![tactic(auto)]
+
+ghost use Rattle.std.specs.Prelude.{◌≡◌, ℕ, ◌+◌, ◌<◌, ◌≤◌, ◌^◌, ◌↔◌, List, IsTrue, IfOk, MatchOption, Option, Some, None, length, vec_len, [], ◌∷◌};
+ghost use Rattle.wh_grid.specs.declared.cell.Cell.{Cell};
+ghost use Rattle.wh_resv.specs.Others.{MayRest};
+ghost use Rattle.wh_search.specs.Frontiers.{problem, node_at, state_of, IsKept, IsErrand};
+ghost use Rattle.wh_search.specs.Tours.{IsTour, IsLeastTour};
+
+use crate::errand::Errand;
+use crate::frontier::Frontier;
+use crate::trail::walk_back;
+use std::alloc::{AllocError, Global};
+use wh_path::TimedPath;
+
+/// A least path, if there is one, and how many states were expanded.
+#[derive(Drop)]
+pub struct Found {
+    pub path: Option<TimedPath>,
+    pub states: u64,
+}
+
+/// A least tour, or none where there is no tour.
+pub fn search(alloc: Global, errand: &Errand) -> Result<Found, AllocError>
+    requires errand { IsErrand errand.now }
+    requires clear { MayRest errand.now.others.now errand.now.loc 0 }
+    ensures { IfOk result (λ found. MatchOption found.path
+        ((q : List Cell) → IsTour errand.now.grid.now errand.now.others.now errand.now.loc errand.now.via.now errand.now.ends.now q → ⊥)
+        (λ p. IsLeastTour errand.now.grid.now errand.now.others.now errand.now.loc errand.now.via.now errand.now.ends.now p)) }
+{
+    let left = errand.guide.estimate(errand.first, errand.loc);
+    let base = errand.soonest.max(left);
+    let stride = (left as usize).min(4096) + 16;
+    let mut frontier = Frontier::new(alloc, base, stride)?;
+    let look = frontier.look(errand, 0, errand.first, errand.loc);
+    frontier.meet(errand, 0, errand.first, errand.loc, 0, left, look)?;
+    for _ in 0..u64::MAX {
+        let Some((bound, index)) = frontier.queue.pop() else {
+            return Ok(Found {
+                path: None,
+                states: frontier.expanded,
+            });
+        };
+        if frontier.is_end(errand, index) {
+            let path = walk_back(alloc, errand, &frontier.nodes, index)?;
+            return Ok(Found {
+                path: Some(path),
+                states: frontier.expanded,
+            });
+        }
+        frontier.expand(errand, index, bound)?;
+    }
+    Err(AllocError)
+}

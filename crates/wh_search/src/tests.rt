@@ -1,0 +1,156 @@
+//! Small errands on a floor of rows `.....` and `@.@@@`, and one on an open floor.
+
+use crate::{Fault, deliver, deliver_guided, guided_steps, park};
+use std::process::Abort;
+use std::test::Fail;
+use wh_field::Field;
+use wh_grid::{Cell, Grid};
+use wh_path::TimedPath;
+use wh_resv::Reservations;
+
+fn path<R: Abort + AllocGlobal>(rt: &R, cells: &[(u16, u16)]) -> Result<TimedPath, Fail> {
+    let mut all = Vec::new(rt.alloc());
+    for c in cells {
+        all.push(Cell { x: c.0, y: c.1 })?;
+    }
+    assert!(rt; all.len() > 0);
+    Ok(TimedPath::over(all))
+}
+
+fn small_floor<R: Abort + AllocGlobal>(rt: &R) -> Result<Grid, Fail> {
+    let walkable = [
+        true, true, true, true, true, false, true, false, false, false,
+    ]
+    .to_vec(rt.alloc())?;
+    assert_eq!(rt; walkable.len(), 10);
+    Ok(Grid::new(5, 2, walkable))
+}
+
+/// The last index of what was found; none where there is no path.
+fn last<R: Abort + AllocGlobal>(
+    rt: &R,
+    found: Result<TimedPath, Fault>,
+) -> Result<Option<u64>, Fail> {
+    match found {
+        Ok(p) => Ok(Some(p.remaining())),
+        Err(fault) => {
+            assert_eq!(rt; fault, Fault::NoPath);
+            Ok(None)
+        }
+    }
+}
+
+/// What `deliver` finds from the left of the upper row, beside one other path.
+fn delivered<R: Abort + AllocGlobal>(
+    rt: &R,
+    other: &[(u16, u16)],
+    stops: &[Cell],
+    nofollow: bool,
+) -> Result<Option<u64>, Fail> {
+    let grid = small_floor(rt)?;
+    let paths = [path(rt, &[(0, 0)])?, path(rt, other)?];
+    let others = Reservations::build(rt.alloc(), &paths, 0, nofollow)?;
+    let loc = at(0);
+    assert!(rt; grid.passable(loc));
+    assert!(rt; others.may_rest(loc, 0));
+    assert!(rt; stops.len() >= 2);
+    assert!(rt; stops.len() <= 8);
+    last(rt, deliver(rt.alloc(), &grid, &others, loc, stops))
+}
+
+/// A cell of the upper row.
+fn at(x: u16) -> Cell {
+    Cell { x, y: 0 }
+}
+
+#[test]
+fn waits_for_the_other(rt: HostRuntime) -> Result<(), Fail> {
+    let other = [(1, 1), (1, 1), (1, 0), (2, 0), (3, 0), (4, 0)];
+    assert_eq!(rt; delivered(&rt, &other, &[at(2), at(0)], false)?, Some(6));
+    let later = [(1, 1), (1, 1), (1, 1), (1, 0)];
+    assert_eq!(rt; delivered(&rt, &later, &[at(2), at(4)], false)?, Some(4));
+    Ok(())
+}
+
+#[test]
+fn keeps_behind_under_the_rule(rt: HostRuntime) -> Result<(), Fail> {
+    let other = [(1, 0), (2, 0), (3, 0), (4, 0)];
+    assert_eq!(rt; delivered(&rt, &other, &[at(1), at(3)], false)?, Some(3));
+    assert_eq!(rt; delivered(&rt, &other, &[at(1), at(3)], true)?, Some(4));
+    Ok(())
+}
+
+#[test]
+fn visits_several_stops(rt: HostRuntime) -> Result<(), Fail> {
+    let stops = [at(2), at(0), at(0), at(4)];
+    assert_eq!(rt; delivered(&rt, &[(1, 1)], &stops, false)?, Some(8));
+    assert_eq!(rt; delivered(&rt, &[(3, 0)], &[at(2), at(4)], false)?, None);
+    Ok(())
+}
+
+#[test]
+fn parks(rt: HostRuntime) -> Result<(), Fail> {
+    let grid = small_floor(&rt)?;
+    let paths = [path(&rt, &[(0, 0)])?, path(&rt, &[(2, 0)])?];
+    let others = Reservations::build(rt.alloc(), &paths, 0, false)?;
+    let loc = at(0);
+    assert!(&rt; grid.passable(loc));
+    assert!(&rt; others.may_rest(loc, 0));
+    let beyond = park(rt.alloc(), &grid, &others, loc, &[at(4)]);
+    assert_eq!(&rt; last(&rt, beyond)?, None);
+    let here = park(rt.alloc(), &grid, &others, loc, &[at(0)]);
+    assert_eq!(&rt; last(&rt, here)?, Some(0));
+    let nearest = park(
+        rt.alloc(),
+        &grid,
+        &others,
+        loc,
+        &[at(4), Cell { x: 1, y: 1 }],
+    );
+    assert_eq!(&rt; last(&rt, nearest)?, Some(2));
+    Ok(())
+}
+
+#[test]
+fn is_guided(rt: HostRuntime) -> Result<(), Fail> {
+    let walkable = vec![in rt.alloc(); true; 10000]?;
+    assert_eq!(&rt; walkable.len(), 10000);
+    let grid = Grid::new(100, 100, walkable);
+    let paths = [path(&rt, &[(0, 0)])?];
+    let others = Reservations::build(rt.alloc(), &paths, 0, false)?;
+    let loc = at(0);
+    assert!(&rt; grid.passable(loc));
+    assert!(&rt; others.may_rest(loc, 0));
+    let pickup = at(50);
+    let delivery = at(99);
+    let first = Field::from(rt.alloc(), &grid, pickup)?;
+    let second = Field::from(rt.alloc(), &grid, delivery)?;
+    let stops = [pickup, delivery];
+    let fields = [Some(&first), Some(&second)];
+    let guided = deliver_guided(rt.alloc(), &grid, &others, loc, &stops, &fields);
+    assert_eq!(&rt; last(&rt, guided)?, Some(99));
+    match guided_steps(rt.alloc(), &grid, &others, loc, &stops, &fields) {
+        Ok(n) => assert!(&rt; n <= 200),
+        Err(_) => assert!(&rt; false),
+    }
+    // without the first field all is guessed to be near until the first stop
+    let absent = [None, Some(&second)];
+    let led = deliver_guided(rt.alloc(), &grid, &others, loc, &stops, &absent);
+    assert_eq!(&rt; last(&rt, led)?, Some(99));
+    Ok(())
+}
+
+#[test]
+fn asks_the_others(rt: HostRuntime) -> Result<(), Fail> {
+    let paths = [path(&rt, &[(0, 0)])?, path(&rt, &[(1, 0), (2, 0), (3, 0)])?];
+    let others = Reservations::build(rt.alloc(), &paths, 0, true)?;
+    assert_eq!(&rt; others.horizon(), 2);
+    // the other leaves (1,0) in the first step, and comes by (2,0) at time 1
+    assert!(&rt; !others.may_step(at(0), at(1), 0));
+    assert!(&rt; others.may_step(at(0), at(1), 1));
+    assert!(&rt; !others.vacant(at(2), 1));
+    assert!(&rt; !others.may_rest(at(2), 1));
+    assert!(&rt; others.may_rest(at(2), 2));
+    assert!(&rt; others.not_before(at(3)).is_none());
+    Ok(())
+}
