@@ -1,0 +1,17 @@
+pub mod Loops
+pub mod Steps
+pub mod CellLaws
+pub mod EventLaws
+pub mod ReplyLaws
+pub mod EntryLaws
+pub mod Spacing
+pub mod SlotLoop
+pub mod PathLoop
+pub mod HeadLaws
+pub mod LineLaws
+pub mod Fronts
+pub mod Continuing
+pub mod Runs
+pub mod Following
+pub mod LogLaws
+pub mod Collected

@@ -1,0 +1,15 @@
+use Rattle.std.proofs.Common.{rules, ◌≡◌, [], ◌∷◌, lit≤, lit<, subst, sym}
+use Rattle.wh_log.specs.declared.version.Version.TheVariants.{Two}
+use Rattle.wh_log.specs.Logs.{Content, Fits}
+use Rattle.wh_log.proofs.tests.read_again.Goals as goal
+
+small_fits : (log : Content) → log ≡ record { clock = 7; slots = 4 ∷ 64 ∷ []; entries = [] } → Fits Two log
+small_fits log e =
+    subst (Fits Two) (sym e) (record {
+      opens = record { clock_fits = lit≤ tt; some = lit≤ tt; few = lit≤ tt; each = ((lit≤ tt, lit≤ tt), ((lit≤ tt, lit≤ tt), tt)) };
+      entries = tt;
+      count = lit< tt;
+    })
+
+pub written_again-requires : goal.written_again-requires
+written_again-requires c = λ d. small_fits d.new-log.result (search rules)

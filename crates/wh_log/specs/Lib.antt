@@ -1,0 +1,12 @@
+pub mod Ranges
+pub mod Spelling
+pub mod Spaced
+pub mod Logs
+pub mod FirstBad
+pub mod Judges
+pub mod Collecting
+pub mod Reading
+pub mod ReadEvents
+pub mod ReadReplies
+pub mod Heads
+pub mod Places

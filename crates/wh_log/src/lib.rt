@@ -1,0 +1,35 @@
+//! The log of a warehouse: its history as a strict text, written, read back and told to a judge entry by entry.
+#![tactic(auto)]
+
+mod entry_fault;
+mod entry_lines;
+mod fault;
+mod follow_log;
+mod head;
+mod heads;
+mod judge;
+mod laws;
+mod log;
+mod look;
+mod places;
+mod read_event;
+mod read_path;
+mod read_reply;
+mod read_words;
+mod reader;
+mod version;
+mod write_entry;
+mod writer;
+
+pub use entry_lines::entries_are;
+pub use fault::NoMemory;
+pub use follow_log::{Followed, follow};
+pub use judge::Judge;
+pub use laws::logs_are;
+pub use log::Log;
+pub use reader::{LogFault, read_log};
+pub use version::Version;
+pub use writer::{log_text, written_again};
+
+#[cfg(test)]
+mod tests;

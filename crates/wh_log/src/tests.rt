@@ -1,0 +1,189 @@
+//! Logs from outside: worked ones, each with one change, and a judge of its own.
+ghost use Rattle.std.specs.Prelude.{◌≡◌, ◌+◌, ◌<◌};
+ghost use Rattle.std.proofs.Common.{sym, ◌∙◌};
+
+use super::*;
+use std::alloc::Global;
+use std::test::Fail;
+use wh_event::Entry;
+
+const LOG: &[u8] =
+    b"wlog 1\nstart 0 slots 4 4\n0 submit x A B = accepted 0\n0 token 0 = took 0 path 0,1 1,1 1,0 1,1 2,1 3,1 3,0\n0 tick = clock 1 picked 0 dropped 0\nend 3\n";
+
+const LOG_IN_TWO: &[u8] =
+    b"wlog 2\nstart 0 slots 4 4\n0 submit x A B = accepted 0\n0 token 0 = took 0 path 0,1 1,1 1,0 1,1 2,1 3,1 3,0\n0 tick = clock 1 picked 0 dropped 0\nend 3\n";
+
+const ALL: &[u8] =
+    b"wlog 2\nstart 1000000000 slots 2 64\n63 submit x A B C D E F G H = accepted 999999999\n0 token 1 = rested\n0 token 999999999 = refused E4 999999999\n0 token 0 = parked P-1 path 4095,0 4095,0 4094,0\n0 token 0 = refused E5 18446744073709551615\n0 tick = clock 1000000000 picked 0 dropped 7\n5 replace 0 none = refused E10\n5 replace 0 foreign = refused E9\n5 replace 0 fits 100 = replaced 100\n5 close = closed\n5 close = refused E8\n5 submit x Z A = refused E1 Z\n5 submit x A P1 = refused E2 P1\n5 submit x A B = refused E3\n5 token 0 = refused E6\n5 tick = refused E7\nend 16\n";
+
+/// The line of the fault, 0 where there is none.
+fn fault(alloc: Global, text: &[u8]) -> u64 {
+    match read_log(alloc, text) {
+        Ok(_) => 0,
+        Err(LogFault::At { line }) => line,
+        Err(LogFault::NoMemory) => 1_000_000,
+    }
+}
+
+#[test]
+fn the_log_and_its_changes(rt: HostRuntime) {
+    let table = [
+        (LOG, 0),
+        (LOG_IN_TWO, 0),
+        (ALL, 0),
+        (b"wlog 2\nstart 0 slots 4\nend 0\n", 0),
+        (b"", 1),
+        (b"wlog 1", 1),
+        (b"wlog 3\nstart 0 slots 4\nend 0\n", 1),
+        (b"wlog 2\r\nstart 0 slots 2\nend 0\n", 1),
+        (b"wlog 2\n", 2),
+        (b"wlog 2\nstart 0 slots 1\nend 0\n", 2),
+        (b"wlog 2\nstart 0 slots\nend 0\n", 2),
+        (b"wlog 2\nstart 1000000001 slots 2\nend 0\n", 2),
+        (b"wlog 2\nstart 00 slots 2\nend 0\n", 2),
+        (b"wlog 2\nstart 0 slots 2\n", 3),
+        (b"wlog 2\nstart 0 slots 2\nend 0", 3),
+        (b"wlog 2\nstart 0 slots 2\nend 1\n", 3),
+        (b"wlog 2\nstart 0 slots 2\nend 0\nx\n", 4),
+        (b"wlog 2\nstart 0 slots 2\nend 0\nx", 4),
+        (b"wlog 2\nstart 0 slots 2\nend 0\n\n", 4),
+    ];
+    for (text, line) in table {
+        assert_eq!(rt; fault(rt.alloc(), text), line);
+    }
+}
+
+#[test]
+fn one_entry_changed(rt: HostRuntime) {
+    let table = [
+        (
+            b"wlog 1\nstart 0 slots 4\n0 submit  x A B = accepted 0\nend 1\n".as_slice(),
+            3,
+        ),
+        (
+            b"wlog 1\nstart 0 slots 4\n64 submit x A B = accepted 0\nend 1\n",
+            3,
+        ),
+        (
+            b"wlog 1\nstart 0 slots 4\n0 submit x A C B = accepted 0\nend 1\n",
+            3,
+        ),
+        (
+            b"wlog 2\nstart 0 slots 4\n0 submit x A C B = accepted 0\nend 1\n",
+            0,
+        ),
+        (
+            b"wlog 2\nstart 0 slots 4\n0 submit x A = accepted 0\nend 1\n",
+            3,
+        ),
+        (
+            b"wlog 2\nstart 0 slots 4\n0 submit x A B A B A B A B A = accepted 0\nend 1\n",
+            3,
+        ),
+        (b"wlog 2\nstart 0 slots 4\n0 tick = rested \nend 1\n", 3),
+        (b"wlog 2\nstart 0 slots 4\n 0 tick = rested\nend 1\n", 3),
+        (b"wlog 2\nstart 0 slots 4\n0 tick = rested\n\nend 1\n", 4),
+        (b"wlog 2\nstart 0 slots 4\n0 tick = accepted 01\nend 1\n", 3),
+        (
+            b"wlog 2\nstart 0 slots 4\n0 tick = accepted 1000000000\nend 1\n",
+            3,
+        ),
+        (
+            b"wlog 2\nstart 0 slots 4\n0 tick = clock 1000000001 picked 0 dropped 0\nend 1\n",
+            3,
+        ),
+        (
+            b"wlog 2\nstart 0 slots 4\n0 token 0 = took 0 path 0,0 1,1\nend 1\n",
+            3,
+        ),
+        (
+            b"wlog 2\nstart 0 slots 4\n0 token 0 = took 0 path 4096,0\nend 1\n",
+            3,
+        ),
+        (
+            b"wlog 2\nstart 0 slots 4\n0 token 0 = took 0 path\nend 1\n",
+            3,
+        ),
+        (
+            b"wlog 2\nstart 0 slots 4\n0 token 0 = took 0 path 4095,4095\nend 1\n",
+            0,
+        ),
+        (
+            b"wlog 2\nstart 0 slots 4\n0 token 0 = refused E5 18446744073709551616\nend 1\n",
+            3,
+        ),
+    ];
+    for (text, line) in table {
+        assert_eq!(rt; fault(rt.alloc(), text), line);
+    }
+}
+
+#[test]
+fn written_as_it_was_read(rt: HostRuntime) -> Result<(), Fail> {
+    let alloc = rt.alloc();
+    let log = read_log(alloc, LOG)?;
+    assert_eq!(rt; log.entries().len(), 3);
+    let text = log_text(alloc, log.clock(), log.slots(), log.entries())?;
+    assert_eq!(rt; text.as_slice(), LOG_IN_TWO);
+    let log = read_log(alloc, ALL)?;
+    assert_eq!(rt; log.clock(), 1_000_000_000);
+    assert_eq!(rt; log.slots(), [2, 64].as_slice());
+    let text = log_text(alloc, log.clock(), log.slots(), log.entries())?;
+    assert_eq!(rt; text.as_slice(), ALL);
+    Ok(())
+}
+
+/// Takes two entries, and refuses a third.
+#[derive(Drop)]
+struct Two {
+    taken: u32,
+}
+
+impl Judge for Two {
+    ghost opens = { λ old clock slots new. new ≡ record { taken = 0 } };
+
+    ghost steps = { λ old entry new. (old.taken < 2) × (new ≡ record { taken = old.taken + 1 }) };
+
+    fn open(&mut self, _alloc: Global, _clock: u32, _slots: Vec<u32>) -> Result<bool, NoMemory> {
+        self.taken = 0;
+        Ok(true)
+    }
+
+    fn step(&mut self, _alloc: Global, _entry: Entry) -> Result<bool, NoMemory> {
+        if self.taken >= 2 {
+            return Ok(false);
+        }
+        self.taken += 1;
+        Ok(true)
+    }
+
+    ghost one_opening = { λ old clock slots a b p q. p ∙ sym q };
+
+    ghost one_step = { λ old entry a b p q. p.1 ∙ sym q.1 };
+}
+
+#[test]
+fn told_to_a_judge(rt: HostRuntime) -> Result<(), Fail> {
+    let alloc = rt.alloc();
+    let mut judge = Two { taken: 7 };
+    assert_eq!(rt; follow(alloc, &mut judge, LOG)?, Followed::Bad { line: 5 });
+    let short = b"wlog 2\nstart 0 slots 4\n0 tick = rested\n0 close = closed\nend 2\n";
+    assert_eq!(rt;
+        follow(alloc, &mut judge, short)?,
+        Followed::Whole { entries: 2 }
+    );
+    assert_eq!(rt; judge.taken, 2);
+    Ok(())
+}
+
+#[test]
+fn read_again(rt: HostRuntime) -> Result<(), Fail> {
+    let alloc = rt.alloc();
+    let slots = vec![in alloc; 4, 64]?;
+    let log = Log::new(7, slots, Vec::new(alloc));
+    let again = written_again(alloc, &log)?;
+    assert_eq!(rt; again.clock(), 7);
+    assert_eq!(rt; again.slots(), [4, 64].as_slice());
+    assert!(rt; again.entries().is_empty());
+    Ok(())
+}
