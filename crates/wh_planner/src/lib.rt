@@ -7,3 +7,6 @@ mod planner;
 
 pub use duty::Duty;
 pub use planner::{PlanFault, Planner, Scene};
+
+#[cfg(test)]
+mod tests;

@@ -1,0 +1,55 @@
+//! A planner for tests alone, in a box.
+ghost use Rattle.std.specs.Prelude.{true};
+
+use super::*;
+use std::alloc::Global;
+use std::test::Fail;
+use wh_grid::{Cell, Grid};
+use wh_path::TimedPath;
+
+/// Plans on every grid, and never has memory.
+#[derive(Drop)]
+struct Forgetful {
+    slots: u32,
+}
+
+impl Planner for Forgetful {
+    ghost fits_map = { λ p g. true };
+
+    ghost slot_count = { λ p. p.slots };
+
+    fn fits(&self, grid: &Grid) -> bool {
+        true
+    }
+
+    fn slots(&self) -> u32 {
+        self.slots
+    }
+
+    fn plan(&mut self, alloc: Global, scene: &Scene, duty: Duty) -> Result<TimedPath, PlanFault> {
+        Err(PlanFault::NoMemory)
+    }
+}
+
+#[test]
+fn a_box_plans_as_the_planner_in_it(rt: HostRuntime) -> Result<(), Fail> {
+    let grid = Grid::new(2, 1, vec![in rt.alloc(); true, true]?);
+    let here = Cell { x: 0, y: 0 };
+    let paths = [TimedPath::one(rt.alloc(), here)?];
+    let scene = Scene {
+        grid: &grid,
+        nofollow: true,
+        paths: &paths,
+        agent: 0,
+    };
+    let mut planner: Box<dyn Planner> = Box::new(rt.alloc(), Forgetful { slots: 3 })?;
+    assert_eq!(rt; planner.slots(), 3);
+    if !planner.fits(&grid) {
+        return Err("it plans on every grid")?;
+    }
+    let allowed = [here];
+    let duty = Duty::Park { allowed: &allowed };
+    let found = planner.plan(rt.alloc(), &scene, duty);
+    assert!(rt; matches!(found, Err(PlanFault::NoMemory)));
+    Ok(())
+}

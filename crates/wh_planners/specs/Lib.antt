@@ -1,0 +1,5 @@
+pub mod Patience
+pub mod Fields
+pub mod Kept
+pub mod Near
+pub mod Services

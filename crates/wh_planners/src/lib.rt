@@ -1,0 +1,10 @@
+//! The planners. The patient one waits until all others rest, and then goes around them.
+#![tactic(auto)]
+
+mod cache;
+mod near;
+mod others;
+mod patient;
+
+pub use near::Near;
+pub use patient::{Patient, patient_path};

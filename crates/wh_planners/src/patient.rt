@@ -1,0 +1,189 @@
+//! The patient planner: it waits until all others rest, and then goes around them.
+#![tactic(auto)]
+
+ghost use Rattle.std.specs.Prelude.{◌≡◌, ◌<◌, ◌≤◌, ◌^◌, ◌+◌, ◌*◌, ℕ, Bool, true, List, [], ◌∷◌, IfOk, IfErr, IfSome, IfNone, length, Contains};
+ghost use Rattle.wh_grid.specs.declared.cell.Cell.{Cell};
+ghost use Rattle.wh_grid.specs.Grids.{Floor, same_floor};
+ghost use Rattle.wh_path.specs.Paths.{at, last_index, AllFree, IsWalk, steps_left};
+ghost use Rattle.wh_field.specs.Distances.{IsNearestRoute};
+ghost use Rattle.wh_planner.specs.Duties.{Delivers, ParksAt, IsLawful, IsClearWay, HasNoClearWay};
+ghost use Rattle.wh_planner.specs.Asked.{IsDuty, Serves, legs};
+ghost use Rattle.wh_planners.specs.Patience.{IsPatient, GoesPatiently, ParksPatiently, IsPatientPath};
+ghost use Rattle.wh_claims.specs.Claim.{claim_amount};
+
+use crate::others::{last_to_rest, other_ends};
+use std::alloc::{AllocError, Global};
+use std::marker::Model;
+use std::sync::Arc;
+use wh_claims::Claim;
+use wh_field::{route, route_to_nearest};
+use wh_grid::{Cell, Grid};
+use wh_path::TimedPath;
+use wh_planner::{Duty, PlanFault, Planner, Scene};
+
+/// The path that stays at a cell until a time.
+fn waiting(alloc: Global, here: Cell, wait: u64) -> Result<TimedPath, AllocError>
+    requires { wait < 2 ^ 61 }
+    ensures stays { IfOk result (λ p. (k : ℕ) → at p k ≡ here) }
+    ensures size { IfOk result (λ p. length p ≡ wait + 1) }
+{
+    let mut cells = Vec::with_capacity(alloc, wait as usize + 1)?;
+    cells.push(here)?;
+    for k in 0..wait {
+        cells.push(here)?;
+    }
+    Ok(TimedPath::over(cells))
+}
+
+/// Waits, and goes from stop to stop by least routes that meet none of some cells.
+fn tour(
+    alloc: Global,
+    grid: &Grid,
+    here: Cell,
+    wait: u64,
+    stops: &[Cell],
+    avoid: &[Cell],
+) -> Result<Option<TimedPath>, AllocError>
+    requires wait { wait < 2 ^ 61 }
+    requires off { ¬ Contains avoid.now here }
+    ensures found { IfOk result (λ r. IfSome r (IsPatient grid.now avoid.now here wait stops.now (length stops.now))) }
+    ensures none { IfOk result (λ r. IfNone r ((way : List Cell) → IsWalk grid.now way → at way 0 ≡ here → ((k : ℕ) → ¬ Contains avoid.now (at way k)) → ¬ Delivers stops.now way)) }
+{
+    if !grid.passable(here) {
+        return Ok(None);
+    }
+    let mut path = waiting(alloc, here, wait)?;
+    for i in 0..stops.len() {
+        match route(alloc, grid, path.end(), stops[i], avoid)? {
+            Some(leg) => path.follow(&leg)?,
+            None => return Ok(None),
+        }
+    }
+    Ok(Some(path))
+}
+
+/// The patient path through the stops. None where there is no clear way.
+fn deliver(alloc: Global, scene: &Scene, stops: &[Cell]) -> Result<Option<TimedPath>, AllocError>
+    requires agent { scene.now.agent < length scene.now.paths.now }
+    requires resting { steps_left scene.now.paths.now scene.now.agent ≡ 0 }
+    requires free { AllFree scene.now.nofollow scene.now.paths.now }
+    ensures found { IfOk result (λ r. IfSome r (GoesPatiently scene.now.grid.now scene.now.paths.now scene.now.agent stops.now)) }
+    ensures none { IfOk result (λ r. IfNone r (HasNoClearWay scene.now.grid.now scene.now.paths.now scene.now.agent (Delivers stops.now))) }
+{
+    let avoid = other_ends(alloc, scene.paths, scene.agent)?;
+    let here = scene.paths[scene.agent].at(0);
+    let wait = last_to_rest(scene.paths, scene.agent);
+    tour(alloc, scene.grid, here, wait, stops, &avoid)
+}
+
+/// The patient path to the nearest of the allowed cells. None where there is no clear way.
+fn park(alloc: Global, scene: &Scene, allowed: &[Cell]) -> Result<Option<TimedPath>, AllocError>
+    requires agent { scene.now.agent < length scene.now.paths.now }
+    requires resting { steps_left scene.now.paths.now scene.now.agent ≡ 0 }
+    requires free { AllFree scene.now.nofollow scene.now.paths.now }
+    ensures found { IfOk result (λ r. IfSome r (ParksPatiently scene.now.grid.now scene.now.paths.now scene.now.agent allowed.now)) }
+    ensures none { IfOk result (λ r. IfNone r (HasNoClearWay scene.now.grid.now scene.now.paths.now scene.now.agent (ParksAt (Contains allowed.now)))) }
+{
+    let avoid = other_ends(alloc, scene.paths, scene.agent)?;
+    let here = scene.paths[scene.agent].at(0);
+    match route_to_nearest(alloc, scene.grid, here, allowed, &avoid)? {
+        Some((index, leg)) => {
+            let wait = last_to_rest(scene.paths, scene.agent);
+            let mut path = waiting(alloc, here, wait)?;
+            path.follow(&leg)?;
+            Ok(Some(path))
+        }
+        None => Ok(None),
+    }
+}
+
+/// The path of the patient planner: until the others rest it stays, and then it goes around their
+/// ends, from stop to stop by least routes, or to the nearest of the allowed cells.
+pub fn patient_path(
+    alloc: Global,
+    scene: &Scene,
+    duty: Duty,
+) -> Result<Option<TimedPath>, AllocError>
+    requires agent { scene.now.agent < length scene.now.paths.now }
+    requires resting { steps_left scene.now.paths.now scene.now.agent ≡ 0 }
+    requires free { AllFree scene.now.nofollow scene.now.paths.now }
+    requires duty { IsDuty duty }
+    ensures patient { IfOk result (λ r. IfSome r (IsPatientPath scene.now.grid.now scene.now.paths.now scene.now.agent duty.entry)) }
+    ensures lawful { IfOk result (λ r. IfSome r (IsLawful scene.now.grid.now scene.now.nofollow scene.now.paths.now scene.now.agent (legs duty.entry) (Serves duty.entry))) }
+    ensures clear { IfOk result (λ r. IfSome r (IsClearWay scene.now.grid.now scene.now.paths.now scene.now.agent (Serves duty.entry))) }
+    ensures none { IfOk result (λ r. IfNone r (HasNoClearWay scene.now.grid.now scene.now.paths.now scene.now.agent (Serves duty.entry))) }
+{
+    match duty {
+        Duty::Deliver { stops } => deliver(alloc, scene, stops),
+        Duty::Park { allowed } => park(alloc, scene, allowed),
+    }
+}
+
+/// Waits until all others rest, and then goes around them. It keeps no fields, so its slots stay empty; where it is
+/// dropped, its claim gives them back.
+#[derive(Drop)]
+pub struct Patient {
+    grid: Arc<Grid>,
+    claim: Claim,
+}
+
+impl Model for Patient {
+    ghost use Rattle.std.specs.Prelude.{◌≤◌};
+    ghost use Rattle.wh_claims.specs.Claim.{claim_amount};
+    ghost use Rattle.wh_planners.specs.Patience.{Mind};
+
+    ghost Value = { Mind };
+
+    ghost view = { λ p. record { grid = p.grid.value; claim = p.claim } };
+
+    ghost invariant = { λ p. (2 ≤ claim_amount p.claim) × (claim_amount p.claim ≤ 64) };
+}
+
+impl Patient {
+    /// A patient planner on a grid, with the slots of a claim: 2 to 64 of them. It takes no memory.
+    pub fn new(grid: Arc<Grid>, claim: Claim) -> Self
+        requires at_least { 2 ≤ claim_amount claim }
+        requires at_most { claim_amount claim ≤ 64 }
+        ensures { result ≡ record { grid = grid.value; claim = claim } }
+    {
+        Patient { grid, claim }
+    }
+}
+
+impl Planner for Patient {
+    ghost fits_map = { λ p g. same_floor p.grid g };
+
+    ghost slot_count = { λ p. claim_amount p.claim };
+
+    fn fits(&self, grid: &Grid) -> bool {
+        self.grid.same(grid)
+    }
+
+    fn slots(&self) -> u32
+        ensures value { result ≡ claim_amount self.now.claim }
+        ensures at_least { 2 ≤ result }
+        ensures at_most { result ≤ 64 }
+    {
+        self.claim.amount()
+    }
+
+    fn plan(&mut self, alloc: Global, scene: &Scene, duty: Duty) -> Result<TimedPath, PlanFault>
+        requires fits { same_floor self.old.grid scene.now.grid.now ≡ true }
+        requires agent { scene.now.agent < length scene.now.paths.now }
+        requires resting { steps_left scene.now.paths.now scene.now.agent ≡ 0 }
+        requires free { AllFree scene.now.nofollow scene.now.paths.now }
+        requires duty { IsDuty duty }
+        ensures same { self.new ≡ self.old }
+        ensures fits_stays { (g : Floor) → same_floor self.new.grid g ≡ same_floor self.old.grid g }
+        ensures slots_stay { claim_amount self.new.claim ≡ claim_amount self.old.claim }
+        ensures patient { IfOk result (IsPatientPath scene.now.grid.now scene.now.paths.now scene.now.agent duty.entry) }
+        ensures lawful { IfOk result (IsLawful scene.now.grid.now scene.now.nofollow scene.now.paths.now scene.now.agent (legs duty.entry) (Serves duty.entry)) }
+        ensures no_path { IfErr result (λ fault. fault ≡ PlanFault.NoPath → HasNoClearWay scene.now.grid.now scene.now.paths.now scene.now.agent (Serves duty.entry)) }
+    {
+        match patient_path(alloc, scene, duty) {
+            Ok(Some(path)) => Ok(path),
+            Ok(None) => Err(PlanFault::NoPath),
+            Err(_) => Err(PlanFault::NoMemory),
+        }
+    }
+}

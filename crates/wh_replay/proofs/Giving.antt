@@ -1,0 +1,143 @@
+-- What commands give, one after another.
+use Rattle.std.proofs.Common.{◌≡◌, ◌≢◌, ◌<◌, ◌+◌, ℕ, List, [], ◌∷◌, ◌++◌, length, drop, refl, sym, ap, ◌∙◌, arith, subst, Option, None, Some, Result, Ok, Err, append_assoc, append-nil, Bool, suc}
+use Rattle.std.specs.Prelude.{All, codes}
+use Rattle.std.proofs.lemmas.List.{append_cancel_left, length-append}
+use Rattle.std.proofs.lemmas.List.Elements.{All-nil, All-append}
+use Rattle.wh_grid.specs.Grids.{Floor}
+use Rattle.wh_points.specs.Points.{Site}
+use Rattle.wh_points.specs.Formed.{IsFormed}
+use Rattle.wh_core.specs.States.{State}
+use Rattle.wh_core.specs.Steps.{Run}
+use Rattle.wh_book.specs.Drafts.{Seen, AllServed}
+use Rattle.wh_token.specs.Runs.{Ran, entries_of}
+use Rattle.wh_token.proofs.Runs.{ran-run}
+use Rattle.wh_event.specs.CommandLines.{command_of}
+use Rattle.wh_event.specs.ReplyTexts.{reply_text}
+use Rattle.wh_event.specs.declared.event.Command.{Command}
+use Rattle.wh_event.specs.declared.entry.Entry.{Entry}
+use Rattle.wh_event.specs.declared.reply.Reply.{Reply}
+use Rattle.wh_event.specs.declared.reply.Refusal.{Refusal}
+use Rattle.wh_event.specs.declared.fault.LineFault.{LineFault}
+use Rattle.wh_event.specs.declared.fault.LineFault.TheVariants.{Form, TooLong}
+use Rattle.wh_replay.specs.Answers.{asked, commands_of, answers, replies_to}
+use Rattle.wh_replay.specs.Scripts.{Gives, IsOutputOf}
+
+-- ---- runs
+
+ran_append : {X : Type 0} (fits : X → Bool) (count : X → ℕ) (site : Site) (caller : ℕ) (cs : List Command) (os : List (Option Entry)) (ds : List Command) (ps : List (Option Entry))
+    (s : State) (spares : List X) (mid : State) (left : List X) (new : State) (rest : List X)
+    → Ran fits count site caller cs os s spares mid left → Ran fits count site caller ds ps mid left new rest → Ran fits count site caller (cs ++ ds) (os ++ ps) s spares new rest
+ran_append {X} fits count site caller [] [] ds ps s spares mid left new rest p q =
+    subst (λ (xs : List X). Ran fits count site caller ds ps s xs new rest) p.1 (subst (λ (t : State). Ran fits count site caller ds ps t left new rest) p.0 q)
+ran_append fits count site caller (c ∷ cs) (o ∷ os) ds ps s spares mid left new rest p q =
+    (p.0, p.1, p.2, ran_append fits count site caller cs os ds ps p.0 p.1 mid left new rest p.3 q)
+ran_append fits count site caller [] (o ∷ os) ds ps s spares mid left new rest p q = absurd p
+ran_append fits count site caller (c ∷ cs) [] ds ps s spares mid left new rest p q = absurd p
+
+-- each command has its outcome
+pub ran_length : {X : Type 0} (fits : X → Bool) (count : X → ℕ) (site : Site) (caller : ℕ) (cs : List Command) (os : List (Option Entry))
+    (s : State) (spares : List X) (new : State) (rest : List X) → Ran fits count site caller cs os s spares new rest → length os ≡ length cs
+ran_length fits count site caller [] [] s spares new rest p = refl
+ran_length fits count site caller (c ∷ cs) (o ∷ os) s spares new rest p = ap suc (ran_length fits count site caller cs os p.0 p.1 new rest p.3)
+ran_length fits count site caller [] (o ∷ os) s spares new rest p = absurd p
+ran_length fits count site caller (c ∷ cs) [] s spares new rest p = absurd p
+
+entries_append : (os ps : List (Option Entry)) → entries_of (os ++ ps) ≡ entries_of os ++ entries_of ps
+entries_append [] ps = refl
+entries_append (None ∷ os) ps = entries_append os ps
+entries_append (Some e ∷ os) ps = ap (λ es. e ∷ es) (entries_append os ps)
+
+-- ---- lines
+
+commands_push : (lines : List (List ℕ)) (line : List ℕ) → commands_of (lines ++ line ∷ []) ≡ commands_of lines ++ asked (command_of line)
+commands_push [] line = append-nil (asked (command_of line))
+commands_push (l ∷ lines) line = ap (λ cs. asked (command_of l) ++ cs) (commands_push lines line) ∙ sym (append_assoc (asked (command_of l)) (commands_of lines) (asked (command_of line)))
+
+-- one line more in front, whatever it says
+replies_by : (kind : Result (Option Command) LineFault) (lines : List (List ℕ)) (line : List ℕ) (os ps : List (Option Entry)) (told : List (List ℕ))
+    → ((ns : List (Option Entry)) → length ns ≡ length (commands_of lines) → replies_to (lines ++ line ∷ []) (ns ++ ps) ≡ replies_to lines ns ++ told)
+    → length os ≡ length (asked kind ++ commands_of lines)
+    → answers kind (os ++ ps) ++ replies_to (lines ++ line ∷ []) (drop (length (asked kind)) (os ++ ps)) ≡ (answers kind os ++ replies_to lines (drop (length (asked kind)) os)) ++ told
+replies_by (Ok None) lines line os ps told more e = more os e
+replies_by (Err Form) lines line os ps told more e = ap (λ rs. codes "refused C1" ∷ rs) (more os e)
+replies_by (Err TooLong) lines line os ps told more e = ap (λ rs. codes "refused C2" ∷ rs) (more os e)
+replies_by (Ok (Some command)) lines line [] ps told more e = absurd (omega (arith, e))
+replies_by (Ok (Some command)) lines line (o ∷ os) ps told more e = ap (λ rs. answers (Ok (Some command)) (o ∷ os) ++ rs) (more os (omega (arith, e)))
+
+replies_push : (lines : List (List ℕ)) (line : List ℕ) (os ps : List (Option Entry)) → length os ≡ length (commands_of lines)
+    → replies_to (lines ++ line ∷ []) (os ++ ps) ≡ replies_to lines os ++ answers (command_of line) ps
+replies_push [] line [] ps e = append-nil (answers (command_of line) ps)
+replies_push [] line (o ∷ os) ps e = absurd (omega (arith, e))
+replies_push (l ∷ lines) line os ps e = replies_by (command_of l) lines line os ps (answers (command_of line) ps) (λ ns d. replies_push lines line ns ps d) e
+
+-- ---- what is given
+
+pub gives_nothing : {X : Type 0} (fits : Floor → X → Bool) (count : X → ℕ) (told : List (Option Entry) → List (List ℕ)) (old : Seen) (spares : List X)
+    → Gives fits count [] told old spares old spares (told [])
+gives_nothing fits count told old spares = record {
+  outcomes = [];
+  replies_are = refl;
+  ran = (refl, refl);
+  history = sym (append-nil old.history);
+  run = refl;
+  served = λ formed. All-nil _;
+  site = refl;
+  opening = refl;
+}
+
+-- what comes after at the same site
+pub output_push : {X : Type 0} (fits : Floor → X → Bool) (count : X → ℕ) (lines : List (List ℕ)) (line : List ℕ) (old : Seen) (spares : List X) (mid : Seen) (left : List X) (new : Seen) (rest : List X)
+    (had more : List (List ℕ)) → IsOutputOf fits count lines old spares mid left had → Gives fits count (asked (command_of line)) (answers (command_of line)) mid left new rest more
+    → IsOutputOf fits count (lines ++ line ∷ []) old spares new rest (had ++ more)
+output_push {X} fits count lines line old spares mid left new rest had more p q =
+    let here : Ran (fits old.site.grid) count old.site 0 (asked (command_of line)) q.outcomes mid.state left new.state rest =
+    subst (λ (t : Site). Ran (fits t.grid) count t 0 (asked (command_of line)) q.outcomes mid.state left new.state rest) p.site q.ran in
+    let ran : Ran (fits old.site.grid) count old.site 0 (commands_of (lines ++ line ∷ [])) (p.outcomes ++ q.outcomes) old.state spares new.state rest =
+    subst (λ cs. Ran (fits old.site.grid) count old.site 0 cs (p.outcomes ++ q.outcomes) old.state spares new.state rest) (sym (commands_push lines line))
+    (ran_append (fits old.site.grid) count old.site 0 (commands_of lines) p.outcomes (asked (command_of line)) q.outcomes old.state spares mid.state left new.state rest p.ran here) in
+    let long = ran_length (fits old.site.grid) count old.site 0 (commands_of lines) p.outcomes old.state spares mid.state left p.ran in
+    record {
+      outcomes = p.outcomes ++ q.outcomes;
+      replies_are = ap (λ rs. rs ++ more) p.replies_are ∙ ap (λ rs. replies_to lines p.outcomes ++ rs) q.replies_are ∙ sym (replies_push lines line p.outcomes q.outcomes long);
+      ran = ran;
+      history = q.history ∙ ap (λ es. es ++ entries_of q.outcomes) p.history ∙ append_assoc old.history (entries_of p.outcomes) (entries_of q.outcomes) ∙ ap (λ es. old.history ++ es) (sym (entries_append p.outcomes q.outcomes));
+      run = ran-run (fits old.site.grid) count old.site 0 (commands_of (lines ++ line ∷ [])) (p.outcomes ++ q.outcomes) old.state spares new.state rest ran;
+      served = λ formed. subst AllServed (sym (entries_append p.outcomes q.outcomes))
+          (All-append (λ entry. entry.reply ≢ Reply.Refused Refusal.NoPath) (entries_of p.outcomes) (entries_of q.outcomes) (p.served formed) (q.served (subst (λ (t : Site). IsFormed t) (sym p.site) formed)));
+      site = q.site ∙ p.site;
+      opening = q.opening ∙ p.opening;
+    }
+
+-- what is told of one command's outcome
+told_one : {X : Type 0} (fits : X → Bool) (count : X → ℕ) (site : Site) (command : Command) (outcomes : List (Option Entry)) (s : State) (spares : List X) (new : State) (rest : List X)
+    (had has : List Entry) (text : List ℕ)
+    → Ran fits count site 0 (command ∷ []) outcomes s spares new rest → has ≡ had ++ entries_of outcomes
+    → (length (entries_of outcomes) ≡ 0 → text ≡ codes "refused E90")
+    → (0 < length (entries_of outcomes) → (front : List Entry) (entry : Entry) → has ≡ front ++ entry ∷ [] → text ≡ reply_text entry.reply)
+    → text ∷ [] ≡ answers (Ok (Some command)) outcomes
+told_one fits count site command [] s spares new rest had has text ran e none some = absurd ran
+told_one fits count site command (None ∷ []) s spares new rest had has text ran e none some = ap (λ t. t ∷ []) (none refl)
+told_one fits count site command (Some entry ∷ []) s spares new rest had has text ran e none some = ap (λ t. t ∷ []) (some (omega arith) had entry e)
+told_one fits count site command (o ∷ p ∷ os) s spares new rest had has text ran e none some = absurd ran.3
+
+pub gives_one : {X : Type 0} (fits : Floor → X → Bool) (count : X → ℕ) (command : Command) (old : Seen) (spares : List X) (new : Seen) (rest : List X) (added : ℕ) (text : List ℕ)
+    → new.site ≡ old.site → new.opening ≡ old.opening
+    → ((outcomes : List (Option Entry)) × (new.history ≡ old.history ++ entries_of outcomes) × (length (entries_of outcomes) ≡ added)
+    × Ran (fits old.site.grid) count old.site 0 (command ∷ []) outcomes old.state spares new.state rest)
+    → ((entries : List Entry) × (new.history ≡ old.history ++ entries) × (length entries ≡ added) × Run old.site old.state entries new.state × (IsFormed old.site → AllServed entries))
+    → (added ≡ 0 → text ≡ codes "refused E90")
+    → (0 < added → (front : List Entry) (entry : Entry) → new.history ≡ front ++ entry ∷ [] → text ≡ reply_text entry.reply)
+    → Gives fits count (command ∷ []) (answers (Ok (Some command))) old spares new rest (text ∷ [])
+gives_one fits count command old spares new rest added text site opening ran run none some =
+    let same : run.0 ≡ entries_of ran.0 = append_cancel_left old.history run.0 (entries_of ran.0) (sym run.1 ∙ ran.1) in
+    record {
+      outcomes = ran.0;
+      replies_are = told_one (fits old.site.grid) count old.site command ran.0 old.state spares new.state rest old.history new.history text ran.3 ran.1
+          (λ h. none (sym ran.2 ∙ h)) (λ h. some (omega (arith, h, ran.2)));
+      ran = ran.3;
+      history = ran.1;
+      run = subst (λ es. Run old.site old.state es new.state) same run.3;
+      served = λ formed. subst AllServed same (run.4 formed);
+      site = site;
+      opening = opening;
+    }

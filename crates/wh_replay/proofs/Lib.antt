@@ -1,0 +1,4 @@
+pub mod Returns
+pub mod Written
+pub mod Giving
+pub mod Serving

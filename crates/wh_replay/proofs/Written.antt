@@ -1,0 +1,39 @@
+-- Bytes that are written in parts.
+use Rattle.std.proofs.Common.{◌≡◌, ◌≤◌, ◌+◌, ℕ, List, [], ◌∷◌, ◌++◌, length, take, drop, ◌-◌, refl, sym, ap, ◌∙◌, arith, subst, Option, None, Some, zero, suc, append_assoc, append-nil}
+use Rattle.std.specs.Io.KnownBytes.{Appends, Keeps}
+use Rattle.std.proofs.KnownBytes.{Appends-trans, Appends-kept, Appends-nil}
+use Rattle.std.proofs.lemmas.List.{take_all, length-drop}
+use Rattle.wh_lines.proofs.Room.{take_past}
+use Rattle.wh_replay.specs.Scripts.{WritesFront}
+
+take_two : (xs : List ℕ) (d n k : ℕ) → k ≡ d + n → take d xs ++ take n (drop d xs) ≡ take k xs
+take_two xs zero n k e = (let same : n ≡ k = omega arith in ap (λ m. take m xs) same)
+take_two [] (suc d) zero (suc k) e = refl
+take_two [] (suc d) (suc n) (suc k) e = refl
+take_two [] (suc d) n zero e = absurd (omega (arith, e))
+take_two (x ∷ xs) (suc d) n zero e = absurd (omega (arith, e))
+take_two (x ∷ xs) (suc d) n (suc k) e = ap (λ l. x ∷ l) (take_two xs d n k (omega (arith, e)))
+
+pub wrote_more : (a b c : Option (List ℕ)) (xs : List ℕ) (d n : ℕ) → Appends a b (take d xs) → Appends b c (take n (drop d xs)) → Appends a c (take (d + n) xs)
+wrote_more a b c xs d n p q = subst (Appends a c) (take_two xs d n (d + n) refl) (Appends-trans a b c (take d xs) (take n (drop d xs)) p q)
+
+rest_is : (xs : List ℕ) (d : ℕ) → take (length xs - d) (drop d xs) ≡ drop d xs
+rest_is xs d = take_all (length xs - d) (drop d xs) (omega (arith, length-drop d xs))
+
+-- a write of a front of the rest
+pub wrote_rest : (a b c : Option (List ℕ)) (xs : List ℕ) (d n : ℕ) → Appends a b (take d xs) → Appends b c (take n (take (length xs - d) (drop d xs))) → Appends a c (take (d + n) xs)
+wrote_rest a b c xs d n p q = wrote_more a b c xs d n p (subst (λ l. Appends b c (take n l)) (rest_is xs d) q)
+
+pub rest_long : (xs : List ℕ) (d n : ℕ) → d ≤ length xs → n ≤ length (take (length xs - d) (drop d xs)) → d + n ≤ length xs
+rest_long xs d n h k = omega (arith, ap length (rest_is xs d), length-drop d xs, h, k)
+
+pub front_kept : (a b c : Option (List ℕ)) (xs : List ℕ) (d : ℕ) → Appends a b (take d xs) → Keeps b c → WritesFront a c xs
+front_kept a b c xs d p q = record { count = d; appends = Appends-kept a b c (take d xs) p q }
+
+-- a front of what comes next is a front of all
+pub front_after : (a b c : Option (List ℕ)) (xs ys : List ℕ) → Appends a b xs → WritesFront b c ys → WritesFront a c (xs ++ ys)
+front_after a b c xs ys p w = record { count = length xs + w.count; appends = subst (Appends a c) (sym (take_past xs ys (length xs + w.count) w.count refl)) (Appends-trans a b c xs (take w.count ys) p w.appends) }
+
+-- all of it is a front of it
+pub front_all : (a b : Option (List ℕ)) (xs : List ℕ) → Appends a b xs → WritesFront a b xs
+front_all a b xs p = record { count = length xs; appends = subst (Appends a b) (sym (take_all (length xs) xs (omega arith))) p }

@@ -1,0 +1,8 @@
+//! A script of commands served line by line: each reply is written before the next read that may wait.
+#![tactic(auto)]
+
+mod answer;
+mod output;
+mod script;
+
+pub use script::{ReplayFault, Replayed, replay};

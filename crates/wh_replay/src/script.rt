@@ -1,0 +1,143 @@
+//! A script that is served to its end, or until a fault.
+
+ghost use Rattle.std.specs.Prelude.{◌≡◌, ◌≤◌, IfOk, IfSome, IfErr, OnErr, true};
+ghost use Rattle.std.specs.Io.KnownBytes.{Keeps};
+ghost use Rattle.wh_lines.specs.Text.{short_line};
+ghost use Rattle.wh_lines.specs.Input.{left};
+ghost use Rattle.wh_token.specs.Fleet.{IsTied};
+ghost use Rattle.wh_replay.specs.Answers.{said};
+ghost use Rattle.wh_replay.specs.Scripts.{fault_of, Serves, ServesUnwritten, Replays, Outputs, Stops};
+
+use crate::answer::{answer, read_kept};
+use crate::output::write_all;
+use std::alloc::Global;
+use std::io::{Read, Write};
+use wh_event::put;
+use wh_lines::{CommandLine, LineFault, Lines, Next, ReadFault};
+use wh_planner::Planner;
+use wh_token::Warehouse;
+
+/// How many lines were written.
+#[derive(Clone, Copy, Debug, PartialEq, Eq)]
+pub struct Replayed {
+    pub replies: u64,
+}
+
+/// Why a script was not served to its end.
+#[derive(Clone, Copy, Debug, PartialEq, Eq)]
+pub enum ReplayFault {
+    /// X1: the reader failed, or a fault came before.
+    Broken,
+    /// X2: the reader was asked 100,000,000 times.
+    Endless,
+    /// X3: the writer failed, took no byte, or could not be flushed.
+    Unwritten,
+}
+
+fn fault_of(fault: LineFault) -> ReplayFault
+    ensures { result ≡ fault_of fault }
+{
+    match fault {
+        LineFault::Read(ReadFault::Broken) => ReplayFault::Broken,
+        LineFault::Read(ReadFault::Endless) => ReplayFault::Endless,
+        LineFault::Flush => ReplayFault::Unwritten,
+    }
+}
+
+/// Serves a line, of which a front is kept. How many replies it got: one or none.
+fn serve<W: Write, P: Planner>(
+    line: &CommandLine,
+    alloc: Global,
+    writer: &mut W,
+    warehouse: &mut Warehouse<P>,
+    spares: &mut Vec<P>,
+) -> Result<u64, ReplayFault>
+    ensures ok { IfOk result (λ count. Serves (λ grid b. P.fits_map b grid) (λ b. P.slot_count b) (said (short_line line.now)) warehouse.old.book spares.old.items warehouse.new.book spares.new.items (W.contents writer.old) (W.contents writer.new) count) }
+    ensures few { IfOk result (λ count. count ≤ 1) }
+    ensures err { OnErr result (ServesUnwritten (λ grid b. P.fits_map b grid) (λ b. P.slot_count b) (said (short_line line.now)) warehouse.old.book spares.old.items warehouse.new.book spares.new.items (W.contents writer.old) (W.contents writer.new)) }
+    ensures fault { IfErr result (λ fault. fault ≡ ReplayFault.Unwritten) }
+{
+    let Some(mut reply) = answer(read_kept(line), alloc, warehouse, spares) else {
+        return Ok(0);
+    };
+    put(&mut reply, b"\n");
+    match write_all(writer, reply.as_slice()) {
+        Ok(()) => Ok(1),
+        Err(_) => Err(ReplayFault::Unwritten),
+    }
+}
+
+fn serve_all<R: Read, W: Write, P: Planner>(
+    lines: &mut Lines<R>,
+    alloc: Global,
+    writer: &mut W,
+    warehouse: &mut Warehouse<P>,
+    spares: &mut Vec<P>,
+) -> Result<Replayed, ReplayFault>
+    ensures ok { IfOk result (λ r. Replays (λ grid b. P.fits_map b grid) (λ b. P.slot_count b) lines.old lines.new warehouse.old.book spares.old.items warehouse.new.book spares.new.items (W.contents writer.old) (W.contents writer.new) r.replies) }
+    ensures fault { IfErr result (λ fault. Stops (λ grid b. P.fits_map b grid) (λ b. P.slot_count b) fault lines.old lines.new warehouse.old.book spares.old.items warehouse.new.book spares.new.items (W.contents writer.old) (W.contents writer.new)) }
+{
+    let mut line = CommandLine::new();
+    let mut replies = 0;
+    for _ in 0..u64::MAX {
+        let next = match lines.next_line(writer, &mut line) {
+            Ok(next) => next,
+            Err(fault) => return Err(fault_of(fault)),
+        };
+        match next {
+            Next::End => return Ok(Replayed { replies }),
+            Next::Last => {
+                let count = match serve(&line, alloc, writer, warehouse, spares) {
+                    Ok(count) => count,
+                    Err(fault) => return Err(fault),
+                };
+                if writer.flush().is_err() {
+                    return Err(ReplayFault::Unwritten);
+                }
+                return Ok(Replayed {
+                    replies: replies + count,
+                });
+            }
+            Next::Whole => match serve(&line, alloc, writer, warehouse, spares) {
+                Ok(count) => replies += count,
+                Err(fault) => return Err(fault),
+            },
+        }
+    }
+    Err(ReplayFault::Endless)
+}
+
+/// Serves the script that is left in the reader, to the reader's end. Each line that is a command is an event of caller
+/// 0, and its reply is written with a line feed; a line that is none is answered `refused C1` or `refused C2`, and a
+/// command that is refused for want of memory `refused E90`; an empty line and a comment are answered nothing. A Replace
+/// of a known agent takes the last spare. The writer is flushed before each read, and at the end.
+///
+/// A line takes no memory of its own. An event whose reply could not be written stands.
+pub fn replay<R: Read, W: Write, P: Planner>(
+    lines: &mut Lines<R>,
+    alloc: Global,
+    writer: &mut W,
+    warehouse: &mut Warehouse<P>,
+    spares: &mut Vec<P>,
+) -> Result<Replayed, ReplayFault>
+    // What was written is the output of what was read, and the history has grown by its run.
+    ensures ok { IfOk result (λ r. Replays (λ grid b. P.fits_map b grid) (λ b. P.slot_count b) lines.old lines.new warehouse.old.book spares.old.items warehouse.new.book spares.new.items (W.contents writer.old) (W.contents writer.new) r.replies) }
+    // Where the reader tells its bytes, these are the script.
+    ensures output { IfOk result (λ r. IfSome (left lines.old) (λ script. Outputs (λ grid b. P.fits_map b grid) (λ b. P.slot_count b) script warehouse.old.book spares.old.items warehouse.new.book spares.new.items (W.contents writer.old) (W.contents writer.new) r.replies)) }
+    // On a fault this holds of a beginning of the script, and of a front of what was to be written.
+    ensures fault { IfErr result (λ fault. Stops (λ grid b. P.fits_map b grid) (λ b. P.slot_count b) fault lines.old lines.new warehouse.old.book spares.old.items warehouse.new.book spares.new.items (W.contents writer.old) (W.contents writer.new)) }
+    // After a fault there is nothing more.
+    ensures failed { OnErr result (lines.new.failed ≡ true) }
+    ensures again { lines.old.failed ≡ true → (result ≡ Err ReplayFault.Broken) × (lines.new ≡ lines.old) × (warehouse.new.book ≡ warehouse.old.book) × (spares.new.items ≡ spares.old.items) × Keeps (W.contents writer.old) (W.contents writer.new) }
+{
+    if lines.has_failed() {
+        return Err(ReplayFault::Broken);
+    }
+    match serve_all(lines, alloc, writer, warehouse, spares) {
+        Ok(replayed) => Ok(replayed),
+        Err(fault) => {
+            lines.fail();
+            Err(fault)
+        }
+    }
+}
