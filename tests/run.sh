@@ -1,0 +1,30 @@
+#!/usr/bin/env bash
+# Runs the built program on each case of tests/replay: NAME is its input, NAME.args its arguments (one word a line),
+# NAME.stdout what it must write; NAME.stderr (none: nothing) and NAME.status (none: 0) likewise.
+set -u
+cd -- "$(dirname -- "${BASH_SOURCE[0]}")/replay" || exit 1
+
+../../warehouse --help > /dev/null || exit 1    # builds it where it has to be built
+scratch=$(mktemp -d) || exit 1
+trap 'rm -rf -- "$scratch"' EXIT
+passed=0 failed=0
+for wanted in *.stdout; do
+    name=${wanted%.stdout}
+    mapfile -t words < "$name.args"
+    ../../warehouse "${words[@]}" < "$name" > "$scratch/stdout" 2> "$scratch/stderr"
+    status=$?
+    errors=/dev/null
+    [[ -e $name.stderr ]] && errors=$name.stderr
+    due=0
+    [[ -e $name.status ]] && due=$(< "$name.status")
+    if cmp -s "$wanted" "$scratch/stdout" && cmp -s "$errors" "$scratch/stderr" && ((status == due)); then
+        passed=$((passed + 1))
+    else
+        failed=$((failed + 1))
+        echo "$name: status $status, wanted $due"
+        diff -u "$wanted" "$scratch/stdout"
+        diff -u "$errors" "$scratch/stderr"
+    fi
+done
+echo "$passed passed, $failed failed"
+((failed == 0))
