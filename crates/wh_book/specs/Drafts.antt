@@ -1,5 +1,5 @@
 use Rattle.std.specs.Prelude.{◌≡◌, ◌≢◌, ℕ, ◌+◌, ◌<◌, ◌≤◌, List, Some, length, slice_get, All, Contains}
-use Rattle.wh_points.specs.Points.{Site}
+use Rattle.wh_points.specs.Points.{Layout, Site, IsPointCell}
 use Rattle.wh_tasks.specs.declared.task.Task.{Task}
 use Rattle.wh_tasks.specs.declared.task.Load.{Load}
 use Rattle.wh_tasks.specs.Tasks.{IsTask, IsOpen}
@@ -86,6 +86,11 @@ pub record IsDraftOf (entry : Entry) (change : Change) (draft : Draft) : Type 0 
 pub record MayEnd (s : State) (ends : List Cell) (cell : Cell) : Type 0 where
   pub no_delivery : ¬ IsDeliveryCell s cell
   pub no_end : ¬ Contains ends cell
+
+-- a point where such an end may be
+pub record MayPark (layout : Layout) (s : State) (ends : List Cell) (cell : Cell) : Type 0 where
+  pub point : IsPointCell layout cell
+  pub may_end : MayEnd s ends cell
 
 -- no entry is a refusal for want of a path
 abbrev pub AllServed : List Entry → Type 0

@@ -1,7 +1,7 @@
 //! The book.
 #![tactic(auto)]
 
-ghost use Rattle.std.specs.Prelude.{◌≡◌, ◌≢◌, ℕ, ◌+◌, ◌-◌, ◌<◌, ◌≤◌, ◌↔◌, List, [], ◌∷◌, ◌++◌, true, false, Some, length, slice_get, IfOk, OnOk, OnErr, IsTrue, Contains};
+ghost use Rattle.std.specs.Prelude.{◌≡◌, ◌≢◌, ℕ, ◌+◌, ◌-◌, ◌<◌, ◌≤◌, ◌↔◌, List, [], ◌∷◌, ◌++◌, true, false, Some, length, slice_get, IfOk, IfNone, IfSome, OnOk, OnErr, IsTrue, Contains};
 ghost use Rattle.wh_path.specs.Paths.{AllFree, place_of};
 ghost use Rattle.wh_points.specs.Points.{Site};
 ghost use Rattle.wh_tasks.specs.declared.task.Task.{Task as Job};
@@ -16,13 +16,16 @@ ghost use Rattle.wh_event.specs.declared.reply.Reply.{Reply as Answer};
 ghost use Rattle.wh_event.specs.declared.reply.Refusal.{Refusal as Reason};
 ghost use Rattle.wh_points.specs.Formed.{IsFormed};
 ghost use Rattle.wh_book.specs.Settings.{IsStop, faulty};
-ghost use Rattle.wh_book.specs.Drafts.{Seen, IsSame, IsReady, Drafts, Changes, CanChange, MayEnd, AllServed, Suits};
+ghost use Rattle.wh_book.specs.Drafts.{Seen, IsSame, IsReady, Drafts, Changes, CanChange, AllServed, Suits};
 
+use crate::choice::nearest;
 use crate::draft::{Change, Draft};
+use crate::parking::free_points;
 use crate::setting::{Fault, Setting};
 use std::alloc::{AllocError, Global};
 use std::marker::Model;
 use wh_event::{Entry, Event, Refusal, Reply, Spare, Stops};
+use wh_field::LazyField;
 use wh_grid::Cell;
 use wh_path::TimedPath;
 use wh_state::Floor;
@@ -422,6 +425,19 @@ impl Book {
         self.floor.other_ends(agent, marks);
     }
 
+    /// The task that the agent takes, where these are the others' ends. It takes no memory.
+    pub fn next(&self, agent: u32, near: &mut LazyField, marks: &EndSet) -> Option<u32>
+        requires known { agent < length self.now.state.paths }
+        requires marks { marks.now.cells ≡ other_ends self.now.state agent }
+        requires over { near.old.grid ≡ self.now.site.grid }
+        ensures grid { near.new.grid ≡ near.old.grid }
+        ensures none { IfNone result (NoneIsNext self.now.state agent) }
+        ensures nearest { IfSome result (λ n. (task : Job) × IsNext self.now.site self.now.state agent n task) }
+    {
+        let _kept = &self.history;
+        nearest(&self.floor, near, marks, agent)
+    }
+
     /// The cells at which the agent may park, where these are the others' ends.
     pub fn allowed(
         &self,
@@ -432,20 +448,8 @@ impl Book {
         requires { marks.now.cells ≡ other_ends self.now.state agent }
         ensures { IfOk result (λ cells. (cell : Place) → Contains cells.items cell ↔ IsAllowed self.now.site self.now.state agent cell) }
     {
-        let mut cells = Vec::new(alloc);
-        for point in self.setting.points() {
-            if self.may_end(point.cell, marks) {
-                cells.push(point.cell)?;
-            }
-        }
+        let cells = free_points(alloc, self.setting.points(), &self.floor, marks)?;
         Ok(cells)
-    }
-
-    /// Whether no open task is delivered at the cell, and no other's path ends there.
-    fn may_end(&self, cell: Cell, marks: &EndSet) -> bool
-        ensures { IsTrue result ↔ MayEnd self.now.state marks.now.cells cell }
-    {
-        !self.floor.tasks().delivers_at(cell) && !marks.has(cell)
     }
 }
 

@@ -71,10 +71,10 @@ impl Setting {
     }
 
     /// The points, in the order of their file.
-    pub fn points(&self) -> &[Point]
-        ensures { result.now ≡ self.now.layout.points }
+    pub fn points(&self) -> &Points
+        ensures { result.now ≡ self.now.layout }
     {
-        self.points.as_slice()
+        &self.points
     }
 
     /// The number of agents.
@@ -98,18 +98,7 @@ impl Setting {
         ensures places { IfOk result (AllZip (IsStation self.now.layout) stops.now) }
         ensures fault { IfErr result (IsFault self.now.layout stops.now) }
     {
-        let mut cells: ArrayVec<Cell, 8> = ArrayVec::new();
-        let names = stops.as_slice();
-        for (k, name) in names.iter().enumerate() {
-            let Some(point) = self.named(name) else {
-                return Err(Fault::Unknown(k));
-            };
-            match point.kind {
-                Kind::Station => cells.push(point.cell),
-                Kind::Parking => return Err(Fault::Parking(k)),
-            }
-        }
-        Ok(Places::of(cells.as_slice()))
+        places_of(&self.points, stops)
     }
 
     /// A point at this cell.
@@ -122,16 +111,35 @@ impl Setting {
             None => unreachable!(),
         }
     }
+}
 
-    /// The point of this name. It takes constant time.
-    fn named(&self, name: &Name) -> Option<&Point>
-        ensures none { IfNone result ((point : Spot) → ¬ IsNamed self.now.layout.points name.now point) }
-        ensures found { IfSome result (λ point. IsNamed self.now.layout.points name.now point.now) }
-    {
-        match self.points.find(name) {
-            Some(number) => Some(self.points.point(number)),
-            None => None,
+/// The cells of the stops, or the first that is no station. It takes no memory.
+pub fn places_of(points: &Points, stops: &Stops) -> Result<Places, Fault>
+    ensures places { IfOk result (AllZip (IsStation points.now) stops.now) }
+    ensures fault { IfErr result (IsFault points.now stops.now) }
+{
+    let mut cells: ArrayVec<Cell, 8> = ArrayVec::new();
+    let names = stops.as_slice();
+    for (k, name) in names.iter().enumerate() {
+        let Some(point) = named(points, name) else {
+            return Err(Fault::Unknown(k));
+        };
+        match point.kind {
+            Kind::Station => cells.push(point.cell),
+            Kind::Parking => return Err(Fault::Parking(k)),
         }
+    }
+    Ok(Places::of(cells.as_slice()))
+}
+
+/// The point of this name. It takes constant time.
+fn named<'a>(points: &'a Points, name: &Name) -> Option<&'a Point>
+    ensures none { IfNone result ((point : Spot) → ¬ IsNamed points.now.points name.now point) }
+    ensures found { IfSome result (λ point. IsNamed points.now.points name.now point.now) }
+{
+    match points.find(name) {
+        Some(number) => Some(points.point(number)),
+        None => None,
     }
 }
 
@@ -148,7 +156,8 @@ fn placed(points: &[Point], cell: Cell) -> Option<&Point>
     None
 }
 
-fn starts_of(alloc: Global, points: &[Point], agents: &[u32]) -> Result<Vec<Cell>, AllocError>
+/// The cell where each agent starts, where these are the numbers of their points.
+pub fn starts_of(alloc: Global, points: &[Point], agents: &[u32]) -> Result<Vec<Cell>, AllocError>
     requires { All (λ n. n < length points.now) agents.now }
     ensures { IfOk result (λ cells. cells.items ≡ map (λ n. (point_at points.now n).cell) agents.now) }
 {

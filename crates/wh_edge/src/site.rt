@@ -1,5 +1,5 @@
 //! The map and the points, from the first two sections of the input.
-ghost use Rattle.std.specs.Prelude.{◌≡◌, IfErr, IfOk, MatchResult, true, OnErr, ◌<◌, ◌^◌, ◌≤◌};
+ghost use Rattle.std.specs.Prelude.{◌≡◌, IfErr, IfOk, MatchResult, true, OnErr, ◌<◌, ◌^◌, ◌≤◌, length};
 ghost use Rattle.wh_lines.specs.Section.{Overflows, Sectioned};
 ghost use Rattle.wh_points.specs.Points.{IsLayout};
 ghost use Rattle.wh_edge.specs.Site.{SiteFault, SiteRead, section_trouble};
@@ -25,7 +25,7 @@ pub struct Site {
 }
 
 /// What is told of a section that was not read.
-fn section_trouble(fault: SectionFault) -> Trouble
+pub fn section_trouble(fault: SectionFault) -> Trouble
     ensures { result ≡ section_trouble fault }
 {
     match fault {
@@ -41,6 +41,7 @@ fn section_trouble(fault: SectionFault) -> Trouble
 pub fn read_site<R: Read>(lines: &mut Lines<R>, alloc: Global) -> Result<Site, Trouble>
     ensures ok { IfOk result (λ site. SiteRead lines.old lines.new site.grid site.points) }
     ensures layout { IfOk result (λ site. IsLayout site.grid site.points) }
+    ensures agents { IfOk result (λ site. 1 ≤ length site.points.agents) }
     ensures fault { IfErr result (λ trouble. SiteFault trouble lines.old lines.new) }
 {
     let map = match lines.section(alloc, MAP_LIMIT) {

@@ -1,11 +1,13 @@
-//! Duties, scenes, and the trait of planners.
+//! Duties, scenes, the trait of planners, and where the other agents come to rest.
 #![tactic(auto)]
 
 mod duty;
 pub mod laws;
+mod others;
 mod planner;
 
 pub use duty::Duty;
+pub use others::{last_to_rest, other_ends};
 pub use planner::{PlanFault, Planner, Scene};
 
 #[cfg(test)]

@@ -3,3 +3,4 @@ mod Joined
 pub mod Patience
 pub mod KeptFields
 pub mod Services
+pub mod Crossing

@@ -22,7 +22,7 @@ pub struct FieldCache {
 }
 
 impl FieldCache {
-    ghost use Rattle.std.specs.Prelude.{◌≤◌, IfOk, IfSome, length};
+    ghost use Rattle.std.specs.Prelude.{◌≤◌, [], IfOk, IfSome, length};
     ghost use Rattle.std.specs.NonZero.{non_zero_usize_get};
     ghost use Rattle.wh_planners.specs.Fields.{IsFieldFrom};
     ghost use Rattle.wh_planners.specs.Kept.{kept, kept_grid, room};
@@ -35,6 +35,7 @@ impl FieldCache {
     ) -> Result<FieldCache, AllocError>
         ensures room { IfOk result (λ c. room c ≡ non_zero_usize_get slots) }
         ensures grid { IfOk result (λ c. kept_grid c ≡ arc_value grid) }
+        ensures kept { IfOk result (λ c. kept c ≡ []) }
     {
         let fields = LruCache::new(alloc, slots)?;
         Ok(FieldCache { grid, fields })

@@ -3,7 +3,6 @@
 
 mod cache;
 mod near;
-mod others;
 mod patient;
 
 pub use near::Near;

@@ -1,8 +1,7 @@
 //! The planner that searches for a least path, guided by distance fields that it keeps.
 #![tactic(auto)]
 
-ghost use Rattle.std.specs.Prelude.{◌≡◌, ℕ, ◌<◌, ◌≤◌, Bool, true, IfOk, IfErr, List, Contains, None, length, slice_index_or};
-ghost use Rattle.std.specs.Arc.{arc_value};
+ghost use Rattle.std.specs.Prelude.{◌≡◌, ℕ, ◌<◌, ◌≤◌, Bool, true, IfOk, IfErr, List, [], Contains, None, length, slice_index_or};
 ghost use Rattle.wh_grid.specs.declared.cell.Cell.{Cell};
 ghost use Rattle.wh_grid.specs.Grids.{Floor, IsPassable, same_floor};
 ghost use Rattle.wh_path.specs.Paths.{AllFree, cell_at, last_index, steps_left};
@@ -18,6 +17,7 @@ ghost use Rattle.wh_planners.specs.Services.{HasNoService, HasNoShorter, others_
 
 use crate::cache::FieldCache;
 use std::alloc::{AllocError, Global};
+use std::marker::Model;
 use std::num::NonZeroUsize;
 use std::sync::Arc;
 use wh_claims::Claim;
@@ -153,22 +153,28 @@ pub struct Near {
     grid: Arc<Grid, Global>,
     claim: Claim,
     fields: FieldCache,
-    ghost one_grid: { kept_grid fields ≡ arc_value grid },
-    ghost one_field_a_slot: { room fields ≡ claim_amount claim },
-    ghost some_slots: { 2 ≤ claim_amount claim },
-    ghost few_slots: { claim_amount claim ≤ 64 },
+}
+
+impl Model for Near {
+    ghost use Rattle.wh_planners.specs.Kept.{kept};
+    ghost use Rattle.wh_planners.specs.Near.{Searcher, IsSupplied};
+
+    ghost Value = { Searcher };
+
+    ghost view = { λ n. record { grid = n.grid.value; claim = n.claim; kept = kept n.fields } };
+
+    ghost invariant = { λ n. IsSupplied n.grid.value n.claim n.fields };
 }
 
 impl Near {
-    ghost use Rattle.wh_planners.specs.Near.{near_grid, near_claim, near_kept};
-
-    /// A searching planner on a grid, with the slots of a claim: 2 to 64 of them. The error comes where memory is
-    /// wanting, and the claim is dropped.
+    /// A searching planner on a grid, with the slots of a claim: 2 to 64 of them, that keeps no field yet. The error
+    /// comes where memory is wanting, and the claim is dropped.
     pub fn new(alloc: Global, grid: Arc<Grid, Global>, claim: Claim) -> Result<Near, AllocError>
         requires at_least { 2 ≤ claim_amount claim }
         requires at_most { claim_amount claim ≤ 64 }
-        ensures grid { IfOk result (λ n. near_grid n ≡ arc_value grid) }
-        ensures claim { IfOk result (λ n. near_claim n ≡ claim) }
+        ensures grid { IfOk result (λ n. n.grid ≡ grid.value) }
+        ensures claim { IfOk result (λ n. n.claim ≡ claim) }
+        ensures kept { IfOk result (λ n. n.kept ≡ []) }
     {
         let Some(slots) = NonZeroUsize::new(claim.amount() as usize) else {
             unreachable!()
@@ -183,27 +189,25 @@ impl Near {
 
     /// How many distance fields it keeps at the moment: no more than its slots, and each is the true one of its cell.
     pub fn kept(&self) -> usize
-        ensures value { result ≡ length (near_kept self.now) }
-        ensures at_most { result ≤ claim_amount (near_claim self.now) }
-        ensures each { AreTrue (near_grid self.now) (near_kept self.now) }
+        ensures value { result ≡ length self.now.kept }
+        ensures at_most { result ≤ claim_amount self.now.claim }
+        ensures each { AreTrue self.now.grid self.now.kept }
     {
         self.fields.count()
     }
 }
 
 impl Planner for Near {
-    ghost use Rattle.wh_planners.specs.Near.{near_grid, near_claim};
+    ghost fits_map = { λ n g. same_floor n.grid g };
 
-    ghost fits_map = { λ n g. same_floor (near_grid n) g };
-
-    ghost slot_count = { λ n. claim_amount (near_claim n) };
+    ghost slot_count = { λ n. claim_amount n.claim };
 
     fn fits(&self, grid: &Grid) -> bool {
         self.grid.same(grid)
     }
 
     fn slots(&self) -> u32
-        ensures value { result ≡ claim_amount (near_claim self.now) }
+        ensures value { result ≡ claim_amount self.now.claim }
         ensures at_least { 2 ≤ result }
         ensures at_most { result ≤ 64 }
     {
@@ -211,15 +215,15 @@ impl Planner for Near {
     }
 
     fn plan(&mut self, alloc: Global, scene: &Scene, duty: Duty) -> Result<TimedPath, PlanFault>
-        requires fits { same_floor (near_grid self.old) scene.now.grid.now ≡ true }
+        requires fits { same_floor self.old.grid scene.now.grid.now ≡ true }
         requires agent { scene.now.agent < length scene.now.paths.now }
         requires resting { steps_left scene.now.paths.now scene.now.agent ≡ 0 }
         requires free { AllFree scene.now.nofollow scene.now.paths.now }
         requires duty { IsDuty duty }
-        ensures grid_stays { near_grid self.new ≡ near_grid self.old }
-        ensures claim_stays { near_claim self.new ≡ near_claim self.old }
-        ensures fits_stays { (g : Floor) → same_floor (near_grid self.new) g ≡ same_floor (near_grid self.old) g }
-        ensures slots_stay { claim_amount (near_claim self.new) ≡ claim_amount (near_claim self.old) }
+        ensures grid_stays { self.new.grid ≡ self.old.grid }
+        ensures claim_stays { self.new.claim ≡ self.old.claim }
+        ensures fits_stays { (g : Floor) → same_floor self.new.grid g ≡ same_floor self.old.grid g }
+        ensures slots_stay { claim_amount self.new.claim ≡ claim_amount self.old.claim }
         ensures lawful { IfOk result (IsLawful scene.now.grid.now scene.now.nofollow scene.now.paths.now scene.now.agent (legs duty.entry) (Serves duty.entry)) }
         ensures least { IfOk result (HasNoShorter scene.now.grid.now scene.now.nofollow scene.now.paths.now scene.now.agent (Serves duty.entry)) }
         ensures none { IfErr result (λ fault. fault ≡ PlanFault.NoPath → HasNoService scene.now.grid.now scene.now.nofollow scene.now.paths.now scene.now.agent (Serves duty.entry)) }

@@ -11,7 +11,6 @@ ghost use Rattle.wh_planner.specs.Asked.{IsDuty, Serves, legs};
 ghost use Rattle.wh_planners.specs.Patience.{IsPatient, GoesPatiently, ParksPatiently, IsPatientPath};
 ghost use Rattle.wh_claims.specs.Claim.{claim_amount};
 
-use crate::others::{last_to_rest, other_ends};
 use std::alloc::{AllocError, Global};
 use std::marker::Model;
 use std::sync::Arc;
@@ -19,7 +18,7 @@ use wh_claims::Claim;
 use wh_field::{route, route_to_nearest};
 use wh_grid::{Cell, Grid};
 use wh_path::TimedPath;
-use wh_planner::{Duty, PlanFault, Planner, Scene};
+use wh_planner::{Duty, PlanFault, Planner, Scene, last_to_rest, other_ends};
 
 /// The path that stays at a cell until a time.
 fn waiting(alloc: Global, here: Cell, wait: u64) -> Result<TimedPath, AllocError>

@@ -1,5 +1,5 @@
 -- What is read from a points file is a layout on its grid.
-use Rattle.std.proofs.Common.{◌≡◌, ◌≢◌, ℕ, ◌+◌, ◌<◌, Bool, true, false, cond, eqb, Option, Some, None, Result, Ok, Err, List, [], ◌∷◌, length, All, refl, sym, ap, subst, arith, ◌∙◌}
+use Rattle.std.proofs.Common.{◌≡◌, ◌≢◌, ℕ, ◌+◌, ◌<◌, ◌≤◌, Bool, true, false, cond, eqb, Option, Some, None, Result, Ok, Err, List, [], ◌∷◌, length, All, refl, sym, ap, subst, arith, ◌∙◌}
 use Rattle.std.specs.Prelude.{IfOk, codes}
 use Rattle.std.specs.List.{list_any}
 use Rattle.std.specs.Str.{bytes_eq}
@@ -135,3 +135,21 @@ empty_is g = record {
 pub read_layout : (g : Floor) (text : List ℕ) (r : Result Layout PointFault) → Gives r (layout_at g text) → IfOk r (IsLayout g)
 read_layout g text (Ok layout) h = from_keeps g empty layout 0 _ h (empty_is g)
 read_layout g text (Err e) h = tt
+
+whole_some : (last : ℕ) (layout new : Layout) (agents : List ℕ) → layout.agents ≡ agents → whole last layout agents ≡ Ok new → 1 ≤ length new.agents
+whole_some last layout new [] are e = absurd cc
+whole_some last layout new (n ∷ agents) are e =
+    let same : layout ≡ new = cc in
+    subst (λ (l : Layout). 1 ≤ length l.agents) same (rw are (omega arith))
+
+from_some : (g : Floor) (layout new : Layout) (count : ℕ) (lines : List (List ℕ)) → layout_from g layout count lines ≡ Ok new → 1 ≤ length new.agents
+unfolding layout_from
+from_some g layout new count [] e = whole_some count layout new layout.agents refl e
+from_some g layout new count (line ∷ lines) e =
+    let a = bind_ok (located (count + 1) (line_of g layout line)) (λ next. layout_from g next (count + 1) lines) new e in
+    from_some g a.0 new (count + 1) lines a.2
+
+-- what is read has an agent
+pub read_some : (g : Floor) (text : List ℕ) (r : Result Layout PointFault) → Gives r (layout_at g text) → IfOk r (λ layout. 1 ≤ length layout.agents)
+read_some g text (Ok layout) h = from_some g empty layout 0 _ h
+read_some g text (Err e) h = tt

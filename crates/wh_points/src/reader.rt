@@ -1,6 +1,6 @@
 //! Reading a points file.
 
-ghost use Rattle.std.specs.Prelude.{◌≡◌, ◌+◌, ◌<◌, ◌^◌, List, ℕ, Ok, IfOk, IfErr, length};
+ghost use Rattle.std.specs.Prelude.{◌≡◌, ◌+◌, ◌<◌, ◌≤◌, ◌^◌, List, ℕ, Ok, IfOk, IfErr, length};
 ghost use Rattle.wh_text.specs.Lines.{lines_of};
 ghost use Rattle.wh_points.specs.PointFiles.{layout_at, fault_of, Gives, IsWithin, IsFirst};
 ghost use Rattle.wh_points.specs.Points.{Layout, IsLayout};
@@ -52,6 +52,7 @@ impl Points {
         // Which layout it is, or which fault at which line.
         ensures exact { Gives result (layout_at grid.now text.now) }
         ensures layout { IfOk result (IsLayout grid.now) }
+        ensures agents { IfOk result (λ layout. 1 ≤ length layout.agents) }
         ensures line { IfErr result (IsWithin (length (lines_of text.now) + 1)) }
         // Nothing that stands after the fault's line changes it.
         ensures first { IfErr result (IsFirst grid.now (lines_of text.now)) }

@@ -1,5 +1,5 @@
 -- what lines of a script are answered
-use Rattle.std.specs.Prelude.{ℕ, List, [], ◌∷◌, ◌++◌, length, drop, codes, cond, flat_map, Option, Some, None, Result, Ok, Err}
+use Rattle.std.specs.Prelude.{ℕ, List, [], ◌∷◌, ◌++◌, length, drop, codes, flat_map, Option, Some, None, Result, Ok, Err}
 use Rattle.wh_event.specs.CommandLines.{command_of}
 use Rattle.wh_event.specs.ReplyTexts.{reply_text}
 use Rattle.wh_event.specs.declared.event.Command.{Command}

@@ -5,4 +5,5 @@ mod answer;
 mod output;
 mod script;
 
+pub use output::{WriteFault, write_all};
 pub use script::{ReplayFault, Replayed, replay};

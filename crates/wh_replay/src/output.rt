@@ -8,7 +8,7 @@ use std::io::{ErrorKind, Write};
 
 /// The writer failed, or took no byte.
 #[derive(Clone, Copy, Debug, PartialEq, Eq)]
-pub(crate) struct WriteFault;
+pub struct WriteFault;
 
 /// Writes a front of the bytes: none where the write was interrupted.
 fn write_front<W: Write>(writer: &mut W, bytes: &[u8]) -> Result<usize, WriteFault>
@@ -24,8 +24,8 @@ fn write_front<W: Write>(writer: &mut W, bytes: &[u8]) -> Result<usize, WriteFau
     }
 }
 
-/// Writes all the bytes, or a front of them.
-pub(crate) fn write_all<W: Write>(writer: &mut W, bytes: &[u8]) -> Result<(), WriteFault>
+/// Writes all the bytes, or a front of them where the writer failed or took no byte. It does not flush.
+pub fn write_all<W: Write>(writer: &mut W, bytes: &[u8]) -> Result<(), WriteFault>
     ensures ok { OnOk result (Appends (W.contents writer.old) (W.contents writer.new) bytes.now) }
     ensures err { OnErr result (WritesFront (W.contents writer.old) (W.contents writer.new) bytes.now) }
 {

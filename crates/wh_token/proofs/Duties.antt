@@ -6,12 +6,11 @@ use Rattle.wh_points.specs.Points.{Site}
 use Rattle.wh_path.specs.Paths.{at, place_of}
 use Rattle.wh_tasks.specs.declared.task.Task.{Task}
 use Rattle.wh_tasks.specs.Tasks.{IsTask}
-use Rattle.wh_tasks.specs.Choice.{IsNearest}
 use Rattle.wh_core.specs.States.{State}
-use Rattle.wh_core.specs.Steps.{Refuses, IsDue, IsNext, MakesWay, IsAllowed, NoneIsNext, IsDeliveryCell, other_ends}
+use Rattle.wh_core.specs.Steps.{Refuses, IsDue, IsNext, MakesWay, IsAllowed, NoneIsNext, IsDeliveryCell}
 use Rattle.wh_event.specs.declared.reply.Refusal.{Refusal}
 use Rattle.wh_event.specs.declared.event.Event.{Event}
-use Rattle.std.specs.Prelude.{◌↔◌, Option, IfSome}
+use Rattle.std.specs.Prelude.{◌↔◌}
 use Rattle.wh_grid.specs.declared.cell.Cell.{Cell}
 use Rattle.wh_grid.specs.Grids.{Floor}
 use Rattle.wh_planner.specs.Duties.{Delivers, ParksAt, IsLawful, HasNoClearWay}
@@ -63,13 +62,3 @@ pub way-made : (s : State) (read : List (List Cell)) (agent : ℕ) (path : List 
     path ≡ get_or read agent path → here ≡ at path 0 → IsDeliveryCell s here → MakesWay s agent
 way-made s read agent path here none same known is start delivery =
     record { none = none; in_the_way = subst (IsDeliveryCell s) (place-read s.paths read agent path here same known is start) delivery }
-
--- the nearest task that a field finds from where the agent stands is the next one
-pub next-found : (found : Option ℕ) (site : Site) (s : State) (agent : ℕ) (g : Floor) (tasks : List Task) (taken : List Cell) (here : Cell) →
-    g ≡ site.grid → tasks ≡ s.tasks → taken ≡ other_ends s agent → here ≡ place_of s.paths agent →
-    IfSome found (λ n. (task : Task) × IsNearest g tasks taken here n task) → IfSome found (λ n. (task : Task) × IsNext site s agent n task)
-next-found found site s agent g tasks taken here same_grid same_tasks same_ends same_place nearest =
-    subst (λ (x : Cell). IfSome found (λ n. (task : Task) × IsNearest site.grid s.tasks (other_ends s agent) x n task)) same_place
-    (subst (λ (x : List Cell). IfSome found (λ n. (task : Task) × IsNearest site.grid s.tasks x here n task)) same_ends
-    (subst (λ (x : List Task). IfSome found (λ n. (task : Task) × IsNearest site.grid x taken here n task)) same_tasks
-    (subst (λ (x : Floor). IfSome found (λ n. (task : Task) × IsNearest x tasks taken here n task)) same_grid nearest)))

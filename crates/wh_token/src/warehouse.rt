@@ -14,12 +14,13 @@ ghost use Rattle.wh_event.specs.declared.reply.Reply.{Reply as Answer};
 ghost use Rattle.wh_event.specs.declared.reply.Refusal.{Refusal as Reason};
 ghost use Rattle.wh_event.specs.declared.entry.Entry.{Entry as Line};
 ghost use Rattle.wh_event.specs.declared.event.Spare.{Spare as Told};
+ghost use Rattle.wh_ledger.specs.Ledgers.{rows_of};
 ghost use Rattle.wh_planner.specs.Duties.{IsLawful, HasNoClearWay, Delivers, ParksAt};
 ghost use Rattle.wh_core.specs.States.{State, opened};
 ghost use Rattle.wh_core.specs.Laws.{IsOpening};
 ghost use Rattle.wh_core.specs.Steps.{Step, Run, IsDue, IsNext, NoneIsNext, IsAllowed, MakesWay, other_ends, last_clock};
 ghost use Rattle.wh_planner.specs.Asked.{IsDuty, Serves, legs};
-ghost use Rattle.wh_book.specs.Drafts.{Seen, IsSame, IsReady, Drafts, AllServed, Suits};
+ghost use Rattle.wh_book.specs.Drafts.{IsSame, IsReady, Drafts, AllServed};
 ghost use Rattle.wh_token.specs.Commands.{event_of};
 ghost use Rattle.wh_token.specs.Fleet.{IsTied, AllFit, RefusesToOpen, TellsSpare, TellsFor, Swaps, IsSeated, replaced_agent};
 ghost use Rattle.wh_token.specs.Runs.{Moves, Ran as RanBy, WantsSpare, entries_of};
@@ -27,12 +28,14 @@ ghost use Rattle.wh_token.specs.Runs.{Moves, Ran as RanBy, WantsSpare, entries_o
 use crate::command::{event_of, replaced};
 use crate::roster::{OpenFault, first_foreign, slots_of};
 use std::alloc::{AllocError, Global};
+use std::marker::Model;
 use std::mem;
 use std::sync::Arc;
 use wh_book::{Book, Draft, Setting};
 use wh_event::{Command, Entry, Event, Refusal, Spare};
 use wh_field::LazyField;
 use wh_grid::{Cell, Grid};
+use wh_ledger::DeliveryLedger;
 use wh_path::TimedPath;
 use wh_planner::{Duty, PlanFault, Planner, Scene};
 use wh_points::Points;
@@ -45,9 +48,17 @@ pub struct Warehouse<P = Box<dyn Planner>> {
     planners: Vec<P>,
     marks: EndSet,
     near: LazyField,
-    ghost seats: { length planners.items ≡ length book.state.paths },
-    ghost suits: { Suits marks book.site.grid (length book.state.paths) },
-    ghost over: { near.grid ≡ book.site.grid },
+}
+
+impl<P> Model for Warehouse<P> {
+    ghost use Rattle.std.specs.Prelude.{length};
+    ghost use Rattle.wh_token.specs.Houses.{House, IsFurnished};
+
+    ghost Value = { House P };
+
+    ghost view = { λ w. record { book = w.book; planners = w.planners.items } };
+
+    ghost invariant = { λ w. IsFurnished w.book (length w.planners.items) w.marks w.near };
 }
 
 impl<P: Planner> Warehouse<P> {
@@ -66,8 +77,8 @@ impl<P: Planner> Warehouse<P> {
         ensures site { IfOk result (λ w. w.book.site ≡ record { grid = grid.value; layout = points }) }
         ensures opening { IfOk result (λ w. ((slots : List ℕ) × (w.book.opening ≡ opened points start slots) × (w.book.state ≡ w.book.opening))) }
         ensures history { IfOk result (λ w. w.book.history ≡ []) }
-        ensures planners { IfOk result (λ w. w.planners ≡ planners) }
-        ensures tied { IfOk result (λ w. IsTied (λ b. P.fits_map b grid.value) (λ b. P.slot_count b) w.planners.items w.book.state.slots) }
+        ensures planners { IfOk result (λ w. w.planners ≡ planners.items) }
+        ensures tied { IfOk result (λ w. IsTied (λ b. P.fits_map b grid.value) (λ b. P.slot_count b) w.planners w.book.state.slots) }
         ensures refused { IfErr result (RefusesToOpen (λ b. P.fits_map b grid.value) planners.items (length points.agents)) }
     {
         if planners.len() != points.agents().len() {
@@ -97,8 +108,8 @@ impl<P: Planner> Warehouse<P> {
         ensures site { IfOk result (λ w. w.book.site ≡ record { grid = grid.value; layout = points }) }
         ensures opening { IfOk result (λ w. ((slots : List ℕ) × (w.book.opening ≡ opened points start slots) × (w.book.state ≡ w.book.opening))) }
         ensures history { IfOk result (λ w. w.book.history ≡ []) }
-        ensures planners { IfOk result (λ w. w.planners ≡ planners) }
-        ensures tied { IfOk result (λ w. IsTied (λ b. P.fits_map b grid.value) (λ b. P.slot_count b) w.planners.items w.book.state.slots) }
+        ensures planners { IfOk result (λ w. w.planners ≡ planners.items) }
+        ensures tied { IfOk result (λ w. IsTied (λ b. P.fits_map b grid.value) (λ b. P.slot_count b) w.planners w.book.state.slots) }
     {
         let slots = slots_of(alloc, planners.as_slice(), &grid)?;
         let near = LazyField::from(alloc, &grid, Cell { x: 0, y: 0 })?;
@@ -182,6 +193,13 @@ impl<P: Planner> Warehouse<P> {
         self.book.tasks().task(n)
     }
 
+    /// What the tasks of each client have come to, in one pass over the tasks. The error is want of memory.
+    pub fn ledger(&self, alloc: Global) -> Result<DeliveryLedger, AllocError>
+        ensures { IfOk result (λ ledger. ledger ≡ rows_of self.now.book.state.tasks) }
+    {
+        DeliveryLedger::of(alloc, self.book.tasks())
+    }
+
     /// All entries so far: a run from the opening state to the state. On a well-formed instance none of them is a refusal
     /// for want of a path.
     pub fn history(&self) -> &[Entry]
@@ -225,21 +243,6 @@ impl<P: Planner> Warehouse<P> {
         }
     }
 
-    /// The task that the agent takes: of those that it may take, the nearest one. It takes no memory.
-    fn nearest(&mut self, agent: u32) -> Option<u32>
-        requires agent { agent < length self.old.book.state.paths }
-        requires marks { self.old.marks.cells ≡ other_ends self.old.book.state agent }
-        ensures book { self.new.book ≡ self.old.book }
-        ensures planners { self.new.planners ≡ self.old.planners }
-        ensures marks { self.new.marks ≡ self.old.marks }
-        ensures none { IfNone result (NoneIsNext self.old.book.state agent) }
-        ensures nearest { IfSome result (λ n. (task : Job) × IsNext self.old.book.site self.old.book.state agent n task) }
-    {
-        let here = self.book.paths()[agent as usize].start();
-        self.near.again(here);
-        self.book.tasks().nearest(&mut self.near, &self.marks)
-    }
-
     /// A path for the agent, which stands, to deliver the task.
     fn plan_delivery(
         &mut self,
@@ -254,8 +257,8 @@ impl<P: Planner> Warehouse<P> {
             × IsLawful self.old.book.site.grid self.old.book.site.layout.nofollow self.old.book.state.paths agent (length job.stops) (Delivers job.stops) path) }
         ensures no_path { IfErr result (λ fault. fault ≡ PlanFault.NoPath → ((job : Job) × IsTask self.old.book.state.tasks task job
             × HasNoClearWay self.old.book.site.grid self.old.book.state.paths agent (Delivers job.stops))) }
-        ensures tied { IsTied (λ b. P.fits_map b self.old.book.site.grid) (λ b. P.slot_count b) self.old.planners.items self.old.book.state.slots
-            → IsTied (λ b. P.fits_map b self.old.book.site.grid) (λ b. P.slot_count b) self.new.planners.items self.old.book.state.slots }
+        ensures tied { IsTied (λ b. P.fits_map b self.old.book.site.grid) (λ b. P.slot_count b) self.old.planners self.old.book.state.slots
+            → IsTied (λ b. P.fits_map b self.old.book.site.grid) (λ b. P.slot_count b) self.new.planners self.old.book.state.slots }
     {
         let scene = Scene {
             grid: self.book.setting().grid(),
@@ -280,8 +283,8 @@ impl<P: Planner> Warehouse<P> {
         ensures book { self.new.book ≡ self.old.book }
         ensures lawful { IfOk result (IsLawful self.old.book.site.grid self.old.book.site.layout.nofollow self.old.book.state.paths agent 2 (ParksAt (Contains allowed.now))) }
         ensures no_path { IfErr result (λ fault. fault ≡ PlanFault.NoPath → HasNoClearWay self.old.book.site.grid self.old.book.state.paths agent (ParksAt (Contains allowed.now))) }
-        ensures tied { IsTied (λ b. P.fits_map b self.old.book.site.grid) (λ b. P.slot_count b) self.old.planners.items self.old.book.state.slots
-            → IsTied (λ b. P.fits_map b self.old.book.site.grid) (λ b. P.slot_count b) self.new.planners.items self.old.book.state.slots }
+        ensures tied { IsTied (λ b. P.fits_map b self.old.book.site.grid) (λ b. P.slot_count b) self.old.planners self.old.book.state.slots
+            → IsTied (λ b. P.fits_map b self.old.book.site.grid) (λ b. P.slot_count b) self.new.planners self.old.book.state.slots }
     {
         let scene = Scene {
             grid: self.book.setting().grid(),
@@ -310,8 +313,8 @@ impl<P: Planner> Warehouse<P> {
         requires room { 1 ≤ self.old.book.entry_room }
         ensures book { self.new.book ≡ self.old.book }
         ensures drafts { IfOk result (Drafts self.old.book caller (Asked.Request agent)) }
-        ensures tied { IsTied (λ b. P.fits_map b self.old.book.site.grid) (λ b. P.slot_count b) self.old.planners.items self.old.book.state.slots
-            → IsTied (λ b. P.fits_map b self.old.book.site.grid) (λ b. P.slot_count b) self.new.planners.items self.old.book.state.slots }
+        ensures tied { IsTied (λ b. P.fits_map b self.old.book.site.grid) (λ b. P.slot_count b) self.old.planners self.old.book.state.slots
+            → IsTied (λ b. P.fits_map b self.old.book.site.grid) (λ b. P.slot_count b) self.new.planners self.old.book.state.slots }
     {
         match self.plan_delivery(alloc, agent, task) {
             Ok(path) => self.book.draft_took(alloc, caller, agent, task, path),
@@ -323,23 +326,24 @@ impl<P: Planner> Warehouse<P> {
         }
     }
 
-    /// The draft of a request by a due agent, for which there is no task.
-    fn draft_parking(&mut self, alloc: Global, caller: u32, agent: u32) -> Result<Draft, AllocError>
+    /// The draft of a request by a due agent that stands in the way, and may park at these cells.
+    fn draft_parking(
+        &mut self,
+        alloc: Global,
+        caller: u32,
+        agent: u32,
+        allowed: &[Cell],
+    ) -> Result<Draft, AllocError>
         requires due { IsDue self.old.book.state agent }
-        requires none { NoneIsNext self.old.book.state agent }
-        requires marks { self.old.marks.cells ≡ other_ends self.old.book.state agent }
+        requires makes_way { MakesWay self.old.book.state agent }
+        requires allowed { (cell : Place) → Contains allowed.now cell ↔ IsAllowed self.old.book.site self.old.book.state agent cell }
         requires room { 1 ≤ self.old.book.entry_room }
         ensures book { self.new.book ≡ self.old.book }
         ensures drafts { IfOk result (Drafts self.old.book caller (Asked.Request agent)) }
-        ensures tied { IsTied (λ b. P.fits_map b self.old.book.site.grid) (λ b. P.slot_count b) self.old.planners.items self.old.book.state.slots
-            → IsTied (λ b. P.fits_map b self.old.book.site.grid) (λ b. P.slot_count b) self.new.planners.items self.old.book.state.slots }
+        ensures tied { IsTied (λ b. P.fits_map b self.old.book.site.grid) (λ b. P.slot_count b) self.old.planners self.old.book.state.slots
+            → IsTied (λ b. P.fits_map b self.old.book.site.grid) (λ b. P.slot_count b) self.new.planners self.old.book.state.slots }
     {
-        let here = self.book.paths()[agent as usize].start();
-        if !self.book.tasks().delivers_at(here) {
-            return self.book.draft_rested(alloc, caller, agent);
-        }
-        let allowed = self.book.allowed(alloc, agent, &self.marks)?;
-        match self.plan_parking(alloc, agent, allowed.as_slice()) {
+        match self.plan_parking(alloc, agent, allowed) {
             Ok(path) => self.book.draft_parked(alloc, caller, agent, path),
             Err(PlanFault::NoPath) => {
                 let event = Event::Request { agent };
@@ -355,8 +359,8 @@ impl<P: Planner> Warehouse<P> {
         requires room { 1 ≤ self.old.book.entry_room }
         ensures book { self.new.book ≡ self.old.book }
         ensures drafts { IfOk result (Drafts self.old.book caller (Asked.Request agent)) }
-        ensures tied { IsTied (λ b. P.fits_map b self.old.book.site.grid) (λ b. P.slot_count b) self.old.planners.items self.old.book.state.slots
-            → IsTied (λ b. P.fits_map b self.old.book.site.grid) (λ b. P.slot_count b) self.new.planners.items self.new.book.state.slots }
+        ensures tied { IsTied (λ b. P.fits_map b self.old.book.site.grid) (λ b. P.slot_count b) self.old.planners self.old.book.state.slots
+            → IsTied (λ b. P.fits_map b self.old.book.site.grid) (λ b. P.slot_count b) self.new.planners self.new.book.state.slots }
     {
         let event = Event::Request { agent };
         if agent as usize >= self.book.paths().len() {
@@ -371,10 +375,15 @@ impl<P: Planner> Warehouse<P> {
                 .refuse(alloc, caller, event, Refusal::Moving(left));
         }
         self.book.other_ends(agent, &mut self.marks);
-        match self.nearest(agent) {
-            Some(task) => self.draft_delivery(alloc, caller, agent, task),
-            None => self.draft_parking(alloc, caller, agent),
+        if let Some(task) = self.book.next(agent, &mut self.near, &self.marks) {
+            return self.draft_delivery(alloc, caller, agent, task);
         }
+        let here = self.book.paths()[agent as usize].start();
+        if !self.book.tasks().delivers_at(here) {
+            return self.book.draft_rested(alloc, caller, agent);
+        }
+        let allowed = self.book.allowed(alloc, agent, &self.marks)?;
+        self.draft_parking(alloc, caller, agent, allowed.as_slice())
     }
 
     /// The draft of a command. It makes every growth that the commit needs.
@@ -387,8 +396,8 @@ impl<P: Planner> Warehouse<P> {
     ) -> Result<Draft, AllocError>
         ensures same { IsSame self.old.book self.new.book }
         ensures drafts { IfOk result (Drafts self.new.book caller (event_of command told)) }
-        ensures tied { IsTied (λ b. P.fits_map b self.old.book.site.grid) (λ b. P.slot_count b) self.old.planners.items self.old.book.state.slots
-            → IsTied (λ b. P.fits_map b self.old.book.site.grid) (λ b. P.slot_count b) self.new.planners.items self.new.book.state.slots }
+        ensures tied { IsTied (λ b. P.fits_map b self.old.book.site.grid) (λ b. P.slot_count b) self.old.planners self.old.book.state.slots
+            → IsTied (λ b. P.fits_map b self.old.book.site.grid) (λ b. P.slot_count b) self.new.planners self.new.book.state.slots }
     {
         self.book.reserve_entry()?;
         if self.book.closed() {
@@ -415,8 +424,8 @@ impl<P: Planner> Warehouse<P> {
         spare: Option<P>,
     ) -> Result<Ready<P>, (NoMemory, Option<P>)>
         ensures same { IsSame self.old.book self.new.book }
-        ensures tied { IsTied (λ b. P.fits_map b self.old.book.site.grid) (λ b. P.slot_count b) self.old.planners.items self.old.book.state.slots
-            → IsTied (λ b. P.fits_map b self.old.book.site.grid) (λ b. P.slot_count b) self.new.planners.items self.new.book.state.slots }
+        ensures tied { IsTied (λ b. P.fits_map b self.old.book.site.grid) (λ b. P.slot_count b) self.old.planners self.old.book.state.slots
+            → IsTied (λ b. P.fits_map b self.old.book.site.grid) (λ b. P.slot_count b) self.new.planners self.new.book.state.slots }
         ensures ready { IfOk result (λ ready. IsReady self.new.book ready.draft) }
         ensures caller { IfOk result (λ ready. ready.draft.entry.caller ≡ caller) }
         ensures event { IfOk result (λ ready. ((told : Told) × (ready.draft.entry.event ≡ event_of command told))) }
@@ -440,9 +449,10 @@ impl<P: Planner> Warehouse<P> {
         ensures history { self.new.book.history ≡ self.old.book.history ++ result.entry ∷ [] }
         ensures step { Step self.old.book.site self.old.book.state result.entry self.new.book.state }
         ensures served { IsFormed self.old.book.site → result.entry.reply ≢ Answer.Refused Reason.NoPath }
-        ensures swaps { Swaps (replaced_agent result.entry) self.old.planners.items ready.spare self.new.planners.items result.back }
-        ensures tied { IsTied (λ b. P.fits_map b self.old.book.site.grid) (λ b. P.slot_count b) self.old.planners.items self.old.book.state.slots
-            → IsTied (λ b. P.fits_map b self.old.book.site.grid) (λ b. P.slot_count b) self.new.planners.items self.new.book.state.slots }
+        ensures seats { length self.old.planners ≡ length self.old.book.state.paths }
+        ensures swaps { Swaps (replaced_agent result.entry) self.old.planners ready.spare self.new.planners result.back }
+        ensures tied { IsTied (λ b. P.fits_map b self.old.book.site.grid) (λ b. P.slot_count b) self.old.planners self.old.book.state.slots
+            → IsTied (λ b. P.fits_map b self.old.book.site.grid) (λ b. P.slot_count b) self.new.planners self.new.book.state.slots }
     {
         let Ready { draft, spare } = ready;
         let agent = replaced(&draft.entry);
@@ -468,8 +478,8 @@ impl<P: Planner> Warehouse<P> {
         ensures event { IfOk result (λ done. ((told : Told) × (done.entry.event ≡ event_of command told))) }
         ensures tells { IfOk result (λ done. TellsFor (λ b. P.fits_map b self.old.book.site.grid) (λ b. P.slot_count b) spare done.entry.event) }
         ensures spare { IfErr result (λ fault. fault.1 ≡ spare) }
-        ensures tied { IsTied (λ b. P.fits_map b self.old.book.site.grid) (λ b. P.slot_count b) self.old.planners.items self.old.book.state.slots
-            → IsTied (λ b. P.fits_map b self.old.book.site.grid) (λ b. P.slot_count b) self.new.planners.items self.new.book.state.slots }
+        ensures tied { IsTied (λ b. P.fits_map b self.old.book.site.grid) (λ b. P.slot_count b) self.old.planners self.old.book.state.slots
+            → IsTied (λ b. P.fits_map b self.old.book.site.grid) (λ b. P.slot_count b) self.new.planners self.new.book.state.slots }
     {
         let ready = self.prepare(alloc, caller, command, spare)?;
         Ok(self.commit(ready))
@@ -498,8 +508,8 @@ impl<P: Planner> Warehouse<P> {
         ensures opening { self.new.book.opening ≡ self.old.book.opening }
         ensures moves { ((outcome : Option Line) × (is_some outcome ≡ result) × (self.new.book.history ≡ self.old.book.history ++ entries_of (outcome ∷ []))
             × Moves (λ b. P.fits_map b self.old.book.site.grid) (λ b. P.slot_count b) self.old.book.site caller command.now outcome self.old.book.state spares.old.items self.new.book.state spares.new.items) }
-        ensures tied { IsTied (λ b. P.fits_map b self.old.book.site.grid) (λ b. P.slot_count b) self.old.planners.items self.old.book.state.slots
-            → IsTied (λ b. P.fits_map b self.old.book.site.grid) (λ b. P.slot_count b) self.new.planners.items self.new.book.state.slots }
+        ensures tied { IsTied (λ b. P.fits_map b self.old.book.site.grid) (λ b. P.slot_count b) self.old.planners self.old.book.state.slots
+            → IsTied (λ b. P.fits_map b self.old.book.site.grid) (λ b. P.slot_count b) self.new.planners self.new.book.state.slots }
     {
         let wants = self.wants_spare(command);
         let spare = if wants { spares.pop() } else { None };
@@ -534,8 +544,8 @@ impl<P: Planner> Warehouse<P> {
         ensures run { ((added : List Line) × (self.new.book.history ≡ self.old.book.history ++ added)
             × (length added ≡ result.entries) × Run self.old.book.site self.old.book.state added self.new.book.state
             × (IsFormed self.old.book.site → AllServed added)) }
-        ensures tied { IsTied (λ b. P.fits_map b self.old.book.site.grid) (λ b. P.slot_count b) self.old.planners.items self.old.book.state.slots
-            → IsTied (λ b. P.fits_map b self.old.book.site.grid) (λ b. P.slot_count b) self.new.planners.items self.new.book.state.slots }
+        ensures tied { IsTied (λ b. P.fits_map b self.old.book.site.grid) (λ b. P.slot_count b) self.old.planners self.old.book.state.slots
+            → IsTied (λ b. P.fits_map b self.old.book.site.grid) (λ b. P.slot_count b) self.new.planners self.new.book.state.slots }
     {
         let _before = self.book.history();
         let mut entries = 0u64;
@@ -605,6 +615,14 @@ pub struct NoMemory;
 pub struct Ready<P = Box<dyn Planner>> {
     draft: Draft,
     spare: Option<P>,
+}
+
+impl<P> Model for Ready<P> {
+    ghost use Rattle.wh_token.specs.Houses.{Prepared};
+
+    ghost Value = { Prepared P };
+
+    ghost view = { λ r. record { draft = r.draft; spare = r.spare } };
 }
 
 impl<P: Drop> Ready<P> {

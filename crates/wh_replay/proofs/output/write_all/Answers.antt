@@ -1,4 +1,3 @@
-use Rattle.std.proofs.Common.{arith}
 use Rattle.wh_replay.proofs.Written.{wrote_rest, rest_long}
 use Rattle.wh_replay.proofs.output.write_all.Goals as goal
 

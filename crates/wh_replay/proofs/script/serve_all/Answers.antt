@@ -1,4 +1,4 @@
-use Rattle.std.proofs.Common.{◌≡◌, ◌+◌, refl, sym, subst, arith}
+use Rattle.std.proofs.Common.{◌+◌, refl, sym, subst, arith}
 use Rattle.wh_lines.specs.Input.{Gathered}
 use Rattle.wh_lines.specs.declared.lines.Next.{Next}
 use Rattle.wh_replay.specs.Scripts.{Stops}

@@ -1,13 +1,14 @@
-use Rattle.std.proofs.Common.{◌∙◌, sym, subst}
+use Rattle.std.proofs.Common.{◌∙◌, ap, sym, subst}
 use Rattle.wh_planner.specs.declared.duty.Duty.{Duty}
 use Rattle.wh_planner.specs.declared.planner.PlanFault.TheVariants.{NoPath}
 use Rattle.wh_planner.specs.Asked.{Serves}
+use Rattle.wh_planners.specs.Near.{Searcher}
 use Rattle.wh_planners.specs.Services.{HasNoService}
 use Rattle.wh_planners.proofs.Services.{floor_is, err-map, no_way}
 use Rattle.wh_planners.proofs.near.NearPlanner.plan.Goals as goal
 
 pub plan_delivery-requires-clause-fits : goal.plan_delivery-requires-clause-fits
-plan_delivery-requires-clause-fits c = c.args.self.now.one_grid ∙ floor_is _ _ c.requires.fits
+plan_delivery-requires-clause-fits c = c.self.invariant.one_grid ∙ ap (λ (s : Searcher). s.grid) c.self.view_is ∙ floor_is _ _ c.requires.fits
 
 pub returns-in-Deliver-clause-no_path : goal.returns-in-Deliver-clause-no_path
 returns-in-Deliver-clause-no_path c =

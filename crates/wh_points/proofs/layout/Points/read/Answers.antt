@@ -1,4 +1,4 @@
-use Rattle.wh_points.proofs.LayoutLaws.{read_layout}
+use Rattle.wh_points.proofs.LayoutLaws.{read_layout, read_some}
 use Rattle.wh_text.specs.Lines.{lines_of}
 use Rattle.wh_points.proofs.FirstFault.{read_within, read_first}
 use Rattle.wh_points.proofs.GrammarLaws.{read_found, read_only}
@@ -18,3 +18,6 @@ returns-clause-line c = read_within c.args.grid.now (lines_of c.args.text.now) c
 
 pub returns-clause-first : goal.returns-clause-first
 returns-clause-first c = read_first c.args.grid.now (lines_of c.args.text.now) c.read_all.result c.read_all.ensures
+
+pub returns-clause-agents : goal.returns-clause-agents
+returns-clause-agents c = read_some c.args.grid.now c.args.text.now c.read_all.result c.read_all.ensures

@@ -1,6 +1,5 @@
-use Rattle.std.proofs.Common.{◌≡◌, ◌∙◌, ap, sym, subst, List, ℕ}
+use Rattle.std.proofs.Common.{◌≡◌, ◌∙◌, ap, sym}
 use Rattle.wh_core.specs.States.{State}
-use Rattle.wh_token.specs.Fleet.{IsTied}
 use Rattle.wh_token.proofs.Fleet.{tied-slots}
 use Rattle.wh_token.proofs.warehouse.Warehouse.furnish.Goals as goal
 

@@ -1,4 +1,5 @@
-use Rattle.std.proofs.Common.{◌∷◌, [], ◌++◌, ◌∙◌, arith}
+use Rattle.std.proofs.Common.{◌≡◌, ◌∷◌, [], ◌++◌, ◌∙◌, ap, arith}
+use Rattle.wh_token.specs.Houses.{House}
 use Rattle.wh_token.proofs.Runs.{ran-take-at, ran-run, history-more, length-added, length-kept}
 use Rattle.wh_book.proofs.Kept.{run-served}
 use Rattle.wh_token.specs.Runs.{entries_of}
@@ -34,10 +35,13 @@ pub returns-clause-run : goal.returns-clause-run
 returns-clause-run g c =
     let before = c.loop-command.invariant in
     let book = c.args.self.now.book in
+    let same : c.self.inside.book ≡ book = ap (λ (h : House g.row.P.Denot). h.book) c.self.view_is in
+    let opening = rw same at c.history-before.ensures.opening in
+    let before_run = rw same at c.history-before.ensures.run in
     let run = ran-run _ _ book.site c.args.caller _ before.ran.0 book.state c.args.spares.now.items _ _ before.ran.3 in (
       entries_of before.ran.0,
       before.ran.1,
       before.ran.2,
       run,
-      λ formed. run-served book.site book.opening book.history book.state (entries_of before.ran.0) _ c.history-before.ensures.opening c.history-before.ensures.run run formed,
+      λ formed. run-served book.site book.opening book.history book.state (entries_of before.ran.0) _ opening before_run run formed,
     )

@@ -16,7 +16,7 @@ invariant-loop-command g l = record {
       (λ b. g.P.Planner.slot_count b)
       l.fn.self.book.site l.caller (take l.command-index l.commands) outcomes l.fn.self.book.state l.fn.spares.items l.self.book.state l.spares.items;
   tied : IsTied (λ b. g.P.Planner.fits_map b l.fn.self.book.site.grid)
-      (λ b. g.P.Planner.slot_count b) l.fn.self.planners.items l.fn.self.book.state.slots
+      (λ b. g.P.Planner.slot_count b) l.fn.self.planners l.fn.self.book.state.slots
       → IsTied (λ b. g.P.Planner.fits_map b l.fn.self.book.site.grid)
-      (λ b. g.P.Planner.slot_count b) l.self.planners.items l.self.book.state.slots;
+      (λ b. g.P.Planner.slot_count b) l.self.planners l.self.book.state.slots;
 }

@@ -1,0 +1,5 @@
+use Rattle.wh_book.proofs.Naming.{IsListed}
+use Rattle.wh_book.proofs.parking.free_points.Given as goal
+
+abbrev pub invariant-loop-point : goal.invariant-loop-point
+invariant-loop-point l = IsListed l.points l.floor.state l.marks.cells l.point-index l.cells.items

@@ -1,0 +1,23 @@
+-- what callers see of a warehouse, and what it keeps
+use Rattle.std.specs.Prelude.{◌≡◌, ℕ, List, Option, length}
+use Rattle.wh_field.specs.Fields.{Source}
+use Rattle.wh_tasks.specs.Marks.{Ends}
+use Rattle.wh_book.specs.declared.draft.Draft.{Draft}
+use Rattle.wh_book.specs.Drafts.{Seen, Suits}
+
+-- what callers see of a warehouse: the book, and the agents' planners in the agents' order
+pub record House (X : Type 0) : Type 0 where
+  pub book : Seen
+  pub planners : List X
+
+-- What a warehouse keeps: so many planners as there are agents, and, to look for tasks, a set of cells and a field over its
+-- grid.
+pub record IsFurnished (book : Seen) (planners : ℕ) (marks : Ends) (near : Source) : Type 0 where
+  pub seats : planners ≡ length book.state.paths
+  pub suits : Suits marks book.site.grid (length book.state.paths)
+  pub over : near.grid ≡ book.site.grid
+
+-- what was prepared: the draft of the entry, and the planner that was handed in
+pub record Prepared (X : Type 0) : Type 0 where
+  pub draft : Draft
+  pub spare : Option X
