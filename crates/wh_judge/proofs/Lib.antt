@@ -1,0 +1,6 @@
+pub mod Courses
+pub mod PointNames
+pub mod Choices
+pub mod Ways
+pub mod Reachable
+pub mod Reaching

@@ -1,0 +1,6 @@
+use Rattle.wh_judge.proofs.Reaching.{step-result}
+use Rattle.wh_judge.proofs.judge.Judge.step.Goals as goal
+
+pub returns-clause-step : goal.returns-clause-step
+returns-clause-step c =
+    rw (← c.self.view_is) (step-result c.self.inside.instance c.self.inside.floor.state c.args.entry c.answer.new.floor.state c.answer.result c.answer.ensures.answer)

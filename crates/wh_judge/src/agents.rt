@@ -1,0 +1,75 @@
+//! What is known of an agent.
+#![tactic(auto)]
+
+ghost use Rattle.std.specs.Prelude.{◌≡◌, ◌≢◌, ◌<◌, ◌≤◌, ◌↔◌, false, IsTrue, length};
+ghost use Rattle.wh_path.specs.Paths.{place_of, steps_left};
+ghost use Rattle.wh_core.specs.Steps.{IsKnown, IsDue, IsDeliveryCell, other_ends};
+ghost use Rattle.wh_book.specs.Drafts.{Suits};
+ghost use Rattle.wh_judge.specs.Judged.{IsReachable};
+
+use crate::instance::Instance;
+use wh_grid::Cell;
+use wh_state::Floor;
+use wh_tasks::EndSet;
+
+/// Whether the warehouse is open and has an agent of this number.
+pub fn is_known(floor: &Floor, agent: u32) -> bool
+    ensures { IsTrue result ↔ IsKnown floor.now.state agent }
+{
+    !floor.closed() && (agent as usize) < floor.paths().len()
+}
+
+/// Whether the warehouse is open and has no agent of this number.
+pub fn is_stranger(floor: &Floor, agent: u32) -> bool
+    ensures { IsTrue result ↔ ((floor.now.state.closed ≡ false) × (length floor.now.state.paths ≤ agent)) }
+{
+    !floor.closed() && floor.paths().len() <= agent as usize
+}
+
+/// Whether the agent may be given something to do.
+pub fn is_due(floor: &Floor, agent: u32) -> bool
+    ensures { IsTrue result ↔ IsDue floor.now.state agent }
+{
+    if !is_known(floor, agent) {
+        return false;
+    }
+    floor.paths()[agent as usize].remaining() == 0
+}
+
+/// Whether the agent has so many steps left, and not none.
+pub fn is_moving(floor: &Floor, agent: u32, left: u64) -> bool
+    ensures { IsTrue result ↔ (IsKnown floor.now.state agent × (left ≡ steps_left floor.now.state.paths agent) × (left ≢ 0)) }
+{
+    if !is_known(floor, agent) {
+        return false;
+    }
+    left == floor.paths()[agent as usize].remaining() && left != 0
+}
+
+/// Where the agent is.
+pub fn place(floor: &Floor, agent: u32) -> Cell
+    requires { agent < length floor.now.state.paths }
+    ensures { result ≡ place_of floor.now.state.paths agent }
+{
+    floor.paths()[agent as usize].start()
+}
+
+/// Whether at the agent's cell an open task is to be delivered.
+pub fn is_in_the_way(floor: &Floor, agent: u32) -> bool
+    requires { agent < length floor.now.state.paths }
+    ensures { IsTrue result ↔ IsDeliveryCell floor.now.state (place_of floor.now.state.paths agent) }
+{
+    floor.tasks().delivers_at(place(floor, agent))
+}
+
+/// Puts the cells where the others' paths end into the set, in place of what it has.
+pub fn gather(instance: &Instance, floor: &Floor, ends: &mut EndSet, agent: u32)
+    requires known { agent < length floor.now.state.paths }
+    requires reached { IsReachable instance.now floor.now.state }
+    requires suits { Suits ends.old instance.now.grid (length instance.now.layout.agents) }
+    ensures ends { ends.new.cells ≡ other_ends floor.now.state agent }
+    ensures suits { Suits ends.new instance.now.grid (length instance.now.layout.agents) }
+{
+    let _grid = instance.grid();
+    floor.other_ends(agent, ends);
+}

@@ -1,0 +1,127 @@
+//! Whether a path is one that an agent may adopt.
+#![tactic(auto)]
+
+ghost use Rattle.std.specs.Prelude.{◌≡◌, ℕ, ◌+◌, ◌<◌, ◌≤◌, ◌^◌, ◌↔◌, ⊤, IsTrue, length, All};
+ghost use Rattle.wh_grid.specs.Grids.{IsMove};
+ghost use Rattle.wh_path.specs.Paths.{at, others, IsWalk, IsFree};
+ghost use Rattle.wh_planner.specs.Duties.{Delivers, IsLawful};
+ghost use Rattle.wh_judge.specs.Courses.{GoesPast};
+
+use wh_grid::{Cell, Grid};
+use wh_path::{TimedPath, conflict};
+use wh_planner::last_to_rest;
+
+/// How many stops are behind an agent that comes to the cell with so many behind it.
+fn go_past(stops: &[Cell], before: usize, here: Cell) -> usize
+    requires { before ≤ length stops.now }
+    ensures { GoesPast stops.now before here result }
+{
+    for i in before..stops.len() {
+        if !stops[i].is(here) {
+            return i;
+        }
+    }
+    stops.len()
+}
+
+/// Whether the path goes through the stops in their order and ends at the last of them.
+fn goes_through(path: &TimedPath, stops: &[Cell]) -> bool
+    requires { 1 ≤ length stops.now }
+    ensures { IsTrue result ↔ Delivers stops.now path.now }
+{
+    let mut visited = 0;
+    for k in 0..path.remaining() + 1 {
+        visited = go_past(stops, visited, path.at(k));
+    }
+    visited == stops.len() && path.end().is(stops[stops.len() - 1])
+}
+
+/// Whether an agent may be at the one cell and at the next time at the other.
+fn is_move(from: Cell, to: Cell) -> bool
+    ensures { IsTrue result ↔ IsMove from to }
+{
+    from.is(to)
+        || from.y == to.y && (from.x as u32 + 1 == to.x as u32 || to.x as u32 + 1 == from.x as u32)
+        || from.x == to.x && (from.y as u32 + 1 == to.y as u32 || to.y as u32 + 1 == from.y as u32)
+}
+
+/// Whether the path is a walk on the grid.
+fn walks(grid: &Grid, path: &TimedPath) -> bool
+    ensures { IsTrue result ↔ IsWalk grid.now path.now }
+{
+    for k in 0..path.remaining() + 1 {
+        if !grid.passable(path.at(k)) || !is_move(path.at(k), path.at(k + 1)) {
+            return false;
+        }
+    }
+    true
+}
+
+/// Whether the paths are free of each other for ever. It looks up to the end of the longer one.
+fn are_free(nofollow: bool, p: &TimedPath, q: &TimedPath) -> bool
+    ensures { IsTrue result ↔ IsFree nofollow p.now q.now }
+{
+    match conflict(p, q, nofollow) {
+        None => true,
+        Some(_) => false,
+    }
+}
+
+/// Whether the path is free of each other agent's path.
+fn free_of_others(nofollow: bool, paths: &[TimedPath], agent: usize, path: &TimedPath) -> bool
+    ensures { IsTrue result ↔ All (λ other. IsFree nofollow path.now other) (others paths.now agent) }
+{
+    for i in 0..paths.len() {
+        if i != agent && !are_free(nofollow, path, &paths[i]) {
+            return false;
+        }
+    }
+    true
+}
+
+/// Whether the agent may adopt the path, whatever its duty of so many legs asks of it. The cheap questions come first.
+pub fn is_course(
+    grid: &Grid,
+    nofollow: bool,
+    paths: &[TimedPath],
+    agent: usize,
+    legs: u64,
+    path: &TimedPath,
+) -> bool
+    requires known { agent < length paths.now }
+    requires legs { legs ≤ 8 }
+    ensures { IsTrue result ↔ IsLawful grid.now nofollow paths.now agent legs (λ _. ⊤) path.now }
+{
+    let bound = last_to_rest(paths, agent) + legs * grid.cells() as u64;
+    let starts = path.at(0).is(paths[agent].at(0));
+    if !starts {
+        return false;
+    }
+    if path.remaining() > bound {
+        return false;
+    }
+    if !walks(grid, path) {
+        return false;
+    }
+    free_of_others(nofollow, paths, agent, path)
+}
+
+/// Whether the agent may adopt the path to deliver a task with these stops.
+pub fn may_deliver(
+    grid: &Grid,
+    nofollow: bool,
+    paths: &[TimedPath],
+    agent: usize,
+    stops: &[Cell],
+    path: &TimedPath,
+) -> bool
+    requires known { agent < length paths.now }
+    requires some { 1 ≤ length stops.now }
+    requires few { length stops.now ≤ 8 }
+    ensures { IsTrue result ↔ IsLawful grid.now nofollow paths.now agent (length stops.now) (Delivers stops.now) path.now }
+{
+    if !goes_through(path, stops) {
+        return false;
+    }
+    is_course(grid, nofollow, paths, agent, stops.len() as u64, path)
+}

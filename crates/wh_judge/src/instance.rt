@@ -1,0 +1,97 @@
+//! What a log is judged over.
+#![tactic(auto)]
+
+ghost use Rattle.std.specs.Prelude.{◌≡◌, ◌≤◌, ◌↔◌, length, IsTrue, IfOk};
+ghost use Rattle.wh_points.specs.Points.{IsLayout, IsPoint, starts};
+
+use std::alloc::{AllocError, Global};
+use std::marker::Model;
+use wh_book::starts_of;
+use wh_grid::{Cell, Grid};
+use wh_points::Points;
+use wh_text::Name;
+
+/// The grid, and the points that were read over it.
+#[derive(Drop)]
+pub struct Instance<'a> {
+    grid: &'a Grid,
+    points: &'a Points,
+}
+
+impl<'a> Model for Instance<'a> {
+    ghost use Rattle.wh_points.specs.Points.{Site};
+    ghost use Rattle.wh_book.specs.Settings.{IsSite};
+
+    ghost Value = { Site };
+
+    ghost view = { λ i. record { grid = i.grid.now; layout = i.points.now } };
+
+    ghost invariant = { λ i. IsSite (record { grid = i.grid.now; layout = i.points.now }) };
+}
+
+impl<'a> Instance<'a> {
+    /// The grid with its points.
+    pub fn new(grid: &'a Grid, points: &'a Points) -> Instance<'a>
+        requires { IsLayout grid.now points.now }
+        ensures { result ≡ record { grid = grid.now; layout = points.now } }
+    {
+        let _agents = points.agents();
+        Instance { grid, points }
+    }
+
+    /// The grid.
+    pub fn grid(&self) -> &Grid
+        ensures value { result.now ≡ self.now.grid }
+        ensures layout { IsLayout self.now.grid self.now.layout }
+    {
+        self.grid
+    }
+
+    /// Whether the rule against following stands.
+    pub fn nofollow(&self) -> bool
+        ensures { result ≡ self.now.layout.nofollow }
+    {
+        self.points.nofollow()
+    }
+
+    /// The points.
+    pub fn points(&self) -> &Points
+        ensures value { result.now ≡ self.now.layout }
+        ensures layout { IsLayout self.now.grid self.now.layout }
+    {
+        self.points
+    }
+
+    /// The number of agents.
+    pub fn agents(&self) -> usize
+        ensures value { result ≡ length self.now.layout.agents }
+        ensures few { result ≤ 256 }
+    {
+        self.points.agents().len()
+    }
+
+    /// The cell where each agent starts.
+    pub fn starts(&self, alloc: Global) -> Result<Vec<Cell>, AllocError>
+        ensures { IfOk result (λ cells. cells.items ≡ starts self.now.layout) }
+    {
+        starts_of(alloc, self.points.as_slice(), self.points.agents())
+    }
+
+    /// Whether the point of this name stands at the cell. It takes constant time.
+    pub fn is_at(&self, name: &Name, cell: Cell) -> bool
+        ensures { IsTrue result ↔ IsPoint self.now.layout name.now cell }
+    {
+        stands_at(self.points, name, cell)
+    }
+}
+
+/// Whether the point of this name stands at the cell.
+fn stands_at(points: &Points, name: &Name, cell: Cell) -> bool
+    ensures { IsTrue result ↔ IsPoint points.now name.now cell }
+{
+    points.are_apart();
+    match points.find(name) {
+        None => false,
+        Some(number) => points.cell(number).is(cell),
+    }
+}

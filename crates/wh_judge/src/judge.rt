@@ -1,0 +1,158 @@
+//! The judge of a log's entries.
+#![tactic(auto)]
+
+ghost use Rattle.std.specs.Prelude.{◌≡◌, ◌≤◌, false, IsTrue, IfOk, OnOk, OnErr, length};
+ghost use Rattle.wh_points.specs.Points.{IsLayout};
+ghost use Rattle.wh_core.specs.States.{State, opened};
+ghost use Rattle.wh_core.specs.Steps.{Step, last_clock};
+ghost use Rattle.wh_book.specs.Drafts.{Suits};
+ghost use Rattle.wh_judge.specs.Judged.{Decides, IsReachable, IsStep};
+
+use crate::instance::Instance;
+use crate::plain::{close, replace, tick};
+use crate::requests::request;
+use crate::submitting::submit;
+use std::alloc::{AllocError, Global};
+use std::marker::Model;
+use wh_event::{Entry, Event, Reply};
+use wh_field::LazyField;
+use wh_grid::Cell;
+use wh_state::Floor;
+use wh_tasks::EndSet;
+
+/// Whether the event may be answered so; if so, it is done.
+fn answer(
+    alloc: Global,
+    instance: &Instance,
+    floor: &mut Floor,
+    ends: &mut EndSet,
+    near: &mut LazyField,
+    event: Event,
+    reply: Reply,
+) -> Result<bool, AllocError>
+    requires reached { IsReachable instance.now floor.old.state }
+    requires suits { Suits ends.old instance.now.grid (length instance.now.layout.agents) }
+    requires grid { near.old.grid ≡ instance.now.grid }
+    ensures answer { IfOk result (Decides instance.now floor.old.state reply event floor.new.state) }
+    ensures kept { IfOk result (λ b. b ≡ false → floor.new.state ≡ floor.old.state) }
+    ensures err { OnErr result (floor.new.state ≡ floor.old.state) }
+    ensures reached { IsReachable instance.now floor.new.state }
+    ensures suits { Suits ends.new instance.now.grid (length instance.now.layout.agents) }
+    ensures grid { near.new.grid ≡ instance.now.grid }
+{
+    match event {
+        Event::Submit { client, stops } => submit(alloc, instance, floor, client, &stops, &reply),
+        Event::Request { agent } => request(alloc, instance, floor, ends, near, agent, reply),
+        Event::Tick => Ok(tick(instance, floor, &reply)),
+        Event::Replace { agent, spare } => Ok(replace(instance, floor, agent, spare, &reply)),
+        Event::Close => Ok(close(instance, floor, &reply)),
+    }
+}
+
+/// The state of a warehouse as it opens over the instance.
+fn opening(
+    alloc: Global,
+    instance: &Instance,
+    clock: u32,
+    slots: Vec<u32>,
+) -> Result<Floor, AllocError>
+    requires clock { clock ≤ last_clock }
+    requires seats { length slots.items ≡ length instance.now.layout.agents }
+    ensures state { IfOk result (λ floor. floor.state ≡ opened instance.now.layout clock slots.items) }
+    ensures reached { IfOk result (λ floor. IsReachable instance.now floor.state) }
+{
+    let _agents = instance.agents();
+    let _grid = instance.grid();
+    let starts = instance.starts(alloc)?;
+    let floor = Floor::open(alloc, clock, &starts, slots)?;
+    Ok(floor)
+}
+
+/// The warehouse as a log tells it: the instance, and the state after the entries so far. Beside the state it keeps one
+/// set of cells and one distance field, for its questions.
+#[derive(Drop)]
+pub struct Judge<'a> {
+    instance: Instance<'a>,
+    floor: Floor,
+    ends: EndSet,
+    near: LazyField,
+}
+
+impl<'a> Model for Judge<'a> {
+    ghost use Rattle.std.specs.Prelude.{◌≡◌, length};
+    ghost use Rattle.wh_book.specs.Drafts.{Suits};
+    ghost use Rattle.wh_judge.specs.Judged.{Judged, IsReachable};
+
+    ghost Value = { Judged };
+
+    ghost view = { λ j. record { site = j.instance; state = j.floor.state } };
+
+    ghost invariant = { λ j. IsReachable j.instance j.floor.state × Suits j.ends j.instance.grid (length j.instance.layout.agents) × (j.near.grid ≡ j.instance.grid) };
+}
+
+impl<'a> Judge<'a> {
+    /// The warehouse as it opens, before any entry, at a clock of at most 1,000,000,000, with the slots of each agent's
+    /// planner. The error comes where memory is wanting: for the state, and nine bytes a cell.
+    pub fn open(
+        alloc: Global,
+        instance: Instance<'a>,
+        clock: u32,
+        slots: Vec<u32>,
+    ) -> Result<Judge<'a>, AllocError>
+        requires clock { clock ≤ last_clock }
+        requires seats { length slots.items ≡ length instance.layout.agents }
+        ensures { IfOk result (λ judge. judge ≡ record { site = instance.entry; state = opened instance.entry.layout clock slots.items }) }
+    {
+        let grid = instance.grid();
+        let ends = EndSet::new(alloc, grid.width(), grid.height(), instance.agents())?;
+        let near = LazyField::from(alloc, grid, Cell { x: 0, y: 0 })?;
+        let floor = opening(alloc, &instance, clock, slots)?;
+        Ok(Judge {
+            instance,
+            floor,
+            ends,
+            near,
+        })
+    }
+
+    /// Begins again with another opening. Want of memory changes nothing.
+    pub fn reopen(&mut self, alloc: Global, clock: u32, slots: Vec<u32>) -> Result<(), AllocError>
+        requires clock { clock ≤ last_clock }
+        requires seats { length slots.items ≡ length self.old.site.layout.agents }
+        ensures ok { OnOk result (self.new ≡ record { site = self.old.site; state = opened self.old.site.layout clock slots.items }) }
+        ensures err { OnErr result (self.new ≡ self.old) }
+    {
+        self.floor = opening(alloc, &self.instance, clock, slots)?;
+        Ok(())
+    }
+
+    /// The number of agents.
+    pub fn agents(&self) -> usize
+        ensures value { result ≡ length self.now.site.layout.agents }
+        ensures few { result ≤ 256 }
+        ensures layout { IsLayout self.now.site.grid self.now.site.layout }
+    {
+        let _grid = self.instance.grid();
+        self.instance.agents()
+    }
+
+    /// Whether the entry is a step from the state; if so, it is made. The error comes where memory is wanting, for a new
+    /// task or to see that a clear way is wanting; then the state stays.
+    pub fn step(&mut self, alloc: Global, entry: Entry) -> Result<bool, AllocError>
+        ensures step { IfOk result (IsStep self.old.site self.old.state entry self.new.state) }
+        ensures kept { IfOk result (λ b. b ≡ false → self.new.state ≡ self.old.state) }
+        ensures err { OnErr result (self.new.state ≡ self.old.state) }
+        ensures site { self.new.site ≡ self.old.site }
+    {
+        let Entry { event, reply, .. } = entry;
+        answer(
+            alloc,
+            &self.instance,
+            &mut self.floor,
+            &mut self.ends,
+            &mut self.near,
+            event,
+            reply,
+        )
+    }
+}

@@ -1,0 +1,149 @@
+//! Whether an agent has no clear way for what it is to do.
+#![tactic(auto)]
+
+ghost use Rattle.std.specs.Prelude.{◌≡◌, ◌⊎◌, ◌<◌, ◌↔◌, IsTrue, IfOk, length};
+ghost use Rattle.wh_core.specs.Steps.{NoneIsNext, IsDeliveryCell, MakesWay, other_ends};
+ghost use Rattle.wh_path.specs.Paths.{place_of};
+ghost use Rattle.wh_judge.specs.Judged.{LacksDelivery, LacksParking, CanPark};
+
+use crate::agents::{is_in_the_way, place};
+use crate::choice::{next, none_is_next};
+use crate::instance::Instance;
+use crate::routes::{has_route_to_any, has_routes};
+use std::alloc::{AllocError, Global};
+use wh_book::free_points;
+use wh_field::LazyField;
+use wh_planner::other_ends;
+use wh_state::Floor;
+use wh_tasks::EndSet;
+
+/// Whether the agent has nothing to do, and is in nobody's way.
+pub fn may_rest(
+    instance: &Instance,
+    floor: &Floor,
+    ends: &EndSet,
+    near: &mut LazyField,
+    agent: u32,
+) -> bool
+    requires known { agent < length floor.now.state.paths }
+    requires ends { ends.now.cells ≡ other_ends floor.now.state agent }
+    requires grid { near.old.grid ≡ instance.now.grid }
+    ensures rests { IsTrue result ↔ (NoneIsNext floor.now.state agent × (¬ IsDeliveryCell floor.now.state (place_of floor.now.state.paths agent))) }
+    ensures grid { near.new.grid ≡ instance.now.grid }
+{
+    if is_in_the_way(floor, agent) {
+        return false;
+    }
+    none_is_next(instance, floor, ends, near, agent)
+}
+
+/// Whether the agent has to make way.
+pub fn makes_way(
+    instance: &Instance,
+    floor: &Floor,
+    ends: &EndSet,
+    near: &mut LazyField,
+    agent: u32,
+) -> bool
+    requires known { agent < length floor.now.state.paths }
+    requires ends { ends.now.cells ≡ other_ends floor.now.state agent }
+    requires grid { near.old.grid ≡ instance.now.grid }
+    ensures way { IsTrue result ↔ MakesWay floor.now.state agent }
+    ensures grid { near.new.grid ≡ instance.now.grid }
+{
+    if !is_in_the_way(floor, agent) {
+        return false;
+    }
+    none_is_next(instance, floor, ends, near, agent)
+}
+
+/// Whether the agent has a task before it and no clear way to deliver it.
+fn lacks_delivery(
+    alloc: Global,
+    instance: &Instance,
+    floor: &Floor,
+    ends: &EndSet,
+    near: &mut LazyField,
+    agent: u32,
+) -> Result<bool, AllocError>
+    requires known { agent < length floor.now.state.paths }
+    requires ends { ends.now.cells ≡ other_ends floor.now.state agent }
+    requires grid { near.old.grid ≡ instance.now.grid }
+    ensures lacks { IfOk result (λ b. IsTrue b ↔ LacksDelivery instance.now floor.now.state agent) }
+    ensures grid { near.new.grid ≡ instance.now.grid }
+{
+    match next(instance, floor, ends, near, agent) {
+        None => Ok(false),
+        Some(n) => {
+            let stops = floor.tasks().task(n).stops.as_slice();
+            let avoid = other_ends(alloc, floor.paths(), agent as usize)?;
+            Ok(!has_routes(alloc, instance.grid(), &avoid, place(floor, agent), stops)?)
+        }
+    }
+}
+
+/// Whether a route leads round the others' ends to a cell where the agent may park.
+fn can_park(
+    alloc: Global,
+    instance: &Instance,
+    floor: &Floor,
+    ends: &EndSet,
+    agent: u32,
+) -> Result<bool, AllocError>
+    requires known { agent < length floor.now.state.paths }
+    requires ends { ends.now.cells ≡ other_ends floor.now.state agent }
+    ensures { IfOk result (λ b. IsTrue b ↔ CanPark instance.now floor.now.state agent) }
+{
+    let avoid = other_ends(alloc, floor.paths(), agent as usize)?;
+    let allowed = free_points(alloc, instance.points(), floor, ends)?;
+    let leads = has_route_to_any(
+        alloc,
+        instance.grid(),
+        &avoid,
+        place(floor, agent),
+        &allowed,
+    )?;
+    Ok(leads)
+}
+
+/// Whether the agent has to make way, and no clear way to a cell where it may.
+fn lacks_parking(
+    alloc: Global,
+    instance: &Instance,
+    floor: &Floor,
+    ends: &EndSet,
+    near: &mut LazyField,
+    agent: u32,
+) -> Result<bool, AllocError>
+    requires known { agent < length floor.now.state.paths }
+    requires ends { ends.now.cells ≡ other_ends floor.now.state agent }
+    requires grid { near.old.grid ≡ instance.now.grid }
+    ensures lacks { IfOk result (λ b. IsTrue b ↔ LacksParking instance.now floor.now.state agent) }
+    ensures grid { near.new.grid ≡ instance.now.grid }
+{
+    if !makes_way(instance, floor, ends, near, agent) {
+        return Ok(false);
+    }
+    Ok(!can_park(alloc, instance, floor, ends, agent)?)
+}
+
+/// Whether the agent lacks a clear way for what it is to do.
+pub fn lacks_way(
+    alloc: Global,
+    instance: &Instance,
+    floor: &Floor,
+    ends: &EndSet,
+    near: &mut LazyField,
+    agent: u32,
+) -> Result<bool, AllocError>
+    requires known { agent < length floor.now.state.paths }
+    requires ends { ends.now.cells ≡ other_ends floor.now.state agent }
+    requires grid { near.old.grid ≡ instance.now.grid }
+    ensures lacks { IfOk result (λ b. IsTrue b ↔ (LacksDelivery instance.now floor.now.state agent ⊎ LacksParking instance.now floor.now.state agent)) }
+    ensures grid { near.new.grid ≡ instance.now.grid }
+{
+    if lacks_delivery(alloc, instance, floor, ends, near, agent)? {
+        return Ok(true);
+    }
+    lacks_parking(alloc, instance, floor, ends, near, agent)
+}

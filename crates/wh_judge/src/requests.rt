@@ -1,0 +1,258 @@
+//! The answers to an agent that asks for something to do.
+#![tactic(auto)]
+
+ghost use Rattle.std.specs.Prelude.{◌≡◌, ◌<◌, ◌↔◌, false, IsTrue, IfOk, OnErr, length};
+ghost use Rattle.wh_path.specs.Paths.{end};
+ghost use Rattle.wh_points.specs.Points.{IsPointCell};
+ghost use Rattle.wh_tasks.specs.declared.task.Task.{Task as Job};
+ghost use Rattle.wh_planner.specs.Duties.{Delivers, ParksAt, IsLawful};
+ghost use Rattle.wh_event.specs.declared.event.Event.TheVariants as events;
+ghost use Rattle.wh_event.specs.declared.reply.Reply.TheVariants as replies;
+ghost use Rattle.wh_event.specs.declared.reply.Refusal.TheVariants as refusals;
+ghost use Rattle.wh_core.specs.Steps.{Refuses, IsNext, IsAllowed, other_ends};
+ghost use Rattle.wh_book.specs.Drafts.{Suits};
+ghost use Rattle.wh_judge.specs.Judged.{Decides, IsReachable};
+
+use crate::agents::{gather, is_due, is_moving, is_stranger};
+use crate::choice::is_next;
+use crate::course::{is_course, may_deliver};
+use crate::instance::Instance;
+use crate::lacking::{lacks_way, makes_way, may_rest};
+use std::alloc::{AllocError, Global};
+use wh_book::may_end;
+use wh_event::{Refusal, Reply};
+use wh_field::LazyField;
+use wh_path::TimedPath;
+use wh_state::Floor;
+use wh_tasks::EndSet;
+use wh_text::Name;
+
+/// Whether the agent may take the task of this number by this path.
+fn may_take(
+    instance: &Instance,
+    floor: &Floor,
+    ends: &EndSet,
+    near: &mut LazyField,
+    agent: u32,
+    n: u32,
+    path: &TimedPath,
+) -> bool
+    requires known { agent < length floor.now.state.paths }
+    requires ends { ends.now.cells ≡ other_ends floor.now.state agent }
+    requires grid { near.old.grid ≡ instance.now.grid }
+    ensures takes { IsTrue result ↔ ((task : Job) × IsNext instance.now floor.now.state agent n task × IsLawful instance.now.grid instance.now.layout.nofollow floor.now.state.paths agent (length task.stops) (Delivers task.stops) path.now) }
+    ensures grid { near.new.grid ≡ instance.now.grid }
+{
+    if !is_next(instance, floor, ends, near, agent, n) {
+        return false;
+    }
+    let stops = floor.tasks().task(n).stops.as_slice();
+    may_deliver(
+        instance.grid(),
+        instance.nofollow(),
+        floor.paths(),
+        agent as usize,
+        stops,
+        path,
+    )
+}
+
+/// Whether the agent may adopt the path to park at its end, where a point is.
+fn may_park(instance: &Instance, floor: &Floor, ends: &EndSet, agent: u32, path: &TimedPath) -> bool
+    requires known { agent < length floor.now.state.paths }
+    requires ends { ends.now.cells ≡ other_ends floor.now.state agent }
+    requires point { IsPointCell instance.now.layout (end path.now) }
+    ensures { IsTrue result ↔ IsLawful instance.now.grid instance.now.layout.nofollow floor.now.state.paths agent 2 (ParksAt (IsAllowed instance.now floor.now.state agent)) path.now }
+{
+    if !may_end(floor, path.end(), ends) {
+        return false;
+    }
+    is_course(
+        instance.grid(),
+        instance.nofollow(),
+        floor.paths(),
+        agent as usize,
+        2,
+        path,
+    )
+}
+
+/// Whether the agent may take the task by the path; if so, it does.
+fn take(
+    instance: &Instance,
+    floor: &mut Floor,
+    ends: &mut EndSet,
+    near: &mut LazyField,
+    agent: u32,
+    n: u32,
+    path: TimedPath,
+) -> bool
+    requires reached { IsReachable instance.now floor.old.state }
+    requires suits { Suits ends.old instance.now.grid (length instance.now.layout.agents) }
+    requires grid { near.old.grid ≡ instance.now.grid }
+    ensures answer { Decides instance.now floor.old.state (replies.Took n path) (events.Request agent) floor.new.state result }
+    ensures kept { result ≡ false → floor.new.state ≡ floor.old.state }
+    ensures suits { Suits ends.new instance.now.grid (length instance.now.layout.agents) }
+    ensures grid { near.new.grid ≡ instance.now.grid }
+{
+    if !is_due(floor, agent) {
+        return false;
+    }
+    gather(instance, floor, ends, agent);
+    if !may_take(instance, floor, ends, near, agent, n, &path) {
+        return false;
+    }
+    floor.take(agent, n, path);
+    true
+}
+
+/// Whether the agent may be told to rest.
+fn rest(
+    instance: &Instance,
+    floor: &Floor,
+    ends: &mut EndSet,
+    near: &mut LazyField,
+    agent: u32,
+) -> bool
+    requires reached { IsReachable instance.now floor.now.state }
+    requires suits { Suits ends.old instance.now.grid (length instance.now.layout.agents) }
+    requires grid { near.old.grid ≡ instance.now.grid }
+    ensures answer { Decides instance.now floor.now.state replies.Rested (events.Request agent) floor.now.state result }
+    ensures suits { Suits ends.new instance.now.grid (length instance.now.layout.agents) }
+    ensures grid { near.new.grid ≡ instance.now.grid }
+{
+    if !is_due(floor, agent) {
+        return false;
+    }
+    gather(instance, floor, ends, agent);
+    if !may_rest(instance, floor, ends, near, agent) {
+        return false;
+    }
+    true
+}
+
+/// Whether the agent may make way by the path to the point of this name; if so, it does.
+fn park(
+    instance: &Instance,
+    floor: &mut Floor,
+    ends: &mut EndSet,
+    near: &mut LazyField,
+    agent: u32,
+    point: &Name,
+    path: TimedPath,
+) -> bool
+    requires reached { IsReachable instance.now floor.old.state }
+    requires suits { Suits ends.old instance.now.grid (length instance.now.layout.agents) }
+    requires grid { near.old.grid ≡ instance.now.grid }
+    ensures answer { Decides instance.now floor.old.state (replies.Parked point.now path) (events.Request agent) floor.new.state result }
+    ensures kept { result ≡ false → floor.new.state ≡ floor.old.state }
+    ensures suits { Suits ends.new instance.now.grid (length instance.now.layout.agents) }
+    ensures grid { near.new.grid ≡ instance.now.grid }
+{
+    if !is_due(floor, agent) {
+        return false;
+    }
+    gather(instance, floor, ends, agent);
+    if !instance.is_at(point, path.end()) {
+        return false;
+    }
+    if !may_park(instance, floor, ends, agent, &path) {
+        return false;
+    }
+    if !makes_way(instance, floor, ends, near, agent) {
+        return false;
+    }
+    floor.park(agent, path);
+    true
+}
+
+/// Whether a due agent lacks a clear way for what it is to do.
+fn has_no_path(
+    alloc: Global,
+    instance: &Instance,
+    floor: &Floor,
+    ends: &mut EndSet,
+    near: &mut LazyField,
+    agent: u32,
+) -> Result<bool, AllocError>
+    requires reached { IsReachable instance.now floor.now.state }
+    requires suits { Suits ends.old instance.now.grid (length instance.now.layout.agents) }
+    requires grid { near.old.grid ≡ instance.now.grid }
+    ensures lacks { IfOk result (λ b. IsTrue b ↔ Refuses instance.now floor.now.state refusals.NoPath (events.Request agent)) }
+    ensures suits { Suits ends.new instance.now.grid (length instance.now.layout.agents) }
+    ensures grid { near.new.grid ≡ instance.now.grid }
+{
+    if !is_due(floor, agent) {
+        return Ok(false);
+    }
+    gather(instance, floor, ends, agent);
+    lacks_way(alloc, instance, floor, ends, near, agent)
+}
+
+/// Whether the refusal may be given to the agent.
+fn refuses_request(
+    alloc: Global,
+    instance: &Instance,
+    floor: &Floor,
+    ends: &mut EndSet,
+    near: &mut LazyField,
+    agent: u32,
+    refusal: &Refusal,
+) -> Result<bool, AllocError>
+    requires reached { IsReachable instance.now floor.now.state }
+    requires suits { Suits ends.old instance.now.grid (length instance.now.layout.agents) }
+    requires grid { near.old.grid ≡ instance.now.grid }
+    ensures refuses { IfOk result (λ b. IsTrue b ↔ Refuses instance.now floor.now.state refusal.now (events.Request agent)) }
+    ensures suits { Suits ends.new instance.now.grid (length instance.now.layout.agents) }
+    ensures grid { near.new.grid ≡ instance.now.grid }
+{
+    let _grid = instance.grid();
+    match refusal {
+        Refusal::UnknownPoint(_) => Ok(false),
+        Refusal::NotStation(_) => Ok(false),
+        Refusal::TasksFull => Ok(false),
+        Refusal::UnknownAgent(told) => Ok(is_stranger(floor, agent) && *told == agent),
+        Refusal::Moving(left) => Ok(is_moving(floor, agent, *left)),
+        Refusal::NoPath => has_no_path(alloc, instance, floor, ends, near, agent),
+        Refusal::ClockFull => Ok(false),
+        Refusal::Closed => Ok(floor.closed()),
+        Refusal::ForeignPlanner => Ok(false),
+        Refusal::NoSpare => Ok(false),
+    }
+}
+
+/// Whether the agent may be answered so; if so, it is done. Only a refusal for want of a path wants memory.
+pub fn request(
+    alloc: Global,
+    instance: &Instance,
+    floor: &mut Floor,
+    ends: &mut EndSet,
+    near: &mut LazyField,
+    agent: u32,
+    reply: Reply,
+) -> Result<bool, AllocError>
+    requires reached { IsReachable instance.now floor.old.state }
+    requires suits { Suits ends.old instance.now.grid (length instance.now.layout.agents) }
+    requires grid { near.old.grid ≡ instance.now.grid }
+    ensures answer { IfOk result (Decides instance.now floor.old.state reply (events.Request agent) floor.new.state) }
+    ensures kept { IfOk result (λ b. b ≡ false → floor.new.state ≡ floor.old.state) }
+    ensures err { OnErr result (floor.new.state ≡ floor.old.state) }
+    ensures suits { Suits ends.new instance.now.grid (length instance.now.layout.agents) }
+    ensures grid { near.new.grid ≡ instance.now.grid }
+{
+    match reply {
+        Reply::Accepted { .. } => Ok(false),
+        Reply::Took { task, path } => Ok(take(instance, floor, ends, near, agent, task, path)),
+        Reply::Rested => Ok(rest(instance, floor, ends, near, agent)),
+        Reply::Parked { point, path } => {
+            Ok(park(instance, floor, ends, near, agent, &point, path))
+        }
+        Reply::Clock { .. } => Ok(false),
+        Reply::Replaced { .. } => Ok(false),
+        Reply::Closed => Ok(false),
+        Reply::Refused(refusal) => {
+            let refuses = refuses_request(alloc, instance, floor, ends, near, agent, &refusal)?;
+            Ok(refuses)
+        }
+    }
+}
