@@ -1,0 +1,127 @@
+-- one more entry, in a pass and in the journal.
+use Rattle.std.proofs.Common.{Option, None, IfSome, IfNone, ◌≡◌, ◌≢◌, ℕ, zero, suc, ◌+◌, ◌<◌, List, [], ◌∷◌, ◌++◌, length, set, Some, slice_get, refl, ap, sym, ◌∙◌, subst, arith, ◌⊎◌, inl, inr}
+use Rattle.std.specs.List.{All}
+use Rattle.std.proofs.lemmas.List.{map_push, length_push, length-set}
+use Rattle.std.proofs.lemmas.List.Elements.{All-push, All-nil}
+use Rattle.once_cell.specs.declared.race.note.Note.{Note}
+use Rattle.wh_event.specs.declared.entry.Entry.{Entry}
+use Rattle.logbook.specs.Pages.{Book}
+use Rattle.wh_book.specs.Drafts.{Seen, IsSame}
+use Rattle.wh_board.specs.Pasts.{Origin, Past, Known, Stand, Extends, grown, past_of}
+use Rattle.wh_board.proofs.Chains.{extends_same, extends_trans, extends_grown}
+use Rattle.wh_desk.specs.Lists.{AllAt, entries_of, last_position}
+use Rattle.wh_desk.proofs.Entries.{last_push, AllAt_push, AllAt_map, get_push, entries_push_same, entries_push_other}
+use Rattle.wh_desk.specs.declared.pass.Held.{Held}
+use Rattle.wh_desk.specs.declared.pass.Row.{Row}
+use Rattle.wh_desk.specs.Kept.{pair_of, list_of, RowOf, NoteKnows, PassKeeps, NoteAt, JournalKeeps}
+
+-- a list with one element changed
+pub AllAt_set : {A : Type 0} (P Q : ℕ → A → Type 0) (xs : List A) (i : ℕ) (y : A) → ((k : ℕ) (x : A) → k ≢ i → P k x → Q k x) → Q i y → AllAt P xs → AllAt Q (set xs i y)
+AllAt_set P Q [] i y other new all k x h = absurd (cc)
+AllAt_set P Q (z ∷ xs) zero y other new all zero x h = (let same : y ≡ x = cc in subst (λ w. Q zero w) same new)
+AllAt_set P Q (z ∷ xs) zero y other new all (suc k) x h = other (suc k) x (λ e. omega arith) (all (suc k) x h)
+AllAt_set P Q (z ∷ xs) (suc i) y other new all zero x h = other zero x (λ e. omega arith) (all zero x h)
+AllAt_set P Q (z ∷ xs) (suc i) y other new all (suc k) x h = AllAt_set (λ j. P (suc j)) (λ j. Q (suc j)) xs i y (λ j w apart p. other (suc j) w (λ e. apart (omega arith)) p) new (λ j w e. all (suc j) w e) k x h
+
+-- below the length, a longer list has the same elements
+pub get_under : {A : Type 0} (xs ys : List A) (k : ℕ) → k < length xs → slice_get xs k ≡ slice_get (xs ++ ys) k
+get_under [] ys k less = absurd (omega arith)
+get_under (x ∷ xs) ys zero less = refl
+get_under (x ∷ xs) ys (suc k) less = get_under xs ys k (omega arith)
+
+-- one more receipt, whose note knows its entry
+pub pass_push : {row : List ℕ} {book : Book} {callers caller last : ℕ} {held : List Held} {front : Known} → PassKeeps row book callers caller last held front → (h : List Entry) (x : Held) (after : Known) → list_of held ≡ entries_of h caller → NoteKnows row x → length h ≡ x.position → x.entry.caller ≡ caller → after.book ≡ book → after.past.history ≡ h ++ x.entry ∷ [] → PassKeeps row book callers caller x.position (held ++ x ∷ []) after
+pass_push {row} {book} {callers} {caller} {last} {held} {front} keeps h x after all knows place mine same grows =
+    let more : list_of (held ++ x ∷ []) ≡ list_of held ++ pair_of x ∷ [] = map_push pair_of held x in
+    record {
+      caller_within = keeps.caller_within;
+      last_is = sym (ap last_position more ∙ last_push 0 (list_of held) (pair_of x));
+      book_is = same;
+      all = more ∙ ap (λ n. list_of held ++ (n, x.entry) ∷ []) (sym place) ∙ ap (λ l. l ++ (length h, x.entry) ∷ []) all ∙ sym (entries_push_same h x.entry caller mine) ∙ ap (λ l. entries_of l caller) (sym grows);
+      notes = AllAt_push (λ _ y. NoteKnows row y) held x keeps.notes knows;
+    }
+
+-- what was published last is a beginning of the history, whether or not the board was published with this entry
+pub shown_next : (told : Option Known) (shown after old now : Past) (e : Entry)
+    → Extends shown old → now ≡ grown old e
+    → IfSome told (λ _. after ≡ now) → IfNone told (after ≡ shown)
+    → Extends after now
+shown_next (Some t) shown after old now e begins is there none = extends_same after now there
+shown_next None shown after old now e begins is there none =
+    subst (λ (p : Past). Extends p now) (sym none) (subst (λ (p : Past). Extends shown p) (sym is) (extends_trans shown old (grown old e) begins (extends_grown old old e refl)))
+
+-- one more entry in the journal, with its note and its caller's row
+pub journal_push : {origin : Origin} {names : List ℕ} {book : Book} {callers capacity : ℕ} {past : Past} {rows : List Row} {notes : List (Note Entry)} {publisher : Stand}
+    → JournalKeeps origin names book callers past capacity rows notes publisher
+    → (after : Past) (e : Entry) (n : Note Entry) (r : Row) (caller : ℕ) (stands : Stand)
+    → after.origin ≡ origin → after.history ≡ past.history ++ e ∷ [] → length past.history < capacity
+    → e.caller ≡ caller → caller < callers
+    → slice_get names (length past.history) ≡ Some n.cell → n.known ≡ Some e
+    → RowOf (entries_of (past.history ++ e ∷ []) caller) r
+    → stands.book ≡ book → stands.added ≡ after → Extends stands.shown after
+    → JournalKeeps origin names book callers after capacity (set rows caller r) (notes ++ n ∷ []) stands
+journal_push {origin} {names} {book} {callers} {capacity} {past} {rows} {notes} {publisher} keeps after e n r caller stands begins grows room mine within cell known row same added shown =
+    let h = past.history in
+    let longer = length_push h e in
+    let longer_list : List Entry = h ++ e ∷ [] in
+    let P : ℕ → Note Entry → Type 0 = λ k m. NoteAt names longer_list k m in
+    let old : AllAt P notes = AllAt_map (λ k m. NoteAt names h k m) P notes (λ k m less at. record { cell = at.cell; known = at.known ∙ get_under h (e ∷ []) k (omega (arith, keeps.notes_length)) }) keeps.notes_are in
+    let new : P (length notes) n = record { cell = ap (slice_get names) keeps.notes_length ∙ cell; known = known ∙ sym (get_push h e) ∙ ap (slice_get longer_list) (sym keeps.notes_length) } in
+    let rows' : AllAt (λ c q. RowOf (entries_of longer_list c) q) (set rows caller r) = AllAt_set (λ c q. RowOf (entries_of h c) q) (λ c q. RowOf (entries_of longer_list c) q) rows caller r (λ c q apart is. subst (λ l. RowOf l q) (sym (entries_push_other h e c (λ same. apart (sym same ∙ mine)))) is) row keeps.rows_are in
+    record {
+      origin_is = begins;
+      within = omega (arith, longer, ap length grows);
+      cells_enough = keeps.cells_enough;
+      callers_within = subst (λ l. All (λ (x : Entry). x.caller < callers) l) (sym grows) (All-push (λ (x : Entry). x.caller < callers) h e keeps.callers_within (omega (arith, mine)));
+      rows_length = length-set rows caller r ∙ keeps.rows_length;
+      rows_are = subst (λ l. AllAt (λ c q. RowOf (entries_of l c) q) (set rows caller r)) (sym grows) rows';
+      notes_length = length_push notes n ∙ ap (λ k. k + 1) keeps.notes_length ∙ sym longer ∙ ap length (sym grows);
+      notes_are = subst (λ l. AllAt (NoteAt names l) (notes ++ n ∷ [])) (sym grows) (AllAt_push P notes n old new);
+      book_is = same;
+      added_is = added;
+      shown_begins = shown;
+    }
+
+-- a journal with no entry yet
+pub journal_first : {origin : Origin} {names : List ℕ} {book : Book} {callers capacity : ℕ} {rows : List Row} {notes : List (Note Entry)} (past : Past) (publisher : Stand)
+    → past.origin ≡ origin → past.history ≡ [] → capacity ≡ length names → length rows ≡ callers → AllAt (λ _ r. RowOf [] r) rows → notes ≡ []
+    → publisher.book ≡ book → publisher.added ≡ past → publisher.shown ≡ past
+    → JournalKeeps origin names book callers past capacity rows notes publisher
+journal_first {origin} {names} {book} {callers} {capacity} {rows} {notes} past publisher begins empty fits count rows_empty none same added shown = record {
+  origin_is = begins;
+  within = omega (arith, ap length empty);
+  cells_enough = omega (arith, fits);
+  callers_within = subst (λ (l : List Entry). All (λ (x : Entry). x.caller < callers) l) (sym empty) (All-nil _);
+  rows_length = count;
+  rows_are = subst (λ (l : List Entry). AllAt (λ c q. RowOf (entries_of l c) q) rows) (sym empty) rows_empty;
+  notes_length = ap length none ∙ sym (ap length empty);
+  notes_are = subst (λ (l : List (Note Entry)). AllAt (NoteAt names past.history) l) (sym none) (λ k x h. absurd cc);
+  book_is = same;
+  added_is = added;
+  shown_begins = extends_same _ _ shown;
+}
+
+-- a book that is the same but for its room has the same past
+pub past_same : (old new : Seen) → IsSame old new → past_of new ≡ past_of old
+past_same old new same = λ i. record { origin = record { site = same.site i; opening = same.opening i }; history = same.history i }
+
+-- a journal whose past and notes are the same
+pub journal_same : {origin : Origin} {names : List ℕ} {book : Book} {callers capacity : ℕ} {past : Past} {rows : List Row} {notes : List (Note Entry)} {publisher : Stand}
+    → JournalKeeps origin names book callers past capacity rows notes publisher
+    → (after : Past) (notes' : List (Note Entry)) → after ≡ past → notes' ≡ notes
+    → JournalKeeps origin names book callers after capacity rows notes' publisher
+journal_same {origin} {names} {book} {callers} {capacity} {past} {rows} {notes} {publisher} keeps after notes' is same =
+    subst (λ (t : Past). JournalKeeps origin names book callers t capacity rows notes' publisher) (sym is) (subst (λ (l : List (Note Entry)). JournalKeeps origin names book callers past capacity rows l publisher) (sym same) keeps)
+
+-- a publisher that was refused one more entry is the same
+pub journal_refused : {origin : Origin} {names : List ℕ} {book : Book} {callers capacity : ℕ} {past : Past} {rows : List Row} {notes : List (Note Entry)} {publisher : Stand}
+    → JournalKeeps origin names book callers past capacity rows notes publisher
+    → (stands : Stand) → stands.book ≡ publisher.book → stands.added ≡ publisher.added → stands.shown ≡ publisher.shown
+    → JournalKeeps origin names book callers past capacity rows notes stands
+journal_refused {origin} {names} {book} {callers} {capacity} {past} {rows} {notes} {publisher} keeps stands one two three =
+    subst (λ (p : Stand). JournalKeeps origin names book callers past capacity rows notes p) (λ i. record { book = sym one i; added = sym two i; shown = sym three i }) keeps
+
+-- whichever of two equal ones it is
+pub either_same : {A : Type 0} (x y z : A) → y ≡ z → (x ≡ z) ⊎ (x ≡ y) → x ≡ z
+either_same x y z same (inl is) = is
+either_same x y z same (inr is) = is ∙ same

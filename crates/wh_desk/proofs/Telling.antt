@@ -1,0 +1,74 @@
+-- What the calls tell follows from what the journal and the pass keep.
+use Rattle.std.proofs.Common.{Option, None, IfSome, ◌≡◌, ℕ, ◌+◌, ◌<◌, List, [], ◌∷◌, ◌++◌, length, Some, slice_get, ap, sym, ◌∙◌, subst, arith, IfOk, Result, Ok, Err}
+use Rattle.std.specs.List.{All}
+use Rattle.std.proofs.lemmas.List.Elements.{All-weaker}
+use Rattle.wh_event.specs.declared.entry.Entry.{Entry}
+use Rattle.wh_event.specs.declared.event.Command.{Command}
+use Rattle.wh_desk.specs.declared.answer.Receipt.{Receipt}
+use Rattle.wh_desk.specs.declared.answer.DeskFault.{DeskFault}
+use Rattle.wh_core.specs.States.{State}
+use Rattle.wh_core.specs.Steps.{Run}
+use Rattle.wh_desk.specs.Lists.{entries_of, StandIn, Received, Ledger}
+use Rattle.logbook.specs.Pages.{Book}
+use Rattle.wh_board.specs.Pasts.{Origin, Known}
+use Rattle.wh_desk.specs.Calls.{Entered, Called, TellsReceipt, Together}
+use Rattle.wh_desk.proofs.Entries.{get_left, get_push, entries_stands, entries_before, entries_push_same}
+
+pub called : {origin : Origin} {before after : Ledger} {had has : Received} {command : Command} {position : ℕ} {entry : Entry} → Entered origin before had command after has position entry → Run origin.site origin.opening after.history after.state → Called origin had command has position entry
+called {origin} {before} {after} {had} {has} {command} {position} {entry} e run =
+    let grown : List Entry = before.history ++ entry ∷ [] in
+    let old : StandIn before.history (entries_of before.history had.caller) = entries_stands [] before.history had.caller in
+    let kept : StandIn grown (entries_of before.history had.caller) = All-weaker (λ (x : ℕ × Entry). slice_get before.history x.0 ≡ Some x.1) (λ (x : ℕ × Entry). slice_get grown x.0 ≡ Some x.1) (λ x is. get_left before.history (entry ∷ []) x.0 x.1 is) (entries_of before.history had.caller) old in
+    let earlier : All (λ (x : ℕ × Entry). x.0 < position) (entries_of before.history had.caller) = All-weaker (λ (x : ℕ × Entry). x.0 < 0 + length before.history) (λ (x : ℕ × Entry). x.0 < position) (λ x less. omega (arith, e.position_is)) (entries_of before.history had.caller) (entries_before 0 before.history had.caller) in
+    let stands : slice_get grown position ≡ Some entry = ap (slice_get grown) e.position_is ∙ get_push before.history entry in
+    record {
+      history = after.history;
+      state = after.state;
+      run = run;
+      had_stand = subst (λ h. StandIn h had.list) (sym e.history) (subst (λ l. StandIn grown l) (sym e.had_all) kept);
+      stands = ap (λ h. slice_get h position) e.history ∙ stands;
+      later = subst (λ l. All (λ (x : ℕ × Entry). x.0 < position) l) (sym e.had_all) earlier;
+      caller_is = e.caller_is;
+      command_is = e.command_is;
+      has_caller = e.has_caller;
+      has_list = e.has_list;
+      has_all = e.has_list ∙ ap (λ l. l ++ (position, entry) ∷ []) e.had_all ∙ ap (λ n. entries_of before.history had.caller ++ (n, entry) ∷ []) e.position_is ∙ sym (entries_push_same before.history entry had.caller e.caller_is) ∙ ap (λ h. entries_of h had.caller) (sym e.history);
+    }
+
+pub together : {origin : Origin} {one two : Received} {long : ℕ} (history : List Entry) (state : State) → Run origin.site origin.opening history state → long ≡ length history → one.list ≡ entries_of history one.caller → two.list ≡ entries_of history two.caller → Together origin one two long
+together {origin} {one} {two} {long} history state run len all all' =
+    record {
+      history = history;
+      state = state;
+      run = run;
+      length_is = len;
+      one_stands = subst (λ l. StandIn history l) (sym all) (entries_stands [] history one.caller);
+      two_stands = subst (λ l. StandIn history l) (sym all') (entries_stands [] history two.caller);
+      one_all = all;
+      two_all = all';
+    }
+
+-- the same of a call that may be refused
+pub called_if : (origin : Origin) (before after : Ledger) (had has : Received) (command : Command) (outcome : Result Receipt DeskFault) → IfOk outcome (λ r. Entered origin before had command after has r.position r.entry) → Run origin.site origin.opening after.history after.state → IfOk outcome (λ r. Called origin had command has r.position r.entry)
+called_if origin before after had has command (Ok r) e run = called e run
+called_if origin before after had has command (Err fault) e run = tt
+
+told_one : (origin : Origin) (book : Book) (before after : Ledger) (had has : Received) (command : Command) (position : ℕ) (entry : Entry) (told : Option Known)
+    → Entered origin before had command after has position entry
+    → IfSome told (λ t. (t.book ≡ book) × (t.past ≡ record { origin = origin; history = after.history }) × (after.shown ≡ after.history))
+    → IfSome told (λ t. TellsReceipt book origin position entry t)
+told_one origin book before after had has command position entry None e t = tt
+told_one origin book before after had has command position entry (Some k) e t =
+    record {
+      book_is = t.0;
+      origin_is = ap (λ p. p.origin) t.1;
+      stands = ap (λ p. slice_get p.history position) t.1 ∙ ap (λ h. slice_get h position) e.history ∙ ap (slice_get (before.history ++ entry ∷ [])) e.position_is ∙ get_push before.history entry;
+    }
+
+-- what is told with a receipt, of a call that may be refused
+pub told_if : (origin : Origin) (book : Book) (before after : Ledger) (had has : Received) (command : Command) (outcome : Result Receipt DeskFault)
+    → IfOk outcome (λ r. Entered origin before had command after has r.position r.entry)
+    → IfOk outcome (λ r. IfSome r.told (λ t. (t.book ≡ book) × (t.past ≡ record { origin = origin; history = after.history }) × (after.shown ≡ after.history)))
+    → IfOk outcome (λ r. IfSome r.told (λ t. TellsReceipt book origin r.position r.entry t))
+told_if origin book before after had has command (Ok r) e t = told_one origin book before after had has command r.position r.entry r.told e t
+told_if origin book before after had has command (Err fault) e t = tt

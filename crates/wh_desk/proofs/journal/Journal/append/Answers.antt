@@ -1,0 +1,82 @@
+use Rattle.std.proofs.Common.{arith, ap, sym, subst, ◌∙◌, ◌≡◌, ◌+◌, ◌<◌, ℕ, [], ◌∷◌, ◌++◌, length, Some, slice_get, slice_set}
+use Rattle.std.proofs.lemmas.List.{length-map, length_push}
+use Rattle.wh_event.specs.declared.entry.Entry.{Entry}
+use Rattle.wh_token.specs.Fleet.{replaced_agent}
+use Rattle.wh_board.specs.Pasts.{Past, Extends, grown, past_of}
+use Rattle.wh_desk.specs.Lists.{entries_of, last_position, Ledger, Received}
+use Rattle.wh_desk.specs.Calls.{HandsBack}
+use Rattle.wh_desk.specs.declared.pass.Held.{Held}
+use Rattle.wh_desk.specs.declared.pass.Row.{Row}
+use Rattle.wh_desk.specs.Kept.{pair_of, list_of, NoteKnows, PassKeeps, JournalKeeps}
+use Rattle.wh_desk.proofs.Entries.{last_push, entries_push_same}
+use Rattle.wh_desk.proofs.Receipts.{pass_push, journal_push, past_same, journal_same, journal_refused, shown_next, either_same}
+use Rattle.wh_desk.proofs.Handing.{seated, handed_back}
+use Rattle.wh_desk.proofs.journal.Journal.append.Goals as goal
+
+pub invariant_of-self-then-not-add : goal.invariant_of-self-then-not-add
+invariant_of-self-then-not-add g c =
+    journal_refused (journal_same c.self.invariant (past_of c.make_ready-made.new.warehouse.book) _ (past_same _ _ c.in-Ok.ensures.same) c.in-Ok.ensures.notes) _ c.add.ensures.book c.if-not-add.ensures.added c.add.ensures.shown
+
+pub invariant_of-pass-2 : goal.invariant_of-pass-2
+invariant_of-pass-2 g c =
+    let h = c.self.inside.warehouse.book.history in
+    let at : ℕ = length c.history.result.now in
+    let made = c.in-Ok.made in
+    let x : Held = record { position = at; entry = made.entry; note = c.in-Some.note } in
+    let place : length h ≡ at = sym (ap length c.history.ensures.value) in
+    let all : list_of c.pass.inside.held.items ≡ entries_of h c.pass.inside.caller = ap (λ v. v.list) c.pass.view_is ∙ c.requires.whole ∙ sym (ap (λ (s : Ledger). entries_of s.history c.args.pass.now.caller) c.self.view_is) ∙ sym (ap (λ (v : Received). entries_of h v.caller) c.pass.view_is) in
+    let mine : x.entry.caller ≡ c.pass.inside.caller = ap (λ (e : Entry). e.caller) c.in-Ok.ensures.entry ∙ c.in-Ok.ensures.caller in
+    let items : c.note_down.new.held.items ≡ c.pass.inside.held.items ++ x ∷ [] = c.note_down.ensures.held ∙ ap (λ l. l ++ x ∷ []) c.in-Ok.ensures.held in
+    let front : c.again.result.past.history ≡ h ++ x.entry ∷ [] = ap (λ k. k.past.history) c.again.ensures ∙ ap (λ p. p.history) c.front.ensures.past ∙ ap (λ p. p.history) c.if-not-add.ensures.added ∙ ap (λ (p : Past). p.history ++ c.entry.result.now ∷ []) c.self.invariant.added_is ∙ ap (λ (e : Entry). h ++ e ∷ []) (c.entry.ensures ∙ sym c.in-Ok.ensures.entry) in
+    let book : c.again.result.book ≡ g.N.DeskName.book = ap (λ k. k.book) c.again.ensures ∙ c.front.ensures.book ∙ c.add.ensures.book ∙ c.self.invariant.book_is in
+    let knows : NoteKnows g.N.DeskName.cells x = record {
+      cell = ap (λ n. slice_get n at) (sym c.requires.named) ∙ c.cell.ensures ∙ ap Some (sym c.in-Some.ensures.cell);
+      known = c.in-Some.ensures.known ∙ ap Some (c.in-Ok.ensures.boxed ∙ sym c.in-Ok.ensures.entry);
+    } in
+    subst (λ l. PassKeeps g.N.DeskName.cells g.N.DeskName.book g.N.DeskName.callers c.pass.inside.caller at l c.again.result) (sym items) (pass_push c.pass.invariant h x c.again.result all knows place mine book front)
+
+pub invariant_of-self-2 : goal.invariant_of-self-2
+invariant_of-self-2 g c =
+    let h = c.self.inside.warehouse.book.history in
+    let at : ℕ = length c.history.result.now in
+    let made = c.in-Ok.made in
+    let e : Entry = made.ready.draft.entry in
+    let n = c.in-Some.note in
+    let caller = c.pass.inside.caller in
+    let r : Row = record { count = c.len.result; last = at } in
+    let x : Held = record { position = at; entry = made.entry; note = n } in
+    let was : Past = past_of c.self.inside.warehouse.book in
+    let ready : past_of c.make_ready-made.new.warehouse.book ≡ was = past_same _ _ c.in-Ok.ensures.same in
+    let now : Past = past_of c.commit-entry.new.self.book in
+    let done : c.commit-entry.result.entry ≡ e = c.commit-entry.ensures.entry in
+    let grows : now.history ≡ h ++ e ∷ [] = c.commit-entry.ensures.history ∙ ap (λ (d : Entry). c.make_ready-made.new.warehouse.book.history ++ d ∷ []) done ∙ ap (λ (p : Past). p.history ++ e ∷ []) ready in
+    let begins : now.origin ≡ was.origin = (λ i. record { site = c.commit-entry.ensures.site i; opening = c.commit-entry.ensures.opening i }) ∙ ap (λ (p : Past). p.origin) ready in
+    let room : length h < c.self.inside.capacity = omega (arith, ap (λ (s : Ledger). length s.history) c.self.view_is, ap (λ (s : Ledger). s.capacity) c.self.view_is, c.requires.room) in
+    let place : length h ≡ at = sym (ap length c.history.ensures.value) in
+    let mine : e.caller ≡ caller = c.in-Ok.ensures.caller in
+    let all : list_of c.pass.inside.held.items ≡ entries_of h caller = ap (λ v. v.list) c.pass.view_is ∙ c.requires.whole ∙ sym (ap (λ (s : Ledger). entries_of s.history c.args.pass.now.caller) c.self.view_is) ∙ sym (ap (λ (v : Received). entries_of h v.caller) c.pass.view_is) in
+    let items : c.note_down.new.held.items ≡ c.pass.inside.held.items ++ x ∷ [] = c.note_down.ensures.held ∙ ap (λ l. l ++ x ∷ []) c.in-Ok.ensures.held in
+    let counted : c.len.result ≡ length c.pass.inside.held.items + 1 = omega (arith, ap length items, length_push c.pass.inside.held.items x, c.len.ensures) in
+    let pushed = entries_push_same h e caller mine in
+    let count : c.len.result ≡ length (entries_of (h ++ e ∷ []) caller) = omega (arith, counted, ap length pushed, length_push (entries_of h caller) (length h, e), ap length all, length-map c.pass.inside.held.items pair_of) in
+    let last : at ≡ last_position (entries_of (h ++ e ∷ []) caller) = sym (ap last_position pushed ∙ last_push 0 (entries_of h caller) (length h, e) ∙ place) in
+    let next : now ≡ grown was e = λ i. record { origin = begins i; history = grows i } in
+    let stands = c.publish-told.new.self in
+    let book : stands.book ≡ g.N.DeskName.book = c.publish-told.ensures.book ∙ c.add.ensures.book ∙ c.self.invariant.book_is in
+    let longer : c.add.new.self.added ≡ grown was e = c.if-not-add.ensures.added ∙ ap (λ (p : Past). grown p c.entry.result.now) c.self.invariant.added_is ∙ ap (λ (y : Entry). grown was y) c.entry.ensures in
+    let here : past_of c.book-2.result.now ≡ now = ap past_of c.book-2.ensures in
+    let added : stands.added ≡ now = either_same stands.added c.add.new.self.added (past_of c.book-2.result.now) (longer ∙ sym next ∙ sym here) c.publish-told.ensures.added ∙ here in
+    let before : Extends c.add.new.self.shown was = subst (λ (p : Past). Extends p was) (sym c.add.ensures.shown) c.self.invariant.shown_begins in
+    let shown : Extends stands.shown now = subst (λ (p : Past). Extends stands.shown p) here (shown_next c.publish-told.result c.add.new.self.shown stands.shown was (past_of c.book-2.result.now) e before (here ∙ next) c.publish-told.ensures.shown c.publish-told.ensures.refused) in
+    let cell : slice_get g.N.DeskName.cells (length h) ≡ Some n.cell = ap (slice_get g.N.DeskName.cells) place ∙ ap (λ m. slice_get m at) (sym c.requires.named) ∙ c.cell.ensures ∙ ap Some (sym c.in-Some.ensures.cell) in
+    let known : n.known ≡ Some e = c.in-Some.ensures.known ∙ ap Some c.in-Ok.ensures.boxed in
+    let notes : c.note_down.new.notes.items ≡ c.self.inside.notes.items ++ n ∷ [] = c.note_down.ensures.notes ∙ ap (λ l. l ++ n ∷ []) c.in-Ok.ensures.notes in
+    subst (λ l. JournalKeeps g.N.DeskName.origin g.N.DeskName.cells g.N.DeskName.book g.N.DeskName.callers now c.self.inside.capacity (slice_set c.self.inside.rows.items caller r) l stands) (sym notes)
+    (journal_push c.self.invariant now e n r caller stands (begins ∙ c.self.invariant.origin_is) grows room mine c.pass.invariant.caller_within cell known (count, last) book added shown)
+
+pub returns-clause-back : goal.returns-clause-back
+returns-clause-back g c =
+    let old = c.make_ready-made.new.warehouse in
+    let entry = c.commit-entry.result.entry in
+    let back = handed_back (replaced_agent entry) old.planners c.in-Ok.made.ready.spare c.commit-entry.new.self.planners c.commit-entry.result.back (λ agent is. omega (arith, c.commit-entry.ensures.seats, seated old.book.site old.book.state entry.reply entry.event c.commit-entry.new.self.book.state agent c.commit-entry.ensures.step is)) c.commit-entry.ensures.swaps in
+    subst (λ handed. HandsBack (replaced_agent entry) handed c.commit-entry.result.back) c.in-Ok.ensures.spare back

@@ -1,0 +1,83 @@
+-- what the calls of a desk tell
+use Rattle.std.specs.Prelude.{◌≡◌, ℕ, ◌<◌, List, [], ◌∷◌, ◌++◌, length, Option, Some, IsSome, slice_get, All}
+use Rattle.once_cell.specs.declared.race.note.Note.{Note}
+use Rattle.logbook.specs.Pages.{Book}
+use Rattle.wh_event.specs.declared.entry.Entry.{Entry}
+use Rattle.wh_event.specs.declared.event.Event.{Event}
+use Rattle.wh_event.specs.declared.event.Command.{Command}
+use Rattle.wh_event.specs.declared.event.Spare.{Spare}
+use Rattle.wh_core.specs.States.{State}
+use Rattle.wh_core.specs.Steps.{Step, Run}
+use Rattle.wh_token.specs.Commands.{event_of}
+use Rattle.wh_board.specs.Pasts.{Origin, Known}
+use Rattle.wh_desk.specs.Lists.{AllAt, entries_of, StandIn, Received, Ledger}
+
+-- the event is that of the command, whatever it tells of a spare planner
+abbrev pub IsAskedBy : Command → Event → Type 0
+IsAskedBy command event = (told : Spare) × (event ≡ event_of command told)
+
+-- one entry was appended by a step, and the pass received it
+pub record Entered (origin : Origin) (before : Ledger) (had : Received) (command : Command) (after : Ledger) (has : Received)
+    (position : ℕ) (entry : Entry) : Type 0 where
+  pub caller_is : entry.caller ≡ had.caller
+  pub command_is : IsAskedBy command entry.event
+  pub position_is : position ≡ length before.history
+  pub history : after.history ≡ before.history ++ entry ∷ []
+  pub step : Step origin.site before.state entry after.state
+  pub capacity : after.capacity ≡ before.capacity
+  pub had_all : had.list ≡ entries_of before.history had.caller
+  pub has_caller : has.caller ≡ had.caller
+  pub has_list : has.list ≡ had.list ++ (position, entry) ∷ []
+
+-- There is a history that is a run, in which all that the pass had received stands at its positions, and this entry after
+-- all of them. The pass has it too now, and so all that its caller did in that history.
+pub record Called (origin : Origin) (had : Received) (command : Command) (has : Received) (position : ℕ) (entry : Entry) : Type 0 where
+  pub history : List Entry
+  pub state : State
+  pub run : Run origin.site origin.opening history state
+  pub had_stand : StandIn history had.list
+  pub stands : slice_get history position ≡ Some entry
+  pub later : All (λ x. x.0 < position) had.list
+  pub caller_is : entry.caller ≡ had.caller
+  pub command_is : IsAskedBy command entry.event
+  pub has_caller : has.caller ≡ had.caller
+  pub has_list : has.list ≡ had.list ++ (position, entry) ∷ []
+  pub has_all : has.list ≡ entries_of history had.caller
+
+-- what is told with a receipt is of this desk's book, and stands for a history in which the receipt's entry stands at its position
+pub record TellsReceipt (book : Book) (origin : Origin) (position : ℕ) (entry : Entry) (told : Known) : Type 0 where
+  pub book_is : told.book ≡ book
+  pub origin_is : told.past.origin ≡ origin
+  pub stands : slice_get told.past.history position ≡ Some entry
+
+-- What comes back: where an agent's planner was replaced by the one handed in, a planner; else what was handed in.
+abbrev pub HandsBack : {X : Type 0} → Option ℕ → Option X → Option X → Type 0
+HandsBack (Some agent) (Some handed) back = IsSome back
+HandsBack agent handed back = back ≡ handed
+
+-- there is a history of this length that is a run, in which the receipts of both stand at their positions, and are all that their callers did
+pub record Together (origin : Origin) (one two : Received) (long : ℕ) : Type 0 where
+  pub history : List Entry
+  pub state : State
+  pub run : Run origin.site origin.opening history state
+  pub length_is : long ≡ length history
+  pub one_stands : StandIn history one.list
+  pub two_stands : StandIn history two.list
+  pub one_all : one.list ≡ entries_of history one.caller
+  pub two_all : two.list ≡ entries_of history two.caller
+
+-- a pass for each caller, in order
+pub record InOrder (callers : ℕ) (passes : List Received) : Type 0 where
+  pub count : length passes ≡ callers
+  pub each : AllAt (λ k pass. pass.caller ≡ k) passes
+
+abbrev pub AllEmpty : List Received → Type 0
+AllEmpty passes = All (λ pass. pass.list ≡ []) passes
+
+-- the note is of the cell of the receipt at this place of the list, and knows its entry
+pub record NoteOf (row : List ℕ) (list : List (ℕ × Entry)) (at : ℕ) (note : Note Entry) : Type 0 where
+  pub position : ℕ
+  pub entry : Entry
+  pub held : slice_get list at ≡ Some (position, entry)
+  pub cell : slice_get row position ≡ Some note.cell
+  pub known : note.known ≡ Some entry

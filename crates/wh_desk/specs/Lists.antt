@@ -1,0 +1,48 @@
+-- histories, and what one caller has of them
+use Rattle.std.specs.Prelude.{◌≡◌, ℕ, ◌+◌, ◌==◌, Bool, ◌&&◌, List, [], ◌∷◌, length, cond, Some, slice_get, All}
+use Rattle.wh_event.specs.declared.entry.Entry.{Entry}
+use Rattle.wh_core.specs.States.{State}
+
+-- P holds of each element, with its place
+abbrev pub AllAt : {A : Type 0} → (ℕ → A → Type 0) → List A → Type 0
+AllAt P xs = (k : ℕ) → (x : _) → slice_get xs k ≡ Some x → P k x
+
+-- the caller's entries with their positions, where the list begins at position k
+abbrev pub entries_from : ℕ → List Entry → ℕ → List (ℕ × Entry)
+entries_from k [] caller = []
+entries_from k (entry ∷ entries) caller =
+    cond (entry.caller == caller) ((k, entry) ∷ entries_from (k + 1) entries caller) (entries_from (k + 1) entries caller)
+
+-- the caller's entries in a history, with their positions, in order
+abbrev pub entries_of : List Entry → ℕ → List (ℕ × Entry)
+entries_of history caller = entries_from 0 history caller
+
+abbrev pub last_from : ℕ → List (ℕ × Entry) → ℕ
+last_from d [] = d
+last_from d (x ∷ xs) = last_from x.0 xs
+
+-- the last position, or 0 where there is none
+abbrev pub last_position : List (ℕ × Entry) → ℕ
+last_position xs = last_from 0 xs
+
+-- each stands in the history, at its position
+abbrev pub StandIn : List Entry → List (ℕ × Entry) → Type 0
+StandIn history xs = All (λ x. slice_get history x.0 ≡ Some x.1) xs
+
+-- what contracts see of a pass: its caller, and the entries that it received, with their positions
+pub record Received : Type 0 where
+  pub caller : ℕ
+  pub list : List (ℕ × Entry)
+
+-- the history has as many entries of the caller as the pass received, and the same last one
+abbrev pub is_current : List Entry → Received → Bool
+is_current history pass =
+    (length (entries_of history pass.caller) == length pass.list)
+    && (last_position (entries_of history pass.caller) == last_position pass.list)
+
+-- what contracts see of a journal; shown is the history that was published last
+pub record Ledger : Type 0 where
+  pub history : List Entry
+  pub state : State
+  pub capacity : ℕ
+  pub shown : List Entry

@@ -1,0 +1,244 @@
+//! The desk.
+#![tactic(auto)]
+
+ghost use Rattle.std.specs.Prelude.{◌≡◌, ◌≢◌, ◌<◌, ◌↔◌, [], length, true, IfOk, IfSome, OnErr, IsTrue, IsSome, MatchResult, All};
+ghost use Rattle.std.specs.List.{sum_by};
+ghost use Rattle.wh_points.specs.Formed.{IsFormed};
+ghost use Rattle.wh_event.specs.declared.event.Command.{Command as Asked};
+ghost use Rattle.wh_event.specs.declared.reply.Reply.{Reply as Answered};
+ghost use Rattle.wh_event.specs.declared.reply.Refusal.{Refusal as Reason};
+ghost use Rattle.wh_core.specs.Steps.{Run};
+ghost use Rattle.wh_token.specs.Fleet.{TellsFor, replaced_agent};
+ghost use Rattle.wh_board.specs.Pasts.{origin_of, past_of};
+ghost use Rattle.wh_desk.specs.Lists.{entries_of};
+ghost use Rattle.wh_desk.specs.Calls.{Called, TellsReceipt, Together, InOrder, AllEmpty, HandsBack};
+
+use crate::answer::{Answer, DeskFault, Met, Receipt, Stale};
+use crate::cells::Cells;
+use crate::journal::Journal;
+use crate::naming::DeskName;
+use crate::pass::Pass;
+use std::alloc::{AllocError, Global};
+use std::sync::{Mutex, Wait};
+use wh_board::{Front, Publisher, Viewer, ViewerFault};
+use wh_event::{Command, Stops};
+use wh_planner::Planner;
+use wh_text::Name;
+use wh_token::Warehouse;
+
+/// The journal under its lock, with the receipts' cells beside it. `H` is the handle that the publisher keeps for its end.
+#[derive(Drop)]
+pub struct Desk<N: DeskName, H: Wait + Drop, P = Box<dyn Planner>> {
+    journal: Mutex<Journal<N, H, P>>,
+    cells: Cells,
+    ghost named: { cells ≡ N.cells },
+}
+
+/// What a desk leaves: the warehouse, with all that was done.
+#[derive(Drop)]
+pub struct History<P = Box<dyn Planner>> {
+    pub warehouse: Warehouse<P>,
+}
+
+impl<N: DeskName, H: Wait + Drop, P: Planner> Desk<N, H, P> {
+    /// A desk round a warehouse with no entry yet, and a pass for each of 1 to 64 callers. Its journal has as many positions as
+    /// there are cells, 1 to 1,000,000. The publisher was made of this warehouse and published nothing since. Where memory
+    /// runs out, what was handed in is dropped.
+    pub fn open(
+        alloc: Global,
+        warehouse: Warehouse<P>,
+        cells: Cells,
+        publisher: Publisher<H>,
+        callers: u32,
+    ) -> Result<(Desk<N, H, P>, Vec<Pass<N>>), AllocError>
+        requires origin { origin_of warehouse.book ≡ N.origin }
+        requires history { warehouse.book.history ≡ [] }
+        requires named { cells ≡ N.cells }
+        requires book { publisher.book ≡ N.book }
+        requires added { publisher.added ≡ past_of warehouse.book }
+        requires shown { publisher.shown ≡ past_of warehouse.book }
+        requires callers { callers ≡ N.callers }
+        ensures order { IfOk result (λ r. InOrder N.callers r.1.items) }
+        ensures empty { IfOk result (λ r. AllEmpty r.1.items) }
+    {
+        let passes = first_passes(alloc, publisher.front(), callers)?;
+        let journal = Journal::new(alloc, warehouse, &cells, publisher, callers)?;
+        let desk = Desk {
+            journal: Mutex::new(journal),
+            cells,
+        };
+        Ok((desk, passes))
+    }
+
+    /// One step of the warehouse, under the lock.
+    fn call<R: Wait>(
+        &self,
+        rt: &R,
+        alloc: Global,
+        pass: &mut Pass<N>,
+        command: Command,
+        spare: Option<P>,
+    ) -> Answer<P>
+        ensures ok { IfOk result.outcome (λ r. Called N.origin pass.old command pass.new r.position r.entry) }
+        ensures shown { IfOk result.outcome (λ r. IsTrue r.shown ↔ IsSome r.told) }
+        ensures told { IfOk result.outcome (λ r. IfSome r.told (λ t. TellsReceipt N.book N.origin r.position r.entry t)) }
+        ensures served { IfOk result.outcome (λ r. IsFormed N.origin.site → r.entry.reply ≢ Answered.Refused Reason.NoPath) }
+        ensures tells { IfOk result.outcome (λ r. TellsFor (λ b. P.fits_map b N.origin.site.grid) (λ b. P.slot_count b) spare r.entry.event) }
+        ensures err { OnErr result.outcome (pass.new ≡ pass.old) }
+        ensures back { MatchResult result.outcome (λ r. HandsBack (replaced_agent r.entry) spare result.back) (λ _. result.back ≡ spare) }
+    {
+        let mut journal = self.journal.lock(rt);
+        let answer = journal.enter(alloc, &self.cells, pass, command, spare);
+        journal.is_run();
+        answer
+    }
+
+    /// A client's task. Its entry stands in one history for good, after all that the pass had received. It may wait for the lock.
+    /// Refused: E95 where the pass has not all that its caller did, then E11 where the journal is full, E90, E91; the pass
+    /// stays as it was.
+    pub fn submit<R: Wait>(
+        &self,
+        rt: &R,
+        alloc: Global,
+        pass: &mut Pass<N>,
+        client: Name,
+        stops: Stops,
+    ) -> Result<Receipt, DeskFault>
+        ensures ok { IfOk result (λ r. Called N.origin pass.old (Asked.Submit client stops) pass.new r.position r.entry) }
+        ensures shown { IfOk result (λ r. IsTrue r.shown ↔ IsSome r.told) }
+        ensures served { IfOk result (λ r. IsFormed N.origin.site → r.entry.reply ≢ Answered.Refused Reason.NoPath) }
+        ensures told { IfOk result (λ r. IfSome r.told (λ t. TellsReceipt N.book N.origin r.position r.entry t)) }
+        ensures err { OnErr result (pass.new ≡ pass.old) }
+    {
+        let command = Command::Submit { client, stops };
+        self.call(rt, alloc, pass, command, None).outcome
+    }
+
+    /// An agent takes the token. On a well-formed instance it is never refused for want of a path. Its receipt and its
+    /// refusals are those of `submit`.
+    pub fn request<R: Wait>(
+        &self,
+        rt: &R,
+        alloc: Global,
+        pass: &mut Pass<N>,
+        agent: u32,
+    ) -> Result<Receipt, DeskFault>
+        ensures ok { IfOk result (λ r. Called N.origin pass.old (Asked.Token agent) pass.new r.position r.entry) }
+        ensures shown { IfOk result (λ r. IsTrue r.shown ↔ IsSome r.told) }
+        ensures served { IfOk result (λ r. IsFormed N.origin.site → r.entry.reply ≢ Answered.Refused Reason.NoPath) }
+        ensures told { IfOk result (λ r. IfSome r.told (λ t. TellsReceipt N.book N.origin r.position r.entry t)) }
+        ensures err { OnErr result (pass.new ≡ pass.old) }
+    {
+        let command = Command::Token { agent };
+        self.call(rt, alloc, pass, command, None).outcome
+    }
+
+    /// One step of the clock, and of each agent on its way. Its receipt and its refusals are those of `submit`.
+    pub fn tick<R: Wait>(
+        &self,
+        rt: &R,
+        alloc: Global,
+        pass: &mut Pass<N>,
+    ) -> Result<Receipt, DeskFault>
+        ensures ok { IfOk result (λ r. Called N.origin pass.old Asked.Tick pass.new r.position r.entry) }
+        ensures shown { IfOk result (λ r. IsTrue r.shown ↔ IsSome r.told) }
+        ensures served { IfOk result (λ r. IsFormed N.origin.site → r.entry.reply ≢ Answered.Refused Reason.NoPath) }
+        ensures told { IfOk result (λ r. IfSome r.told (λ t. TellsReceipt N.book N.origin r.position r.entry t)) }
+        ensures err { OnErr result (pass.new ≡ pass.old) }
+    {
+        self.call(rt, alloc, pass, Command::Tick, None).outcome
+    }
+
+    /// Nothing more is to change. Its receipt and its refusals are those of `submit`.
+    pub fn close<R: Wait>(
+        &self,
+        rt: &R,
+        alloc: Global,
+        pass: &mut Pass<N>,
+    ) -> Result<Receipt, DeskFault>
+        ensures ok { IfOk result (λ r. Called N.origin pass.old Asked.Close pass.new r.position r.entry) }
+        ensures shown { IfOk result (λ r. IsTrue r.shown ↔ IsSome r.told) }
+        ensures served { IfOk result (λ r. IsFormed N.origin.site → r.entry.reply ≢ Answered.Refused Reason.NoPath) }
+        ensures told { IfOk result (λ r. IfSome r.told (λ t. TellsReceipt N.book N.origin r.position r.entry t)) }
+        ensures err { OnErr result (pass.new ≡ pass.old) }
+    {
+        self.call(rt, alloc, pass, Command::Close, None).outcome
+    }
+
+    /// Another planner for an agent. In every case the planner that is not in the warehouse comes back: after a refusal the one
+    /// handed in. Its receipt and its refusals are those of `submit`.
+    pub fn replace<R: Wait>(
+        &self,
+        rt: &R,
+        alloc: Global,
+        pass: &mut Pass<N>,
+        agent: u32,
+        spare: Option<P>,
+    ) -> Answer<P>
+        ensures ok { IfOk result.outcome (λ r. Called N.origin pass.old (Asked.Replace agent) pass.new r.position r.entry) }
+        ensures shown { IfOk result.outcome (λ r. IsTrue r.shown ↔ IsSome r.told) }
+        ensures told { IfOk result.outcome (λ r. IfSome r.told (λ t. TellsReceipt N.book N.origin r.position r.entry t)) }
+        ensures served { IfOk result.outcome (λ r. IsFormed N.origin.site → r.entry.reply ≢ Answered.Refused Reason.NoPath) }
+        ensures tells { IfOk result.outcome (λ r. TellsFor (λ b. P.fits_map b N.origin.site.grid) (λ b. P.slot_count b) spare r.entry.event) }
+        ensures err { OnErr result.outcome (pass.new ≡ pass.old) }
+        ensures back { MatchResult result.outcome (λ r. HandsBack (replaced_agent r.entry) spare result.back) (λ _. result.back ≡ spare) }
+    {
+        self.call(rt, alloc, pass, Command::Replace { agent }, spare)
+    }
+
+    /// A viewer of this desk's board, one of at most 64. The call may wait for the lock; its looks wait for nobody, also once
+    /// the desk has ended. E92: no place for a viewer was given.
+    pub fn viewer<R: Wait>(&self, rt: &R) -> Result<Viewer, ViewerFault>
+        ensures book { IfOk result (λ v. v.book ≡ N.book) }
+        ensures origin { IfOk result (λ v. v.past.origin ≡ N.origin) }
+    {
+        self.journal.lock(rt).viewer()
+    }
+
+    /// The receipts of both passes stand at their positions among the first entries of one history, so many as are told. It
+    /// may wait for the lock. E95: a pass has not all that its caller did.
+    pub fn meet<R: Wait>(&self, rt: &R, one: &Pass<N>, two: &Pass<N>) -> Result<Met, Stale>
+        ensures ok { IfOk result (λ m. Together N.origin one.now two.now m.length) }
+    {
+        self.journal.lock(rt).meet(one, two)
+    }
+
+    /// Ends the desk. The history is one run; for each caller its entries are what its pass received, and there are no others.
+    /// It may wait until looks end. E95: a pass has not all that its caller did; the desk and the passes are dropped.
+    pub fn finish(self, passes: Vec<Pass<N>>) -> Result<History<P>, Stale>
+        requires { InOrder N.callers passes.items }
+        ensures origin { IfOk result (λ r. origin_of r.warehouse.book ≡ N.origin) }
+        ensures run { IfOk result (λ r. Run N.origin.site N.origin.opening r.warehouse.book.history r.warehouse.book.state) }
+        ensures callers { IfOk result (λ r. All (λ entry. entry.caller < N.callers) r.warehouse.book.history) }
+        ensures lists { IfOk result (λ r. All (λ p. p.list ≡ entries_of r.warehouse.book.history p.caller) passes.items) }
+        ensures lengths { IfOk result (λ r. sum_by (λ p. length p.list) passes.items ≡ length r.warehouse.book.history) }
+    {
+        let Desk { journal, cells: _ } = self;
+        let journal = journal.into_inner();
+        if !journal.knows_all(passes.as_slice()) {
+            return Err(Stale);
+        }
+        Ok(History {
+            warehouse: journal.into_warehouse(),
+        })
+    }
+}
+
+/// A pass for each caller, in order.
+fn first_passes<N: DeskName>(
+    alloc: Global,
+    front: &Front,
+    callers: u32,
+) -> Result<Vec<Pass<N>>, AllocError>
+    requires book { front.now.book ≡ N.book }
+    requires empty { front.now.past.history ≡ [] }
+    requires callers { callers ≡ N.callers }
+    ensures order { IfOk result (λ v. InOrder N.callers v.items) }
+    ensures empty { IfOk result (λ v. AllEmpty v.items) }
+{
+    let mut passes = Vec::new(alloc);
+    for caller in 0..callers {
+        passes.push(Pass::new(alloc, front, caller))?;
+    }
+    Ok(passes)
+}

@@ -1,0 +1,301 @@
+//! What lies under the desk's lock.
+#![tactic(auto)]
+
+ghost use Rattle.std.specs.Prelude.{◌≡◌, ◌≢◌, ◌<◌, ◌≤◌, ◌&&◌, ◌↔◌, [], true, false, length, IfSome, IfNone, IsSome, IfOk, IfErr, OnErr, IsErr, IsTrue, Err, MatchResult, All};
+ghost use Rattle.wh_points.specs.Formed.{IsFormed};
+ghost use Rattle.wh_event.specs.declared.reply.Reply.{Reply as Answered};
+ghost use Rattle.wh_event.specs.declared.reply.Refusal.{Refusal as Reason};
+ghost use Rattle.wh_core.specs.Steps.{Run};
+ghost use Rattle.wh_token.specs.Fleet.{TellsFor, replaced_agent};
+ghost use Rattle.wh_board.specs.Pasts.{origin_of, past_of};
+ghost use Rattle.wh_desk.specs.Lists.{AllAt, entries_of, is_current};
+ghost use Rattle.wh_desk.specs.Kept.{RowOf};
+ghost use Rattle.wh_desk.specs.Calls.{Entered, Together, HandsBack};
+
+use crate::answer::{Answer, DeskFault, Met, Receipt, Stale};
+use crate::cells::Cells;
+use crate::making::{Made, make_ready, note_down, write_into};
+use crate::naming::DeskName;
+use crate::pass::{Pass, Row};
+use once_cell::race::Note;
+use std::alloc::{AllocError, Global};
+use std::marker::{Model, PhantomData};
+use std::sync::Wait;
+use wh_board::{Front, Publisher, Viewer, ViewerFault};
+use wh_event::{Command, Entry};
+use wh_planner::Planner;
+use wh_token::{Committed, Warehouse};
+
+/// What lies under the lock. Contracts see it as its history, its state, its capacity and what was published last.
+#[derive(Drop)]
+pub struct Journal<N: DeskName, H: Wait + Drop, P = Box<dyn Planner>> {
+    warehouse: Warehouse<P>,
+    capacity: u64,
+    rows: Vec<Row>,
+    notes: Vec<Note<Entry>>,
+    publisher: Publisher<H>,
+    name: PhantomData<N>,
+}
+
+impl<N: DeskName, H: Wait + Drop, P> Model for Journal<N, H, P> {
+    ghost use Rattle.wh_desk.specs.Lists.{Ledger};
+    ghost use Rattle.wh_desk.specs.Kept.{JournalKeeps};
+    ghost use Rattle.wh_board.specs.Pasts.{past_of};
+
+    ghost Value = { Ledger };
+
+    ghost view = { λ j. record { history = j.warehouse.book.history; state = j.warehouse.book.state; capacity = j.capacity; shown = j.publisher.shown.history } };
+
+    ghost invariant = { λ j. JournalKeeps N.origin N.cells N.book N.callers (past_of j.warehouse.book) j.capacity j.rows.items j.notes.items j.publisher };
+}
+
+impl<N: DeskName, H: Wait + Drop, P: Planner> Journal<N, H, P> {
+    /// A journal with no entry yet.
+    pub fn new(
+        alloc: Global,
+        warehouse: Warehouse<P>,
+        cells: &Cells,
+        publisher: Publisher<H>,
+        callers: u32,
+    ) -> Result<Journal<N, H, P>, AllocError>
+        requires origin { origin_of warehouse.book ≡ N.origin }
+        requires history { warehouse.book.history ≡ [] }
+        requires named { cells.now ≡ N.cells }
+        requires book { publisher.book ≡ N.book }
+        requires added { publisher.added ≡ past_of warehouse.book }
+        requires shown { publisher.shown ≡ past_of warehouse.book }
+        requires callers { callers ≡ N.callers }
+        ensures history { IfOk result (λ j. j.history ≡ []) }
+        ensures capacity { IfOk result (λ j. j.capacity ≡ length cells.now) }
+    {
+        let rows = empty_rows(alloc, callers)?;
+        Ok(Journal {
+            warehouse,
+            capacity: cells.len(),
+            rows,
+            notes: Vec::new(alloc),
+            publisher,
+            name: PhantomData,
+        })
+    }
+
+    /// What the caller has in this history.
+    fn row(&self, caller: u32) -> Row
+        requires { caller < N.callers }
+        ensures { RowOf (entries_of self.now.history caller) result }
+    {
+        self.rows[caller as usize]
+    }
+
+    /// What is known of the history: all of it.
+    fn front(&self) -> &Front
+        ensures book { result.now.book ≡ N.book }
+        ensures history { result.now.past.history ≡ self.now.history }
+    {
+        self.publisher.front()
+    }
+
+    /// A viewer of this desk's board.
+    pub fn viewer(&mut self) -> Result<Viewer, ViewerFault>
+        ensures stands { self.new ≡ self.old }
+        ensures book { IfOk result (λ v. v.book ≡ N.book) }
+        ensures past { IfOk result (λ v. v.past ≡ record { origin = N.origin; history = self.old.shown }) }
+    {
+        self.publisher.viewer()
+    }
+
+    /// Whether the pass has all that its caller did. If so, its receipts are the caller's entries in this history.
+    pub fn knows(&self, pass: &Pass<N>) -> bool
+        ensures current { result ≡ is_current self.now.history pass.now }
+        ensures whole { result ≡ true → pass.now.list ≡ entries_of self.now.history pass.now.caller }
+    {
+        let row = self.row(pass.caller());
+        let mine = pass.row();
+        if row.count != mine.count || row.last != mine.last {
+            return false;
+        }
+        pass.agrees(self.front());
+        true
+    }
+
+    /// Whether each pass has all that its caller did. If so, its receipts are the caller's entries in this history.
+    pub fn knows_all(&self, passes: &[Pass<N>]) -> bool
+        ensures current { IsTrue result ↔ All (λ p. is_current self.now.history p ≡ true) passes.now }
+        ensures whole { result ≡ true → All (λ p. p.list ≡ entries_of self.now.history p.caller) passes.now }
+    {
+        for each in passes {
+            if !self.knows(each) {
+                return false;
+            }
+        }
+        true
+    }
+
+    /// The state is the run of the history.
+    pub fn is_run(&self)
+        ensures { Run N.origin.site N.origin.opening self.now.history self.now.state }
+    {
+        let _run = self.warehouse.history();
+    }
+
+    /// How many entries the history has.
+    pub fn len(&self) -> u64
+        ensures { result ≡ length self.now.history }
+    {
+        self.warehouse.history().len() as u64
+    }
+
+    /// Whether it has as many as it may have.
+    pub fn is_full(&self) -> bool
+        ensures { IsTrue result ↔ (self.now.capacity ≤ length self.now.history) }
+    {
+        self.capacity <= self.warehouse.history().len() as u64
+    }
+
+    /// Whether both passes have all that their callers did. If so, their receipts stand in this history.
+    pub fn meet(&self, one: &Pass<N>, two: &Pass<N>) -> Result<Met, Stale>
+        ensures ok { IfOk result (λ m. Together N.origin one.now two.now m.length) }
+        ensures stale { IsErr result ↔ ((is_current self.now.history one.now && is_current self.now.history two.now) ≡ false) }
+    {
+        let length = self.len();
+        self.is_run();
+        if !self.knows(one) {
+            return Err(Stale);
+        }
+        if !self.knows(two) {
+            return Err(Stale);
+        }
+        Ok(Met { length })
+    }
+
+    /// The warehouse. All its entries are of the callers.
+    pub fn into_warehouse(self) -> Warehouse<P>
+        ensures origin { origin_of result.book ≡ N.origin }
+        ensures run { Run N.origin.site N.origin.opening result.book.history result.book.state }
+        ensures history { result.book.history ≡ self.history }
+        ensures callers { All (λ entry. entry.caller < N.callers) self.history }
+    {
+        let Journal {
+            warehouse,
+            capacity: _,
+            rows: _,
+            notes: _,
+            publisher: _,
+            name: _,
+        } = self;
+        let _run = warehouse.history();
+        warehouse
+    }
+
+    /// Appends an entry of the caller's, hands the pass its receipt and publishes the board. E95 comes first, where the pass has
+    /// not all that its caller did, then E11, where the journal is full, then E90 or E91. A refusal changes neither journal nor
+    /// pass, and gives the planner back.
+    pub fn enter(
+        &mut self,
+        alloc: Global,
+        cells: &Cells,
+        pass: &mut Pass<N>,
+        command: Command,
+        spare: Option<P>,
+    ) -> Answer<P>
+        requires { cells.now ≡ N.cells }
+        ensures ok { IfOk result.outcome (λ r. Entered N.origin self.old pass.old command self.new pass.new r.position r.entry) }
+        ensures served { IfOk result.outcome (λ r. IsFormed N.origin.site → r.entry.reply ≢ Answered.Refused Reason.NoPath) }
+        ensures tells { IfOk result.outcome (λ r. TellsFor (λ b. P.fits_map b N.origin.site.grid) (λ b. P.slot_count b) spare r.entry.event) }
+        ensures shown { IfOk result.outcome (λ r. IsTrue r.shown ↔ IsSome r.told) }
+        ensures told { IfOk result.outcome (λ r. IfSome r.told (λ t. (t.book ≡ N.book) × (t.past ≡ record { origin = N.origin; history = self.new.history }) × (self.new.shown ≡ self.new.history))) }
+        ensures lags { IfOk result.outcome (λ r. IfNone r.told (self.new.shown ≡ self.old.shown)) }
+        ensures err { OnErr result.outcome ((self.new ≡ self.old) × (pass.new ≡ pass.old)) }
+        ensures stale { (result.outcome ≡ Err DeskFault.Stale) ↔ (is_current self.old.history pass.old ≡ false) }
+        ensures full { (result.outcome ≡ Err DeskFault.Full) ↔ ((is_current self.old.history pass.old ≡ true) × (self.old.capacity ≤ length self.old.history)) }
+        ensures back { MatchResult result.outcome (λ r. HandsBack (replaced_agent r.entry) spare result.back) (λ _. result.back ≡ spare) }
+    {
+        if !self.knows(pass) {
+            return Answer::refused(DeskFault::Stale, spare);
+        }
+        if self.is_full() {
+            return Answer::refused(DeskFault::Full, spare);
+        }
+        self.append(alloc, cells, pass, command, spare)
+    }
+
+    /// Appends an entry, once the pass is known to have all that its caller did.
+    fn append(
+        &mut self,
+        alloc: Global,
+        cells: &Cells,
+        pass: &mut Pass<N>,
+        command: Command,
+        spare: Option<P>,
+    ) -> Answer<P>
+        requires named { cells.now ≡ N.cells }
+        requires room { length self.old.history < self.old.capacity }
+        requires whole { pass.old.list ≡ entries_of self.old.history pass.old.caller }
+        ensures ok { IfOk result.outcome (λ r. Entered N.origin self.old pass.old command self.new pass.new r.position r.entry) }
+        ensures served { IfOk result.outcome (λ r. IsFormed N.origin.site → r.entry.reply ≢ Answered.Refused Reason.NoPath) }
+        ensures tells { IfOk result.outcome (λ r. TellsFor (λ b. P.fits_map b N.origin.site.grid) (λ b. P.slot_count b) spare r.entry.event) }
+        ensures shown { IfOk result.outcome (λ r. IsTrue r.shown ↔ IsSome r.told) }
+        ensures told { IfOk result.outcome (λ r. IfSome r.told (λ t. (t.book ≡ N.book) × (t.past ≡ record { origin = N.origin; history = self.new.history }) × (self.new.shown ≡ self.new.history))) }
+        ensures lags { IfOk result.outcome (λ r. IfNone r.told (self.new.shown ≡ self.old.shown)) }
+        ensures err { OnErr result.outcome ((self.new ≡ self.old) × (pass.new ≡ pass.old)) }
+        ensures fault { IfErr result.outcome (λ fault. (fault ≢ DeskFault.Stale) × (fault ≢ DeskFault.Full)) }
+        ensures back { MatchResult result.outcome (λ r. HandsBack (replaced_agent r.entry) spare result.back) (λ _. result.back ≡ spare) }
+    {
+        let position = self.warehouse.history().len() as u64;
+        let caller = pass.caller;
+        let made = make_ready(
+            &mut self.warehouse,
+            &mut self.notes,
+            &mut pass.held,
+            alloc,
+            caller,
+            command,
+            spare,
+        );
+        let Made {
+            ready,
+            entry,
+            boxed,
+        } = match made {
+            Ok(made) => made,
+            Err(back) => return Answer::refused(DeskFault::NoMemory, back),
+        };
+        let Some(note) = write_into(cells.cell(position), boxed) else {
+            return Answer::refused(DeskFault::CellTaken, ready.withdraw());
+        };
+        if !self.publisher.add(self.warehouse.book(), ready.entry()) {
+            let back = ready.withdraw();
+            return Answer::refused(DeskFault::CellTaken, back);
+        }
+        note_down(&mut self.notes, &mut pass.held, position, entry, note);
+        pass.front = self.publisher.front().again();
+        pass.last = position;
+        self.rows[caller as usize] = Row {
+            count: pass.held.len() as u64,
+            last: position,
+        };
+        let Committed { entry, back } = self.warehouse.commit(ready);
+        let told = self.publisher.publish(self.warehouse.book());
+        Answer {
+            outcome: Ok(Receipt {
+                position,
+                entry,
+                shown: told.is_some(),
+                told,
+            }),
+            back,
+        }
+    }
+}
+
+/// A row for each caller, of no entries.
+fn empty_rows(alloc: Global, callers: u32) -> Result<Vec<Row>, AllocError>
+    ensures length { IfOk result (λ v. length v.items ≡ callers) }
+    ensures empty { IfOk result (λ v. AllAt (λ _ r. RowOf [] r) v.items) }
+{
+    let mut rows = Vec::new(alloc);
+    for _ in 0..callers {
+        rows.push(Row { count: 0, last: 0 })?;
+    }
+    Ok(rows)
+}

@@ -1,0 +1,18 @@
+//! The desk: the warehouse behind one lock, shared by client threads. Each caller has a pass, and each call that is answered
+//! is a receipt, which stands in one history for good. After each call the desk publishes its board.
+#![tactic(auto)]
+
+mod answer;
+mod cells;
+mod desk;
+mod journal;
+mod making;
+mod naming;
+mod pass;
+
+pub use answer::{Answer, DeskFault, Met, Receipt, Stale};
+pub use cells::Cells;
+pub use desk::{Desk, History};
+pub use journal::Journal;
+pub use naming::DeskName;
+pub use pass::{Held, Pass, Row};

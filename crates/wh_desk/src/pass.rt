@@ -1,0 +1,120 @@
+//! What one caller received.
+#![tactic(auto)]
+
+ghost use Rattle.std.specs.Prelude.{◌≡◌, ℕ, ◌<◌, [], List, length, Some, slice_get};
+ghost use Rattle.wh_desk.specs.Lists.{entries_of};
+ghost use Rattle.wh_desk.specs.Kept.{RowOf};
+ghost use Rattle.wh_desk.specs.Calls.{NoteOf};
+
+use crate::naming::DeskName;
+use once_cell::race::Note;
+use std::alloc::Global;
+use std::marker::{Model, PhantomData};
+use wh_board::Front;
+use wh_event::Entry;
+
+/// How many entries a caller has, and the position of the last.
+#[derive(Clone, Copy)]
+pub struct Row {
+    pub(crate) count: u64,
+    pub(crate) last: u64,
+}
+
+/// One receipt: an entry, its position, and a note of the cell that holds it.
+#[derive(Drop)]
+pub struct Held {
+    pub(crate) position: u64,
+    pub(crate) entry: Entry,
+    pub(crate) note: Note<Entry>,
+}
+
+/// All that one caller received. Contracts see it as the caller's number, and the entries with their positions.
+#[derive(Drop)]
+pub struct Pass<N: DeskName> {
+    pub(crate) caller: u32,
+    pub(crate) last: u64,
+    pub(crate) held: Vec<Held>,
+    pub(crate) front: Front,
+    pub(crate) name: PhantomData<N>,
+}
+
+impl<N: DeskName> Model for Pass<N> {
+    ghost use Rattle.wh_desk.specs.Lists.{Received};
+    ghost use Rattle.wh_desk.specs.Kept.{list_of, PassKeeps};
+
+    ghost Value = { Received };
+
+    ghost view = { λ p. record { caller = p.caller; list = list_of p.held.items } };
+
+    ghost invariant = { λ p. PassKeeps N.cells N.book N.callers p.caller p.last p.held.items p.front };
+}
+
+impl<N: DeskName> Pass<N> {
+    ghost use Rattle.wh_event.specs.declared.entry.Entry.{Entry};
+
+    /// A pass that received nothing yet.
+    pub(crate) fn new(alloc: Global, front: &Front, caller: u32) -> Pass<N>
+        requires book { front.now.book ≡ N.book }
+        requires empty { front.now.past.history ≡ [] }
+        requires within { caller < N.callers }
+        ensures { result ≡ record { caller = caller; list = [] } }
+    {
+        Pass {
+            caller,
+            last: 0,
+            held: Vec::new(alloc),
+            front: front.again(),
+            name: PhantomData,
+        }
+    }
+
+    /// Whose pass it is.
+    pub fn caller(&self) -> u32
+        ensures value { result ≡ self.now.caller }
+        ensures within { result < N.callers }
+    {
+        self.caller
+    }
+
+    /// How many entries were received.
+    pub fn len(&self) -> u64
+        ensures { result ≡ length self.now.list }
+    {
+        self.held.len() as u64
+    }
+
+    /// What it received, as a row of the journal.
+    pub(crate) fn row(&self) -> Row
+        ensures { RowOf self.now.list result }
+    {
+        Row {
+            count: self.held.len() as u64,
+            last: self.last,
+        }
+    }
+
+    /// Where a history of the book has as many entries of the caller as the pass, they are the pass's.
+    pub(crate) fn agrees(&self, history: &Front)
+        requires book { history.now.book ≡ N.book }
+        requires many { length (entries_of history.now.past.history self.now.caller) ≡ length self.now.list }
+        ensures { self.now.list ≡ entries_of history.now.past.history self.now.caller }
+    {
+        self.front.meets(history);
+    }
+
+    /// The receipts of one position have the same entry, whichever passes they stand in.
+    pub fn agree(&self, other: &Pass<N>)
+        ensures { (m n : ℕ) (x y : ℕ × Entry) → slice_get self.now.list m ≡ Some x → slice_get other.now.list n ≡ Some y → x.0 ≡ y.0 → x.1 ≡ y.1 }
+    {
+        self.front.meets(&other.front);
+    }
+
+    /// A note of the cell of a receipt. It knows the receipt's entry.
+    pub fn note(&mut self, at: u64) -> Note<Entry>
+        requires { at < length self.old.list }
+        ensures same { self.new ≡ self.old }
+        ensures note { NoteOf N.cells self.old.list at result }
+    {
+        self.held[at as usize].note.again()
+    }
+}
