@@ -1,0 +1,4 @@
+pub mod Places
+pub mod Calls
+pub mod Crews
+pub mod Sending

@@ -1,0 +1,10 @@
+//! A crew: a thread for each worker, all over one desk.
+#![tactic(auto)]
+
+mod gate;
+mod threads;
+mod worker;
+
+pub use gate::Gate;
+pub use threads::{CrewFault, Crewed, Due, crew};
+pub use worker::{Report, work_through};

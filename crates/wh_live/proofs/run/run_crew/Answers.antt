@@ -1,0 +1,33 @@
+use Rattle.std.proofs.Common.{rules, ◌≡◌, ℕ, List, ap, ◌∙◌, subst}
+use Rattle.wh_words.specs.Lines.{text_of}
+use Rattle.wh_points.specs.Points.{Site}
+use Rattle.wh_event.specs.declared.entry.Entry.{Entry}
+use Rattle.wh_core.specs.States.{State}
+use Rattle.wh_token.specs.Fleet.{IsTied}
+use Rattle.wh_log.specs.Logs.{log_lines}
+use Rattle.wh_log.specs.declared.version.Version.TheVariants.{Two}
+use Rattle.wh_live.specs.Lives.{WorkedFrom}
+use Rattle.wh_live.proofs.run.run_crew.Goals as goal
+
+pub returns-in-Ok-log_text-clause-ok : goal.returns-in-Ok-log_text-clause-ok
+returns-in-Ok-log_text-clause-ok g c =
+    let fits = g.P.Planner.fits_map in
+    let count : g.row.P.Denot → ℕ = g.P.Planner.slot_count in
+    let book = c.in-Ok.warehouse.book in
+    let opened = c.in-Ok.ensures in
+    let left = c.in-Ok-over_desk.crewed.history.warehouse.book in
+    let slots = opened.opening.0 in
+    let copied : c.deref.result.now ≡ book.opening.slots = search rules in
+    let tied = subst (λ (n : List ℕ). IsTied (λ b. fits b c.args.grid.value) count c.in-Ok.warehouse.planners n) (ap (λ (s : State). s.slots) (opened.opening.2 ∙ opened.opening.1)) opened.tied in
+    let sited = subst (λ (s : Site). WorkedFrom (λ b. fits b s.grid) count (record { site = s; opening = book.opening }) c.args.works.items left.history left.state) opened.site c.in-Ok-over_desk.ensures.ok in
+    record {
+      slots = slots;
+      tied = subst (λ row. IsTied (λ b. fits b c.args.grid.value) count row slots) opened.planners tied;
+      history = left.history;
+      state = left.state;
+      worked = subst (λ (o : State). WorkedFrom (λ b. fits b c.args.grid.value) count (record { site = record { grid = c.args.grid.value; layout = c.args.points }; opening = o }) c.args.works.items left.history left.state) opened.opening.1 sited;
+      text_is =
+          c.in-Ok-log_text.ensures.text
+          ∙ ap (λ (n : List ℕ). text_of (log_lines Two (record { clock = 0; slots = n; entries = c.history.result.now }))) (copied ∙ ap (λ (s : State). s.slots) opened.opening.1)
+          ∙ ap (λ (entries : List Entry). text_of (log_lines Two (record { clock = 0; slots = slots; entries = entries }))) c.history.ensures.value;
+    }

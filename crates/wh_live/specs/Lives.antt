@@ -1,0 +1,54 @@
+-- What a crew did from the opening of a warehouse, and the log of it.
+use Rattle.std.specs.Prelude.{◌≡◌, ℕ, ◌<◌, Bool, List, length, All}
+use Rattle.wh_words.specs.Lines.{text_of}
+use Rattle.wh_points.specs.Points.{Site}
+use Rattle.wh_event.specs.declared.entry.Entry.{Entry}
+use Rattle.wh_core.specs.States.{State, opened}
+use Rattle.wh_core.specs.Steps.{Run}
+use Rattle.wh_token.specs.Fleet.{IsTied}
+use Rattle.wh_log.specs.Logs.{log_lines}
+use Rattle.wh_log.specs.declared.version.Version.TheVariants.{Two}
+use Rattle.wh_edge.specs.declared.work.Work.{Work}
+use Rattle.wh_board.specs.Pasts.{Origin}
+use Rattle.wh_desk.specs.Lists.{Received}
+use Rattle.wh_desk.specs.Calls.{AllEmpty, InOrder}
+use Rattle.wh_crew.specs.Work.{AllWorked}
+use Rattle.wh_crew.specs.declared.threads.CrewFault.{CrewFault}
+use Rattle.wh_crew.specs.declared.threads.CrewFault.TheVariants as crew
+use Rattle.wh_edge.specs.declared.trouble.Trouble.{Trouble}
+use Rattle.wh_edge.specs.declared.trouble.Trouble.TheVariants as trouble
+
+-- The history is one run from there, by these workers alone. Each worker had nothing before, and what it did are its
+-- commands, in order, without as many as it missed.
+pub record WorkedFrom {X : Type 0} (fits : X → Bool) (count : X → ℕ) (origin : Origin) (works : List (Work X))
+    (history : List Entry) (state : State) : Type 0 where
+  pub run : Run origin.site origin.opening history state
+  pub callers : All (λ entry. entry.caller < length works) history
+  pub passes : List Received
+  pub in_order : InOrder (length works) passes
+  pub empty : AllEmpty passes
+  pub missed : List ℕ
+  pub worked : AllWorked fits count works passes history missed
+
+-- The warehouse was opened at clock 0 with these planners, the workers did their works, and the text is the log of it.
+pub record Lives {X : Type 0} (fits : X → Bool) (count : X → ℕ) (site : Site) (planners : List X) (works : List (Work X))
+    (text : List ℕ) : Type 0 where
+  pub slots : List ℕ
+  pub tied : IsTied fits count planners slots
+  pub history : List Entry
+  pub state : State
+  pub worked : WorkedFrom fits count (record { site = site; opening = opened site.layout 0 slots }) works history state
+  pub text_is : text ≡ text_of (log_lines Two (record { clock = 0; slots = slots; entries = history }))
+
+-- what is told of a crew that came to no history
+abbrev pub trouble_of : CrewFault → Trouble
+trouble_of crew.NoThread = trouble.NoThread
+trouble_of crew.NoMemory = trouble.NoMemory
+trouble_of crew.Stale = trouble.Differs
+
+-- why there is no log: a thread could not be started, or a pass differs from its row, or memory was wanting
+abbrev pub IsWhyDead : Trouble → Type 0
+IsWhyDead trouble.NoThread = Unit {0}
+IsWhyDead trouble.Differs = Unit {0}
+IsWhyDead trouble.NoMemory = Unit {0}
+IsWhyDead _ = ⊥

@@ -1,0 +1,10 @@
+//! `warehouse live`: clients, agents and a clock at work in threads, and the log of what they did.
+#![tactic(auto)]
+
+mod clients;
+mod run;
+mod works;
+
+pub use clients::{MAX_WORKERS, SCRIPT_LIMIT, read_clients};
+pub use run::run_crew;
+pub use works::works_of;

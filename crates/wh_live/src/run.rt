@@ -1,0 +1,115 @@
+//! The run: a warehouse behind a desk, and the crew over it.
+#![tactic(auto)]
+
+ghost use Rattle.std.specs.Prelude.{◌≡◌, ◌<◌, ◌≤◌, ◌^◌, [], IfErr, IfOk, length};
+ghost use Rattle.wh_points.specs.Points.{IsLayout};
+ghost use Rattle.wh_token.specs.Fleet.{AllFit};
+ghost use Rattle.wh_board.specs.Pasts.{origin_of, past_of};
+ghost use Rattle.wh_live.specs.Lives.{IsWhyDead, Lives, WorkedFrom, trouble_of};
+
+use std::alloc::Global;
+use std::marker::Brand;
+use std::sync::{Arc, Wait};
+use std::thread::Threads;
+use wh_board::Publisher;
+use wh_crew::{CrewFault, Crewed, Gate, crew};
+use wh_desk::{Cells, Desk, DeskName};
+use wh_edge::{Trouble, Work};
+use wh_grid::Grid;
+use wh_log::{NoMemory, log_text};
+use wh_planner::Planner;
+use wh_points::Points;
+use wh_token::{OpenFault, Warehouse};
+
+/// Lets every call through.
+struct Open;
+
+impl Gate for Open {
+    fn before(&self, _worker: u32, _call: u32) {}
+
+    fn after(&self, _worker: u32, _call: u32) {}
+}
+
+/// What is told of a crew that came to no history.
+fn trouble_of(fault: CrewFault) -> Trouble
+    ensures value { result ≡ trouble_of fault }
+    ensures why { IsWhyDead result }
+{
+    match fault {
+        CrewFault::NoThread => Trouble::NoThread,
+        CrewFault::NoMemory => Trouble::NoMemory,
+        CrewFault::Stale => Trouble::Differs,
+    }
+}
+
+/// Opens a desk round the warehouse with a pass for each work, and has the crew work.
+fn over_desk<
+    N: DeskName + Send + Sync,
+    H: Wait + Send + Sync + Drop,
+    P: Planner,
+    T: Threads + Wait + Sync,
+>(
+    rt: &T,
+    alloc: Global,
+    warehouse: Warehouse<P>,
+    cells: Cells,
+    publisher: Publisher<H>,
+    works: Vec<Work<P>>,
+) -> Result<Crewed<P>, Trouble>
+    requires origin { origin_of warehouse.book ≡ N.origin }
+    requires history { warehouse.book.history ≡ [] }
+    requires cells { cells ≡ N.cells }
+    requires book { publisher.book ≡ N.book }
+    requires added { publisher.added ≡ past_of warehouse.book }
+    requires shown { publisher.shown ≡ past_of warehouse.book }
+    requires callers { length works.items ≡ N.callers }
+    requires few { length works.items ≤ 64 }
+    ensures ok { IfOk result (λ c. WorkedFrom (λ b. P.fits_map b N.origin.site.grid) (λ b. P.slot_count b) N.origin works.items
+        c.history.warehouse.book.history c.history.warehouse.book.state) }
+    ensures fault { IfErr result IsWhyDead }
+{
+    let callers = works.len() as u32;
+    let (desk, passes) = Desk::<N, H, P>::open(alloc, warehouse, cells, publisher, callers)?;
+    match crew(rt, alloc, desk, passes, works, &Open) {
+        Ok(crewed) => Ok(crewed),
+        Err(fault) => Err(trouble_of(fault)),
+    }
+}
+
+/// Opens the warehouse at clock 0 with one planner for each agent, and has each work done by a thread of its own, over one
+/// desk whose journal has this many positions. The text is the log of all that they did. Trouble: E90, and E93 where a
+/// thread could not be started.
+pub fn run_crew<P: Planner, T: Threads + Wait + Sync>(
+    rt: &T,
+    alloc: Global,
+    grid: Arc<Grid>,
+    points: Points,
+    planners: Vec<P>,
+    works: Vec<Work<P>>,
+    journal: u32,
+) -> Result<Vec<u8>, Trouble>
+    requires layout { IsLayout grid.value points }
+    requires count { length planners.items ≡ length points.agents }
+    requires fit { AllFit (λ b. P.fits_map b grid.value) planners.items }
+    requires few { length works.items ≤ 64 }
+    ensures ok { IfOk result (λ text. Lives (λ b. P.fits_map b grid.value) (λ b. P.slot_count b) (record { grid = grid.value; layout = points })
+        planners.items works.items text.items) }
+    ensures fault { IfErr result IsWhyDead }
+{
+    let warehouse = match Warehouse::open(alloc, grid, points, planners, 0) {
+        Ok(warehouse) => warehouse,
+        Err(OpenFault::NoMemory) => return Err(Trouble::NoMemory),
+        Err(OpenFault::WrongCount | OpenFault::Foreign { .. }) => unreachable!(),
+    };
+    let slots = Vec::from_slice(alloc, warehouse.first_slots())?;
+    let cells = Cells::new(alloc, u64::from(journal))?;
+    let publisher = Publisher::new(alloc, rt, warehouse.book())?;
+    let crewed = match over_desk::<Brand, _, _, _>(rt, alloc, warehouse, cells, publisher, works) {
+        Ok(crewed) => crewed,
+        Err(trouble) => return Err(trouble),
+    };
+    match log_text(alloc, 0, &slots, crewed.history.warehouse.history()) {
+        Ok(text) => Ok(text),
+        Err(NoMemory) => Err(Trouble::NoMemory),
+    }
+}
