@@ -1,0 +1,123 @@
+-- What a run of `live` came to.
+use Rattle.std.proofs.Common.{◌≡◌, ◌+◌, ◌≤◌, ℕ, Bool, List, [], ◌∷◌, ◌++◌, length, map, replicate, refl, sym, ap, ◌∙◌, subst, arith, inl, inr, All, Option, Result, Ok, Err, IfErr}
+use Prim.Native.Nat.{zero, suc}
+use Rattle.std.specs.Prelude.{OnOk, OnErr}
+use Rattle.std.specs.Io.KnownBytes.{Appends, Keeps}
+use Rattle.std.proofs.lemmas.List.{length-append, length-map, length_push, map_push}
+use Rattle.std.proofs.lemmas.List.Elements.{All-push, recursion_from_All}
+use Rattle.wh_lines.specs.Input.{Input}
+use Rattle.wh_grid.specs.Grids.{Floor}
+use Rattle.wh_points.specs.Points.{Layout, Site}
+use Rattle.wh_claims.specs.declared.bank.Bank.{Bank}
+use Rattle.wh_event.specs.declared.event.Command.{Command}
+use Rattle.wh_event.specs.declared.event.Command.TheVariants.{Tick, Token}
+use Rattle.wh_edge.specs.Site.{SiteRead}
+use Rattle.wh_edge.specs.declared.work.Work.{Work}
+use Rattle.wh_edge.specs.declared.trouble.Trouble.{Trouble}
+use Rattle.wh_edge.specs.declared.trouble.Trouble.TheVariants as trouble
+use Rattle.wh_options.specs.declared.chosen.Fleet.{Fleet}
+use Rattle.wh_options.specs.declared.chosen.LiveOptions.{LiveOptions}
+use Rattle.wh_replay.specs.Scripts.{WritesFront}
+use Rattle.wh_live.specs.Clients.{ClientsRead, ClientsFault}
+use Rattle.wh_live.specs.Works.{requests}
+use Rattle.wh_live.specs.Lives.{Lives, IsWhyDead}
+use Rattle.wh_service.specs.Fleets.{IsMember, IsOfFleet, IsWhyUnclaimed, MakesPlanners}
+use Rattle.wh_service.specs.Hosts.{AreMembers, HaveSpares, IsTeam, ReadsAll, Hosts, HostsTo, IsWhyUnhosted}
+use Rattle.wh_service.proofs.Played.{Gives, slots_each, tied_slots}
+
+-- the commands of one more client
+pub commands_added : {X : Type 0} (works added clients : List (Work X)) (work client : Work X) → added ≡ works ++ work ∷ []
+    → map (λ w. w.commands.items) works ≡ map (λ w. w.commands.items) clients → work.commands.items ≡ client.commands.items
+    → map (λ w. w.commands.items) added ≡ map (λ w. w.commands.items) (clients ++ client ∷ [])
+commands_added {X} works added clients work client pushed same one =
+    let commands : Work X → List Command = λ w. w.commands.items in
+    ap (map commands) pushed ∙ map_push commands works work ∙ ap (λ l. l ++ commands work ∷ []) same
+    ∙ ap (λ s. map commands clients ++ s ∷ []) one ∙ sym (map_push commands clients client)
+
+-- one more client has its spares
+pub spares_added : {X : Type 0} {gives : Gives X} {fleet : Fleet} {grid : Floor} {bank : Bank} (works added : List (Work X)) (work : Work X) → added ≡ works ++ work ∷ []
+    → HaveSpares gives fleet grid bank works → length work.spares.items ≡ fleet.spares → All (IsMember gives fleet grid bank) work.spares.items
+    → HaveSpares gives fleet grid bank added
+spares_added {X} {gives} {fleet} {grid} {bank} works added work pushed all many each =
+    let has : Work X → Type 0 = λ w. AreMembers gives fleet grid bank fleet.spares w.spares.items in
+    subst (λ (l : List (Work X)). All has l) (sym pushed) (All-push has works work all (record { many_is = many; members = each }))
+
+asked_each : (turns agents : ℕ) → length (requests turns agents) ≡ agents
+asked_each turns zero = refl
+asked_each turns (suc n) = omega (arith, length_push (requests turns n) (replicate turns (Token n)), asked_each turns n)
+
+-- a team has as many workers as there are clients, agents and clocks
+pub few_works : {X : Type 0} (gives : Gives X) (options : LiveOptions) (grid : Floor) (agents : ℕ) (scripts : List (List Command)) (planners : List X) (works : List (Work X))
+    → IsTeam gives options grid agents scripts planners works → length scripts + agents + 1 ≤ 64 → length works ≤ 64
+few_works {X} gives options grid agents scripts planners works team few =
+    let commands : Work X → List Command = λ w. w.commands.items in
+    let joined = team.works_are in
+    let size : length works ≡ length team.clients + length joined.others = ap length joined.works_are ∙ length-append team.clients joined.others in
+    let others = sym (length-map joined.others commands) ∙ ap length joined.commands_are ∙ length_push (requests options.turns agents) (replicate options.turns Tick) in
+    let clients = sym (length-map team.clients commands) ∙ ap length team.scripts_are in
+    omega (arith, size, others, asked_each options.turns agents, clients, few)
+
+-- what a team's run came to: each planner has the fleet's slots
+pub hosts : {X : Type 0} (fits : Floor → X → Bool) (count : X → ℕ) (gives : Gives X) (options : LiveOptions) (site : Site) (scripts : List (List Command)) (planners : List X) (works : List (Work X)) (old new : Input) (text : List ℕ)
+    → ReadsAll old new site scripts → MakesPlanners fits count gives → IsOfFleet options.fleet → IsTeam gives options site.grid (length site.layout.agents) scripts planners works
+    → Lives (fits site.grid) count site planners works text → Hosts fits count gives options old new text
+hosts fits count gives options site scripts planners works old new text reads makes range team lives =
+    let each = recursion_from_All (IsMember gives options.fleet site.grid team.bank) planners team.planners_are.members in
+    record {
+      site = site;
+      scripts = scripts;
+      reads = reads;
+      planners = planners;
+      works = works;
+      team = team;
+      lives = lives;
+      slots =
+          tied_slots count planners lives.slots lives.tied.seats lives.tied.counts
+          ∙ slots_each fits count gives options.fleet site.grid team.bank planners (length site.layout.agents) makes range team.planners_are.many_is each;
+    }
+
+-- a site and its clients, in other words
+pub reads_all : (old between new : Input) (floor grid : Floor) (layout : Layout) (agents : ℕ) (scripts : List (List Command)) → grid ≡ floor → agents ≡ length layout.agents
+    → SiteRead old between floor layout → ClientsRead agents between new scripts → ReadsAll old new (record { grid = grid; layout = layout }) scripts
+reads_all old between new floor grid layout agents scripts same seats at read = record {
+  between = between;
+  site_read = subst (λ (f : Floor). SiteRead old between f layout) (sym same) at;
+  clients_read = subst (λ (n : ℕ). ClientsRead n between new scripts) seats read;
+}
+
+-- the same of so many agents in other words
+pub team_at : {X : Type 0} (gives : Gives X) (options : LiveOptions) (grid : Floor) (agents seats : ℕ) (scripts : List (List Command)) (planners : List X) (works : List (Work X))
+    → agents ≡ seats → IsTeam gives options grid agents scripts planners works → IsTeam gives options grid seats scripts planners works
+team_at gives options grid agents seats scripts planners works same team = subst (λ (n : ℕ). IsTeam gives options grid n scripts planners works) same team
+
+-- ---- why there is no log
+
+pub at_clients : {X : Type 0} (fits : Floor → X → Bool) (count : X → ℕ) (gives : Gives X) (options : LiveOptions) (told : Trouble) (old between new : Input) (site : Site) (agents : ℕ) (had has : Option (List ℕ))
+    → agents ≡ length site.layout.agents → SiteRead old between site.grid site.layout → ClientsFault told agents between new → Keeps had has → IsWhyUnhosted fits count gives options told old new had has
+at_clients fits count gives options told old between new site agents had has same at fault kept =
+    inr (inl (record { between = between; site = site; site_read = at; fault = subst (λ (n : ℕ). ClientsFault told n between new) same fault }, kept))
+
+pub at_team : {X : Type 0} (fits : Floor → X → Bool) (count : X → ℕ) (gives : Gives X) (options : LiveOptions) (told : Trouble) (old new : Input) (site : Site) (scripts : List (List Command)) (had has : Option (List ℕ))
+    → ReadsAll old new site scripts → IsWhyUnclaimed options.fleet.slots told → Keeps had has → IsWhyUnhosted fits count gives options told old new had has
+at_team fits count gives options told old new site scripts had has reads why kept =
+    inr (inr (inl (record { site = site; scripts = scripts; reads = reads; why = why }, kept)))
+
+pub at_run : {X : Type 0} (fits : Floor → X → Bool) (count : X → ℕ) (gives : Gives X) (options : LiveOptions) (told : Trouble) (old new : Input) (site : Site) (scripts : List (List Command)) (planners : List X) (works : List (Work X)) (had has : Option (List ℕ))
+    → ReadsAll old new site scripts → IsTeam gives options site.grid (length site.layout.agents) scripts planners works → IsWhyDead told → Keeps had has
+    → IsWhyUnhosted fits count gives options told old new had has
+at_run fits count gives options told old new site scripts planners works had has reads team why kept =
+    inr (inr (inr (inl (record { site = site; scripts = scripts; reads = reads; planners = planners; works = works; team = team; why = why }, kept))))
+
+-- ---- the text
+
+pub written : {X U : Type 0} (fits : Floor → X → Bool) (count : X → ℕ) (gives : Gives X) (options : LiveOptions) (old new : Input) (text : List ℕ) (had has : Option (List ℕ)) (answer : Result U Trouble)
+    → Hosts fits count gives options old new text → OnOk answer (Appends had has text) → OnOk answer (HostsTo fits count gives options old new had has)
+written fits count gives options old new text had has (Ok u) hosts appends = record { text = text; hosts = hosts; appends = appends }
+written fits count gives options old new text had has (Err told) hosts appends = tt
+
+pub unwritten : {X U : Type 0} (fits : Floor → X → Bool) (count : X → ℕ) (gives : Gives X) (options : LiveOptions) (old new : Input) (text : List ℕ) (had has : Option (List ℕ)) (answer : Result U Trouble)
+    → Hosts fits count gives options old new text → IfErr answer (λ told. told ≡ trouble.Unwritten) → OnErr answer (WritesFront had has text)
+    → IfErr answer (λ told. IsWhyUnhosted fits count gives options told old new had has)
+unwritten fits count gives options old new text had has (Ok u) hosts is front = tt
+unwritten fits count gives options old new text had has (Err told) hosts is front =
+    inr (inr (inr (inr (record { told_is = is; text = text; hosts = hosts; front = front }))))

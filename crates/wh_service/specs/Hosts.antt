@@ -1,0 +1,110 @@
+-- What a whole run of `live` does.
+use Rattle.std.specs.Prelude.{◌≡◌, ◌⊎◌, ℕ, Bool, List, length, map, replicate, All, Option, Result}
+use Rattle.std.specs.declared.alloc.AllocError.{AllocError}
+use Rattle.std.specs.Io.KnownBytes.{Appends, Keeps}
+use Rattle.wh_lines.specs.Input.{Input}
+use Rattle.wh_grid.specs.Grids.{Floor}
+use Rattle.wh_points.specs.Points.{Site}
+use Rattle.wh_event.specs.declared.event.Command.{Command}
+use Rattle.wh_claims.specs.Bank.{bank_total}
+use Rattle.wh_claims.specs.declared.bank.Bank.{Bank}
+use Rattle.wh_edge.specs.Site.{SiteRead, SiteFault}
+use Rattle.wh_edge.specs.declared.work.Work.{Work}
+use Rattle.wh_edge.specs.declared.trouble.Trouble.{Trouble}
+use Rattle.wh_edge.specs.declared.trouble.Trouble.TheVariants as trouble
+use Rattle.wh_options.specs.declared.chosen.Fleet.{Fleet}
+use Rattle.wh_options.specs.declared.chosen.LiveOptions.{LiveOptions}
+use Rattle.wh_replay.specs.Scripts.{WritesFront}
+use Rattle.wh_live.specs.Clients.{ClientsRead, ClientsFault}
+use Rattle.wh_live.specs.Works.{AreWorks}
+use Rattle.wh_live.specs.Lives.{Lives, IsWhyDead}
+use Rattle.wh_service.specs.Fleets.{IsMember, IsWhyUnclaimed}
+use Rattle.wh_service.specs.declared.parts.PlannerParts.{PlannerParts}
+
+-- so many planners, all of them members of the fleet
+pub record AreMembers {X : Type 0} (gives : PlannerParts → Result X AllocError → Type 0) (fleet : Fleet) (grid : Floor) (bank : Bank) (many : ℕ) (planners : List X) : Type 0 where
+  pub many_is : length planners ≡ many
+  pub members : All (IsMember gives fleet grid bank) planners
+
+-- each client has as many spare planners as the options name, of its own
+abbrev pub HaveSpares : {X : Type 0} → (PlannerParts → Result X AllocError → Type 0) → Fleet → Floor → Bank → List (Work X) → Type 0
+HaveSpares gives fleet grid bank clients = All (λ work. AreMembers gives fleet grid bank fleet.spares work.spares.items) clients
+
+-- The planners of so many agents, and the workers: the clients with these scripts and with spares of their own, the agents,
+-- the clock. All planners have their claims on one bank, which has as many slots in all as the options name.
+pub record IsTeam {X : Type 0} (gives : PlannerParts → Result X AllocError → Type 0) (options : LiveOptions) (grid : Floor) (agents : ℕ)
+    (scripts : List (List Command)) (planners : List X) (works : List (Work X)) : Type 0 where
+  pub bank : Bank
+  pub total : bank_total bank ≡ options.fleet.bank
+  pub planners_are : AreMembers gives options.fleet grid bank agents planners
+  pub clients : List (Work X)
+  pub scripts_are : map (λ work. work.commands.items) clients ≡ scripts
+  pub spares_are : HaveSpares gives options.fleet grid bank clients
+  pub works_are : AreWorks agents options.turns clients works
+
+-- a site was read, and then the clients, up to the end of the input, with these scripts
+pub record ReadsAll (old new : Input) (site : Site) (scripts : List (List Command)) : Type 0 where
+  pub between : Input
+  pub site_read : SiteRead old between site.grid site.layout
+  pub clients_read : ClientsRead (length site.layout.agents) between new scripts
+
+-- A site and its clients were read, and the team did its works; each agent's planner had the fleet's slots at the opening.
+-- The text is the log of all that was done.
+pub record Hosts {X : Type 0} (fits : Floor → X → Bool) (count : X → ℕ) (gives : PlannerParts → Result X AllocError → Type 0) (options : LiveOptions)
+    (old new : Input) (text : List ℕ) : Type 0 where
+  pub site : Site
+  pub scripts : List (List Command)
+  pub reads : ReadsAll old new site scripts
+  pub planners : List X
+  pub works : List (Work X)
+  pub team : IsTeam gives options site.grid (length site.layout.agents) scripts planners works
+  pub lives : Lives (fits site.grid) count site planners works text
+  pub slots : lives.slots ≡ replicate (length site.layout.agents) options.fleet.slots
+
+-- a team did its works, and the log of them stands behind what was written
+pub record HostsTo {X : Type 0} (fits : Floor → X → Bool) (count : X → ℕ) (gives : PlannerParts → Result X AllocError → Type 0) (options : LiveOptions)
+    (old new : Input) (had has : Option (List ℕ)) : Type 0 where
+  pub text : List ℕ
+  pub hosts : Hosts fits count gives options old new text
+  pub appends : Appends had has text
+
+-- a site was read, and there or at the clients this was wrong
+pub record EndsAtClients (told : Trouble) (old new : Input) : Type 0 where
+  pub between : Input
+  pub site : Site
+  pub site_read : SiteRead old between site.grid site.layout
+  pub fault : ClientsFault told (length site.layout.agents) between new
+
+-- all was read, and there it ended: a planner got no slots, or memory was wanting
+pub record EndsAtTeam (options : LiveOptions) (told : Trouble) (old new : Input) : Type 0 where
+  pub site : Site
+  pub scripts : List (List Command)
+  pub reads : ReadsAll old new site scripts
+  pub why : IsWhyUnclaimed options.fleet.slots told
+
+-- all was read, a team stood, and its run came to no history
+pub record EndsAtRun {X : Type 0} (gives : PlannerParts → Result X AllocError → Type 0) (options : LiveOptions) (told : Trouble) (old new : Input) : Type 0 where
+  pub site : Site
+  pub scripts : List (List Command)
+  pub reads : ReadsAll old new site scripts
+  pub planners : List X
+  pub works : List (Work X)
+  pub team : IsTeam gives options site.grid (length site.layout.agents) scripts planners works
+  pub why : IsWhyDead told
+
+-- a team did its works, and a front of their log was written
+pub record EndsUnwritten {X : Type 0} (fits : Floor → X → Bool) (count : X → ℕ) (gives : PlannerParts → Result X AllocError → Type 0) (options : LiveOptions)
+    (told : Trouble) (old new : Input) (had has : Option (List ℕ)) : Type 0 where
+  pub told_is : told ≡ trouble.Unwritten
+  pub text : List ℕ
+  pub hosts : Hosts fits count gives options old new text
+  pub front : WritesFront had has text
+
+-- Why no log was written, the earlier first. Before the log nothing is written.
+abbrev pub IsWhyUnhosted : {X : Type 0} → (Floor → X → Bool) → (X → ℕ) → (PlannerParts → Result X AllocError → Type 0) → LiveOptions → Trouble → Input → Input → Option (List ℕ) → Option (List ℕ) → Type 0
+IsWhyUnhosted fits count gives options told old new had has =
+    (SiteFault told old new × Keeps had has)
+    ⊎ (EndsAtClients told old new × Keeps had has)
+    ⊎ (EndsAtTeam options told old new × Keeps had has)
+    ⊎ (EndsAtRun gives options told old new × Keeps had has)
+    ⊎ EndsUnwritten fits count gives options told old new had has

@@ -1,0 +1,111 @@
+-- What a whole run of `replay` does.
+use Rattle.std.specs.Prelude.{◌≡◌, ◌⊎◌, ℕ, Bool, true, false, List, ◌++◌, length, replicate, Option, Result, Ok, Err}
+use Rattle.std.specs.Io.KnownBytes.{Appends, Keeps, IsAtEnd}
+use Rattle.wh_text.specs.Lines.{lines_of}
+use Rattle.wh_lines.specs.Input.{Input, left, Takes}
+use Rattle.wh_points.specs.Points.{Site}
+use Rattle.wh_points.specs.Formed.{IsFormed}
+use Rattle.wh_event.specs.declared.event.Command.{Command}
+use Rattle.wh_event.specs.declared.entry.Entry.{Entry}
+use Rattle.wh_core.specs.States.{State, opened}
+use Rattle.wh_core.specs.Steps.{Run}
+use Rattle.wh_book.specs.Drafts.{AllServed}
+use Rattle.wh_token.specs.Runs.{Ran, entries_of}
+use Rattle.wh_edge.specs.Site.{SiteRead, SiteFault}
+use Rattle.wh_edge.specs.declared.trouble.Trouble.{Trouble}
+use Rattle.wh_edge.specs.declared.trouble.Trouble.TheVariants as trouble
+use Rattle.wh_edge.specs.declared.trouble.Status.{Status}
+use Rattle.wh_edge.specs.declared.trouble.Status.TheVariants as status
+use Rattle.wh_options.specs.declared.chosen.Fleet.{Fleet}
+use Rattle.wh_options.specs.declared.chosen.Tail.{Tail}
+use Rattle.wh_options.specs.declared.refused.Refusal.{Refusal}
+use Rattle.wh_options.specs.declared.refused.Refusal.TheVariants.{Asked, Mistake, NoMemory}
+use Rattle.wh_replay.specs.Answers.{commands_of, replies_to, text_of}
+use Rattle.wh_replay.specs.Scripts.{WritesUntil}
+use Rattle.wh_replay.specs.declared.script.ReplayFault.{ReplayFault}
+use Rattle.wh_service.specs.Fleets.{IsWhyUnclaimed}
+use Rattle.wh_service.specs.Plays.{trouble_of}
+use Rattle.wh_service.specs.Tails.{IsWhyNoTail, tail_after}
+
+-- how the program ends where its words give no options: help that was shown ends well
+abbrev pub ended_by : Refusal → Bool → Result Status Trouble
+ended_by Asked true = Ok status.Done
+ended_by Asked false = Err trouble.Unwritten
+ended_by Mistake shown = Ok status.CommandLine
+ended_by NoMemory shown = Err trouble.NoMemory
+
+-- the opening state at clock 0: each agent's planner has the fleet's slots
+abbrev pub opening : Fleet → Site → State
+opening fleet site = opened site.layout 0 (replicate (length site.layout.agents) fleet.slots)
+
+-- The commands, all of caller 0, ran one after another and had these outcomes. Of the spare planners, which all plan on
+-- the site's grid, a list tells the slots of each; the last of them is taken first.
+abbrev pub RanFrom : Site → State → List ℕ → List Command → List (Option Entry) → State → List ℕ → Type 0
+RanFrom site old spares commands outcomes new rest =
+    Ran (λ (slots : ℕ). true) (λ (slots : ℕ). slots) site 0 commands outcomes old spares new rest
+
+-- These replies answer the lines: their commands ran from the opening state, with the fleet's spare planners.
+pub record Operates (fleet : Fleet) (site : Site) (lines : List (List ℕ)) (replies : List (List ℕ)) : Type 0 where
+  pub outcomes : List (Option Entry)
+  pub final : State
+  pub rest : List ℕ
+  pub replies_are : replies ≡ replies_to lines outcomes
+  pub ran : RanFrom site (opening fleet site) (replicate fleet.spares fleet.slots) (commands_of lines) outcomes final rest
+  -- the entries are one run of the abstract warehouse
+  pub run : Run site (opening fleet site) (entries_of outcomes) final
+  -- on a well-formed site no request is refused for want of a path
+  pub served : IsFormed site → AllServed (entries_of outcomes)
+
+-- A site was read, all that followed was read to the end, and these are the replies to its lines.
+pub record Finishes (fleet : Fleet) (old new : Input) : Type 0 where
+  pub between : Input
+  pub site : Site
+  pub site_read : SiteRead old between site.grid site.layout
+  pub script : List ℕ
+  pub takes : Takes between new script
+  pub ended : IsAtEnd (left new)
+  pub replies : List (List ℕ)
+  pub operates : Operates fleet site (lines_of script) replies
+
+-- what is to follow the replies: the log of its entries, or the ledger of its last state
+abbrev pub follows : {fleet : Fleet} {old new : Input} → Tail → Finishes fleet old new → List ℕ
+follows {fleet} tail run = tail_after tail (opening fleet run.site) (entries_of run.operates.outcomes) run.operates.final
+
+-- All was served, and the replies and what is to follow them stand behind what was written.
+pub record Serves (fleet : Fleet) (tail : Tail) (old new : Input) (had has : Option (List ℕ)) (written : ℕ) : Type 0 where
+  pub run : Finishes fleet old new
+  pub appends : Appends had has (text_of run.replies ++ follows tail run)
+  pub written_is : written ≡ length run.replies
+
+-- All was served, the replies stand behind what was written, and what is to follow them does not.
+pub record ServesWithoutTail (fleet : Fleet) (tail : Tail) (told : Trouble) (old new : Input) (had has : Option (List ℕ)) : Type 0 where
+  pub run : Finishes fleet old new
+  pub replied : Option (List ℕ)
+  pub appends : Appends had replied (text_of run.replies)
+  pub why : IsWhyNoTail told replied has (follows tail run)
+
+-- A site was read, and a beginning of what followed was served. After a write fault a front of the replies was written.
+pub record ServesUntil (fleet : Fleet) (fault : ReplayFault) (old new : Input) (had has : Option (List ℕ)) : Type 0 where
+  pub between : Input
+  pub site : Site
+  pub site_read : SiteRead old between site.grid site.layout
+  pub read : List ℕ
+  pub begun : List ℕ
+  pub takes : Takes between new (read ++ begun)
+  pub replies : List (List ℕ)
+  pub operates : Operates fleet site (lines_of read) replies
+  pub writes : WritesUntil fault had has (text_of replies)
+
+-- a site was read, and there it ended: a planner got no slots, or memory was wanting
+pub record EndsAtFleet (fleet : Fleet) (told : Trouble) (old new : Input) : Type 0 where
+  pub site : Site
+  pub site_read : SiteRead old new site.grid site.layout
+  pub why : IsWhyUnclaimed fleet.slots told
+
+-- Why a script was not served to its end, or what is to follow the replies does not. Before the script nothing is written.
+abbrev pub IsWhyUnserved : Fleet → Tail → Trouble → Input → Input → Option (List ℕ) → Option (List ℕ) → Type 0
+IsWhyUnserved fleet tail told old new had has =
+    (SiteFault told old new × Keeps had has)
+    ⊎ (EndsAtFleet fleet told old new × Keeps had has)
+    ⊎ ((fault : ReplayFault) × (told ≡ trouble_of fault) × ServesUntil fleet fault old new had has)
+    ⊎ ServesWithoutTail fleet tail told old new had has

@@ -1,0 +1,68 @@
+-- What a whole run of `verify` does.
+use Rattle.std.specs.Prelude.{◌≡◌, ◌⊎◌, ℕ, ◌≤◌, List, [], ◌∷◌, ◌++◌, codes, decimal, length, Option}
+use Rattle.std.specs.Io.KnownBytes.{Appends}
+use Rattle.wh_lines.specs.Input.{Input}
+use Rattle.wh_lines.specs.Section.{Overflows, Sectioned}
+use Rattle.wh_points.specs.Points.{Site}
+use Rattle.wh_edge.specs.Site.{Breaks, SiteRead, SiteFault}
+use Rattle.wh_edge.specs.declared.trouble.Trouble.{Trouble}
+use Rattle.wh_edge.specs.declared.trouble.Trouble.TheVariants as trouble
+use Rattle.wh_edge.specs.declared.trouble.Status.{Status}
+use Rattle.wh_edge.specs.declared.trouble.Status.TheVariants as status
+use Rattle.wh_verify.specs.Verifying.{Says}
+use Rattle.wh_verify.specs.declared.verifier.Verified.{Verified}
+use Rattle.wh_verify.specs.declared.verifier.Verified.TheVariants.{Run, Bad}
+
+-- the line that tells what a text is
+unfoldable pub verified_text : Verified → List ℕ
+verified_text (Run entries) = codes "run " ++ decimal entries ++ 10 ∷ []
+verified_text (Bad line) = codes "bad " ++ decimal line ++ 10 ∷ []
+
+-- a text that is no log of a run is told by status 1
+abbrev pub status_of_log : Verified → Status
+status_of_log (Run entries) = status.Done
+status_of_log (Bad line) = status.Refused
+
+-- a site was read, and then the section of the log
+pub record LogRead (old new : Input) (site : Site) (log : List ℕ) : Type 0 where
+  pub between : Input
+  pub site_read : SiteRead old between site.grid site.layout
+  pub section : Sectioned between new log
+  pub within : length log ≤ 268435456
+
+-- A site and a text were read, and the line that tells what the text is stands behind what was written.
+pub record Verifies (old new : Input) (had has : Option (List ℕ)) (ended : Status) : Type 0 where
+  pub site : Site
+  pub log : List ℕ
+  pub log_read : LogRead old new site log
+  pub verified : Verified
+  pub says : Says site log verified
+  pub appends : Appends had has (verified_text verified)
+  pub ended_is : ended ≡ status_of_log verified
+
+-- a site and a text were read
+pub record ReadsLog (old new : Input) : Type 0 where
+  pub site : Site
+  pub log : List ℕ
+  pub log_read : LogRead old new site log
+
+-- why the section of the log was not read
+abbrev pub IsWhyNoLog : Trouble → Input → Input → Type 0
+IsWhyNoLog trouble.SectionTooLong old new = Overflows old new 268435456
+IsWhyNoLog trouble.Broken old new = Breaks old new
+IsWhyNoLog trouble.Endless old new = new.reads ≡ 100000000
+IsWhyNoLog trouble.NoMemory old new = Unit {0}
+IsWhyNoLog _ old new = ⊥
+
+-- a site was read, and behind it no log
+pub record LogFault (told : Trouble) (old new : Input) : Type 0 where
+  pub site : Site
+  pub between : Input
+  pub site_read : SiteRead old between site.grid site.layout
+  pub why : IsWhyNoLog told between new
+
+-- why nothing was told: there is no site, or behind it no log, or memory was wanting, or the line could not be written
+abbrev pub IsWhyUnverified : Trouble → Input → Input → Type 0
+IsWhyUnverified trouble.Unwritten old new = ReadsLog old new
+IsWhyUnverified trouble.NoMemory old new = Unit {0}
+IsWhyUnverified told old new = SiteFault told old new ⊎ LogFault told old new

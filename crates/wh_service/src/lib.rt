@@ -1,0 +1,20 @@
+//! The services of the program: `serve` for `replay`, `judge` for `check`, `judge_log` for `verify`, over any reader and any
+//! writer.
+//!
+//! `serve` is handed how one planner is made, so that it works with planners of any type, and makes none itself.
+#![tactic(auto)]
+
+mod fleet;
+mod live;
+mod parts;
+mod program;
+mod tail;
+mod verdict;
+mod verified;
+
+pub use fleet::{claim, equip};
+pub use live::host;
+pub use parts::PlannerParts;
+pub use program::{ended, play, serve};
+pub use verdict::judge;
+pub use verified::judge_log;

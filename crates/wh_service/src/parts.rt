@@ -1,0 +1,22 @@
+//! What a planner is made of.
+
+ghost use Rattle.std.specs.Prelude.{◌≤◌};
+ghost use Rattle.wh_claims.specs.Claim.{claim_amount};
+
+use std::sync::Arc;
+use wh_claims::Claim;
+use wh_grid::Grid;
+use wh_options::PlannerKind;
+
+/// What one planner is made of: its kind, the grid on which it plans, and a claim that has its slots, 2 to 64 of them.
+#[derive(Drop)]
+pub struct PlannerParts {
+    /// The kind of the planner.
+    pub kind: PlannerKind,
+    /// The grid on which it plans.
+    pub grid: Arc<Grid>,
+    /// The claim that has its slots.
+    pub claim: Claim,
+    ghost at_least: { 2 ≤ claim_amount claim },
+    ghost at_most: { claim_amount claim ≤ 64 },
+}

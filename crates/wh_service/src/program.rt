@@ -1,0 +1,115 @@
+//! What `replay` does, and how the program ends where its words give no options.
+
+ghost use Rattle.std.specs.Prelude.{◌≡◌, IfErr, IfOk, length};
+ghost use Rattle.wh_points.specs.Points.{IsLayout};
+ghost use Rattle.wh_token.specs.Fleet.{AllFit};
+ghost use Rattle.wh_service.specs.Fleets.{IsOfFleet, MakesPlanners};
+ghost use Rattle.wh_service.specs.Plays.{Plays, IsWhyUnplayed, trouble_of};
+ghost use Rattle.wh_service.specs.Serves.{Serves, IsWhyUnserved, ended_by};
+
+use crate::fleet::equip;
+use crate::parts::PlannerParts;
+use crate::tail::write_tail;
+use std::alloc::{AllocError, Global};
+use std::io::{Read, Write};
+use std::sync::Arc;
+use wh_edge::{Site, Status, Trouble, read_site};
+use wh_grid::Grid;
+use wh_lines::Lines;
+use wh_options::{Refusal, ReplayOptions, Tail};
+use wh_planner::Planner;
+use wh_points::Points;
+use wh_replay::{ReplayFault, Replayed, replay};
+use wh_token::{OpenFault, Warehouse};
+
+/// What is told of a script that was not served to its end.
+fn trouble_of(fault: ReplayFault) -> Trouble
+    ensures { result ≡ trouble_of fault }
+{
+    match fault {
+        ReplayFault::Broken => Trouble::Broken,
+        ReplayFault::Endless => Trouble::Endless,
+        ReplayFault::Unwritten => Trouble::Unwritten,
+    }
+}
+
+/// Opens the warehouse at clock 0 with one planner for each agent, serves the script, and writes what is to follow the
+/// replies.
+pub fn play<R: Read, W: Write, P: Planner>(
+    alloc: Global,
+    lines: &mut Lines<R>,
+    output: &mut W,
+    grid: Arc<Grid>,
+    points: Points,
+    planners: Vec<P>,
+    mut spares: Vec<P>,
+    tail: Tail,
+) -> Result<Replayed, Trouble>
+    requires layout { IsLayout grid.value points }
+    requires count { length planners.items ≡ length points.agents }
+    requires fit { AllFit (λ b. P.fits_map b grid.value) planners.items }
+    ensures ok { IfOk result (λ r. Plays (λ g b. P.fits_map b g) (λ b. P.slot_count b) (record { grid = grid.value; layout = points }) planners.items spares.items tail
+        lines.old lines.new (W.contents output.old) (W.contents output.new) r.replies) }
+    ensures fault { IfErr result (λ told. IsWhyUnplayed (λ g b. P.fits_map b g) (λ b. P.slot_count b) (record { grid = grid.value; layout = points }) planners.items spares.items tail
+        told lines.old lines.new (W.contents output.old) (W.contents output.new)) }
+{
+    let mut warehouse = match Warehouse::open(alloc, grid, points, planners, 0) {
+        Ok(warehouse) => warehouse,
+        Err(OpenFault::NoMemory) => return Err(Trouble::NoMemory),
+        Err(OpenFault::WrongCount | OpenFault::Foreign { .. }) => unreachable!(),
+    };
+    let replayed = match replay(lines, alloc, output, &mut warehouse, &mut spares) {
+        Ok(replayed) => replayed,
+        Err(fault) => return Err(trouble_of(fault)),
+    };
+    match write_tail(alloc, output, &warehouse, tail) {
+        Ok(()) => Ok(replayed),
+        Err(trouble) => Err(trouble),
+    }
+}
+
+/// Reads a site, makes one planner for each agent and then the spare ones, all of the fleet's kind and with their claims
+/// on one bank, serves the script behind the site, and writes what is to follow the replies: behind a line `%%` the log
+/// of the run or the rows of its ledger. `make` makes one planner of its parts, and its error tells that memory is
+/// wanting. What can go wrong is told in this order: the site, the bank and the planners, the script, what follows the
+/// replies.
+pub fn serve<R: Read, W: Write, P: Planner, F: Fn(PlannerParts) -> Result<P, AllocError>>(
+    alloc: Global,
+    lines: &mut Lines<R>,
+    output: &mut W,
+    options: &ReplayOptions,
+    make: F,
+) -> Result<Replayed, Trouble>
+    requires range { IsOfFleet options.now.fleet }
+    requires callable { F.IsAlwaysCallable make }
+    requires makes { MakesPlanners (λ g b. P.fits_map b g) (λ b. P.slot_count b) (F.post make) }
+    ensures ok { IfOk result (λ r. Serves options.now.fleet options.now.tail lines.old lines.new (W.contents output.old) (W.contents output.new) r.replies) }
+    ensures fault { IfErr result (λ told. IsWhyUnserved options.now.fleet options.now.tail told lines.old lines.new (W.contents output.old) (W.contents output.new)) }
+{
+    let Site { grid, points } = read_site(lines, alloc)?;
+    let grid = Arc::new(alloc, grid)?;
+    let (planners, spares) = match equip(
+        alloc,
+        &options.fleet,
+        &grid,
+        points.agents().len(),
+        &make,
+    ) {
+        Ok(equipped) => equipped,
+        Err(trouble) => return Err(trouble),
+    };
+    let tail = options.tail;
+    play(alloc, lines, output, grid, points, planners, spares, tail)
+}
+
+/// How the program ends where its words give no options, by whether their text was shown.
+pub fn ended(refusal: Refusal, is_shown: bool) -> Result<Status, Trouble>
+    ensures { result ≡ ended_by refusal is_shown }
+{
+    match refusal {
+        Refusal::Asked if is_shown => Ok(Status::Done),
+        Refusal::Asked => Err(Trouble::Unwritten),
+        Refusal::Mistake => Ok(Status::CommandLine),
+        Refusal::NoMemory => Err(Trouble::NoMemory),
+    }
+}

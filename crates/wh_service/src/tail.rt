@@ -1,0 +1,81 @@
+//! What follows the replies of a replay: nothing, the log of the run, or the rows of its ledger.
+
+ghost use Rattle.std.specs.Prelude.{◌≡◌, ◌++◌, IfErr, IfOk, OnErr, OnOk};
+ghost use Rattle.std.specs.Io.KnownBytes.{Appends};
+ghost use Rattle.wh_replay.specs.Scripts.{WritesFront};
+ghost use Rattle.wh_service.specs.Tails.{IsWhyNoTail, separator, tail_after, tail_text};
+
+use std::alloc::Global;
+use std::io::Write;
+use wh_edge::Trouble;
+use wh_ledger::ledger_text;
+use wh_log::{NoMemory, log_text};
+use wh_options::Tail;
+use wh_planner::Planner;
+use wh_replay::{WriteFault, write_all};
+use wh_token::Warehouse;
+
+/// The line between the replies and what follows them.
+fn separator(tail: Tail) -> &'static [u8]
+    ensures { result.now ≡ separator tail }
+{
+    match tail {
+        Tail::Nothing => b"",
+        Tail::Log | Tail::Ledger => b"%%\n",
+    }
+}
+
+/// The log of the warehouse's run, or the rows of its ledger. The error is want of memory.
+fn text<P: Planner>(alloc: Global, warehouse: &Warehouse<P>, tail: Tail) -> Result<Vec<u8>, Trouble>
+    ensures ok { IfOk result (λ text. text.items ≡ tail_text tail warehouse.now.book.opening warehouse.now.book.history warehouse.now.book.state) }
+    ensures fault { IfErr result (λ told. told ≡ Trouble.NoMemory) }
+{
+    match tail {
+        Tail::Nothing => Ok(Vec::new(alloc)),
+        Tail::Log => {
+            let clock = warehouse.start();
+            match log_text(alloc, clock, warehouse.first_slots(), warehouse.history()) {
+                Ok(text) => Ok(text),
+                Err(NoMemory) => Err(Trouble::NoMemory),
+            }
+        }
+        Tail::Ledger => {
+            let ledger = warehouse.ledger(alloc)?;
+            Ok(ledger_text(alloc, ledger.rows())?)
+        }
+    }
+}
+
+/// Writes a text behind a line, or a front of both.
+fn write_both<W: Write>(output: &mut W, line: &[u8], text: &[u8]) -> Result<(), WriteFault>
+    ensures ok { OnOk result (Appends (W.contents output.old) (W.contents output.new) (line.now ++ text.now)) }
+    ensures err { OnErr result (WritesFront (W.contents output.old) (W.contents output.new) (line.now ++ text.now)) }
+{
+    match write_all(output, line) {
+        Ok(()) => write_all(output, text),
+        Err(fault) => Err(fault),
+    }
+}
+
+/// Writes what follows the replies, and flushes the writer. Want of memory is told before any of it is written.
+pub(crate) fn write_tail<W: Write, P: Planner>(
+    alloc: Global,
+    output: &mut W,
+    warehouse: &Warehouse<P>,
+    tail: Tail,
+) -> Result<(), Trouble>
+    ensures ok { OnOk result (Appends (W.contents output.old) (W.contents output.new) (tail_after tail warehouse.now.book.opening warehouse.now.book.history warehouse.now.book.state)) }
+    ensures fault { IfErr result (λ told. IsWhyNoTail told (W.contents output.old) (W.contents output.new) (tail_after tail warehouse.now.book.opening warehouse.now.book.history warehouse.now.book.state)) }
+{
+    let text = match text(alloc, warehouse, tail) {
+        Ok(text) => text,
+        Err(trouble) => return Err(trouble),
+    };
+    match write_both(output, separator(tail), text.as_slice()) {
+        Ok(()) => match output.flush() {
+            Ok(()) => Ok(()),
+            Err(_) => Err(Trouble::Unwritten),
+        },
+        Err(_) => Err(Trouble::Unwritten),
+    }
+}

@@ -1,0 +1,87 @@
+//! What `check` does.
+
+ghost use Rattle.std.specs.Prelude.{◌≡◌, ◌<◌, ◌≤◌, ◌++◌, IfErr, IfOk, OnOk, length};
+ghost use Rattle.std.specs.Io.KnownBytes.{Appends};
+ghost use Rattle.wh_formed.specs.Verdicts.{IsVerdict};
+ghost use Rattle.wh_service.specs.Checks.{IsNamed, IsWhyUnjudged, Judges, status_of, verdict_text};
+
+use arrayvec::ArrayVec;
+use std::alloc::Global;
+use std::io::{Read, Write};
+use std::thread::Threads;
+use wh_edge::{Site, Status, Trouble, read_site};
+use wh_event::{put, put_number};
+use wh_formed::{NoMemory, Verdict, check};
+use wh_lines::Lines;
+use wh_points::Points;
+
+/// Writes a line, and flushes the writer. The error tells that one of the two failed.
+pub(crate) fn write_line<W: Write>(output: &mut W, line: &[u8]) -> Result<(), Trouble>
+    ensures ok { OnOk result (Appends (W.contents output.old) (W.contents output.new) line.now) }
+    ensures fault { IfErr result (λ told. told ≡ Trouble.Unwritten) }
+{
+    match output.write_all(line) {
+        Ok(()) => match output.flush() {
+            Ok(()) => Ok(()),
+            Err(_) => Err(Trouble::Unwritten),
+        },
+        Err(_) => Err(Trouble::Unwritten),
+    }
+}
+
+/// The line that tells a verdict, with its line feed. The points of a cut are told by their names.
+#[tactic(auto, unfolding(crate::specs::Checks::verdict_text))]
+pub fn text(points: &Points, verdict: Verdict) -> ArrayVec<u8, 64>
+    requires { IsNamed points.now verdict }
+    ensures { result.items ≡ verdict_text points.now verdict }
+{
+    let mut line = ArrayVec::new();
+    match verdict {
+        Verdict::Formed => put(&mut line, b"formed"),
+        Verdict::FewParkings { have, need } => {
+            put_number(&mut line, b"few parkings ", u64::from(have));
+            put_number(&mut line, b" ", u64::from(need));
+        }
+        Verdict::Cut { a, b } => {
+            put(&mut line, b"cut ");
+            put(&mut line, points.name(a).as_slice());
+            put(&mut line, b" ");
+            put(&mut line, points.name(b).as_slice());
+        }
+    }
+    put(&mut line, b"\n");
+    line
+}
+
+/// How the program ends after a verdict: well only where the site is well-formed.
+pub fn status(verdict: Verdict) -> Status
+    ensures { result ≡ status_of verdict }
+{
+    match verdict {
+        Verdict::Formed => Status::Done,
+        Verdict::FewParkings { .. } | Verdict::Cut { .. } => Status::Refused,
+    }
+}
+
+/// Reads a site, and writes in one line whether it is well-formed. What follows the points is not looked at. What can go
+/// wrong is told in this order: the site, want of memory for the check, the writer.
+pub fn judge<R: Read, W: Write>(
+    rt: &(impl Threads + Sync),
+    alloc: Global,
+    lines: &mut Lines<R>,
+    output: &mut W,
+) -> Result<Status, Trouble>
+    ensures ok { IfOk result (λ status. Judges lines.old lines.new (W.contents output.old) (W.contents output.new) status) }
+    ensures fault { IfErr result (λ told. IsWhyUnjudged told lines.old lines.new) }
+{
+    let Site { grid, points } = read_site(lines, alloc)?;
+    let verdict = match check(rt, alloc, &grid, &points) {
+        Ok(verdict) => verdict,
+        Err(NoMemory) => return Err(Trouble::NoMemory),
+    };
+    let line = text(&points, verdict);
+    match write_line(output, line.as_slice()) {
+        Ok(()) => Ok(status(verdict)),
+        Err(trouble) => Err(trouble),
+    }
+}

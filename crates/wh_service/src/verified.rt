@@ -1,0 +1,89 @@
+//! What `verify` does.
+
+ghost use Rattle.std.specs.Prelude.{◌≡◌, ◌⊎◌, ◌≤◌, IfErr, IfOk, length};
+ghost use Rattle.wh_lines.specs.Section.{Sectioned};
+ghost use Rattle.wh_edge.specs.Site.{SiteFault};
+ghost use Rattle.wh_service.specs.Verifies.{IsWhyNoLog, IsWhyUnverified, Verifies, status_of_log, verified_text};
+
+use crate::verdict::write_line;
+use arrayvec::ArrayVec;
+use std::alloc::Global;
+use std::io::{Read, Write};
+use wh_edge::{Site, Status, Trouble, read_site};
+use wh_event::{put, put_number};
+use wh_lines::{Lines, SectionFault};
+use wh_log::NoMemory;
+use wh_verify::{Verified, verify};
+
+/// The most bytes of a log.
+const LOG_LIMIT: usize = 268_435_456;
+
+/// The section of the log, as it came.
+fn log_section<R: Read>(lines: &mut Lines<R>, alloc: Global) -> Result<Vec<u8>, Trouble>
+    ensures ok { IfOk result (λ log. Sectioned lines.old lines.new log.items) }
+    ensures within { IfOk result (λ log. length log.items ≤ 268435456) }
+    ensures fault { IfErr result (λ told. IsWhyNoLog told lines.old lines.new) }
+{
+    match lines.section(alloc, LOG_LIMIT) {
+        Ok(log) => Ok(log),
+        Err(SectionFault::Broken) => Err(Trouble::Broken),
+        Err(SectionFault::Endless) => Err(Trouble::Endless),
+        Err(SectionFault::TooLong) => Err(Trouble::SectionTooLong),
+        Err(SectionFault::NoMemory) => Err(Trouble::NoMemory),
+    }
+}
+
+/// The line that tells what a text is, with its line feed.
+#[tactic(auto, unfolding(crate::specs::Verifies::verified_text))]
+fn text(verified: Verified) -> ArrayVec<u8, 64>
+    ensures { result.items ≡ verified_text verified }
+{
+    let mut line = ArrayVec::new();
+    match verified {
+        Verified::Run { entries } => put_number(&mut line, b"run ", u64::from(entries)),
+        Verified::Bad { line: bad } => put_number(&mut line, b"bad ", bad),
+    }
+    put(&mut line, b"\n");
+    line
+}
+
+/// How the program ends after that: well only where the text is the log of a run.
+fn status(verified: Verified) -> Status
+    ensures { result ≡ status_of_log verified }
+{
+    match verified {
+        Verified::Run { .. } => Status::Done,
+        Verified::Bad { .. } => Status::Refused,
+    }
+}
+
+/// Reads a site and the section of a log, at most 268,435,456 bytes, and writes in one line `run N` where the log's N
+/// entries are a run over the site, and else `bad L` with the first line with which no such log begins. What follows the
+/// log's section is not looked at. What can go wrong is told in this order: the site, the section of the log, want of
+/// memory, the writer.
+pub fn judge_log<R: Read, W: Write>(
+    alloc: Global,
+    lines: &mut Lines<R>,
+    output: &mut W,
+) -> Result<Status, Trouble>
+    ensures ok { IfOk result (λ status. Verifies lines.old lines.new (W.contents output.old) (W.contents output.new) status) }
+    ensures fault { IfErr result (λ told. IsWhyUnverified told lines.old lines.new) }
+{
+    let Site { grid, points } = match read_site(lines, alloc) {
+        Ok(site) => site,
+        Err(trouble) => return Err(trouble),
+    };
+    let log = match log_section(lines, alloc) {
+        Ok(log) => log,
+        Err(trouble) => return Err(trouble),
+    };
+    let verified = match verify(alloc, &grid, &points, log.as_slice()) {
+        Ok(verified) => verified,
+        Err(NoMemory) => return Err(Trouble::NoMemory),
+    };
+    let line = text(verified);
+    match write_line(output, line.as_slice()) {
+        Ok(()) => Ok(status(verified)),
+        Err(trouble) => Err(trouble),
+    }
+}
