@@ -4,7 +4,7 @@
     make_instance.py --columns 60 --rows 40 --agents 20 --tasks 200 --seed 7 > instance
 
 The sections map, points and script stand on standard output, separated by lines `%%`. Shelves are blocks of
-blocked cells with aisles around; stations stand beside shelves, parkings along the left and right walls, so that any
+blocked cells with aisles around; stations stand beside shelves, parkings along the walls, so that any
 two points are joined by a walk that meets no third one: the instance is well-formed.
 """
 import argparse
@@ -57,7 +57,11 @@ def main():
         stations = [(x, y) for y in range(2, rows - 2, 4) for x in range(6, columns - 6, 4)]
     chance.shuffle(stations)
     stations = stations[:4096 - options.agents]
-    parkings = [(x, y) for y in range(0, rows, 2) for x in (0, columns - 1, 2, columns - 3)][:options.agents]
+    parkings = [(x, y) for y in range(0, rows, 2) for x in (0, columns - 1, 2, columns - 3)]
+    # then in the next column of each side, and along the upper wall
+    parkings += [(x, y) for y in range(0, rows, 2) for x in (4, columns - 5)]
+    parkings += [(x, 0) for x in range(6, columns - 6, 2)]
+    parkings = parkings[:options.agents]
     if len(parkings) < options.agents:
         raise SystemExit('too few places for so many agents')
 

@@ -1,0 +1,113 @@
+#!/usr/bin/env bash
+# Times the parts (crates/wh_times) and whole runs of the program on seeded instances, and prints the figures as Markdown:
+# the machine, its load, then a table of the least of several runs. docs/PERFORMANCE.md keeps what it printed.
+#
+#   tools/bench.sh [all|parts|runs]        RUNS=5 tools/bench.sh parts
+#
+# It builds what is not built. Run it on a machine that does nothing else.
+set -eu
+
+root=$(cd -- "$(dirname -- "$(readlink -f -- "${BASH_SOURCE[0]}")")/.." && pwd)
+what=${1:-all}
+runs=${RUNS:-3}
+program=${WAREHOUSE:-$root/crates/warehouse/out/warehouse}
+folder=$(mktemp -d)
+trap 'rm -rf -- "$folder"' EXIT
+
+machine() {
+    echo "Machine: $(sed -n 's/^model name[^:]*: //p' /proc/cpuinfo | head -n 1), $(nproc) processors; load before: $(cut -d' ' -f1 /proc/loadavg)."
+    echo "Kit: $(rt version | head -n 1). Commit: $(git -C "$root" rev-parse --short HEAD). The least of $runs runs."
+}
+
+# Runs a command on an input, several times: the least seconds, the most MB of memory, the status.
+#   timed INPUT OUTPUT COMMAND..
+timed() {
+    RUNS=$runs python3 - "$@" <<'PYTHON'
+import os, resource, subprocess, sys, time
+best, status = None, 0
+for _ in range(int(os.environ['RUNS'])):
+    with open(sys.argv[1]) as given, open(sys.argv[2], 'w') as told:
+        begin = time.monotonic()
+        status = subprocess.run(sys.argv[3:], stdin=given, stdout=told).returncode
+        took = time.monotonic() - begin
+    best = took if best is None else min(best, took)
+print(f'{best:.3f} {resource.getrusage(resource.RUSAGE_CHILDREN).ru_maxrss // 1024} {status}')
+PYTHON
+}
+
+# Each line of the parts, with its least time.
+parts() {
+    local run
+    (cd -- "$root/crates/wh_times" && rt run ${RT_JOBS:+--jobs "$RT_JOBS"} > "$folder/built" 2>&1) || {
+        cat -- "$folder/built" >&2
+        return 1
+    }
+    for ((run = 0; run < runs; run++)); do
+        "$root/crates/wh_times/out/wh_times" full
+    done > "$folder/parts"
+    echo
+    echo '| Part | What came out | Milliseconds |'
+    echo '|---|---|---|'
+    awk -F': |, ' '
+        { name = $1; for (i = 2; i < NF - 1; i++) name = name ", " $i }
+        { split($NF, time, " "); if (!(name in least)) { order[++count] = name; least[name] = time[1] } }
+        { found[name] = $(NF - 1); if (time[1] < least[name]) least[name] = time[1] }
+        END { for (i = 1; i <= count; i++) printf "| %s | %s | %.2f |\n", order[i], found[order[i]], least[order[i]] / 1000 }
+    ' "$folder/parts"
+}
+
+# One run of the program on an input, as a row.
+#   row NAME INPUT WORDS..
+row() {
+    local name=$1 input=$2 figures
+    shift 2
+    figures=$(timed "$input" "$folder/output" "$program" "$@")
+    read -r seconds memory status <<< "$figures"
+    printf '| %s | `%s` | %s | %s | %s | %s | %s | %s |\n' "$name" "$*" "$(grep -c -v -e '^%%$' "$folder/output")" \
+        "$(grep -c '^took' "$folder/output" || true)" "$(grep -c '^refused E6' "$folder/output" || true)" \
+        "$seconds" "$memory" "$status"
+}
+
+# The log of a replay as an input of verify: the same map and points, and the log in place of the script.
+with_log() {
+    local input=$1 log=$2
+    awk '/^%%\r?$/ { if (++cut == 2) exit } { print }' "$input"
+    echo '%%'
+    awk 'is_log { print } /^%%$/ { is_log = 1 }' "$log"
+}
+
+whole_runs() {
+    local make="python3 $root/tools/make_instance.py --seed 7 --every 1"
+    if [[ ! -x $program ]]; then
+        "$root/warehouse" --version > /dev/null    # it is built
+    fi
+    $make --columns 35 --rows 21 --agents 50 --tasks 500 --ticks 1500 > "$folder/small"
+    $make --columns 81 --rows 81 --agents 250 --tasks 1000 --ticks 1500 > "$folder/large"
+    $make --columns 512 --rows 512 --open --agents 100 --tasks 200 --ticks 2500 > "$folder/open"
+    $make --columns 1024 --rows 1024 --open --agents 100 --tasks 0 --ticks 0 > "$folder/wide"
+    $make --columns 35 --rows 21 --agents 50 --tasks 0 --ticks 0 > "$folder/ticks"
+    yes tick | head -n 1000000 >> "$folder/ticks"
+    echo
+    echo '| Instance | Options | Lines | Tasks taken | No path | Seconds | Memory, MB | Status |'
+    echo '|---|---|---|---|---|---|---|---|'
+    row 'small warehouse, 21 x 35, 50 agents, 500 tasks' "$folder/small" replay --planner near
+    row 'large warehouse, 81 x 81, 250 agents, 1000 tasks' "$folder/large" replay --planner near
+    row 'open map, 512 x 512, 100 agents, 200 tasks' "$folder/open" replay --planner near
+    row '1,000,000 ticks, 21 x 35, 50 agents' "$folder/ticks" replay --planner near
+    row '4096 points, 512 x 512' "$folder/open" check
+    row '4096 points, 1024 x 1024' "$folder/wide" check
+    if "$program" replay --tail log < "$folder/ticks" > "$folder/log" 2> /dev/null; then
+        with_log "$folder/ticks" "$folder/log" > "$folder/ticks_log"
+        row 'log of 1,000,000 ticks' "$folder/ticks_log" verify
+        "$program" replay --tail log < "$folder/large" > "$folder/log"
+        with_log "$folder/large" "$folder/log" > "$folder/large_log"
+        row 'log of the large warehouse' "$folder/large_log" verify
+    fi
+}
+
+case $what in
+    all) machine; parts; whole_runs ;;
+    parts) machine; parts ;;
+    runs) machine; whole_runs ;;
+    *) echo "bench.sh: all, parts or runs" >&2; exit 2 ;;
+esac
