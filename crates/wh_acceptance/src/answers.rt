@@ -1,0 +1,80 @@
+//! A replay from text to text, as the program makes it.
+
+ghost use Rattle.std.specs.Prelude.{◌≡◌, true, IfOk};
+ghost use Rattle.wh_claims.specs.Claim.{claim_amount};
+
+use std::alloc::{AllocError, Global};
+use std::io::{Read, Write};
+use std::test::Fail;
+use wh_edge::Trouble;
+use wh_lines::Lines;
+use wh_options::{Fleet, PlannerKind, ReplayOptions, Tail};
+use wh_planner::Planner;
+use wh_planners::{Near, Patient};
+use wh_service::{PlannerParts, serve};
+
+/// A tree of nine cells: its least walks are unique.
+pub const MAP: &str = "type octile\nheight 3\nwidth 5\nmap\n@.@.@\n.....\n@.@.@\n";
+
+/// Two parkings at the ends of the middle row, and four stations.
+pub const POINTS: &str =
+    "parking P0 0 1\nparking P1 4 1\nstation A 1 0\nstation B 3 0\nstation C 1 2\nstation D 3 2\n";
+
+/// The agents stand on the parkings.
+pub const AGENTS: &str = "agent P0\nagent P1\n";
+
+/// Serves an input with boxed planners of a kind, of 4 slots each on a bank of 1024, and so many spare ones; the tail
+/// follows the replies. Some: what stopped it.
+pub fn served<R: Read + Drop, W: Write>(
+    alloc: Global,
+    kind: PlannerKind,
+    spares: u32,
+    tail: Tail,
+    reader: R,
+    writer: &mut W,
+) -> Option<Trouble> {
+    let make = |parts: PlannerParts| -> Result<Box<dyn Planner>, AllocError>
+        ensures on_grid { IfOk result (λ b. fits_map b parts.grid.value ≡ true) }
+        ensures has_slots { IfOk result (λ b. slot_count b ≡ claim_amount parts.claim) }
+    {
+        let PlannerParts { kind, grid, claim } = parts;
+        match kind {
+            PlannerKind::Near => {
+                let near = Near::new(alloc, grid, claim)?;
+                let planner: Box<dyn Planner> = Box::new(alloc, near)?;
+                Ok(planner)
+            }
+            PlannerKind::Patient => {
+                let planner: Box<dyn Planner> = Box::new(alloc, Patient::new(grid, claim))?;
+                Ok(planner)
+            }
+        }
+    };
+    let fleet = Fleet {
+        planner: kind,
+        slots: 4,
+        bank: 1024,
+        spares,
+    };
+    let options = ReplayOptions { fleet, tail };
+    let mut lines = Lines::new(reader);
+    match serve(alloc, &mut lines, writer, &options, make) {
+        Ok(_) => None,
+        Err(trouble) => Some(trouble),
+    }
+}
+
+/// What the program shows of an input: its replies with their tail, and the line that tells what stopped it, if anything did.
+pub fn answers(
+    alloc: Global,
+    kind: PlannerKind,
+    spares: u32,
+    tail: Tail,
+    input: &[u8],
+) -> Result<Vec<u8>, Fail> {
+    let mut shown = Vec::new(alloc);
+    if let Some(trouble) = served(alloc, kind, spares, tail, input, &mut shown) {
+        shown.extend_from_slice(trouble.text().as_slice())?;
+    }
+    Ok(shown)
+}
