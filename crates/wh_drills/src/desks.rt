@@ -1,0 +1,174 @@
+//! One caller after another at a desk.
+#![tactic(auto)]
+
+ghost use Rattle.std.specs.Prelude.{◌≡◌, []};
+ghost use Rattle.wh_board.specs.Pasts.{origin_of, past_of};
+
+use super::parts::{finish_one, finish_two, floor, opened, patient, task};
+use std::alloc::Global;
+use std::marker::Brand;
+use std::process::Abort;
+use std::sync::Wait;
+use std::test::*;
+use wh_board::{Publisher, Viewer};
+use wh_desk::{Cells, Desk, DeskFault, DeskName, Pass, Receipt};
+use wh_event::{Entry, Reply};
+use wh_planner::Planner;
+use wh_token::Warehouse;
+
+#[test]
+fn desk_receipts(rt: HostRuntime) -> Result<(), Fail> {
+    let alloc = rt.alloc();
+    let (grid, points) = floor(alloc)?;
+    let mut planners: Vec<Box<dyn Planner>> = Vec::new(alloc);
+    planners.push(Box::new(alloc, patient(alloc, &grid)?)?)?;
+    planners.push(Box::new(alloc, patient(alloc, &grid)?)?)?;
+    let warehouse = opened(alloc, grid, points, planners)?;
+    let cells = Cells::new(alloc, 3)?;
+    let publisher = Publisher::new(alloc, &rt, warehouse.book())?;
+    receipts::<Brand, _, _, _>(&rt, alloc, warehouse, cells, publisher)
+}
+
+/// Two callers fill a journal of three, while a viewer looks.
+fn receipts<N: DeskName, H: Wait + Drop, P: Planner, R: Wait + Abort>(
+    rt: &R,
+    alloc: Global,
+    warehouse: Warehouse<P>,
+    cells: Cells,
+    publisher: Publisher<H>,
+) -> Result<(), Fail>
+    requires origin { origin_of warehouse.book ≡ N.origin }
+    requires history { warehouse.book.history ≡ [] }
+    requires cells { cells ≡ N.cells }
+    requires book { publisher.book ≡ N.book }
+    requires added { publisher.added ≡ past_of warehouse.book }
+    requires shown { publisher.shown ≡ past_of warehouse.book }
+    requires callers { N.callers ≡ 2 }
+{
+    let (desk, mut passes) = Desk::<N, H, P>::open(alloc, warehouse, cells, publisher, 2)?;
+    let Ok(mut viewer) = desk.viewer(rt) else {
+        return Err("a viewer".into());
+    };
+    let mut one = passes.pop().ok_or("pass 1")?;
+    let mut zero = passes.pop().ok_or("pass 0")?;
+    first_submit(rt, alloc, &desk, &mut zero, &mut viewer)?;
+    took_and_ticked(rt, alloc, &desk, &mut one)?;
+    let (client, stops) = task().ok_or("a task")?;
+    let full = desk.submit(rt, alloc, &mut zero, client, stops);
+    assert!(rt; matches!(full, Err(DeskFault::Full)));
+    assert_eq!(rt; viewer.look().entries, 3);
+    let history = finish_two(alloc, desk, zero, one)?;
+    three_entries(rt, history.warehouse.history());
+    assert_eq!(rt; viewer.look().entries, 3);
+    Ok(())
+}
+
+/// The viewer learns what was told of the first submit, and looks.
+fn first_submit<N: DeskName, H: Wait + Drop, P: Planner, R: Wait + Abort>(
+    rt: &R,
+    alloc: Global,
+    desk: &Desk<N, H, P>,
+    pass: &mut Pass<N>,
+    viewer: &mut Viewer,
+) -> Result<(), Fail>
+    requires { viewer.old.book ≡ N.book }
+{
+    let (client, stops) = task().ok_or("a task")?;
+    let Ok(receipt) = desk.submit(rt, alloc, pass, client, stops) else {
+        return Err("there is room".into());
+    };
+    let Receipt {
+        position,
+        entry,
+        shown,
+        told,
+    } = receipt;
+    assert_eq!(rt; (position, shown), (0, true));
+    assert!(rt; matches!(entry.reply, Reply::Accepted { task: 0 }));
+    viewer.learn(&told.ok_or("what was told")?);
+    let board = viewer.look();
+    assert_eq!(rt; (board.entries, board.open_tasks), (1, 1));
+    Ok(())
+}
+
+/// Agent 0 takes the task, on a path that ends after 6 steps; then the clock ticks.
+fn took_and_ticked<N: DeskName, H: Wait + Drop, P: Planner, R: Wait + Abort>(
+    rt: &R,
+    alloc: Global,
+    desk: &Desk<N, H, P>,
+    pass: &mut Pass<N>,
+) -> Result<(), Fail> {
+    let Ok(receipt) = desk.request(rt, alloc, pass, 0) else {
+        return Err("there is room".into());
+    };
+    assert_eq!(rt; receipt.position, 1);
+    assert!(rt;
+        matches!(&receipt.entry.reply, Reply::Took { task: 0, path } if path.remaining() == 6)
+    );
+    let Ok(receipt) = desk.tick(rt, alloc, pass) else {
+        return Err("there is room".into());
+    };
+    assert_eq!(rt; receipt.position, 2);
+    Ok(())
+}
+
+/// Caller 0 has position 0, and caller 1 has 1 and 2.
+fn three_entries<R: Abort>(rt: &R, entries: &[Entry]) {
+    assert_eq!(rt; entries.len(), 3);
+    assert_eq!(rt;
+        (entries[0].caller, entries[1].caller, entries[2].caller),
+        (0, 1, 1)
+    );
+}
+
+#[test]
+fn one_place(rt: HostRuntime) -> Result<(), Fail> {
+    let alloc = rt.alloc();
+    let (grid, points) = floor(alloc)?;
+    let mut planners: Vec<Box<dyn Planner>> = Vec::new(alloc);
+    planners.push(Box::new(alloc, patient(alloc, &grid)?)?)?;
+    planners.push(Box::new(alloc, patient(alloc, &grid)?)?)?;
+    let warehouse = opened(alloc, grid, points, planners)?;
+    let cells = Cells::new(alloc, 1)?;
+    let publisher = Publisher::new(alloc, &rt, warehouse.book())?;
+    one_entry::<Brand, _, _, _>(&rt, alloc, warehouse, cells, publisher)
+}
+
+/// A journal of one entry.
+fn one_entry<N: DeskName, H: Wait + Drop, P: Planner, R: Wait + Abort>(
+    rt: &R,
+    alloc: Global,
+    warehouse: Warehouse<P>,
+    cells: Cells,
+    publisher: Publisher<H>,
+) -> Result<(), Fail>
+    requires origin { origin_of warehouse.book ≡ N.origin }
+    requires history { warehouse.book.history ≡ [] }
+    requires cells { cells ≡ N.cells }
+    requires book { publisher.book ≡ N.book }
+    requires added { publisher.added ≡ past_of warehouse.book }
+    requires shown { publisher.shown ≡ past_of warehouse.book }
+    requires callers { N.callers ≡ 1 }
+{
+    let (desk, mut passes) = Desk::<N, H, P>::open(alloc, warehouse, cells, publisher, 1)?;
+    let mut pass = passes.pop().ok_or("a pass")?;
+    let (client, stops) = task().ok_or("a task")?;
+    let first = desk.submit(rt, alloc, &mut pass, client, stops);
+    assert!(rt; first.is_ok_and(|receipt| receipt.position == 0));
+    all_full(rt, alloc, &desk, &mut pass);
+    let history = finish_one(alloc, desk, pass)?;
+    assert_eq!(rt; history.warehouse.history().len(), 1);
+    Ok(())
+}
+
+/// Each later call finds the journal full.
+fn all_full<N: DeskName, H: Wait + Drop, P: Planner, R: Wait + Abort>(
+    rt: &R,
+    alloc: Global,
+    desk: &Desk<N, H, P>,
+    pass: &mut Pass<N>,
+) {
+    assert!(rt; matches!(desk.tick(rt, alloc, pass), Err(DeskFault::Full)));
+    assert!(rt; matches!(desk.request(rt, alloc, pass, 1), Err(DeskFault::Full)));
+    assert!(rt; matches!(desk.close(rt, alloc, pass), Err(DeskFault::Full)));
+}

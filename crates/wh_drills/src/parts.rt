@@ -1,0 +1,128 @@
+//! What the tests are made of: map A with its points, and planners for it.
+#![tactic(auto)]
+
+ghost use Rattle.std.specs.Prelude.{◌≡◌, ◌+◌, [], IfOk, length};
+ghost use Rattle.wh_points.specs.Points.{IsLayout};
+ghost use Rattle.wh_claims.specs.Claim.{claim_amount};
+ghost use Rattle.wh_desk.specs.Lists.{AllAt};
+
+use std::alloc::{AllocError, Global};
+use std::sync::{Arc, Wait};
+use std::test::*;
+use wh_claims::{Bank, Claim};
+use wh_desk::{Desk, DeskName, History, Pass};
+use wh_event::{Command, Stops, read_line};
+use wh_grid::Grid;
+use wh_planner::Planner;
+use wh_planners::Patient;
+use wh_points::Points;
+use wh_text::Name;
+use wh_token::Warehouse;
+
+const MAP: &[u8] = b"type octile\nheight 3\nwidth 5\nmap\n@.@.@\n.....\n@.@.@\n";
+
+const POINTS: &[u8] =
+    b"parking P0 0 1\nparking P1 4 1\nstation A 1 0\nstation B 3 0\nstation C 1 2\nstation D 3 2\nagent P0\nagent P1\n";
+
+/// Map A and its points, with two agents.
+pub fn floor(alloc: Global) -> Result<(Arc<Grid>, Points), Fail>
+    ensures { IfOk result (λ r. IsLayout r.0.value r.1) }
+{
+    let grid = Grid::read(alloc, MAP)?;
+    let points = Points::read(alloc, &grid, POINTS)?;
+    Ok((Arc::new(alloc, grid)?, points))
+}
+
+/// So many slots, all those of a bank of their own.
+fn claim(alloc: Global, slots: u32) -> Result<Claim, Fail>
+    ensures { IfOk result (λ claim. claim_amount claim ≡ slots) }
+{
+    let (bank, seat) = Bank::new(alloc, slots)?;
+    match Claim::take(bank, seat, slots) {
+        Ok(claim) => Ok(claim),
+        Err(_) => Err("a claim".into()),
+    }
+}
+
+/// A patient planner of 4 slots.
+pub fn patient(alloc: Global, grid: &Arc<Grid>) -> Result<Patient, Fail> {
+    Ok(Patient::new(Arc::try_clone(grid)?, claim(alloc, 4)?))
+}
+
+/// The warehouse at clock 0.
+pub fn opened<P: Planner>(
+    alloc: Global,
+    grid: Arc<Grid>,
+    points: Points,
+    planners: Vec<P>,
+) -> Result<Warehouse<P>, Fail>
+    requires { IsLayout grid.value points }
+    ensures { IfOk result (λ w. w.book.history ≡ []) }
+{
+    match Warehouse::open(alloc, grid, points, planners, 0) {
+        Ok(warehouse) => Ok(warehouse),
+        Err(_) => Err("a warehouse".into()),
+    }
+}
+
+/// The client and the stops of `submit x A B`.
+pub fn task() -> Option<(Name, Stops)> {
+    match read_line(b"submit x A B") {
+        Ok(Some(Command::Submit { client, stops })) => Some((client, stops)),
+        _ => None,
+    }
+}
+
+/// Puts the next pass to those of the callers before.
+fn put_back<N: DeskName>(passes: &mut Vec<Pass<N>>, pass: Pass<N>) -> Result<(), AllocError>
+    requires next { length passes.old.items ≡ pass.caller }
+    requires order { AllAt (λ k p. p.caller ≡ k) passes.old.items }
+    ensures next { IfOk result (λ _. length passes.new.items ≡ pass.caller + 1) }
+    ensures order { IfOk result (λ _. AllAt (λ k p. p.caller ≡ k) passes.new.items) }
+{
+    passes.push(pass)?;
+    Ok(())
+}
+
+/// Ends a desk of one caller.
+pub fn finish_one<N: DeskName, H: Wait + Drop, P: Planner>(
+    alloc: Global,
+    desk: Desk<N, H, P>,
+    zero: Pass<N>,
+) -> Result<History<P>, Fail>
+    requires { N.callers ≡ 1 }
+{
+    if zero.caller() != 0 {
+        return Err("the pass of caller 0".into());
+    }
+    let mut passes = Vec::new(alloc);
+    put_back(&mut passes, zero)?;
+    match desk.finish(passes) {
+        Ok(history) => Ok(history),
+        Err(_) => Err("the pass has all".into()),
+    }
+}
+
+/// Ends a desk of two callers.
+pub fn finish_two<N: DeskName, H: Wait + Drop, P: Planner>(
+    alloc: Global,
+    desk: Desk<N, H, P>,
+    zero: Pass<N>,
+    one: Pass<N>,
+) -> Result<History<P>, Fail>
+    requires { N.callers ≡ 2 }
+{
+    if zero.caller() != 0 {
+        return Err("the pass of caller 0".into());
+    }
+    if one.caller() != 1 {
+        return Err("the pass of caller 1".into());
+    }
+    let mut passes = Vec::new(alloc);
+    put_back(&mut passes, zero)?;
+    put_back(&mut passes, one)?;
+    match desk.finish(passes) {
+        Ok(history) => Ok(history),
+        Err(_) => Err("each pass has all".into()),
+    }
+}
