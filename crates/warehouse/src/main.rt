@@ -75,11 +75,7 @@ fn told<R: Eprint>(rt: &R, trouble: &Trouble) -> Status
 }
 
 /// Replays standard input to standard output.
-fn replay<
-    R: AllocGlobal + Print + Input,
-    P: Planner,
-    F: Fn(PlannerParts) -> Result<P, AllocError>,
->(
+fn replay<R: AllocGlobal + Print + Input, P: Planner, F: Fn(PlannerParts) -> Result<P, AllocError>>(
     rt: &R,
     options: &ReplayOptions,
     make: F,
@@ -113,17 +109,20 @@ fn live<
     R: AllocGlobal + Print + Input + Threads + Wait + Sync,
     P: Planner,
     F: Fn(PlannerParts) -> Result<P, AllocError>,
->(
-    rt: &R,
-    options: &LiveOptions,
-    make: F,
-) -> Result<Status, Trouble>
+>(rt: &R, options: &LiveOptions, make: F) -> Result<Status, Trouble>
     requires range { IsOfFleet options.now.fleet }
     requires callable { F.IsAlwaysCallable make }
     requires makes { MakesPlanners (λ g b. P.fits_map b g) (λ b. P.slot_count b) (F.post make) }
 {
     let mut lines = Lines::new(rt.reader());
-    host(rt, rt.alloc(), &mut lines, &mut io::writer(rt), options, make)?;
+    host(
+        rt,
+        rt.alloc(),
+        &mut lines,
+        &mut io::writer(rt),
+        options,
+        make,
+    )?;
     Ok(Status::Done)
 }
 
