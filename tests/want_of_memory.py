@@ -3,11 +3,13 @@
 
     tests/want_of_memory.py                    every case of tests/replay and tests/check
     tests/want_of_memory.py --case replay/one_delivery
+    tests/want_of_memory.py --live             `live` with two clients
 
 For a case that asks for memory n times, the program runs 2 n times: with the k-th request refused alone, and with all
 from the k-th on refused. It must end with status 4, the line `refused E90` on standard error and a beginning of the
 answer, or with the status of the case and its answer, but that a line may be `refused E90`: up to the first such line
-the answer is the case's, and behind it each line is one of the formats.
+the answer is the case's, and behind it each line is one of the formats. `live` must end with `refused E90`, status 4, or
+`refused E93`, status 3, and nothing printed; or with a log that `verify` calls a run of at most its commands.
 """
 import argparse
 import os
@@ -51,13 +53,49 @@ def fault(outcome, row):
     return None if good else f'status {status}, {errors!r}, {answer!r}'
 
 
+CLIENTS = b'submit x A B\nsubmit x B A\n%%\nsubmit y C D\n'
+COMMANDS = 27    # of these clients, and 8 turns of each of two agents and the clock
+
+
+def live_fault(outcome, site, program):
+    """What is wrong with the outcome of a run of `live` in which memory was refused (None: nothing)."""
+    if outcome in ((4, '', REFUSED), (3, '', 'refused E93\n')):
+        return None
+    status, log, errors = outcome
+    judged = subprocess.run([program, 'verify'], input=site + log.encode(), capture_output=True).stdout.decode().split()
+    good = (status, errors) == (0, '') and judged[0] == 'run' and int(judged[1]) <= COMMANDS and 'refused E6' not in log
+    return None if good else f'status {status}, {errors!r}, {log!r}'
+
+
+def live(program, folder, shim, count):
+    """Refuses each request for memory of `live`: how many runs ended well, how many not."""
+    text = open(os.path.join(folder, 'replay/one_delivery'), 'rb').read()
+    site = b'%%\n'.join(text.split(b'%%\n')[:2]) + b'%%\n'
+    words = ['live', '--turns', '8']
+    open(count, 'wb').write(bytes(8))
+    run(program, words, site + CLIENTS, shim, 0, False, count)
+    requests = int.from_bytes(open(count, 'rb').read(), sys.byteorder)
+    ends = {}
+    for number in range(1, requests + 1):
+        for on in (False, True):
+            outcome = run(program, words, site + CLIENTS, shim, number, on, None)
+            wrong = live_fault(outcome, site, program)
+            kind = 'wrong' if wrong else f'status {outcome[0]}'
+            ends[kind] = ends.get(kind, 0) + 1
+            if wrong:
+                print(f'live, request {number} of {requests}{" and all later" if on else ""}: {wrong}')
+    print(f'live: {requests} requests; ' + ', '.join(f'{ends[kind]} times {kind}' for kind in sorted(ends)))
+    return sum(ends.values()) - ends.get('wrong', 0), ends.get('wrong', 0)
+
+
 def main():
     parser = argparse.ArgumentParser(description=__doc__, formatter_class=argparse.RawDescriptionHelpFormatter)
     parser.add_argument('--program', default=os.path.join(ROOT, 'crates/warehouse/out/warehouse'))
     parser.add_argument('--case', action='append')
+    parser.add_argument('--live', action='store_true')
     options = parser.parse_args()
     folder = os.path.join(ROOT, 'tests')
-    cases = options.case or sorted(
+    cases = [] if options.live else options.case or sorted(
         os.path.join(kind, name[:-5])
         for kind in os.listdir(folder) if os.path.isdir(os.path.join(folder, kind))
         for name in os.listdir(os.path.join(folder, kind)) if name.endswith('.args'))
@@ -65,6 +103,8 @@ def main():
     with tempfile.TemporaryDirectory() as scratch:
         shim, count = os.path.join(scratch, 'refuse.so'), os.path.join(scratch, 'count')
         subprocess.run(['cc', '-O1', '-shared', '-fPIC', '-o', shim, os.path.join(ROOT, 'tests/refuse.c')], check=True)
+        if options.live:
+            passed, failed = live(options.program, folder, shim, count)
         for case in cases:
             words = open(os.path.join(folder, case + '.args')).read().split()
             text = open(os.path.join(folder, case), 'rb').read()
