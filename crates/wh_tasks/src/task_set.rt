@@ -111,6 +111,13 @@ impl TaskSet {
         }
     }
 
+    /// Whether any task is open. It takes constant time.
+    pub fn has_open(&self) -> bool
+        ensures { IsTrue result ↔ ((n : ℕ) × (task : Job) × IsTask self.now.tasks n task × IsOpen task) }
+    {
+        !self.open.is_empty()
+    }
+
     /// Whether an open task is to be delivered at the cell. It looks at the open tasks alone.
     pub fn delivers_at(&self, cell: Cell) -> bool
         ensures { IsTrue result ↔ ((n : ℕ) × (task : Job) × IsTask self.now.tasks n task × IsOpen task × (delivery task ≡ cell)) }

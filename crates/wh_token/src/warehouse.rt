@@ -353,7 +353,28 @@ impl<P: Planner> Warehouse<P> {
         }
     }
 
-    /// The draft of a request.
+    /// The draft of a request by a due agent, while tasks are open.
+    fn draft_choice(&mut self, alloc: Global, caller: u32, agent: u32) -> Result<Draft, AllocError>
+        requires due { IsDue self.old.book.state agent }
+        requires room { 1 ≤ self.old.book.entry_room }
+        ensures book { self.new.book ≡ self.old.book }
+        ensures drafts { IfOk result (Drafts self.old.book caller (Asked.Request agent)) }
+        ensures tied { IsTied (λ b. P.fits_map b self.old.book.site.grid) (λ b. P.slot_count b) self.old.planners self.old.book.state.slots
+            → IsTied (λ b. P.fits_map b self.old.book.site.grid) (λ b. P.slot_count b) self.new.planners self.old.book.state.slots }
+    {
+        self.book.other_ends(agent, &mut self.marks);
+        if let Some(task) = self.book.next(agent, &mut self.near, &self.marks) {
+            return self.draft_delivery(alloc, caller, agent, task);
+        }
+        let here = self.book.paths()[agent as usize].start();
+        if !self.book.tasks().delivers_at(here) {
+            return self.book.draft_rested(alloc, caller, agent);
+        }
+        let allowed = self.book.allowed(alloc, agent, &self.marks)?;
+        self.draft_parking(alloc, caller, agent, allowed.as_slice())
+    }
+
+    /// The draft of a request. Where no task is open the others' ends decide nothing, so they are not gathered.
     fn draft_request(&mut self, alloc: Global, caller: u32, agent: u32) -> Result<Draft, AllocError>
         requires not_closed { self.old.book.state.closed ≡ false }
         requires room { 1 ≤ self.old.book.entry_room }
@@ -374,16 +395,10 @@ impl<P: Planner> Warehouse<P> {
                 .book
                 .refuse(alloc, caller, event, Refusal::Moving(left));
         }
-        self.book.other_ends(agent, &mut self.marks);
-        if let Some(task) = self.book.next(agent, &mut self.near, &self.marks) {
-            return self.draft_delivery(alloc, caller, agent, task);
-        }
-        let here = self.book.paths()[agent as usize].start();
-        if !self.book.tasks().delivers_at(here) {
+        if !self.book.tasks().has_open() {
             return self.book.draft_rested(alloc, caller, agent);
         }
-        let allowed = self.book.allowed(alloc, agent, &self.marks)?;
-        self.draft_parking(alloc, caller, agent, allowed.as_slice())
+        self.draft_choice(alloc, caller, agent)
     }
 
     /// The draft of a command. It makes every growth that the commit needs.
