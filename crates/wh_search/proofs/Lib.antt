@@ -9,6 +9,7 @@ pub mod Bins
 pub mod Kept
 pub mod Expands
 pub mod Searches
+pub mod Layered
 pub mod Trails
 pub mod Stops
 pub mod Parks

@@ -17,7 +17,7 @@ use std::alloc::{AllocError, Global};
 use wh_grid::Cell;
 
 /// The greatest number that a node holds. Where there would be a greater one, memory has run out.
-const MOST: u64 = 4294967295;
+pub const MOST: u64 = 4294967295;
 
 /// An agent that is at a cell at some time with so many stops behind it, and the number of the
 /// node from which it came.
@@ -59,7 +59,7 @@ pub fn stands_for(errand: &Errand, old: Node, new: Node) -> bool
 }
 
 /// Whether a cell is one of some.
-fn holds(cells: &[Cell], cell: Cell) -> bool
+pub fn holds(cells: &[Cell], cell: Cell) -> bool
     ensures { IsTrue result ↔ Contains cells.now cell }
 {
     for c in cells {
