@@ -1,13 +1,9 @@
-use Rattle.std.proofs.Common.{◌≡◌, ◌-◌, List, length, take, drop, length-drop, MatchOption, refl, arith}
-use Rattle.std.proofs.lemmas.List.{take_all}
+use Rattle.std.proofs.Common.{◌-◌, List, length, take, drop, MatchOption, refl}
 use Rattle.wh_grid.specs.declared.cell.Cell.{Cell}
 use Rattle.wh_search.specs.Deliveries.{IsDelivery, IsLeast}
 use Rattle.wh_search.specs.Tours.{IsTour, IsLeastTour}
-use Rattle.wh_search.proofs.Stops.{ok_weaker, path_weaker}
+use Rattle.wh_search.proofs.Stops.{ok_weaker, last_part, path_weaker}
 use Rattle.wh_search.proofs.layers.find.Goals as goal
-
-last_part : (stops : List Cell) → take (length stops - (length stops - 1)) (drop (length stops - 1) stops) ≡ drop (length stops - 1) stops
-last_part stops = take_all (length stops - (length stops - 1)) (drop (length stops - 1) stops) (omega (arith, length-drop (length stops - 1) stops))
 
 pub returns : goal.returns
 returns c =
