@@ -148,12 +148,19 @@ none_sooner e Met Waits n h frontier small late q tour =
 pub none_found : (e : Errand) (nodes : List Node) (queue : Queue) → IsErrand e → IsKept (problem e) nodes queue None → ((b i : ℕ) → Waiting queue b i → ⊥) → (q : List Cell) → IsTour e.grid.now e.others.now e.loc e.via.now e.ends.now q → ⊥
 none_found e nodes queue h kept none = none_waits e (IsThere nodes) (BoundWaits queue) h (is_frontier (problem e) nodes queue kept) (λ b w. none b w.0 w.1)
 
+-- the path to a node has as many steps as its time
+pub trace_size : (p : Problem) (path : List Cell) (n : Node) → IsTrace p path n → last_index path ≡ n.time
+trace_size p path n trace =
+    let z = leads_size p.grid p.others p.via 0 p.start trace.rest n.time (state_of n) trace.leads in
+    let y : last_index (p.start.cell ∷ trace.rest) ≡ n.time = omega arith in
+    ap last_index trace.path_is ∙ y
+
 -- the path to an end before which no tour ends is a least tour
 pub traced_tour : (e : Errand) (n : Node) (path : List Cell) → IsErrand e → n.time ≤ e.limit → ends_of (problem e) n.time (state_of n) → IsTrace (problem e) path n
     → ((q : List Cell) → IsTour e.grid.now e.others.now e.loc e.via.now e.ends.now q → n.time ≤ last_index q) → IsLeastTour e.grid.now e.others.now e.loc e.via.now e.ends.now path
 traced_tour e n path h in_time end trace least =
     let p = problem e in
-    let size : last_index path ≡ n.time = ap last_index trace.path_is ∙ (let z = leads_size p.grid p.others p.via 0 p.start trace.rest n.time (state_of n) trace.leads in let y : last_index (e.loc ∷ trace.rest) ≡ n.time = omega arith in y) in
+    let size = trace_size p path n trace in
     let T : List Cell → Type 0 = IsTour e.grid.now e.others.now e.loc e.via.now e.ends.now in
     record {
       is_tour = subst T (sym trace.path_is) (leads_tour e.grid.now e.others.now e.loc e.via.now e.ends.now e.first trace.rest n.time (state_of n) h.inside h.arrives end trace.leads);
