@@ -167,6 +167,7 @@ fn search(alloc: Global, errand: &Errand) -> Result<Option<TimedPath>, AllocErro
         }
         met.expand(errand, index)?;
     }
+    // not in practice: each round looks at one more of the nodes
     Err(AllocError)
 }
 

@@ -98,16 +98,15 @@ fn parks(rt: HostRuntime) -> Result<(), Fail> {
     assert!(&rt; others.may_rest(loc, 0));
     let beyond = park(rt.alloc(), &grid, &others, loc, &[at(4)]);
     assert_eq!(&rt; last(&rt, beyond)?, None);
+    let plain = layers::park(rt.alloc(), &grid, &others, loc, &[at(4)]);
+    assert_eq!(&rt; last(&rt, plain)?, None);
     let here = park(rt.alloc(), &grid, &others, loc, &[at(0)]);
     assert_eq!(&rt; last(&rt, here)?, Some(0));
-    let nearest = park(
-        rt.alloc(),
-        &grid,
-        &others,
-        loc,
-        &[at(4), Cell { x: 1, y: 1 }],
-    );
+    let allowed = [at(4), Cell { x: 1, y: 1 }];
+    let nearest = park(rt.alloc(), &grid, &others, loc, &allowed);
     assert_eq!(&rt; last(&rt, nearest)?, Some(2));
+    let plainly = layers::park(rt.alloc(), &grid, &others, loc, &allowed);
+    assert_eq!(&rt; last(&rt, plainly)?, Some(2));
     Ok(())
 }
 
@@ -162,8 +161,8 @@ struct Compared {
     none: u32,
 }
 
-/// Compares the searches beside one other path, which the agent may rest free of where it is: from
-/// each such cell of the small floor, through each two.
+/// Compares the searches beside one other path: from each cell of the small floor to which the other
+/// never comes, through each two cells.
 fn compare_all<R: Abort + AllocGlobal>(rt: &R, other: &[(u16, u16)]) -> Result<Compared, Fail> {
     let grid = small_floor(rt)?;
     let paths = [path(rt, &[(0, 0)])?, path(rt, other)?];
@@ -214,17 +213,18 @@ fn agreed<R: Abort + AllocGlobal>(
 // six passable cells, so 36 pairs of pickup and delivery from each cell where the other never is
 #[test]
 fn searches_agree(rt: HostRuntime) -> Result<(), Fail> {
-    // it never is at (0,0). It ends at (4,0), and who goes there before cannot get out of its way:
-    // neither stop may be that cell
+    // the other comes everywhere but to (0,0). It ends at (4,0), and who is there before cannot get
+    // out of its way: a path is there for the 25 pairs without that cell
     let first = compare_all(&rt, &[(1, 1), (1, 1), (1, 0), (2, 0), (3, 0), (4, 0)])?;
     assert_eq!(rt; first.all, 36);
     assert_eq!(rt; first.none, 11);
-    // it never is at (0,0), (2,0), (3,0), (4,0), and from 3 on it shuts (1,0). Paths are 17, 15, 16
-    // and 9
+    // the other never comes to (0,0), (2,0), (3,0) and (4,0), and from 3 on it shuts (1,0), so that
+    // nobody gets to (1,1): from these cells a path is there for 17, 15, 16 and 9 pairs
     let second = compare_all(&rt, &[(1, 1), (1, 1), (1, 1), (1, 0)])?;
     assert_eq!(rt; second.all, 144);
     assert_eq!(rt; second.none, 87);
-    // it parts three cells from two: 9 pairs from each of the three, 4 from each of the two
+    // the other parts three cells from two: a path is there for 9 pairs from each of the three, and
+    // for 4 from each of the two
     let third = compare_all(&rt, &[(2, 0)])?;
     assert_eq!(rt; third.all, 180);
     assert_eq!(rt; third.none, 145);
