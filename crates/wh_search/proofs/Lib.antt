@@ -8,7 +8,9 @@ pub mod Paths
 pub mod Bins
 pub mod Kept
 pub mod Expands
+pub mod Counts
 pub mod Searches
+pub mod Layered
 pub mod Trails
 pub mod Stops
 pub mod Parks

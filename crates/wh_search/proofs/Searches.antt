@@ -22,13 +22,13 @@ use Rattle.wh_search.proofs.Visits.{tour_ends}
 use Rattle.wh_search.proofs.Kept.{Falls, kept_pop}
 use Rattle.wh_search.proofs.Paths.{leads_tour, leads_size}
 
-abbrev steps_of : Problem → ℕ → State → State → Type 0
+abbrev pub steps_of : Problem → ℕ → State → State → Type 0
 steps_of p = Steps p.grid p.others p.via
 
-abbrev ends_of : Problem → ℕ → State → Type 0
+abbrev pub ends_of : Problem → ℕ → State → Type 0
 ends_of p = IsEnd p.others p.via p.ends
 
-abbrev guess_of : Problem → State → ℕ
+abbrev pub guess_of : Problem → State → ℕ
 guess_of p s = p.estimate s.leg s.cell
 
 -- a node is there for the state at time k
@@ -41,10 +41,10 @@ pub record IsThere (nodes : List Node) (k : ℕ) (s : State) : Type 0 where
 abbrev BoundWaits : Queue → ℕ → Type 0
 BoundWaits queue bound = (i : ℕ) × Waiting queue bound i
 
-has_covers : (p : Problem) (nodes : List Node) (k : ℕ) (t : State) → HasState p nodes k t → Covers (IsThere nodes) p.horizon k t
+pub has_covers : (p : Problem) (nodes : List Node) (k : ℕ) (t : State) → HasState p nodes k t → Covers (IsThere nodes) p.horizon k t
 has_covers p nodes k t h = record { time = (node_at nodes h.index).time; alike = h.alike; holds = record { index = h.index; within = h.within; time_is = refl; state_is = h.state_is } }
 
-expanded_done : (p : Problem) (nodes : List Node) (k : ℕ) (s : State) (b : ℕ) → IsExpanded p nodes k s b → IsDone (steps_of p) (ends_of p) p.horizon p.limit (guess_of p) (IsThere nodes) k s b
+pub expanded_done : (p : Problem) (nodes : List Node) (k : ℕ) (s : State) (b : ℕ) → IsExpanded p nodes k s b → IsDone (steps_of p) (ends_of p) p.horizon p.limit (guess_of p) (IsThere nodes) k s b
 expanded_done p nodes k s b x = record { onward = λ t step less few. has_covers p nodes (k + 1) t (x.onward t step less few); no_goal = x.no_end }
 
 pub is_frontier : (p : Problem) (nodes : List Node) (queue : Queue) → IsKept p nodes queue None
@@ -122,26 +122,55 @@ found_least e nodes queue rest bound index h kept pop q tour =
           (λ c w. omega (arith, pop.least c w.0 w.1)) there.0 there.1 there.2)
     ]
 
--- where nothing waits, there is no tour, however long
-pub none_found : (e : Errand) (nodes : List Node) (queue : Queue) → IsErrand e → IsKept (problem e) nodes queue None → ((b i : ℕ) → Waiting queue b i → ⊥) → (q : List Cell) → IsTour e.grid.now e.others.now e.loc e.via.now e.ends.now q → ⊥
-none_found e nodes queue h kept none q tour =
+-- where nothing that was met waits, there is no tour, however long
+pub none_waits : (e : Errand) (Met : ℕ → State → Type 0) (Waits : ℕ → Type 0) → IsErrand e → IsFrontier (steps_of (problem e)) (ends_of (problem e)) (problem e).start (problem e).horizon (problem e).limit (guess_of (problem e)) Met Waits
+    → ((bound : ℕ) → Waits bound → ⊥) → (q : List Cell) → IsTour e.grid.now e.others.now e.loc e.via.now e.ends.now q → ⊥
+none_waits e Met Waits h frontier none q tour =
     let p = problem e in
     let there = tour_ends e.grid.now e.others.now e.loc e.via.now e.ends.now e.first q h.arrives tour in
     let soon = end_by_bound e.grid.now e.others.now e.via.now e.ends.now (guess_of p) p.start (plain_space e h) h.inside h.arrives.few (last_index q) (last_index q) there.0 (omega arith) there.1 there.2 in
-    no_goal_by (steps_of p) (ends_of p) p.start p.horizon p.limit (guess_of p) (IsThere nodes) (BoundWaits queue) (errand_space e h) (is_frontier p nodes queue kept) soon.0 (omega (arith, soon.1, h.limit_is))
-    (λ c w. absurd (none c w.0 w.1)) there.0 soon.2 soon.3
+    no_goal_by (steps_of p) (ends_of p) p.start p.horizon p.limit (guess_of p) Met Waits (errand_space e h) frontier soon.0 (omega (arith, soon.1, h.limit_is))
+    (λ c w. absurd (none c w)) there.0 soon.2 soon.3
+
+-- where all that waits has a bound of n or more, no tour ends before n
+pub none_sooner : (e : Errand) (Met : ℕ → State → Type 0) (Waits : ℕ → Type 0) (n : ℕ) → IsErrand e → IsFrontier (steps_of (problem e)) (ends_of (problem e)) (problem e).start (problem e).horizon (problem e).limit (guess_of (problem e)) Met Waits
+    → n ≤ e.limit → ((bound : ℕ) → Waits bound → n ≤ bound) → (q : List Cell) → IsTour e.grid.now e.others.now e.loc e.via.now e.ends.now q → n ≤ last_index q
+none_sooner e Met Waits n h frontier small late q tour =
+    let p = problem e in
+    let there = tour_ends e.grid.now e.others.now e.loc e.via.now e.ends.now e.first q h.arrives tour in
+    let m = last_index q in
+    elim (cases_lt m n) [
+      | inr b ↦ b
+      | inl b ↦ absurd (no_goal_by (steps_of p) (ends_of p) p.start p.horizon p.limit (guess_of p) Met Waits (errand_space e h) frontier m (omega arith) (λ c w. omega (arith, late c w)) there.0 there.1 there.2)
+    ]
+
+-- where nothing waits in the queue, there is no tour, however long
+pub none_found : (e : Errand) (nodes : List Node) (queue : Queue) → IsErrand e → IsKept (problem e) nodes queue None → ((b i : ℕ) → Waiting queue b i → ⊥) → (q : List Cell) → IsTour e.grid.now e.others.now e.loc e.via.now e.ends.now q → ⊥
+none_found e nodes queue h kept none = none_waits e (IsThere nodes) (BoundWaits queue) h (is_frontier (problem e) nodes queue kept) (λ b w. none b w.0 w.1)
+
+-- the path to a node has as many steps as its time
+pub trace_size : (p : Problem) (path : List Cell) (n : Node) → IsTrace p path n → last_index path ≡ n.time
+trace_size p path n trace =
+    let z = leads_size p.grid p.others p.via 0 p.start trace.rest n.time (state_of n) trace.leads in
+    let y : last_index (p.start.cell ∷ trace.rest) ≡ n.time = omega arith in
+    ap last_index trace.path_is ∙ y
+
+-- the path to an end before which no tour ends is a least tour
+pub traced_tour : (e : Errand) (n : Node) (path : List Cell) → IsErrand e → n.time ≤ e.limit → ends_of (problem e) n.time (state_of n) → IsTrace (problem e) path n
+    → ((q : List Cell) → IsTour e.grid.now e.others.now e.loc e.via.now e.ends.now q → n.time ≤ last_index q) → IsLeastTour e.grid.now e.others.now e.loc e.via.now e.ends.now path
+traced_tour e n path h in_time end trace least =
+    let p = problem e in
+    let size = trace_size p path n trace in
+    let T : List Cell → Type 0 = IsTour e.grid.now e.others.now e.loc e.via.now e.ends.now in
+    record {
+      is_tour = subst T (sym trace.path_is) (leads_tour e.grid.now e.others.now e.loc e.via.now e.ends.now e.first trace.rest n.time (state_of n) h.inside h.arrives end trace.leads);
+      bounded = omega (arith, h.limit_is);
+      least = λ q tour. omega (arith, least q tour);
+    }
 
 -- the path to the first end is a least tour
 pub found_tour : (e : Errand) (nodes : List Node) (queue rest : Queue) (bound index : ℕ) (path : List Cell) → IsErrand e → IsKept (problem e) nodes queue None → Pops queue rest bound index
     → ends_of (problem e) (node_at nodes index).time (state_of (node_at nodes index)) → IsTrace (problem e) path (node_at nodes index) → IsLeastTour e.grid.now e.others.now e.loc e.via.now e.ends.now path
 found_tour e nodes queue rest bound index path h kept pop end trace =
-    let p = problem e in
-    let n = node_at nodes index in
     let in_time = (kept.reached index (kept.queued bound index pop.was).within).in_time in
-    let size : last_index path ≡ n.time = ap last_index trace.path_is ∙ (let z = leads_size p.grid p.others p.via 0 p.start trace.rest n.time (state_of n) trace.leads in let y : last_index (e.loc ∷ trace.rest) ≡ n.time = omega arith in y) in
-    let T : List Cell → Type 0 = IsTour e.grid.now e.others.now e.loc e.via.now e.ends.now in
-    record {
-      is_tour = subst T (sym trace.path_is) (leads_tour e.grid.now e.others.now e.loc e.via.now e.ends.now e.first trace.rest n.time (state_of n) h.inside h.arrives end trace.leads);
-      bounded = omega (arith, h.limit_is);
-      least = λ q tour. omega (arith, found_least e nodes queue rest bound index h kept pop q tour);
-    }
+    traced_tour e (node_at nodes index) path h in_time end trace (found_least e nodes queue rest bound index h kept pop)

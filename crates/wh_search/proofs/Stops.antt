@@ -1,7 +1,8 @@
 -- a delivery is a tour with all stops but the last one on the way, and the fields that are there give its estimate
-use Rattle.std.proofs.Common.{◌≡◌, ℕ, ◌+◌, ◌-◌, ◌*◌, ◌<◌, ◌≤◌, ◌^◌, ◌⊎◌, inl, inr, ◌∙◌, List, [], ◌∷◌, length, take, drop, get_or, Option, Some, None, IsSomeAnd, MatchOption, Contains, Result, Ok, Err, IfOk, min, refl, sym, ap, subst, suc, zero, length-take, arith}
+use Rattle.std.proofs.Common.{◌≡◌, ℕ, ◌+◌, ◌-◌, ◌*◌, ◌<◌, ◌≤◌, ◌^◌, ◌⊎◌, inl, inr, ◌∙◌, List, [], ◌∷◌, length, take, drop, get_or, Option, Some, None, IsSomeAnd, MatchOption, Contains, Result, Ok, Err, IfOk, min, refl, sym, ap, subst, suc, zero, length-take, length-drop, arith}
 use Rattle.std.specs.Borrow.{Bor}
 use Rattle.std.proofs.lemmas.Bool.{cases_lt}
+use Rattle.std.proofs.lemmas.List.{take_all}
 use Rattle.std.proofs.lemmas.List.Elements.{All-nil, All-contains}
 use Rattle.wh_grid.specs.declared.cell.Cell.{Cell}
 use Rattle.wh_grid.specs.Grids.{Floor, IsPassable, IsMove, passable_cells}
@@ -67,6 +68,10 @@ last_only [] n h = absurd (omega arith)
 last_only (s ∷ []) zero h = refl
 last_only (s ∷ t ∷ stops) zero h = absurd (omega arith)
 last_only (s ∷ stops) (suc n) h = last_only stops n (omega arith)
+
+-- the part of the stops from the last one on
+pub last_part : (stops : List Cell) → take (length stops - (length stops - 1)) (drop (length stops - 1) stops) ≡ drop (length stops - 1) stops
+last_part stops = take_all (length stops - (length stops - 1)) (drop (length stops - 1) stops) (omega (arith, length-drop (length stops - 1) stops))
 
 pub one_only : (x y : Cell) → Contains (x ∷ []) y → x ≡ y
 one_only x y h = elim (Contains-cases y x [] h) [ inl e ↦ e | inr n ↦ absurd (All-contains (λ _. ⊥) [] y (All-nil (λ _. ⊥)) n) ]

@@ -29,6 +29,12 @@ pub record IsLeast (g : Floor) (others : Others) (loc : Cell) (stops : List Cell
   pub lawful : IsLawful g others loc stops p
   pub least : (q : List Cell) → IsDelivery g others loc stops q → last_index p ≤ last_index q
 
+-- there is a least path, and n is no less than its last index
+pub record IsEnough (g : Floor) (others : Others) (loc : Cell) (stops : List Cell) (n : ℕ) : Type 0 where
+  pub path : List Cell
+  pub least : IsLeast g others loc stops path
+  pub enough : last_index path ≤ n
+
 -- two to eight stops
 abbrev pub AreStops : List Cell → Type 0
 AreStops stops = (2 ≤ length stops) × (length stops ≤ 8)

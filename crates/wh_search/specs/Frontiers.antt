@@ -100,6 +100,11 @@ pub record IsKept (p : Problem) (nodes : List Node) (queue : Queue) (busy : Opti
   pub queued : (bound i : ℕ) → Waiting queue bound i → IsQueued p nodes bound i
   pub cases : (i : ℕ) → i < length nodes → Waits queue i ⊎ IsExpanded p nodes (node_at nodes i).time (state_of (node_at nodes i)) (p.limit + 1) ⊎ IsBusy busy i
 
+-- so many states were expanded: no node has a later time, and none that waits again one so late
+pub record IsCounted (p : Problem) (nodes : List Node) (queue : Queue) (expanded : ℕ) : Type 0 where
+  pub times : (i : ℕ) → i < length nodes → (node_at nodes i).time ≤ expanded
+  pub again : (bound i : ℕ) → Waiting queue bound i → total_at p (node_at nodes i) < bound → (node_at nodes i).time < expanded
+
 -- a node was met: it is too late, or one like it was there, or it was added
 pub data Meets (p : Problem) (nodes : List Node) (queue : Queue) (new_nodes : List Node) (new_queue : Queue) (n : Node) : Type 0 where
   late : new_nodes ≡ nodes → new_queue ≡ queue → p.limit < total_at p n → Meets p nodes queue new_nodes new_queue n

@@ -6,7 +6,7 @@ ghost use Rattle.wh_grid.specs.declared.cell.Cell.{Cell};
 ghost use Rattle.wh_resv.specs.Calls.{IsVacant};
 ghost use Rattle.wh_search.specs.Queues.{IsQueue, Waiting};
 ghost use Rattle.wh_search.specs.Guides.{guide_estimate};
-ghost use Rattle.wh_search.specs.Frontiers.{problem, node_at, state_of, HasState, IsExpanded, Meets, IsKept, IsErrand};
+ghost use Rattle.wh_search.specs.Frontiers.{problem, node_at, state_of, total_at, HasState, IsExpanded, Meets, IsKept, IsCounted, IsErrand};
 ghost use Rattle.wh_search.specs.States.{IsEnd, State};
 
 use crate::errand::{Errand, arrive};
@@ -17,7 +17,7 @@ use std::alloc::{AllocError, Global};
 use wh_grid::Cell;
 
 /// The greatest number that a node holds. Where there would be a greater one, memory has run out.
-const MOST: u64 = 4294967295;
+pub const MOST: u64 = 4294967295;
 
 /// An agent that is at a cell at some time with so many stops behind it, and the number of the
 /// node from which it came.
@@ -59,7 +59,7 @@ pub fn stands_for(errand: &Errand, old: Node, new: Node) -> bool
 }
 
 /// Whether a cell is one of some.
-fn holds(cells: &[Cell], cell: Cell) -> bool
+pub fn holds(cells: &[Cell], cell: Cell) -> bool
     ensures { IsTrue result ↔ Contains cells.now cell }
 {
     for c in cells {
@@ -133,7 +133,8 @@ impl Frontier {
         requires limit { errand.now.limit < 2 ^ 62 }
         requires left { left ≡ guide_estimate errand.now.guide leg cell }
         requires queue { IsQueue self.old.queue }
-        ensures { OnOk result (Meets (problem errand.now) self.old.nodes.items self.old.queue self.new.nodes.items self.new.queue (record { time = time; leg = leg; cell = cell; parent = parent })) }
+        ensures expanded { OnOk result (self.new.expanded ≡ self.old.expanded) }
+        ensures met { OnOk result (Meets (problem errand.now) self.old.nodes.items self.old.queue self.new.nodes.items self.new.queue (record { time = time; leg = leg; cell = cell; parent = parent })) }
     {
         if time > errand.limit || left > errand.limit - time {
             return Ok(());
@@ -175,8 +176,11 @@ impl Frontier {
         requires alone { IsVacant errand.now.others.now.paths (node_at self.old.nodes.items index).cell (node_at self.old.nodes.items index).time }
         requires total { (node_at self.old.nodes.items index).time + guide_estimate errand.now.guide (node_at self.old.nodes.items index).leg (node_at self.old.nodes.items index).cell ≤ bound }
         requires small { bound ≤ errand.now.limit }
+        requires counted { IsCounted (problem errand.now) self.old.nodes.items self.old.queue self.old.expanded }
+        requires again { total_at (problem errand.now) (node_at self.old.nodes.items index) < bound → (node_at self.old.nodes.items index).time < self.old.expanded }
         requires no_end { IsEnd errand.now.others.now errand.now.via.now errand.now.ends.now (node_at self.old.nodes.items index).time (state_of (node_at self.old.nodes.items index)) → ⊥ }
-        ensures { OnOk result (IsKept (problem errand.now) self.new.nodes.items self.new.queue None) }
+        ensures kept { OnOk result (IsKept (problem errand.now) self.new.nodes.items self.new.queue None) }
+        ensures counted { OnOk result (IsCounted (problem errand.now) self.new.nodes.items self.new.queue self.new.expanded) }
     {
         let _width = errand.grid.width();
         let _height = errand.grid.height();

@@ -1,12 +1,12 @@
 //! The calls for a task of two to eight stops.
 #![tactic(auto)]
 
-ghost use Rattle.std.specs.Prelude.{◌≡◌, ℕ, ◌+◌, ◌-◌, ◌*◌, ◌<◌, ◌≤◌, ◌^◌, List, IfOk, MatchOption, length};
+ghost use Rattle.std.specs.Prelude.{◌≡◌, ℕ, ◌+◌, ◌-◌, ◌*◌, ◌<◌, ◌≤◌, ◌^◌, List, IfOk, IfSome, MatchOption, length};
 ghost use Rattle.wh_grid.specs.declared.cell.Cell.{Cell};
 ghost use Rattle.wh_grid.specs.Grids.{IsPassable};
 ghost use Rattle.wh_resv.specs.Others.{MayRest};
 ghost use Rattle.wh_path.specs.Paths.{last_index};
-ghost use Rattle.wh_search.specs.Deliveries.{IsDelivery, IsLawful, IsLeast, IfNoPath, AreStops};
+ghost use Rattle.wh_search.specs.Deliveries.{IsDelivery, IsLawful, IsLeast, IsEnough, IfNoPath, AreStops};
 ghost use Rattle.wh_search.specs.Fields.{AreFieldsOf};
 ghost use Rattle.wh_search.specs.Guides.{IsOnward};
 
@@ -41,7 +41,8 @@ fn find<'x>(
     requires clear { MayRest others.now loc 0 }
     requires stops { AreStops stops.now }
     requires fields { AreFieldsOf grid.now stops.now fields.now }
-    ensures { IfOk result (λ found. MatchOption found.path
+    ensures counted { IfOk result (λ found. IfSome found.path (λ p. last_index p ≤ found.states)) }
+    ensures found { IfOk result (λ found. MatchOption found.path
         ((q : List Cell) → IsDelivery grid.now others.now loc stops.now q → ⊥)
         (λ p. IsLeast grid.now others.now loc stops.now p)) }
 {
@@ -106,7 +107,8 @@ pub fn deliver_guided<'x>(
 }
 
 /// How many states, each of a cell, a time and a number of stops behind, have their successors
-/// made by `deliver_guided` on these arguments; or its fault.
+/// made by `deliver_guided` on these arguments; or its fault. They are no fewer than the steps of
+/// a least path.
 pub fn guided_steps<'x>(
     alloc: Global,
     grid: &'x Grid,
@@ -119,6 +121,7 @@ pub fn guided_steps<'x>(
     requires clear { MayRest others.now loc 0 }
     requires stops { AreStops stops.now }
     requires fields { AreFieldsOf grid.now stops.now fields.now }
+    ensures enough { IfOk result (λ n. IsEnough grid.now others.now loc stops.now n) }
     ensures none { IfNoPath result ((q : List Cell) → IsDelivery grid.now others.now loc stops.now q → ⊥) }
 {
     match find(alloc, grid, others, loc, stops, fields) {

@@ -6,6 +6,7 @@ mod fresh;
 mod frontier;
 mod guide;
 mod guided;
+pub mod layers;
 mod moves;
 mod parking;
 mod queue;

@@ -1,8 +1,9 @@
 //! The search, guided by an estimate, for a least lawful path.
 #![tactic(auto)]
 
-ghost use Rattle.std.specs.Prelude.{◌≡◌, ℕ, ◌+◌, ◌<◌, ◌≤◌, ◌^◌, ◌↔◌, List, IsTrue, IfOk, MatchOption, Option, Some, None, length, vec_len, [], ◌∷◌};
+ghost use Rattle.std.specs.Prelude.{◌≡◌, ℕ, ◌+◌, ◌<◌, ◌≤◌, ◌^◌, ◌↔◌, List, IsTrue, IfOk, IfSome, MatchOption, Option, Some, None, length, vec_len, [], ◌∷◌};
 ghost use Rattle.wh_grid.specs.declared.cell.Cell.{Cell};
+ghost use Rattle.wh_path.specs.Paths.{last_index};
 ghost use Rattle.wh_resv.specs.Others.{MayRest};
 ghost use Rattle.wh_search.specs.Frontiers.{problem, node_at, state_of, IsKept, IsErrand};
 ghost use Rattle.wh_search.specs.Tours.{IsTour, IsLeastTour};
@@ -24,7 +25,8 @@ pub struct Found {
 pub fn search(alloc: Global, errand: &Errand) -> Result<Found, AllocError>
     requires errand { IsErrand errand.now }
     requires clear { MayRest errand.now.others.now errand.now.loc 0 }
-    ensures { IfOk result (λ found. MatchOption found.path
+    ensures counted { IfOk result (λ found. IfSome found.path (λ p. last_index p ≤ found.states)) }
+    ensures found { IfOk result (λ found. MatchOption found.path
         ((q : List Cell) → IsTour errand.now.grid.now errand.now.others.now errand.now.loc errand.now.via.now errand.now.ends.now q → ⊥)
         (λ p. IsLeastTour errand.now.grid.now errand.now.others.now errand.now.loc errand.now.via.now errand.now.ends.now p)) }
 {

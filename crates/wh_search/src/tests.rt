@@ -1,6 +1,6 @@
 //! Small errands on a floor of rows `.....` and `@.@@@`, and one on an open floor.
 
-use crate::{Fault, deliver, deliver_guided, guided_steps, park};
+use crate::{Fault, deliver, deliver_guided, guided_steps, layers, park};
 use std::process::Abort;
 use std::test::Fail;
 use wh_field::Field;
@@ -98,16 +98,15 @@ fn parks(rt: HostRuntime) -> Result<(), Fail> {
     assert!(&rt; others.may_rest(loc, 0));
     let beyond = park(rt.alloc(), &grid, &others, loc, &[at(4)]);
     assert_eq!(&rt; last(&rt, beyond)?, None);
+    let plain = layers::park(rt.alloc(), &grid, &others, loc, &[at(4)]);
+    assert_eq!(&rt; last(&rt, plain)?, None);
     let here = park(rt.alloc(), &grid, &others, loc, &[at(0)]);
     assert_eq!(&rt; last(&rt, here)?, Some(0));
-    let nearest = park(
-        rt.alloc(),
-        &grid,
-        &others,
-        loc,
-        &[at(4), Cell { x: 1, y: 1 }],
-    );
+    let allowed = [at(4), Cell { x: 1, y: 1 }];
+    let nearest = park(rt.alloc(), &grid, &others, loc, &allowed);
     assert_eq!(&rt; last(&rt, nearest)?, Some(2));
+    let plainly = layers::park(rt.alloc(), &grid, &others, loc, &allowed);
+    assert_eq!(&rt; last(&rt, plainly)?, Some(2));
     Ok(())
 }
 
@@ -152,5 +151,82 @@ fn asks_the_others(rt: HostRuntime) -> Result<(), Fail> {
     assert!(&rt; !others.may_rest(at(2), 1));
     assert!(&rt; others.may_rest(at(2), 2));
     assert!(&rt; others.not_before(at(3)).is_none());
+    Ok(())
+}
+
+/// How often the searches were compared beside one other path, and how often there was no path.
+#[derive(Clone, Copy)]
+struct Compared {
+    all: u32,
+    none: u32,
+}
+
+/// Compares the searches beside one other path: from each cell of the small floor to which the other
+/// never comes, through each two cells.
+fn compare_all<R: Abort + AllocGlobal>(rt: &R, other: &[(u16, u16)]) -> Result<Compared, Fail> {
+    let grid = small_floor(rt)?;
+    let paths = [path(rt, &[(0, 0)])?, path(rt, other)?];
+    let others = Reservations::build(rt.alloc(), &paths, 0, false)?;
+    let cells = [at(0), at(1), at(2), at(3), at(4), Cell { x: 1, y: 1 }];
+    let mut count = Compared { all: 0, none: 0 };
+    for loc in cells {
+        if grid.passable(loc) && others.may_rest(loc, 0) {
+            for pickup in cells {
+                for delivery in cells {
+                    let plain = agreed(rt, &grid, &others, loc, pickup, delivery)?;
+                    count.all = count.all.saturating_add(1);
+                    if plain.is_none() {
+                        count.none = count.none.saturating_add(1);
+                    }
+                }
+            }
+        }
+    }
+    Ok(count)
+}
+
+/// The last index of what all three searches find.
+fn agreed<R: Abort + AllocGlobal>(
+    rt: &R,
+    grid: &Grid,
+    others: &Reservations,
+    loc: Cell,
+    pickup: Cell,
+    delivery: Cell,
+) -> Result<Option<u64>, Fail> {
+    assert!(rt; grid.passable(loc));
+    assert!(rt; others.may_rest(loc, 0));
+    let stops = [pickup, delivery];
+    let plain = last(rt, layers::deliver(rt.alloc(), grid, others, loc, &stops))?;
+    let first = Field::from(rt.alloc(), grid, pickup)?;
+    let second = Field::from(rt.alloc(), grid, delivery)?;
+    let fields = [Some(&first), Some(&second)];
+    let guided = deliver_guided(rt.alloc(), grid, others, loc, &stops, &fields);
+    assert_eq!(rt; last(rt, guided)?, plain);
+    assert_eq!(rt;
+        last(rt, deliver(rt.alloc(), grid, others, loc, &stops))?,
+        plain
+    );
+    Ok(plain)
+}
+
+// six passable cells, so 36 pairs of pickup and delivery from each cell where the other never is
+#[test]
+fn searches_agree(rt: HostRuntime) -> Result<(), Fail> {
+    // the other comes everywhere but to (0,0). It ends at (4,0), and who is there before cannot get
+    // out of its way: a path is there for the 25 pairs without that cell
+    let first = compare_all(&rt, &[(1, 1), (1, 1), (1, 0), (2, 0), (3, 0), (4, 0)])?;
+    assert_eq!(rt; first.all, 36);
+    assert_eq!(rt; first.none, 11);
+    // the other never comes to (0,0), (2,0), (3,0) and (4,0), and from 3 on it shuts (1,0), so that
+    // nobody gets to (1,1): from these cells a path is there for 17, 15, 16 and 9 pairs
+    let second = compare_all(&rt, &[(1, 1), (1, 1), (1, 1), (1, 0)])?;
+    assert_eq!(rt; second.all, 144);
+    assert_eq!(rt; second.none, 87);
+    // the other parts three cells from two: a path is there for 9 pairs from each of the three, and
+    // for 4 from each of the two
+    let third = compare_all(&rt, &[(2, 0)])?;
+    assert_eq!(rt; third.all, 180);
+    assert_eq!(rt; third.none, 145);
     Ok(())
 }

@@ -1,5 +1,4 @@
-use Rattle.std.proofs.Common.{◌≡◌, ◌+◌, ◌-◌, ◌*◌, ◌≤◌, List, length, take, drop, length-drop, MatchOption, Contains, refl, ap, sym, subst, ◌∙◌, arith}
-use Rattle.std.proofs.lemmas.List.{take_all}
+use Rattle.std.proofs.Common.{◌≡◌, ◌+◌, ◌-◌, ◌*◌, ◌≤◌, List, length, take, drop, MatchOption, Contains, refl, ap, sym, subst, ◌∙◌, arith}
 use Rattle.std.proofs.lemmas.Nat.{mul-le}
 use Rattle.wh_grid.specs.declared.cell.Cell.{Cell}
 use Rattle.wh_grid.specs.Grids.{passable_cells}
@@ -8,14 +7,11 @@ use Rattle.wh_search.specs.Deliveries.{IsDelivery, IsLeast}
 use Rattle.wh_search.specs.Guides.{IsOnward}
 use Rattle.wh_search.specs.Tours.{IsTour, IsLeastTour}
 use Rattle.wh_resv.specs.Others.{MayRest}
-use Rattle.wh_search.proofs.Stops.{ok_weaker, path_weaker, delivery_rests, stops_estimates, via_size, last_only, one_only}
+use Rattle.wh_search.proofs.Stops.{ok_weaker, path_weaker, delivery_rests, stops_estimates, via_size, last_only, last_part, one_only}
 use Rattle.wh_search.proofs.guided.find.Goals as goal
 
-pub returns-in_default : goal.returns-in_default
-returns-in_default c = λ q d. c.in_default.ensures.none (last_index q) (delivery_rests c.args.grid.now c.args.others.now c.args.loc c.args.stops.now q d)
-
-last_part : (stops : List Cell) → take (length stops - (length stops - 1)) (drop (length stops - 1) stops) ≡ drop (length stops - 1) stops
-last_part stops = take_all (length stops - (length stops - 1)) (drop (length stops - 1) stops) (omega (arith, length-drop (length stops - 1) stops))
+pub returns-in_default-clause-found : goal.returns-in_default-clause-found
+returns-in_default-clause-found c = λ q d. c.in_default.ensures.none (last_index q) (delivery_rests c.args.grid.now c.args.others.now c.args.loc c.args.stops.now q d)
 
 pub search-requires-clause-errand : goal.search-requires-clause-errand
 search-requires-clause-errand c =
@@ -43,8 +39,8 @@ search-requires-clause-errand c =
           c.in-Some.ensures.some k (subst (λ (d : Cell). MayRest c.args.others.now d k) (sym is) e.rests);
     }
 
-pub returns : goal.returns
-returns c =
+pub returns-clause-found : goal.returns-clause-found
+returns-clause-found c =
     let g = c.args.grid.now in
     let o = c.args.others.now in
     let stops = c.args.stops.now in
@@ -54,4 +50,4 @@ returns c =
     ok_weaker c.search.result
     (λ found. MatchOption found.path ((q : List Cell) → IsTour g o c.args.loc via ends q → ⊥) (λ p. IsLeastTour g o c.args.loc via ends p))
     (λ found. MatchOption found.path ((q : List Cell) → IsDelivery g o c.args.loc stops q → ⊥) (λ p. IsLeast g o c.args.loc stops p))
-    (λ found h. path_weaker g o c.args.loc stops via ends found.path c.requires.stops.0 refl (last_part stops) h) c.search.ensures
+    (λ found h. path_weaker g o c.args.loc stops via ends found.path c.requires.stops.0 refl (last_part stops) h) c.search.ensures.found

@@ -1,14 +1,18 @@
-use Rattle.std.proofs.Common.{Bool, true, false, not, IsTrue, ◌≡◌, ℕ, ◌+◌, ◌-◌, ◌<◌, ◌≤◌, ◌^◌, length, take, min, ap, subst, sym, refl, ◌∙◌, arith}
+use mir.Val.{bool_byte}
+use Rattle.std.proofs.Common.{inl, inr, List, get_or, eq-eqb, Bool, true, false, not, IsTrue, ◌≡◌, ℕ, ◌+◌, ◌-◌, ◌<◌, ◌≤◌, ◌^◌, length, take, min, ap, subst, sym, refl, ◌∙◌, arith}
+use Rattle.std.proofs.lemmas.Bool.{cases_eq}
 use Rattle.std.proofs.lemmas.List.{take_all, get_or_read}
+use Rattle.std.proofs.lemmas.List.Elements.{All-nil}
 use Rattle.wh_search.specs.Steps.{Go}
 use Rattle.wh_search.specs.declared.frontier.Frontier.{Frontier}
 use Rattle.wh_search.specs.declared.frontier.Node.{Node}
-use Rattle.wh_search.specs.Frontiers.{problem, node_at, state_of, total_at}
+use Rattle.wh_search.specs.Frontiers.{problem, node_at, state_of, total_at, IsExpanded, IsCounted}
 use Rattle.wh_field.specs.Sides.{around}
 use Rattle.wh_search.specs.Guides.{guide_estimate}
 use Rattle.wh_search.specs.States.{IsEnd}
-use Rattle.wh_search.proofs.Expands.{IsExpanding, estimate_beside, move_at, onward_of, expanding_met, expanding_not, expanding_done, expanded_less}
+use Rattle.wh_search.proofs.Expands.{IsExpanding, IsMet, estimate_beside, move_at, onward_of, expanding_met, expanding_not, expanding_done, expanded_less}
 use Rattle.wh_search.proofs.Kept.{kept_done, kept_again}
+use Rattle.wh_search.proofs.Counts.{counted_less, counted_meets, counted_again}
 use Rattle.wh_search.proofs.Searches.{errand_falls}
 use Rattle.wh_search.proofs.frontier.Frontier.expand.Goals as goal
 use Rattle.wh_search.proofs.frontier.Frontier.expand.Goals.{then-total-upto, else-total-upto+then-total-bound+then-not-look+then-allows+in_ok-meet, else-total-upto+then-total-bound+else-not-look, else-total-upto+else-total-bound, else-not-look-via-then-not-look+else-allows, else-not-look-via-else-not-look}
@@ -16,6 +20,39 @@ use Rattle.wh_search.proofs.frontier.Frontier.expand.Goals.{then-total-upto, els
 not_not : (b : Bool) → not b ≡ false → IsTrue b
 not_not true h = refl
 not_not false h = absurd (cc)
+
+pub loop-i-init : goal.loop-i-init
+loop-i-init c =
+    let e = c.args.errand.now in
+    let p = problem e in
+    let nodes = c.args.self.now.nodes.items in
+    let n = node_at nodes c.args.index in
+    let from = c.index-from.result.now in
+    let own = c.saturating_add-own.result in
+    let is : from ≡ n = get_or_read nodes c.args.index from (omega arith) c.index-from.ensures (record { time = 0; leg = 0; cell = record { x = 0; y = 0 }; parent = 0 }) in
+    let left : get_or c.around-lefts.result 0 0 ≡ guide_estimate e.guide from.leg from.cell = ap (λ (xs : List ℕ). get_or xs 0 0) c.around-lefts.ensures in
+    let total : total_at p from ≤ c.args.bound = subst (λ (y : Node). total_at p y ≤ c.args.bound) (sym is) c.requires.total in
+    let bounded = c.requires.small in
+    let few = c.requires.errand.small in
+    let soon : from.time ≤ c.args.self.now.expanded = subst (λ (y : Node). y.time ≤ c.args.self.now.expanded) (sym is) (c.requires.counted.times c.args.index (omega arith)) in
+    let more = c.saturating_add-self.ensures in
+    let later : from.time < c.saturating_add-self.result = elim (cases_eq own c.args.bound) [
+      | inl y ↦ (let one : c.from.result ≡ 1 = c.from.ensures ∙ ap bool_byte (eq-eqb own c.args.bound y) in omega arith)
+      | inr y ↦ (let less : total_at p n < c.args.bound = subst (λ (m : Node). total_at p m < c.args.bound) is (omega (arith, c.saturating_add-own.ensures, left)) in
+          let old : from.time < c.args.self.now.expanded = subst (λ (m : Node). m.time < c.args.self.now.expanded) (sym is) (c.requires.again less) in
+          omega arith)
+    ] in (
+      record {
+        kept = c.requires.kept;
+        within = omega arith;
+        here = sym is;
+        before = subst (λ (y : Node). IsExpanded p nodes y.time (state_of y) c.args.bound) (sym is) c.requires.expanded;
+        later = omega (arith, c.upto-upto.ensures.limit);
+        met = All-nil (IsMet p nodes from c.args.bound c.upto-upto.result (2 ^ 64 - 1));
+      },
+      counted_less p nodes c.args.self.now.queue c.args.self.now.expanded c.saturating_add-self.result (omega arith) c.requires.counted,
+      later,
+    )
 
 pub loop-i-preserved : goal.loop-i-preserved
 loop-i-preserved c =
@@ -28,67 +65,88 @@ loop-i-preserved c =
     let m = c.arrive-leg.result in
     let here = move_at moves i in
     let small : i < length moves = omega arith in
-    let P : Frontier → ℕ → Type 0 = λ f n. IsExpanding p f.nodes.items f.queue c.args.index c.args.bound c.upto-upto.result n from (take (i + 1) moves) in
+    let P : Frontier → ℕ → Type 0 = λ f n. IsExpanding p f.nodes.items f.queue c.args.index c.args.bound c.upto-upto.result n from (take (i + 1) moves) × IsCounted p f.nodes.items f.queue f.expanded × (from.time < f.expanded) in
     let put : (f g : Frontier) (n o : ℕ) → f ≡ g → n ≡ o → P g o → P f n = λ f g n o a b x. subst (λ (y : Frontier). P y n) (sym a) (subst (P g) (sym b) x) in
     let total : c.saturating_add-total.result ≡ min (onward_of p from m here) (2 ^ 64 - 1) = c.saturating_add-total.ensures ∙ ap (λ n. min (from.time + 1 + n) (2 ^ 64 - 1)) c.estimate_by-left.ensures in
     let bounded = c.requires.small in
     let few = c.requires.errand.small in
     let soon = c.upto-upto.ensures.limit in
-    let late = l.invariant.later in
+    let late = l.invariant.0.later in
     elim c.if-total-upto.branch [
-      | then-total-upto w ↦ put _ _ _ _ w.self-is w.next-is
-          (expanding_not p l.self.nodes.items l.self.queue c.args.index c.args.bound c.upto-upto.result l.next w.min-next.result from moves i m small l.invariant c.arrive-leg.ensures
-          (λ lo hi go. let lt = w.if-total-upto.true in absurd (omega arith)) (λ beyond. let least = w.min-next.ensures in omega arith) (let least = w.min-next.ensures in omega arith) (let least = w.min-next.ensures in let lt = w.if-total-upto.true in omega arith))
+      | then-total-upto w ↦ put _ _ _ _ w.self-is w.next-is (
+        expanding_not p l.self.nodes.items l.self.queue c.args.index c.args.bound c.upto-upto.result l.next w.min-next.result from moves i m small l.invariant.0 c.arrive-leg.ensures
+            (λ lo hi go. let lt = w.if-total-upto.true in absurd (omega arith)) (λ beyond. let least = w.min-next.ensures in omega arith) (let least = w.min-next.ensures in omega arith) (let least = w.min-next.ensures in let lt = w.if-total-upto.true in omega arith),
+        l.invariant.1,
+        l.invariant.2,
+      )
       | else-total-upto+then-total-bound+then-not-look+then-allows+in_ok-meet w ↦ put _ _ _ _ w.self-is w.next-is
           (let a = w.allows.ensures.0 w.if-allows.true in
           let go : Go p.grid p.others from.time from.cell here = record { passable = a.0; move = c.moves_from-moves.ensures.moves i (record { x = 0; y = 0 }) small; may = a.1 } in
-          expanding_met p l.self.nodes.items l.self.queue w.meet.new.self.nodes.items w.meet.new.self.queue c.args.index c.args.bound c.upto-upto.result l.next from moves i m small l.invariant go c.arrive-leg.ensures (let le = w.if-total-upto.false in omega arith)
-          (errand_falls e c.requires.errand (from.time + 1) (record { leg = m; cell = here }) c.arrive-leg.ensures.few a.0) w.in_ok-meet.ensures c.upto-upto.ensures.limit)
-      | else-total-upto+then-total-bound+else-not-look w ↦ put _ _ _ _ w.self-is w.next-is
-          (expanding_not p l.self.nodes.items l.self.queue c.args.index c.args.bound c.upto-upto.result l.next l.next from moves i m small l.invariant c.arrive-leg.ensures
-          (λ lo hi go. elim w.else-not-look.branch [
-            | else-not-look-via-then-not-look+else-allows v ↦ (let t = v.allows.ensures.1 (go.passable, go.may) in absurd cc)
-            | else-not-look-via-else-not-look v ↦ w.look-look.ensures (not_not w.look-look.result.known v.if-not-look.false)
-          ])
-          (λ beyond. let le = w.if-total-upto.false in absurd (omega arith)) (omega arith) l.invariant.later)
-      | else-total-upto+else-total-bound w ↦ put _ _ _ _ w.self-is w.next-is
-          (expanding_not p l.self.nodes.items l.self.queue c.args.index c.args.bound c.upto-upto.result l.next l.next from moves i m small l.invariant c.arrive-leg.ensures
-          (λ lo hi go. let less = w.if-total-bound.false in absurd (omega arith))
-          (λ beyond. let le = w.if-total-upto.false in absurd (omega arith)) (omega arith) l.invariant.later)
+          let next_node : Node = record { time = from.time + 1; leg = m; cell = here; parent = c.args.index } in
+          let same : w.meet.new.self.expanded ≡ l.self.expanded = w.in_ok-meet.ensures.expanded in
+          let sooner : from.time < l.self.expanded = l.invariant.2 in
+          let counted = counted_meets p l.self.nodes.items l.self.queue w.meet.new.self.nodes.items w.meet.new.self.queue next_node l.self.expanded l.invariant.1 (λ b j v. (l.invariant.0.kept.queued b j v).within) (omega arith) w.in_ok-meet.ensures.met in (
+            expanding_met p l.self.nodes.items l.self.queue w.meet.new.self.nodes.items w.meet.new.self.queue c.args.index c.args.bound c.upto-upto.result l.next from moves i m small l.invariant.0 go c.arrive-leg.ensures (let le = w.if-total-upto.false in omega arith)
+                (errand_falls e c.requires.errand (from.time + 1) (record { leg = m; cell = here }) c.arrive-leg.ensures.few a.0) w.in_ok-meet.ensures.met c.upto-upto.ensures.limit,
+            subst (IsCounted p w.meet.new.self.nodes.items w.meet.new.self.queue) (sym same) counted,
+            omega (arith, same),
+          ))
+      | else-total-upto+then-total-bound+else-not-look w ↦ put _ _ _ _ w.self-is w.next-is (
+        expanding_not p l.self.nodes.items l.self.queue c.args.index c.args.bound c.upto-upto.result l.next l.next from moves i m small l.invariant.0 c.arrive-leg.ensures
+            (λ lo hi go. elim w.else-not-look.branch [
+              | else-not-look-via-then-not-look+else-allows v ↦ (let t = v.allows.ensures.1 (go.passable, go.may) in absurd cc)
+              | else-not-look-via-else-not-look v ↦ w.look-look.ensures (not_not w.look-look.result.known v.if-not-look.false)
+            ])
+            (λ beyond. let le = w.if-total-upto.false in absurd (omega arith)) (omega arith) l.invariant.0.later,
+        l.invariant.1,
+        l.invariant.2,
+      )
+      | else-total-upto+else-total-bound w ↦ put _ _ _ _ w.self-is w.next-is (
+        expanding_not p l.self.nodes.items l.self.queue c.args.index c.args.bound c.upto-upto.result l.next l.next from moves i m small l.invariant.0 c.arrive-leg.ensures
+            (λ lo hi go. let less = w.if-total-bound.false in absurd (omega arith))
+            (λ beyond. let le = w.if-total-upto.false in absurd (omega arith)) (omega arith) l.invariant.0.later,
+        l.invariant.1,
+        l.invariant.2,
+      )
     ]
 
-pub returns-in_ok-push : goal.returns-in_ok-push
-returns-in_ok-push c =
+pub returns-in_ok-push-clause-kept : goal.returns-in_ok-push-clause-kept
+returns-in_ok-push-clause-kept c =
     let p = problem c.args.errand.now in
     let l = c.loop-i in
     let from = c.index-from.result.now in
     let moves = c.moves_from-moves.result in
-    let late = l.invariant.later in
+    let late = l.invariant.0.later in
     let further = c.upto-upto.ensures.bound in
-    let x = subst (IsExpanding p l.self.nodes.items l.self.queue c.args.index c.args.bound c.upto-upto.result l.next from) (take_all l.i moves (omega arith)) l.invariant in
+    let x = subst (IsExpanding p l.self.nodes.items l.self.queue c.args.index c.args.bound c.upto-upto.result l.next from) (take_all l.i moves (omega arith)) l.invariant.0 in
     let is : from ≡ node_at c.args.self.now.nodes.items c.args.index = get_or_read c.args.self.now.nodes.items c.args.index from (omega arith) c.index-from.ensures (record { time = 0; leg = 0; cell = record { x = 0; y = 0 }; parent = 0 }) in
     let E : Node → Type 0 = λ n. IsEnd p.others p.via p.ends n.time (state_of n) → ⊥ in
     let total : total_at p from ≤ c.args.bound = subst (λ (n : Node). total_at p n ≤ c.args.bound) (sym is) c.requires.total in
-    kept_again p l.self.nodes.items l.self.queue c.push.new.self c.args.index l.next l.invariant.kept
+    kept_again p l.self.nodes.items l.self.queue c.push.new.self c.args.index l.next l.invariant.0.kept
     (record {
-      within = l.invariant.within;
-      total = subst (λ (n : Node). total_at p n ≤ l.next) (sym l.invariant.here) (omega arith);
+      within = l.invariant.0.within;
+      total = subst (λ (n : Node). total_at p n ≤ l.next) (sym l.invariant.0.here) (omega arith);
       small = c.if-next-errand.true;
       expanded = expanding_done p l.self.nodes.items l.self.queue c.args.index c.args.bound c.upto-upto.result l.next from moves x (λ d a b m. c.moves_from-moves.ensures.complete d (omega arith) (omega arith) m) (omega arith) (omega arith) (subst E (sym is) c.requires.no_end);
     }) c.in_ok-push.ensures
 
-pub returns-else-next-errand : goal.returns-else-next-errand
-returns-else-next-errand c =
+pub returns-in_ok-push-clause-counted : goal.returns-in_ok-push-clause-counted
+returns-in_ok-push-clause-counted c =
+    let l = c.loop-i in
+    counted_again (problem c.args.errand.now) l.self.nodes.items l.self.queue c.push.new.self l.next c.args.index l.self.expanded l.invariant.1 (subst (λ (n : Node). n.time < l.self.expanded) (sym l.invariant.0.here) l.invariant.2) c.in_ok-push.ensures
+
+pub returns-else-next-errand-clause-kept : goal.returns-else-next-errand-clause-kept
+returns-else-next-errand-clause-kept c =
     let p = problem c.args.errand.now in
     let l = c.loop-i in
     let from = c.index-from.result.now in
     let moves = c.moves_from-moves.result in
-    let x = subst (IsExpanding p l.self.nodes.items l.self.queue c.args.index c.args.bound c.upto-upto.result l.next from) (take_all l.i moves (omega arith)) l.invariant in
+    let x = subst (IsExpanding p l.self.nodes.items l.self.queue c.args.index c.args.bound c.upto-upto.result l.next from) (take_all l.i moves (omega arith)) l.invariant.0 in
     let is : from ≡ node_at c.args.self.now.nodes.items c.args.index = get_or_read c.args.self.now.nodes.items c.args.index from (omega arith) c.index-from.ensures (record { time = 0; leg = 0; cell = record { x = 0; y = 0 }; parent = 0 }) in
     let E : Node → Type 0 = λ n. IsEnd p.others p.via p.ends n.time (state_of n) → ⊥ in
     let beyond = c.if-next-errand.false in
     let n = node_at l.self.nodes.items c.args.index in
-    kept_done p l.self.nodes.items l.self.queue c.args.index l.invariant.kept
+    kept_done p l.self.nodes.items l.self.queue c.args.index l.invariant.0.kept
     (expanded_less p l.self.nodes.items n.time (state_of n) l.next (p.limit + 1) (omega arith)
     (expanding_done p l.self.nodes.items l.self.queue c.args.index c.args.bound c.upto-upto.result l.next from moves x (λ d a b m. c.moves_from-moves.ensures.complete d (omega arith) (omega arith) m) (omega arith) (omega arith) (subst E (sym is) c.requires.no_end)))
 
