@@ -12,7 +12,7 @@ use wh_state::Floor;
 use wh_tasks::EndSet;
 
 /// The task that the agent takes: of those that it may take, the nearest one; these are the others' ends. The field is
-/// filled little further than to that task. It takes no memory.
+/// filled no further than to that task. It takes no memory.
 pub fn nearest(floor: &Floor, near: &mut LazyField, marks: &EndSet, agent: u32) -> Option<u32>
     requires known { agent < length floor.now.state.paths }
     requires marks { marks.now.cells ≡ other_ends floor.now.state agent }

@@ -9,3 +9,5 @@ pub mod Tables
 pub mod Walks
 pub mod Sides
 pub mod Limits
+pub mod Marked
+pub mod Sought

@@ -1,5 +1,5 @@
 -- distances and routes, by whole walks
-use Rattle.std.specs.Prelude.{◌≡◌, ℕ, ◌<◌, ◌≤◌, ◌⊎◌, List, length, Option, Some, None, Contains}
+use Rattle.std.specs.Prelude.{◌≡◌, ℕ, ◌<◌, ◌≤◌, ◌⊎◌, List, Bool, length, Option, Some, None, Contains, IsTrue}
 use Rattle.std.proofs.Common.{inl, inr}
 use Rattle.wh_grid.specs.declared.cell.Cell.{Cell}
 use Rattle.wh_grid.specs.Grids.{Floor}
@@ -39,3 +39,10 @@ IsNearestDistance g sources to None = (source : Cell) → Contains sources sourc
 IsNearestDistance g sources to (Some n) =
     ((source : Cell) × Contains sources source × IsDistance g source to (Some n))
     × ((source : Cell) (p : List Cell) → Contains sources source → IsWalkBetween g source to p → n ≤ last_index p)
+
+-- the last index of a least walk from a cell to any of those for which a test is true; none where there is no walk to any
+abbrev pub IsDistanceToFirst : Floor → Cell → (Cell → Bool) → Option ℕ → Type 0
+IsDistanceToFirst g from sought None = (to : Cell) → IsTrue (sought to) → IsDistance g from to None
+IsDistanceToFirst g from sought (Some n) =
+    ((to : Cell) × IsTrue (sought to) × IsDistance g from to (Some n))
+    × ((to : Cell) (p : List Cell) → IsTrue (sought to) → IsWalkBetween g from to p → n ≤ last_index p)

@@ -1,5 +1,5 @@
 -- what fields are of
-use Rattle.std.specs.Prelude.{List}
+use Rattle.std.specs.Prelude.{List, Bool}
 use Rattle.wh_grid.specs.declared.cell.Cell.{Cell}
 use Rattle.wh_grid.specs.Grids.{Floor}
 
@@ -12,3 +12,9 @@ pub record Source : Type 0 where
 pub record Sources : Type 0 where
   pub grid : Floor
   pub cells : List Cell
+
+-- what a lazy field is of: a grid, the cell from which all are measured, and for each place of a table whether it is sought
+pub record Seeking : Type 0 where
+  pub grid : Floor
+  pub cell : Cell
+  pub sought : List Bool

@@ -90,3 +90,19 @@ pub record IsSpreading (stride d : ℕ) (t todo next : List ℕ) : Type 0 where
   pub at_next : All (λ i. value t i ≡ d) next
   pub all_next : (i : ℕ) → value t i ≡ d → Contains next i
   pub room : d + unseen_count t + length next ≤ length t
+
+-- the place has this mark
+abbrev pub HasMark : List ℕ → ℕ → ℕ → Type 0
+HasMark marks mark i = slice_index_or marks i 0 ≡ mark
+
+-- of the places the marked ones have no number below this one, and one that is marked has it, unless it is `blocked`
+pub record IsLeastAmong (marks : List ℕ) (mark : ℕ) (t places : List ℕ) (n : ℕ) : Type 0 where
+  pub most : n ≤ blocked
+  pub found : n < blocked → (i : ℕ) × HasMark marks mark i × (value t i ≡ n)
+  pub least : All (λ i. HasMark marks mark i → n ≤ value t i) places
+
+-- the same of all places that were met
+pub record IsLeastMet (marks : List ℕ) (mark : ℕ) (t : List ℕ) (n : ℕ) : Type 0 where
+  pub most : n ≤ blocked
+  pub found : n < blocked → (i : ℕ) × HasMark marks mark i × (value t i ≡ n)
+  pub least : (i : ℕ) → HasMark marks mark i → value t i < blocked → n ≤ value t i

@@ -1,8 +1,8 @@
 //! Breadth first over a table of places.
 #![tactic(auto)]
 
-ghost use Rattle.std.specs.Prelude.{◌≡◌, All, ◌≢◌, ℕ, ◌+◌, ◌<◌, ◌≤◌, ◌^◌, ◌⊎◌, List, [], ◌∷◌, ◌++◌, length, drop, vec_capacity};
-ghost use Rattle.wh_field.specs.Tables.{IsWalled, IsReady, IsLevelled, IsSameGround, IsSpreading, HasRoom, IsListed, IsForgotten, IsVisit, IsMarking, AllMet, value, unseen, blocked};
+ghost use Rattle.std.specs.Prelude.{◌≡◌, All, ◌≢◌, ℕ, ◌+◌, ◌<◌, ◌≤◌, ◌^◌, ◌⊎◌, List, [], ◌∷◌, ◌++◌, length, take, drop, vec_capacity};
+ghost use Rattle.wh_field.specs.Tables.{IsWalled, IsReady, IsLevelled, IsSameGround, IsSpreading, HasRoom, IsListed, IsForgotten, IsVisit, IsMarking, IsLeastAmong, IsLeastMet, AllMet, value, unseen, blocked};
 
 /// What a table has where no walk has come yet.
 pub const UNSEEN: u32 = u32::MAX;
@@ -55,6 +55,7 @@ fn next_layer(table: &mut [u32], queue: &mut Vec<u32>, head: usize, stride: usiz
     ensures room { HasRoom (vec_capacity queue.new) table.new queue.new.items }
     ensures listed { IsListed table.new queue.new.items }
     ensures longer { length queue.old.items ≤ length queue.new.items }
+    ensures behind { take (length queue.old.items) queue.new.items ≡ queue.old.items }
 {
     let end = queue.len();
     for k in head..end {
@@ -136,6 +137,67 @@ pub fn fill_within(
         };
     }
     front
+}
+
+/// The least number of those of the places that have this mark; `BLOCKED` where none has.
+fn least_marked(table: &[u32], places: &[u32], marks: &[u32], mark: u32) -> u32
+    requires numbered { All (λ i. value table.now i < blocked) places.now }
+    requires sizes { length marks.now ≡ length table.now }
+    ensures { IsLeastAmong marks.now mark table.now places.now result }
+{
+    let mut least = BLOCKED;
+    for place in places {
+        let steps = table[*place as usize];
+        if marks[*place as usize] == mark && steps < least {
+            least = steps;
+        }
+    }
+    least
+}
+
+/// How far a table is filled, and the least number at a marked place; `BLOCKED` where none has one.
+#[derive(Clone, Copy, Debug, PartialEq, Eq)]
+pub struct Reached {
+    pub front: Front,
+    pub least: u32,
+}
+
+/// Fills a table layer by layer until a place with this mark is met, or no layer is left. It looks
+/// once at each place that is met.
+pub fn fill_to_mark(
+    table: &mut [u32],
+    queue: &mut Vec<u32>,
+    stride: usize,
+    front: Front,
+    marks: &[u32],
+    mark: u32,
+) -> Reached
+    requires walled { IsWalled stride table.old }
+    requires spreading { IsSpreading stride front.distance table.old [] (drop front.head queue.old.items) }
+    requires head { front.head ≤ length queue.old.items }
+    requires room { HasRoom (vec_capacity queue.old) table.old queue.old.items }
+    requires listed { IsListed table.old queue.old.items }
+    requires sizes { length marks.now ≡ length table.old }
+    ensures ground { IsSameGround table.old table.new }
+    ensures spreading { IsSpreading stride result.front.distance table.new [] (drop result.front.head queue.new.items) }
+    ensures head { result.front.head ≤ length queue.new.items }
+    ensures room { HasRoom (vec_capacity queue.new) table.new queue.new.items }
+    ensures listed { IsListed table.new queue.new.items }
+    ensures least { IsLeastMet marks.now mark table.new result.least }
+    ensures unmet { result.least ≡ blocked → IsLevelled stride table.new }
+{
+    let mut front = front;
+    let mut least = least_marked(table, queue, marks, mark);
+    while front.head < queue.len() && least == BLOCKED {
+        let end = queue.len();
+        next_layer(table, queue, front.head, stride, front.distance);
+        front = Front {
+            head: end,
+            distance: front.distance + 1,
+        };
+        least = least_marked(table, &queue[end..], marks, mark);
+    }
+    Reached { front, least }
 }
 
 /// Fills a table with the distances from the places at which it has 0, layer by layer.

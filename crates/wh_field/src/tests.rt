@@ -87,6 +87,37 @@ fn no_further_than_the_limit(rt: HostRuntime) -> Result<(), Fail> {
     Ok(())
 }
 
+// The same row.
+#[test]
+fn first_of_those_sought(rt: HostRuntime) -> Result<(), Fail> {
+    let mut row = vec![in rt.alloc(); true; 12]?;
+    row[9] = false;
+    let grid = Grid::new(12, 1, row);
+    let mut lazy = LazyField::from(rt.alloc(), &grid, Cell { x: 0, y: 0 })?;
+    assert_eq!(rt; lazy.first_sought(), None);
+    lazy.again(Cell { x: 1, y: 0 });
+    for (x, steps) in [
+        (9, None),
+        (10, None),
+        (12, None),
+        (8, Some(7)),
+        (5, Some(4)),
+        (6, Some(4)),
+        (0, Some(1)),
+    ] {
+        lazy.seek(Cell { x, y: 0 });
+        assert_eq!(rt; lazy.first_sought(), steps);
+    }
+    lazy.again(Cell { x: 7, y: 0 });
+    assert_eq!(rt; lazy.first_sought(), Some(1));
+    lazy.seek_none();
+    assert_eq!(rt; lazy.first_sought(), None);
+    lazy.seek(Cell { x: 7, y: 0 });
+    assert_eq!(rt; lazy.first_sought(), Some(0));
+    assert_eq!(rt; lazy.dist(Cell { x: 2, y: 0 }), Some(5));
+    Ok(())
+}
+
 #[test]
 fn around_a_cell(rt: HostRuntime) -> Result<(), Fail> {
     let grid = tree(&rt)?;

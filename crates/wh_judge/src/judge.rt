@@ -92,7 +92,7 @@ impl<'a> Model for Judge<'a> {
 
 impl<'a> Judge<'a> {
     /// The warehouse as it opens, before any entry, at a clock of at most 1,000,000,000, with the slots of each agent's
-    /// planner. The error comes where memory is wanting: for the state, and nine bytes a cell.
+    /// planner. The error comes where memory is wanting: for the state, and thirteen bytes a cell.
     pub fn open(
         alloc: Global,
         instance: Instance<'a>,

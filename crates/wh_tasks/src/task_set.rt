@@ -4,7 +4,7 @@
 ghost use Rattle.std.specs.Prelude.{◌≡◌, ℕ, ◌+◌, ◌-◌, ◌<◌, ◌≤◌, ◌↔◌, ◌≢◌, List, [], ◌∷◌, ◌++◌, length, IsTrue, IfSome, IfNone, OnOk, OnErr, All, Contains, slice_get, slice_index, slice_index_or, Some, remove, slice_set, MatchOption};
 ghost use Rattle.wh_tasks.specs.Tasks.{IsTask, IsOpen, phase, delivery};
 ghost use Rattle.wh_tasks.specs.Choice.{IsEligible, IsNearest, NoneEligible};
-ghost use Rattle.wh_tasks.specs.Bests.{IsNearer, IsBetter};
+ghost use Rattle.wh_tasks.specs.Firsts.{AreSought, IsFirst, IsFirstWithin, NoneWithin};
 ghost use Rattle.wh_tasks.specs.Changes.{fresh, assigned, visited_once, visit_of, IsUnderway, IsInTime, IsOrderly, counts_of};
 ghost use Rattle.wh_tasks.specs.Visiting.{IsGoing};
 ghost use Rattle.wh_tasks.specs.declared.task.Task.{Task as Job};
@@ -16,12 +16,6 @@ use std::alloc::{AllocError, Global};
 use std::marker::Model;
 use wh_grid::Cell;
 use wh_text::Name;
-
-/// How far away the nearest task is looked for at first.
-const FIRST_LIMIT: u32 = 8;
-
-/// How often that is doubled: then the limit is above the distances of all maps.
-const DOUBLINGS: u32 = 21;
 
 /// The tasks in order of arrival, with a list of those that are open, and how many are in each phase.
 #[derive(Drop)]
@@ -169,83 +163,60 @@ impl TaskSet {
         }
     }
 
-    /// The task that may be chosen whose first stop is nearest; of several the first. It looks at the open tasks alone,
-    /// once for each limit: it asks for distances up to a limit, and doubles it until a task is found. So the field is not
-    /// asked for what lies far behind the nearest task.
+    /// The task that may be chosen whose first stop is nearest; of several the first. It goes twice over the open tasks: the
+    /// first stops of those that may be chosen are sought, and of those as near as the nearest of them the first is taken.
+    /// The field is not asked for what lies farther.
     pub fn nearest<F: Distances>(&self, field: &mut F, ends: &EndSet) -> Option<u32>
         ensures none { IfNone result (NoneEligible self.now.tasks ends.now.cells) }
         ensures nearest { IfSome result (λ n. (task : Job) × IsNearest (F.grid field.old) self.now.tasks ends.now.cells (F.source field.old) n task) }
         ensures grid { F.grid field.new ≡ F.grid field.old }
         ensures source { F.source field.new ≡ F.source field.old }
     {
-        if !self.any_eligible(ends) {
-            return None;
-        }
-        for doublings in 0..DOUBLINGS {
-            if let Some(n) = self.nearest_within(field, ends, FIRST_LIMIT << doublings) {
-                return Some(n);
-            }
-        }
-        self.nearest_of_all(field, ends)
-    }
-
-    /// Whether any task may be chosen.
-    fn any_eligible(&self, ends: &EndSet) -> bool
-        ensures { IsTrue result ↔ ((n : ℕ) × (task : Job) × IsEligible self.now.tasks ends.now.cells n task) }
-    {
-        for n in &self.open {
-            if none_in(self.task(*n).stops.as_slice(), ends) {
-                return true;
-            }
-        }
-        false
-    }
-
-    /// The nearest task, if it is at most so far away.
-    fn nearest_within<F: Distances>(&self, field: &mut F, ends: &EndSet, limit: u32) -> Option<u32>
-        ensures nearest { IfSome result (λ n. (task : Job) × IsNearest (F.grid field.old) self.now.tasks ends.now.cells (F.source field.old) n task) }
-        ensures grid { F.grid field.new ≡ F.grid field.old }
-        ensures source { F.source field.new ≡ F.source field.old }
-    {
-        let mut best: Option<Choice> = None;
-        for n in &self.open {
-            let task = self.task(*n);
-            let distance = field.within(task.pickup(), limit);
-            best = better_known(
-                best,
-                Choice { n: *n, distance },
-                task.stops.as_slice(),
-                ends,
-            );
-        }
-        match best {
+        match self.seek(field, ends) {
             None => None,
-            Some(choice) => Some(choice.n),
+            Some(first) => match field.first_sought() {
+                None => Some(first),
+                Some(steps) => self.first_within(field, ends, steps),
+            },
         }
     }
 
-    /// The nearest task, however far it is.
-    fn nearest_of_all<F: Distances>(&self, field: &mut F, ends: &EndSet) -> Option<u32>
+    /// From now on the field seeks the first stops of the tasks that may be chosen, and no other cell. Answers the first of
+    /// these tasks.
+    fn seek<F: Distances>(&self, field: &mut F, ends: &EndSet) -> Option<u32>
         ensures none { IfNone result (NoneEligible self.now.tasks ends.now.cells) }
-        ensures nearest { IfSome result (λ n. (task : Job) × IsNearest (F.grid field.old) self.now.tasks ends.now.cells (F.source field.old) n task) }
+        ensures first { IfSome result (λ n. (task : Job) × IsFirst self.now.tasks ends.now.cells n task) }
+        ensures sought { AreSought (F.grid field.old) self.now.tasks ends.now.cells (F.sought field.new) }
         ensures grid { F.grid field.new ≡ F.grid field.old }
         ensures source { F.source field.new ≡ F.source field.old }
     {
-        let mut best: Option<Choice> = None;
+        field.seek_none();
+        let mut first: Option<u32> = None;
         for n in &self.open {
             let task = self.task(*n);
-            let distance = field.dist(task.pickup());
-            best = better(
-                best,
-                Choice { n: *n, distance },
-                task.stops.as_slice(),
-                ends,
-            );
+            if none_in(task.stops.as_slice(), ends) {
+                field.seek(task.pickup());
+                first = first.or(Some(*n));
+            }
         }
-        match best {
-            None => None,
-            Some(choice) => Some(choice.n),
+        first
+    }
+
+    /// The first of the tasks that may be chosen and are at most so far away.
+    fn first_within<F: Distances>(&self, field: &mut F, ends: &EndSet, limit: u32) -> Option<u32>
+        ensures none { IfNone result (NoneWithin (F.grid field.old) self.now.tasks ends.now.cells (F.source field.old) limit) }
+        ensures first { IfSome result (λ n. (task : Job) × IsFirstWithin (F.grid field.old) self.now.tasks ends.now.cells (F.source field.old) limit n task) }
+        ensures grid { F.grid field.new ≡ F.grid field.old }
+        ensures source { F.source field.new ≡ F.source field.old }
+    {
+        for n in &self.open {
+            let task = self.task(*n);
+            let near = field.within(task.pickup(), limit);
+            if near.is_some() && none_in(task.stops.as_slice(), ends) {
+                return Some(*n);
+            }
         }
+        None
     }
 
     /// Gives an open task to an agent. It takes no memory.
@@ -285,48 +256,6 @@ impl TaskSet {
         self.counts.visit(visit);
         visit
     }
-}
-
-/// A task that may be chosen, and how far its first stop is.
-#[derive(Clone, Copy)]
-struct Choice {
-    n: u32,
-    distance: Option<u32>,
-}
-
-/// Whether a distance is less than that of the choice so far. None is greater than every number.
-fn is_nearer(distance: Option<u32>, best: Option<Choice>) -> bool
-    ensures { IsTrue result ↔ IsNearer distance best }
-{
-    match best {
-        None => true,
-        Some(choice) => match (distance, choice.distance) {
-            (Some(near), Some(far)) => near < far,
-            (Some(_), None) => true,
-            (None, _) => false,
-        },
-    }
-}
-
-/// The next choice where it is nearer than the best so far and none of its stops is an end; else the best so far.
-fn better(best: Option<Choice>, next: Choice, stops: &[Cell], ends: &EndSet) -> Option<Choice>
-    ensures { IsBetter (All (λ stop. ¬ Contains ends.now.cells stop) stops.now) best next result }
-{
-    if is_nearer(next.distance, best) && none_in(stops, ends) {
-        return Some(next);
-    }
-    best
-}
-
-/// The better of the two where the distance of the next is known; else the best so far.
-fn better_known(best: Option<Choice>, next: Choice, stops: &[Cell], ends: &EndSet) -> Option<Choice>
-    ensures known { IfSome next.distance (λ n. IsBetter (All (λ stop. ¬ Contains ends.now.cells stop) stops.now) best next result) }
-    ensures unknown { IfNone next.distance (result ≡ best) }
-{
-    if next.distance.is_none() {
-        return best;
-    }
-    better(best, next, stops, ends)
 }
 
 /// Whether none of the cells is among the ends.

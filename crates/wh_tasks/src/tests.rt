@@ -7,7 +7,7 @@ use crate::{
 };
 use std::process::Abort;
 use std::test::Fail;
-use wh_field::{Field, LazyField};
+use wh_field::LazyField;
 use wh_grid::{Cell, Grid};
 use wh_text::Name;
 
@@ -62,14 +62,12 @@ fn nearest_task_first(rt: HostRuntime) -> Result<(), Fail> {
         false,
     ]?;
     let grid = Grid::new(5, 3, rows);
-    let mut field = Field::from(rt.alloc(), &grid, LEFT)?;
     let mut lazy = LazyField::from(rt.alloc(), &grid, LEFT)?;
     let mut ends = EndSet::new(rt.alloc(), 5, 3, 2)?;
     let mut set = TaskSet::new(rt.alloc());
     assert_eq!(rt; set.nearest(&mut lazy, &ends), None);
     submit(&rt, &mut set, Places::of(&[D, C]))?;
     submit(&rt, &mut set, Places::of(&[A, B]))?;
-    assert_eq!(rt; set.nearest(&mut field, &ends), Some(1));
     assert_eq!(rt; set.nearest(&mut lazy, &ends), Some(1));
     submit(&rt, &mut set, Places::of(&[C, D]))?;
     assert_eq!(rt; set.nearest(&mut lazy, &ends), Some(1));
@@ -79,11 +77,8 @@ fn nearest_task_first(rt: HostRuntime) -> Result<(), Fail> {
     assert_eq!(rt; set.nearest(&mut lazy, &ends), Some(2));
     ends.clear();
     assign(&rt, &mut set, 1);
-    assert_eq!(rt; set.nearest(&mut field, &ends), Some(2));
     lazy.turn(rt.alloc(), &grid, RIGHT)?;
-    field.turn(rt.alloc(), &grid, RIGHT)?;
     assert_eq!(rt; set.nearest(&mut lazy, &ends), Some(0));
-    assert_eq!(rt; set.nearest(&mut field, &ends), Some(0));
     Ok(())
 }
 

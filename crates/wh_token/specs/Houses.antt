@@ -1,6 +1,6 @@
 -- what callers see of a warehouse, and what it keeps
 use Rattle.std.specs.Prelude.{◌≡◌, ℕ, List, Option, length}
-use Rattle.wh_field.specs.Fields.{Source}
+use Rattle.wh_field.specs.Fields.{Seeking}
 use Rattle.wh_tasks.specs.Marks.{Ends}
 use Rattle.wh_book.specs.declared.draft.Draft.{Draft}
 use Rattle.wh_book.specs.Drafts.{Seen, Suits}
@@ -12,7 +12,7 @@ pub record House (X : Type 0) : Type 0 where
 
 -- What a warehouse keeps: so many planners as there are agents, and, to look for tasks, a set of cells and a field over its
 -- grid.
-pub record IsFurnished (book : Seen) (planners : ℕ) (marks : Ends) (near : Source) : Type 0 where
+pub record IsFurnished (book : Seen) (planners : ℕ) (marks : Ends) (near : Seeking) : Type 0 where
   pub seats : planners ≡ length book.state.paths
   pub suits : Suits marks book.site.grid (length book.state.paths)
   pub over : near.grid ≡ book.site.grid

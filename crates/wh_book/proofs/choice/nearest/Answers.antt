@@ -1,7 +1,7 @@
 use Rattle.std.proofs.Common.{◌≡◌, ◌∙◌, List, [], ap}
 use Rattle.std.proofs.lemmas.List.{get_or_default}
 use Rattle.wh_grid.specs.declared.cell.Cell.{Cell}
-use Rattle.wh_field.specs.Fields.{Source}
+use Rattle.wh_field.specs.Fields.{Seeking}
 use Rattle.wh_path.specs.Paths.{at, place_of}
 use Rattle.wh_book.proofs.choice.nearest.Goals as goal
 
@@ -9,8 +9,8 @@ pub returns-clause-nearest : goal.returns-clause-nearest
 returns-clause-nearest c =
     let s = c.args.floor.now.state in
     let agent = c.args.agent in
-    let grid : c.again.new.self.grid ≡ c.args.near.now.grid = ap (λ (f : Source). f.grid) c.again.ensures in
+    let grid : c.again.new.self.grid ≡ c.args.near.now.grid = ap (λ (f : Seeking). f.grid) c.again.ensures in
     let read = c.index-paths-agent.is ∙ get_or_default c.paths.result.now agent c.index-paths-agent.result [] (rw c.paths.ensures.value c.requires.known) in
     let here : c.again.new.self.cell ≡ place_of s.paths agent =
-    ap (λ (f : Source). f.cell) c.again.ensures ∙ c.start.ensures ∙ ap (λ (p : List Cell). at p 0) read ∙ ap (λ (ps : List (List Cell)). place_of ps agent) c.paths.ensures.value in
+    ap (λ (f : Seeking). f.cell) c.again.ensures ∙ c.start.ensures ∙ ap (λ (p : List Cell). at p 0) read ∙ ap (λ (ps : List (List Cell)). place_of ps agent) c.paths.ensures.value in
     rw (grid, here, c.tasks.ensures.tasks, c.requires.marks) at c.nearest.ensures.nearest

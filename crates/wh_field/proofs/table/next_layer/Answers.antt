@@ -1,5 +1,5 @@
-use Rattle.std.proofs.Common.{◌≡◌, ℕ, ◌+◌, ◌-◌, [], take, drop, length, length-append, get_or, ap, subst, arith}
-use Rattle.std.proofs.lemmas.List.{get_or_read}
+use Rattle.std.proofs.Common.{◌≡◌, ℕ, ◌+◌, ◌-◌, [], take, drop, length, length-append, get_or, ap, ◌∙◌, subst, arith}
+use Rattle.std.proofs.lemmas.List.{get_or_read, take_all, take-append-le}
 use Rattle.wh_field.specs.Tables.{IsSpreading, IsMarking, AllMet}
 use Rattle.wh_field.proofs.Tables.{ground_same, ground_then, ground_walled, marking_ground, todo_inside, layer_begins, layer_step, layer_ends}
 use Rattle.wh_field.proofs.Forgets.{listed_marking}
@@ -13,6 +13,7 @@ loop-k-init c =
       c.requires.room,
       c.requires.listed,
       omega arith,
+      take_all n c.args.queue.now.items (omega arith),
     )
 
 pub index-requires : goal.index-requires
@@ -76,6 +77,7 @@ loop-k-preserved c =
       c.spread.ensures.room,
       listed_marking s (get_or q l.k 0) d l.table q t' q' (omega arith) marks l.invariant.3,
       omega (arith, ap length marks.listed, length-append q marks.added),
+      ap (take n) marks.listed ∙ take-append-le n q marks.added long ∙ l.invariant.5,
     )
 
 pub returns-clause-spreading : goal.returns-clause-spreading

@@ -1,4 +1,4 @@
-use Rattle.std.proofs.Common.{◌+◌, ◌-◌, ◌≤◌, take, drop, length, vec_capacity}
+use Rattle.std.proofs.Common.{◌≡◌, ◌+◌, ◌-◌, ◌≤◌, take, drop, length, vec_capacity}
 use Rattle.wh_field.specs.Tables.{IsSpreading, IsSameGround, HasRoom, IsListed}
 use Rattle.wh_field.proofs.table.next_layer.Given as goal
 
@@ -9,3 +9,4 @@ invariant-loop-k l =
     × HasRoom (vec_capacity l.queue) l.table l.queue.items
     × IsListed l.table l.queue.items
     × (l.end ≤ length l.queue.items)
+    × (take l.end l.queue.items ≡ l.fn.queue.items)

@@ -39,4 +39,7 @@ invariant_of-self c =
       head = omega arith;
       room = subst room (sym items) c.begin_again.ensures.room;
       listed = subst (λ x. IsListed x q) (sym items) (listed_started g [] (source ∷ []) t q started);
+      marked = i.marked;
+      positive = i.positive;
+      latest = i.latest;
     }

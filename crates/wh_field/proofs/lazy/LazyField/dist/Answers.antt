@@ -2,7 +2,7 @@ use Rattle.std.proofs.Common.{◌≡◌, ℕ, ◌+◌, ◌*◌, ◌∙◌, List,
 use Rattle.std.proofs.lemmas.List.{get_or_read, with_items_is}
 use Rattle.wh_grid.specs.declared.cell.Cell.{Cell}
 use Rattle.wh_path.specs.Walks.{IsWalkBetween}
-use Rattle.wh_field.specs.Fields.{Source}
+use Rattle.wh_field.specs.Fields.{Seeking}
 use Rattle.wh_field.specs.Distances.{IsDistance}
 use Rattle.wh_field.specs.Tables.{value, IsWalled, IsSpreading, IsLevelled, HasRoom, IsListed}
 use Rattle.wh_field.specs.Places.{place, IsSurveying}
@@ -55,6 +55,9 @@ invariant_of-self c =
       head = fill.ensures.head;
       room = subst room (sym items) fill.ensures.room;
       listed = subst (λ x. IsListed x q) (sym items) fill.ensures.listed;
+      marked = i.marked;
+      positive = i.positive;
+      latest = i.latest;
     }
 
 pub returns-after-steps-lt-BLOCKED-clause-exact : goal.returns-after-steps-lt-BLOCKED-clause-exact
@@ -97,7 +100,7 @@ returns-after-steps-lt-BLOCKED-clause-exact c =
       | else-steps-lt-BLOCKED w ↦ (let high = w.if-steps-lt-BLOCKED.false in
           subst (IsDistance g f.source cell) (sym w.result-is) (early_none g f.source cell t least (omega arith)))
     ] in
-    let R : Source → Type 0 = λ x. IsDistance x.grid x.cell cell c.if-steps-lt-BLOCKED.result in
+    let R : Seeking → Type 0 = λ x. IsDistance x.grid x.cell cell c.if-steps-lt-BLOCKED.result in
     subst R c.self.view_is exact
 
 pub returns-after-steps-lt-BLOCKED-clause-value : goal.returns-after-steps-lt-BLOCKED-clause-value
@@ -111,7 +114,7 @@ returns-in-None-clause-exact c =
     let cell = c.args.cell in
     let v = c.self.invariant.width in
     let h = c.self.invariant.height in
-    let P : Source → Type 0 = λ x. (p : List Cell) → IsWalkBetween x.grid x.cell cell p → ⊥ in
+    let P : Seeking → Type 0 = λ x. (p : List Cell) → IsWalkBetween x.grid x.cell cell p → ⊥ in
     subst P c.self.view_is (outside_none g f.source cell (λ p. c.in-None.ensures.outside (let a = p.0 in let b = p.1 in (omega arith, omega arith))))
 
 pub returns-in-None-clause-value : goal.returns-in-None-clause-value

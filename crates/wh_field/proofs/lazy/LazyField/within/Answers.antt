@@ -1,6 +1,6 @@
 use Rattle.std.proofs.Common.{◌≡◌, ℕ, ◌+◌, ◌*◌, ◌∙◌, ◌<◌, ◌≤◌, ◌⊎◌, List, [], ◌∷◌, Some, IfSome, IfNone, get_or, drop, vec_capacity, subst, sym, ap, arith}
 use Rattle.std.proofs.lemmas.List.{get_or_read, with_items_is}
-use Rattle.wh_field.specs.Fields.{Source}
+use Rattle.wh_field.specs.Fields.{Seeking}
 use Rattle.wh_field.specs.Distances.{IsDistance}
 use Rattle.wh_field.specs.Tables.{value, blocked, IsWalled, IsSpreading, IsLevelled, HasRoom, IsListed}
 use Rattle.wh_field.specs.Places.{place, IsSurveying}
@@ -52,6 +52,9 @@ invariant_of-self c =
       head = fill.ensures.head;
       room = subst room (sym items) fill.ensures.room;
       listed = subst (λ x. IsListed x q) (sym items) fill.ensures.listed;
+      marked = i.marked;
+      positive = i.positive;
+      latest = i.latest;
     }
 
 pub returns-in-Some-clause-found : goal.returns-in-Some-clause-found
@@ -89,7 +92,7 @@ returns-in-Some-clause-found c =
     let at_cell : n ≡ value t (place g cell) = read ∙ ap (λ k. value t k) here in
     let L : ℕ → Type 0 = λ w. IsLevelled (w + 1) t ⊎ (limit ≤ d) in
     let least = within_least g [] f.source (place g cell) limit d t layer (omega arith) (omega arith) now (λ z. subst L i.width (fill.ensures.met (ap (λ k. value t k) here ∙ z))) in
-    let R : Source → Type 0 = λ x. IfSome c.up_to.result (λ k. IsDistance x.grid x.cell cell (Some k) × (k ≤ limit)) in
+    let R : Seeking → Type 0 = λ x. IfSome c.up_to.result (λ k. IsDistance x.grid x.cell cell (Some k) × (k ≤ limit)) in
     subst R c.self.view_is (some_more c.up_to.result (λ k. (k ≡ n) × (k < blocked) × (k ≤ limit)) (λ k. IsDistance g f.source cell (Some k) × (k ≤ limit))
     (λ k known. (within_distance g f.source cell limit d t layer k now least (omega arith) known.1 known.2 (sym at_cell ∙ sym known.0), known.2)) c.up_to.ensures.known)
 
@@ -128,7 +131,7 @@ returns-in-Some-clause-farther c =
     let at_cell : n ≡ value t (place g cell) = read ∙ ap (λ k. value t k) here in
     let L : ℕ → Type 0 = λ w. IsLevelled (w + 1) t ⊎ (limit ≤ d) in
     let least = within_least g [] f.source (place g cell) limit d t layer (omega arith) (omega arith) now (λ z. subst L i.width (fill.ensures.met (ap (λ k. value t k) here ∙ z))) in
-    let R : Source → Type 0 = λ x. IfNone c.up_to.result ((k : ℕ) → IsDistance x.grid x.cell cell (Some k) → limit < k) in
+    let R : Seeking → Type 0 = λ x. IfNone c.up_to.result ((k : ℕ) → IsDistance x.grid x.cell cell (Some k) → limit < k) in
     subst R c.self.view_is (none_more c.up_to.result ((n < blocked) × (n ≤ limit) → ⊥) ((k : ℕ) → IsDistance g f.source cell (Some k) → limit < k)
     (λ unknown. within_none g f.source cell limit t least (λ both. (let low = both.0 in let near = both.1 in unknown (omega arith, omega arith)))) c.up_to.ensures.unknown)
 
@@ -140,5 +143,5 @@ returns-in-None-clause-farther c =
     let v = c.self.invariant.width in
     let h = c.self.invariant.height in
     let none = outside_none g f.source cell (λ p. c.in-None.ensures.outside (let a = p.0 in let b = p.1 in (omega arith, omega arith))) in
-    let R : Source → Type 0 = λ x. (n : ℕ) → IsDistance x.grid x.cell cell (Some n) → c.args.limit < n in
+    let R : Seeking → Type 0 = λ x. (n : ℕ) → IsDistance x.grid x.cell cell (Some n) → c.args.limit < n in
     subst R c.self.view_is (λ n is. absurd (none is.0 is.1.walk))

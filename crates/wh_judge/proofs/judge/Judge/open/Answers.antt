@@ -1,6 +1,6 @@
 use Rattle.std.proofs.Common.{◌∙◌, ap, arith}
 use Rattle.wh_grid.specs.Grids.{Floor}
-use Rattle.wh_field.specs.Fields.{Source}
+use Rattle.wh_field.specs.Fields.{Seeking}
 use Rattle.wh_tasks.specs.Marks.{Ends}
 use Rattle.wh_judge.proofs.judge.Judge.open.Goals as goal
 
@@ -14,5 +14,5 @@ invariant_of-result c =
         height = ap (λ (e : Ends). e.height) c.in_ok-ends.ensures ∙ c.height.ensures.value ∙ ap (λ (g : Floor). g.height) c.grid-grid.ensures.value;
         place = omega arith;
       },
-      ap (λ (f : Source). f.grid) c.in_ok-near.ensures ∙ c.grid-grid.ensures.value,
+      ap (λ (f : Seeking). f.grid) c.in_ok-near.ensures ∙ c.grid-grid.ensures.value,
     )
