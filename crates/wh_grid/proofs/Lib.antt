@@ -8,3 +8,4 @@ pub mod HeadLemmas
 pub mod GrammarLemmas
 pub mod Laws
 pub mod FirstFault
+pub mod Same

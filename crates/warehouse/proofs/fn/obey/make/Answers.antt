@@ -1,7 +1,7 @@
 use Rattle.std.proofs.Common.{◌∙◌, ap, ℕ, Bool}
 use denote.Param.Object.{read_made}
 use Rattle.wh_claims.specs.Claim.{claim_amount}
-use Rattle.warehouse.proofs.Same.{same_at}
+use Rattle.wh_grid.proofs.Same.{same_at}
 use Rattle.warehouse.proofs.fn.obey.make.Hides as hides
 use Rattle.warehouse.specs.contracts.fn.obey.make.{dyn-1-ghosts}
 use Rattle.warehouse.proofs.fn.obey.make.Goals as goal

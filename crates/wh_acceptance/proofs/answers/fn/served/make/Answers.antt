@@ -1,7 +1,7 @@
 use Rattle.std.proofs.Common.{◌∙◌, ap, ℕ, Bool}
 use denote.Param.Object.{read_made}
 use Rattle.wh_claims.specs.Claim.{claim_amount}
-use Rattle.wh_acceptance.proofs.Same.{same_at}
+use Rattle.wh_grid.proofs.Same.{same_at}
 use Rattle.wh_acceptance.proofs.answers.fn.served.make.Hides as hides
 use Rattle.wh_acceptance.specs.contracts.answers.fn.served.make.{dyn-1-ghosts}
 use Rattle.wh_acceptance.proofs.answers.fn.served.make.Goals as goal
