@@ -168,12 +168,13 @@ impl<N: DeskName, H: Wait + Drop, P: Planner> Journal<N, H, P> {
         Ok(Met { length })
     }
 
-    /// The warehouse. All its entries are of the callers.
+    /// The warehouse. All its entries are of the callers, and there are no more of them than cells.
     pub fn into_warehouse(self) -> Warehouse<P>
         ensures origin { origin_of result.book ≡ N.origin }
         ensures run { Run N.origin.site N.origin.opening result.book.history result.book.state }
         ensures history { result.book.history ≡ self.history }
         ensures callers { All (λ entry. entry.caller < N.callers) self.history }
+        ensures within { length self.history ≤ length N.cells }
     {
         let Journal {
             warehouse,

@@ -60,7 +60,7 @@ few_works {X} gives options grid agents scripts planners works team few =
 -- what a team's run came to: each planner has the fleet's slots
 pub hosts : {X : Type 0} (fits : Floor → X → Bool) (count : X → ℕ) (gives : Gives X) (options : LiveOptions) (site : Site) (scripts : List (List Command)) (planners : List X) (works : List (Work X)) (old new : Input) (text : List ℕ)
     → ReadsAll old new site scripts → MakesPlanners fits count gives → IsOfFleet options.fleet → IsTeam gives options site.grid (length site.layout.agents) scripts planners works
-    → Lives (fits site.grid) count site planners works text → Hosts fits count gives options old new text
+    → Lives (fits site.grid) count site planners works options.journal text → Hosts fits count gives options old new text
 hosts fits count gives options site scripts planners works old new text reads makes range team lives =
     let each = recursion_from_All (IsMember gives options.fleet site.grid team.bank) planners team.planners_are.members in
     record {

@@ -49,7 +49,7 @@ pub record ReadsAll (old new : Input) (site : Site) (scripts : List (List Comman
   pub clients_read : ClientsRead (length site.layout.agents) between new scripts
 
 -- A site and its clients were read, and the team did its works; each agent's planner had the fleet's slots at the opening.
--- The text is the log of all that was done.
+-- The text is the log of all that was done; it has no more entries than the journal of the options has positions.
 pub record Hosts {X : Type 0} (fits : Floor → X → Bool) (count : X → ℕ) (gives : PlannerParts → Result X AllocError → Type 0) (options : LiveOptions)
     (old new : Input) (text : List ℕ) : Type 0 where
   pub site : Site
@@ -58,7 +58,7 @@ pub record Hosts {X : Type 0} (fits : Floor → X → Bool) (count : X → ℕ) 
   pub planners : List X
   pub works : List (Work X)
   pub team : IsTeam gives options site.grid (length site.layout.agents) scripts planners works
-  pub lives : Lives (fits site.grid) count site planners works text
+  pub lives : Lives (fits site.grid) count site planners works options.journal text
   pub slots : lives.slots ≡ replicate (length site.layout.agents) options.fleet.slots
 
 -- a team did its works, and the log of them stands behind what was written
