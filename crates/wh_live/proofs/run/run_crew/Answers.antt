@@ -19,7 +19,7 @@ returns-in-Ok-log_text-clause-ok g c =
     let slots = opened.opening.0 in
     let copied : c.deref.result.now ≡ book.opening.slots = search rules in
     let tied = subst (λ (n : List ℕ). IsTied (λ b. fits b c.args.grid.value) count c.in-Ok.warehouse.planners n) (ap (λ (s : State). s.slots) (opened.opening.2 ∙ opened.opening.1)) opened.tied in
-    let ran = subst (λ (n : ℕ). WorkedFrom (λ b. fits b book.site.grid) count (record { site = book.site; opening = book.opening }) c.args.works.items n left.history left.state) c.in_ok-cells.ensures c.in-Ok-over_desk.ensures.ok in
+    let ran = subst (λ (n : ℕ). WorkedFrom (λ b. fits b book.site.grid) count (record { site = book.site; opening = book.opening }) c.args.works.items n left.history left.state) (c.in_ok-cells.ensures ∙ c.from.ensures) c.in-Ok-over_desk.ensures.ok in
     let sited = subst (λ (s : Site). WorkedFrom (λ b. fits b s.grid) count (record { site = s; opening = book.opening }) c.args.works.items c.args.journal left.history left.state) opened.site ran in
     record {
       slots = slots;
