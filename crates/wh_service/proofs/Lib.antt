@@ -3,3 +3,7 @@ pub mod Played
 pub mod Behind
 pub mod Unverified
 pub mod Hosted
+pub mod InRange
+pub mod Asked
+pub mod Teams
+pub mod Logged

@@ -69,7 +69,7 @@ pub equipped_at : {X : Type 0} {gives : Gives X} {fleet : Fleet} {grid : Floor} 
 equipped_at {X} {gives} {fleet} {grid} {n} {m} {planners} {spares} same e = subst (λ (k : ℕ). IsEquipped gives fleet grid k planners spares) same e
 
 -- members of a fleet on a grid plan on it, with the fleet's slots
-member_tells : {X : Type 0} (fits : Floor → X → Bool) (count : X → ℕ) (gives : Gives X) (fleet : Fleet) (grid : Floor) (bank : Bank) (planner : X)
+pub member_tells : {X : Type 0} (fits : Floor → X → Bool) (count : X → ℕ) (gives : Gives X) (fleet : Fleet) (grid : Floor) (bank : Bank) (planner : X)
     → MakesPlanners fits count gives → IsOfFleet fleet → IsMember gives fleet grid bank planner → (fits grid planner ≡ true) × (count planner ≡ fleet.slots)
 member_tells fits count gives fleet grid bank planner makes range m =
     let few : IsForPlanner m.parts.claim = (subst (λ n. 2 ≤ n) (sym m.slots_are) range.0, subst (λ n. n ≤ 64) (sym m.slots_are) range.1) in (
