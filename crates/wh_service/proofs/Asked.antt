@@ -1,10 +1,9 @@
 -- What the workers of a run ask is in the ranges of a log.
-use Rattle.std.proofs.Common.{◌≡◌, ◌+◌, ◌<◌, ◌≤◌, ◌^◌, ◌==◌, ℕ, Bool, true, false, List, [], ◌∷◌, ◌++◌, length, cond, get_or, map, replicate, reverse, refl, sym, ap, ◌∙◌, subst, arith, inl, inr, All, Option, None, Some, Result, Ok, Err, slice_get}
+use Rattle.std.proofs.Common.{◌≡◌, ◌+◌, ◌<◌, ◌≤◌, ◌^◌, ◌==◌, ℕ, Bool, true, false, List, [], ◌∷◌, ◌++◌, length, cond, get_or, replicate, reverse, refl, sym, ap, ◌∙◌, subst, arith, All, Option, None, Some, Result, Ok, Err, slice_get}
 use Prim.Native.Nat.{zero, suc}
-use Rattle.std.specs.Prelude.{is_ok}
 use Rattle.std.specs.List.{AllByRecursion, list_all}
 use Rattle.std.proofs.lemmas.List.{length-reverse, get_or-reverse}
-use Rattle.std.proofs.lemmas.List.Elements.{All-from_recursion, All-get_or, All-nil, recursion_from_All}
+use Rattle.std.proofs.lemmas.List.Elements.{All-from_recursion}
 use Rattle.std.proofs.lemmas.Option.{get_or_from_slice_get, slice_get-get_or, slice_get_within}
 use Rattle.std.proofs.lemmas.Bool.Decides.{nat_tests}
 use Rattle.wh_text.specs.Lines.{lines_of}
@@ -21,15 +20,15 @@ use Rattle.wh_event.specs.declared.event.Command.{Command}
 use Rattle.wh_event.specs.declared.fault.LineFault.{LineFault}
 use Rattle.wh_event.proofs.Asking.{command_law}
 use Rattle.wh_token.specs.Fleet.{TellsSpare}
-use Rattle.wh_edge.specs.Script.{AreCommands, IsScript, command_in, commands_in}
+use Rattle.wh_edge.specs.Script.{IsScript, command_in, commands_in}
 use Rattle.wh_edge.specs.declared.work.Work.{Work}
 use Rattle.wh_log.specs.Ranges.{EventKeeps, SpareKeeps}
-use Rattle.wh_desk.specs.Lists.{AllAt, Received, entries_from, entries_of}
+use Rattle.wh_desk.specs.Lists.{Received, entries_from, entries_of}
 use Rattle.wh_crew.specs.Work.{IsSublist, nothing, keeps, skips, Worked, commands_of, spares_told, told_by, LentFromEnd}
 use Rattle.wh_crew.specs.Work as crew
 use Rattle.wh_board.specs.Pasts.{Origin}
 use Rattle.wh_core.specs.States.{State}
-use Rattle.wh_live.specs.Clients.{ClientRead, ReadInTurn}
+use Rattle.wh_live.specs.Clients.{ReadInTurn}
 use Rattle.wh_live.specs.Lives.{WorkedFrom}
 use Rattle.wh_live.specs.Works.{requests}
 use Rattle.wh_verify.specs.Written.{IsAskedInRange}
@@ -62,8 +61,12 @@ pub keeps_append : {A : Type 0} (P : A → Type 0) (xs ys : List A) → AllByRec
 keeps_append P [] ys a b = b
 keeps_append P (x ∷ xs) ys a b = (a.0, keeps_append P xs ys a.1 b)
 
+-- the command of a line
+pub asked_line : (line : List ℕ) (command : Command) → command_of line ≡ Ok (Some command) → CommandKeeps command
+asked_line line command said = asked_keeps command (words_of line) ((command_law line (Ok (Some command)) (sym said) command).0 refl).1
+
 line_keeps : (line : List ℕ) (said : Result (Option Command) LineFault) → said ≡ command_of line → AllByRecursion CommandKeeps (command_in said)
-line_keeps line (Ok (Some command)) is = (asked_keeps command (words_of line) ((command_law line (Ok (Some command)) is command).0 refl).1, tt)
+line_keeps line (Ok (Some command)) is = (asked_line line command (sym is), tt)
 line_keeps line (Ok None) is = tt
 line_keeps line (Err fault) is = tt
 

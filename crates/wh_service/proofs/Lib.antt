@@ -7,3 +7,5 @@ pub mod InRange
 pub mod Asked
 pub mod Teams
 pub mod Logged
+pub mod Openings
+pub mod Replayed

@@ -1,21 +1,14 @@
 -- What a run of `live` writes is a log.
-use Rattle.std.proofs.Common.{◌≡◌, ◌<◌, ◌≤◌, ◌^◌, ◌∙◌, ℕ, Bool, List, length, replicate, refl, sym, ap, subst, arith, Ok}
-use Prim.Native.Nat.{zero, suc}
+use Rattle.std.proofs.Common.{◌≡◌, ◌<◌, ◌≤◌, ◌^◌, ◌∙◌, ℕ, Bool, List, length, replicate, sym, ap, subst, arith}
 use Rattle.std.specs.List.{AllByRecursion}
 use Rattle.std.proofs.lemmas.List.{length-replicate}
 use Rattle.wh_lines.specs.Input.{Input}
 use Rattle.wh_grid.specs.Grids.{Floor}
-use Rattle.wh_points.specs.Points.{Site, IsLayout}
-use Rattle.wh_points.proofs.LayoutLaws.{read_layout}
-use Rattle.wh_event.specs.declared.entry.Entry.{Entry}
+use Rattle.wh_points.specs.Points.{Site}
 use Rattle.wh_event.specs.declared.event.Command.{Command}
-use Rattle.wh_core.specs.States.{State, opened}
-use Rattle.wh_core.specs.Steps.{Run}
 use Rattle.wh_log.specs.Logs.{Content, IsLogText, IsSlots}
 use Rattle.wh_log.specs.declared.version.Version.TheVariants.{Two}
-use Rattle.wh_verify.specs.Verifying.{IsRunOf}
 use Rattle.wh_verify.proofs.Histories.{runs_are_logs}
-use Rattle.wh_edge.specs.Site.{SiteRead}
 use Rattle.wh_edge.specs.declared.work.Work.{Work}
 use Rattle.wh_options.specs.declared.chosen.LiveOptions.{LiveOptions}
 use Rattle.wh_live.specs.Lives.{Lives}
@@ -23,23 +16,9 @@ use Rattle.wh_service.specs.Fleets.{IsOfFleet, MakesPlanners}
 use Rattle.wh_service.specs.Hosts.{IsTeam, ReadsAll}
 use Rattle.wh_service.proofs.Asked.{worked_keeps}
 use Rattle.wh_service.proofs.InRange.{in_range}
+use Rattle.wh_service.proofs.Openings.{run_of, slots_keep}
 use Rattle.wh_service.proofs.Played.{Gives}
 use Rattle.wh_service.proofs.Teams.{team_keeps}
-
-slots_keep : (n slots : ℕ) → 2 ≤ slots → slots ≤ 64 → AllByRecursion IsSlots (replicate n slots)
-slots_keep zero slots low high = tt
-slots_keep (suc n) slots low high = ((low, high), slots_keep n slots low high)
-
--- a run over a site that was read, from an opening at clock 0 with a planner's slots for each agent
-pub run_of : (old new : Input) (site : Site) (slots : List ℕ) (entries : List Entry) → SiteRead old new site.grid site.layout → length slots ≡ length site.layout.agents
-    → (state : State) → Run site (opened site.layout 0 slots) entries state → IsRunOf site (record { clock = 0; slots = slots; entries = entries })
-run_of old new site slots entries read seats state run =
-    let layout : IsLayout site.grid site.layout = read_layout site.grid read.text (Ok site.layout) read.says in
-    record {
-      is_opening = record { layout = layout; clock = 0; clock_fits = omega arith; slots = slots; seats = seats; is_opened = refl };
-      state = state;
-      run = run;
-    }
 
 -- the text of a team's run is a log
 pub logged : {X : Type 0} (fits : Floor → X → Bool) (count : X → ℕ) (gives : Gives X) (options : LiveOptions) (site : Site) (scripts : List (List Command)) (planners : List X) (works : List (Work X)) (old new : Input) (text : List ℕ)
