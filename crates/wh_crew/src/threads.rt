@@ -232,7 +232,7 @@ pub struct Crewed<P = Box<dyn Planner>> {
 
 /// Worker i makes its commands with pass i, one call of the desk each, in a thread of its own; then the desk is finished.
 /// The history is one run, and each entry is a worker's. For each worker its entries are those that its pass held before,
-/// and then its commands, in order, without as many as were missed.
+/// and then its commands, in order, without as many as were missed. There are no more entries than the desk has cells.
 pub fn crew<
     N: DeskName + Send + Sync,
     H: Wait + Send + Sync + Drop,
@@ -252,6 +252,7 @@ pub fn crew<
     ensures origin { IfOk result (λ c. origin_of c.history.warehouse.book ≡ N.origin) }
     ensures run { IfOk result (λ c. Run N.origin.site N.origin.opening c.history.warehouse.book.history c.history.warehouse.book.state) }
     ensures callers { IfOk result (λ c. All (λ entry. entry.caller < N.callers) c.history.warehouse.book.history) }
+    ensures within { IfOk result (λ c. length c.history.warehouse.book.history ≤ length N.cells) }
     ensures workers { IfOk result (λ c. AllWorked (λ b. P.fits_map b N.origin.site.grid) (λ b. P.slot_count b) works.items passes.items c.history.warehouse.book.history c.missed.items) }
 {
     let Ok(room) = make_room(alloc, passes.len()) else {

@@ -1,16 +1,19 @@
 -- what comes back of a planner that was handed in
-use Rattle.std.proofs.Common.{◌≡◌, ℕ, ◌<◌, List, ◌∷◌, [], length, refl, subst, sym, arith}
+use Rattle.std.proofs.Common.{◌≡◌, ℕ, ◌<◌, List, ◌∷◌, [], length, refl, ap, subst, sym, ◌∙◌, arith}
 use Prim.Native.Nat.{zero, suc}
-use Rattle.std.specs.Prelude.{Option, Some, None, IsSome, slice_get}
+use Rattle.std.specs.Prelude.{Option, Some, None, IsSome, slice_get, slice_set}
 use Rattle.std.proofs.lemmas.Option.{same_Some, none-some}
 use Rattle.wh_points.specs.Points.{Site}
 use Rattle.wh_event.specs.declared.event.Spare.{Spare}
+use Rattle.wh_event.specs.declared.event.Command.{Command}
 use Rattle.wh_event.specs.declared.event.Event.{Event}
 use Rattle.wh_event.specs.declared.reply.Reply.{Reply}
 use Rattle.wh_core.specs.States.{State}
 use Rattle.wh_core.specs.Steps.{Answers}
-use Rattle.wh_token.specs.Fleet.{Swaps, replaced_by}
-use Rattle.wh_desk.specs.Calls.{HandsBack}
+use Rattle.wh_event.specs.declared.entry.Entry.{Entry}
+use Rattle.wh_token.specs.Commands.{event_of}
+use Rattle.wh_token.specs.Fleet.{StaySeated, Swaps, replaced_agent, replaced_by}
+use Rattle.wh_desk.specs.Calls.{HandsBack, IsAskedBy, Reseats}
 
 -- the agent whose planner is replaced is there
 pub seated : (site : Site) (old : State) (reply : Reply) (event : Event) (new : State) (agent : ℕ) →
@@ -32,3 +35,21 @@ pub handed_back : {X : Type 0} (seat : Option ℕ) (planners : List X) (handed :
 handed_back (Some agent) planners (Some planner) after back there swaps = subst IsSome (sym swaps.1) (some_get planners agent (there agent refl))
 handed_back (Some agent) planners None after back there swaps = swaps.1
 handed_back None planners handed after back there swaps = swaps.1
+
+-- what is swapped had its seat before the call, since a Replace asks no planner
+reseats_by : {X : Type 0} (reply : Reply) (command : Command) (told : Spare) (old mid : List X) (handed : Option X) (new : List X) (back : Option X)
+    → StaySeated command old mid → Swaps (replaced_by reply (event_of command told)) mid handed new back
+    → Reseats (replaced_by reply (event_of command told)) old handed new back
+reseats_by (Reply.Replaced slots) (Command.Replace agent) told old mid (Some planner) new back stay swaps =
+    (swaps.0 ∙ ap (λ l. slice_set l agent planner) stay, swaps.1 ∙ ap (λ l. slice_get l agent) stay)
+reseats_by (Reply.Replaced slots) (Command.Replace agent) told old mid None new back stay swaps = swaps.1
+reseats_by reply command told old mid handed new back stay swaps = swaps.1
+
+-- the same by the entry that answers the command
+pub reseats : {X : Type 0} (entry : Entry) (command : Command) (old mid : List X) (handed : Option X) (new : List X) (back : Option X)
+    → IsAskedBy command entry.event → StaySeated command old mid → Swaps (replaced_agent entry) mid handed new back
+    → Reseats (replaced_agent entry) old handed new back
+reseats entry command old mid handed new back asked stay swaps =
+    subst (λ event. Reseats (replaced_by entry.reply event) old handed new back) (sym asked.1)
+    (reseats_by entry.reply command asked.0 old mid handed new back stay
+    (subst (λ event. Swaps (replaced_by entry.reply event) mid handed new back) asked.1 swaps))

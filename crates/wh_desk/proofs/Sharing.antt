@@ -9,7 +9,6 @@ use Rattle.left_right.proofs.part.Part.TheSendSync as part
 use Rattle.left_right.proofs.part.Deed.TheSendSync as deed
 use Rattle.once_cell.proofs.race.note.Note.TheSendSync as note
 use Rattle.once_cell.proofs.race.once_box.OnceBox.TheSendSync as once
-use Rattle.logbook.proofs.tokens.Pen.TheSendSync as pen
 use Rattle.atomic_table.proofs.shared.Seat.TheSendSync as seat
 use Rattle.atomic_table.proofs.shared.Shared.TheSendSync as shared
 use Rattle.atomic_table.proofs.badge.Badge.TheSendSync as badge

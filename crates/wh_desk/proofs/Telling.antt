@@ -14,8 +14,8 @@ use Rattle.wh_board.specs.Pasts.{Origin, Known}
 use Rattle.wh_desk.specs.Calls.{Entered, Called, TellsReceipt, Together}
 use Rattle.wh_desk.proofs.Entries.{get_left, get_push, entries_stands, entries_before, entries_push_same}
 
-pub called : {origin : Origin} {before after : Ledger} {had has : Received} {command : Command} {position : ℕ} {entry : Entry} → Entered origin before had command after has position entry → Run origin.site origin.opening after.history after.state → Called origin had command has position entry
-called {origin} {before} {after} {had} {has} {command} {position} {entry} e run =
+pub called : {X : Type 0} {origin : Origin} {before after : Ledger X} {had has : Received} {command : Command} {position : ℕ} {entry : Entry} → Entered origin before had command after has position entry → Run origin.site origin.opening after.history after.state → Called origin had command has position entry
+called {X} {origin} {before} {after} {had} {has} {command} {position} {entry} e run =
     let grown : List Entry = before.history ++ entry ∷ [] in
     let old : StandIn before.history (entries_of before.history had.caller) = entries_stands [] before.history had.caller in
     let kept : StandIn grown (entries_of before.history had.caller) = All-weaker (λ (x : ℕ × Entry). slice_get before.history x.0 ≡ Some x.1) (λ (x : ℕ × Entry). slice_get grown x.0 ≡ Some x.1) (λ x is. get_left before.history (entry ∷ []) x.0 x.1 is) (entries_of before.history had.caller) old in
@@ -49,11 +49,11 @@ together {origin} {one} {two} {long} history state run len all all' =
     }
 
 -- the same of a call that may be refused
-pub called_if : (origin : Origin) (before after : Ledger) (had has : Received) (command : Command) (outcome : Result Receipt DeskFault) → IfOk outcome (λ r. Entered origin before had command after has r.position r.entry) → Run origin.site origin.opening after.history after.state → IfOk outcome (λ r. Called origin had command has r.position r.entry)
+pub called_if : {X : Type 0} (origin : Origin) (before after : Ledger X) (had has : Received) (command : Command) (outcome : Result Receipt DeskFault) → IfOk outcome (λ r. Entered origin before had command after has r.position r.entry) → Run origin.site origin.opening after.history after.state → IfOk outcome (λ r. Called origin had command has r.position r.entry)
 called_if origin before after had has command (Ok r) e run = called e run
 called_if origin before after had has command (Err fault) e run = tt
 
-told_one : (origin : Origin) (book : Book) (before after : Ledger) (had has : Received) (command : Command) (position : ℕ) (entry : Entry) (told : Option Known)
+told_one : {X : Type 0} (origin : Origin) (book : Book) (before after : Ledger X) (had has : Received) (command : Command) (position : ℕ) (entry : Entry) (told : Option Known)
     → Entered origin before had command after has position entry
     → IfSome told (λ t. (t.book ≡ book) × (t.past ≡ record { origin = origin; history = after.history }) × (after.shown ≡ after.history))
     → IfSome told (λ t. TellsReceipt book origin position entry t)
@@ -66,7 +66,7 @@ told_one origin book before after had has command position entry (Some k) e t =
     }
 
 -- what is told with a receipt, of a call that may be refused
-pub told_if : (origin : Origin) (book : Book) (before after : Ledger) (had has : Received) (command : Command) (outcome : Result Receipt DeskFault)
+pub told_if : {X : Type 0} (origin : Origin) (book : Book) (before after : Ledger X) (had has : Received) (command : Command) (outcome : Result Receipt DeskFault)
     → IfOk outcome (λ r. Entered origin before had command after has r.position r.entry)
     → IfOk outcome (λ r. IfSome r.told (λ t. (t.book ≡ book) × (t.past ≡ record { origin = origin; history = after.history }) × (after.shown ≡ after.history)))
     → IfOk outcome (λ r. IfSome r.told (λ t. TellsReceipt book origin r.position r.entry t))

@@ -1,5 +1,5 @@
 -- what the calls of a desk tell
-use Rattle.std.specs.Prelude.{◌≡◌, ℕ, ◌<◌, List, [], ◌∷◌, ◌++◌, length, Option, Some, IsSome, slice_get, All}
+use Rattle.std.specs.Prelude.{◌≡◌, ℕ, ◌<◌, List, [], ◌∷◌, ◌++◌, length, Option, Some, IsSome, slice_get, slice_set, All}
 use Rattle.once_cell.specs.declared.race.note.Note.{Note}
 use Rattle.logbook.specs.Pages.{Book}
 use Rattle.wh_event.specs.declared.entry.Entry.{Entry}
@@ -17,7 +17,7 @@ abbrev pub IsAskedBy : Command → Event → Type 0
 IsAskedBy command event = (told : Spare) × (event ≡ event_of command told)
 
 -- one entry was appended by a step, and the pass received it
-pub record Entered (origin : Origin) (before : Ledger) (had : Received) (command : Command) (after : Ledger) (has : Received)
+pub record Entered {X : Type 0} (origin : Origin) (before : Ledger X) (had : Received) (command : Command) (after : Ledger X) (has : Received)
     (position : ℕ) (entry : Entry) : Type 0 where
   pub caller_is : entry.caller ≡ had.caller
   pub command_is : IsAskedBy command entry.event
@@ -54,6 +54,12 @@ pub record TellsReceipt (book : Book) (origin : Origin) (position : ℕ) (entry 
 abbrev pub HandsBack : {X : Type 0} → Option ℕ → Option X → Option X → Type 0
 HandsBack (Some agent) (Some handed) back = IsSome back
 HandsBack agent handed back = back ≡ handed
+
+-- Where an agent's planner was replaced, the one handed in has its seat and the one that had it comes back; else what was
+-- handed in comes back.
+abbrev pub Reseats : {X : Type 0} → Option ℕ → List X → Option X → List X → Option X → Type 0
+Reseats (Some agent) old (Some handed) new back = (new ≡ slice_set old agent handed) × (back ≡ slice_get old agent)
+Reseats agent old handed new back = back ≡ handed
 
 -- there is a history of this length that is a run, in which the receipts of both stand at their positions, and are all that their callers did
 pub record Together (origin : Origin) (one two : Received) (long : ℕ) : Type 0 where

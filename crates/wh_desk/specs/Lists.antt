@@ -40,9 +40,17 @@ is_current history pass =
     (length (entries_of history pass.caller) == length pass.list)
     && (last_position (entries_of history pass.caller) == last_position pass.list)
 
--- what contracts see of a journal; shown is the history that was published last
-pub record Ledger : Type 0 where
+-- what contracts see of a journal; shown is the history that was published last, and the planners are the agents', in order
+pub record Ledger (X : Type 0) : Type 0 where
   pub history : List Entry
   pub state : State
   pub capacity : ℕ
   pub shown : List Entry
+  pub planners : List X
+
+-- nothing that was done is told otherwise
+pub record TellsTheSame {X : Type 0} (old new : Ledger X) : Type 0 where
+  pub history : new.history ≡ old.history
+  pub state : new.state ≡ old.state
+  pub capacity : new.capacity ≡ old.capacity
+  pub shown : new.shown ≡ old.shown

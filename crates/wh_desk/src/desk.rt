@@ -1,7 +1,7 @@
 //! The desk.
 #![tactic(auto)]
 
-ghost use Rattle.std.specs.Prelude.{◌≡◌, ◌≢◌, ◌<◌, ◌↔◌, [], length, true, IfOk, IfSome, OnErr, IsTrue, IsSome, MatchResult, All};
+ghost use Rattle.std.specs.Prelude.{◌≡◌, ◌≢◌, ◌<◌, ◌≤◌, ◌↔◌, [], length, true, IfOk, IfSome, OnErr, IsTrue, IsSome, MatchResult, All};
 ghost use Rattle.std.specs.List.{sum_by};
 ghost use Rattle.wh_points.specs.Formed.{IsFormed};
 ghost use Rattle.wh_event.specs.declared.event.Command.{Command as Asked};
@@ -204,7 +204,7 @@ impl<N: DeskName, H: Wait + Drop, P: Planner> Desk<N, H, P> {
     }
 
     /// Ends the desk. The history is one run; for each caller its entries are what its pass received, and there are no others.
-    /// It may wait until looks end. E95: a pass has not all that its caller did; the desk and the passes are dropped.
+    /// There are no more entries than cells. It may wait until looks end. E95: a pass has not all that its caller did; the desk and the passes are dropped.
     pub fn finish(self, passes: Vec<Pass<N>>) -> Result<History<P>, Stale>
         requires { InOrder N.callers passes.items }
         ensures origin { IfOk result (λ r. origin_of r.warehouse.book ≡ N.origin) }
@@ -212,6 +212,7 @@ impl<N: DeskName, H: Wait + Drop, P: Planner> Desk<N, H, P> {
         ensures callers { IfOk result (λ r. All (λ entry. entry.caller < N.callers) r.warehouse.book.history) }
         ensures lists { IfOk result (λ r. All (λ p. p.list ≡ entries_of r.warehouse.book.history p.caller) passes.items) }
         ensures lengths { IfOk result (λ r. sum_by (λ p. length p.list) passes.items ≡ length r.warehouse.book.history) }
+        ensures within { IfOk result (λ r. length r.warehouse.book.history ≤ length N.cells) }
     {
         let Desk { journal, cells: _ } = self;
         let journal = journal.into_inner();

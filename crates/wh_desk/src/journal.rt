@@ -6,11 +6,11 @@ ghost use Rattle.wh_points.specs.Formed.{IsFormed};
 ghost use Rattle.wh_event.specs.declared.reply.Reply.{Reply as Answered};
 ghost use Rattle.wh_event.specs.declared.reply.Refusal.{Refusal as Reason};
 ghost use Rattle.wh_core.specs.Steps.{Run};
-ghost use Rattle.wh_token.specs.Fleet.{TellsFor, replaced_agent};
+ghost use Rattle.wh_token.specs.Fleet.{StaySeated, TellsFor, replaced_agent};
 ghost use Rattle.wh_board.specs.Pasts.{origin_of, past_of};
-ghost use Rattle.wh_desk.specs.Lists.{AllAt, entries_of, is_current};
+ghost use Rattle.wh_desk.specs.Lists.{AllAt, TellsTheSame, entries_of, is_current};
 ghost use Rattle.wh_desk.specs.Kept.{RowOf};
-ghost use Rattle.wh_desk.specs.Calls.{Entered, Together, HandsBack};
+ghost use Rattle.wh_desk.specs.Calls.{Entered, Together, HandsBack, Reseats};
 
 use crate::answer::{Answer, DeskFault, Met, Receipt, Stale};
 use crate::cells::Cells;
@@ -26,7 +26,8 @@ use wh_event::{Command, Entry};
 use wh_planner::Planner;
 use wh_token::{Committed, Warehouse};
 
-/// What lies under the lock. Contracts see it as its history, its state, its capacity and what was published last.
+/// What lies under the lock. Contracts see it as its history, its state, its capacity, what was published last, and the
+/// agents' planners.
 #[derive(Drop)]
 pub struct Journal<N: DeskName, H: Wait + Drop, P = Box<dyn Planner>> {
     warehouse: Warehouse<P>,
@@ -42,9 +43,9 @@ impl<N: DeskName, H: Wait + Drop, P> Model for Journal<N, H, P> {
     ghost use Rattle.wh_desk.specs.Kept.{JournalKeeps};
     ghost use Rattle.wh_board.specs.Pasts.{past_of};
 
-    ghost Value = { Ledger };
+    ghost Value = { Ledger P };
 
-    ghost view = { λ j. record { history = j.warehouse.book.history; state = j.warehouse.book.state; capacity = j.capacity; shown = j.publisher.shown.history } };
+    ghost view = { λ j. record { history = j.warehouse.book.history; state = j.warehouse.book.state; capacity = j.capacity; shown = j.publisher.shown.history; planners = j.warehouse.planners } };
 
     ghost invariant = { λ j. JournalKeeps N.origin N.cells N.book N.callers (past_of j.warehouse.book) j.capacity j.rows.items j.notes.items j.publisher };
 }
@@ -168,12 +169,13 @@ impl<N: DeskName, H: Wait + Drop, P: Planner> Journal<N, H, P> {
         Ok(Met { length })
     }
 
-    /// The warehouse. All its entries are of the callers.
+    /// The warehouse. All its entries are of the callers, and there are no more of them than cells.
     pub fn into_warehouse(self) -> Warehouse<P>
         ensures origin { origin_of result.book ≡ N.origin }
         ensures run { Run N.origin.site N.origin.opening result.book.history result.book.state }
         ensures history { result.book.history ≡ self.history }
         ensures callers { All (λ entry. entry.caller < N.callers) self.history }
+        ensures within { length self.history ≤ length N.cells }
     {
         let Journal {
             warehouse,
@@ -189,7 +191,7 @@ impl<N: DeskName, H: Wait + Drop, P: Planner> Journal<N, H, P> {
 
     /// Appends an entry of the caller's, hands the pass its receipt and publishes the board. E95 comes first, where the pass has
     /// not all that its caller did, then E11, where the journal is full, then E90 or E91. A refusal changes neither journal nor
-    /// pass, and gives the planner back.
+    /// pass, but for what a planner that was asked has learned, and gives the planner that was handed in back.
     pub fn enter(
         &mut self,
         alloc: Global,
@@ -205,10 +207,12 @@ impl<N: DeskName, H: Wait + Drop, P: Planner> Journal<N, H, P> {
         ensures shown { IfOk result.outcome (λ r. IsTrue r.shown ↔ IsSome r.told) }
         ensures told { IfOk result.outcome (λ r. IfSome r.told (λ t. (t.book ≡ N.book) × (t.past ≡ record { origin = N.origin; history = self.new.history }) × (self.new.shown ≡ self.new.history))) }
         ensures lags { IfOk result.outcome (λ r. IfNone r.told (self.new.shown ≡ self.old.shown)) }
-        ensures err { OnErr result.outcome ((self.new ≡ self.old) × (pass.new ≡ pass.old)) }
+        ensures err { OnErr result.outcome (TellsTheSame self.old self.new × (pass.new ≡ pass.old)) }
+        ensures still { OnErr result.outcome (StaySeated command self.old.planners self.new.planners) }
         ensures stale { (result.outcome ≡ Err DeskFault.Stale) ↔ (is_current self.old.history pass.old ≡ false) }
         ensures full { (result.outcome ≡ Err DeskFault.Full) ↔ ((is_current self.old.history pass.old ≡ true) × (self.old.capacity ≤ length self.old.history)) }
         ensures back { MatchResult result.outcome (λ r. HandsBack (replaced_agent r.entry) spare result.back) (λ _. result.back ≡ spare) }
+        ensures reseats { IfOk result.outcome (λ r. Reseats (replaced_agent r.entry) self.old.planners spare self.new.planners result.back) }
     {
         if !self.knows(pass) {
             return Answer::refused(DeskFault::Stale, spare);
@@ -237,9 +241,11 @@ impl<N: DeskName, H: Wait + Drop, P: Planner> Journal<N, H, P> {
         ensures shown { IfOk result.outcome (λ r. IsTrue r.shown ↔ IsSome r.told) }
         ensures told { IfOk result.outcome (λ r. IfSome r.told (λ t. (t.book ≡ N.book) × (t.past ≡ record { origin = N.origin; history = self.new.history }) × (self.new.shown ≡ self.new.history))) }
         ensures lags { IfOk result.outcome (λ r. IfNone r.told (self.new.shown ≡ self.old.shown)) }
-        ensures err { OnErr result.outcome ((self.new ≡ self.old) × (pass.new ≡ pass.old)) }
+        ensures err { OnErr result.outcome (TellsTheSame self.old self.new × (pass.new ≡ pass.old)) }
+        ensures still { OnErr result.outcome (StaySeated command self.old.planners self.new.planners) }
         ensures fault { IfErr result.outcome (λ fault. (fault ≢ DeskFault.Stale) × (fault ≢ DeskFault.Full)) }
         ensures back { MatchResult result.outcome (λ r. HandsBack (replaced_agent r.entry) spare result.back) (λ _. result.back ≡ spare) }
+        ensures reseats { IfOk result.outcome (λ r. Reseats (replaced_agent r.entry) self.old.planners spare self.new.planners result.back) }
     {
         let position = self.warehouse.history().len() as u64;
         let caller = pass.caller;

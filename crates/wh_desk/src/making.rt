@@ -4,7 +4,7 @@
 ghost use Rattle.std.specs.Prelude.{◌≡◌, ◌∷◌, ◌++◌, ◌<◌, [], vec_len, vec_capacity, IfOk, IfSome, MatchResult};
 ghost use Rattle.once_cell.specs.Once.{cell_name};
 ghost use Rattle.wh_book.specs.Drafts.{IsSame, IsReady};
-ghost use Rattle.wh_token.specs.Fleet.{TellsFor};
+ghost use Rattle.wh_token.specs.Fleet.{StaySeated, TellsFor};
 ghost use Rattle.wh_desk.specs.Calls.{IsAskedBy};
 
 use crate::pass::Held;
@@ -43,6 +43,7 @@ pub(crate) fn make_ready<P: Planner>(
     ensures entry { IfOk result (λ made. made.entry ≡ made.ready.draft.entry) }
     ensures boxed { IfOk result (λ made. made.boxed.value ≡ made.ready.draft.entry) }
     ensures spare { MatchResult result (λ made. made.ready.spare ≡ spare) (λ back. back ≡ spare) }
+    ensures still { StaySeated command warehouse.old.planners warehouse.new.planners }
 {
     if make_room(notes, held).is_err() {
         return Err(spare);

@@ -1,5 +1,5 @@
 -- What a crew did from the opening of a warehouse, and the log of it.
-use Rattle.std.specs.Prelude.{◌≡◌, ℕ, ◌<◌, Bool, List, length, All}
+use Rattle.std.specs.Prelude.{◌≡◌, ℕ, ◌<◌, ◌≤◌, Bool, List, length, All}
 use Rattle.wh_words.specs.Lines.{text_of}
 use Rattle.wh_points.specs.Points.{Site}
 use Rattle.wh_event.specs.declared.entry.Entry.{Entry}
@@ -18,11 +18,12 @@ use Rattle.wh_crew.specs.declared.threads.CrewFault.TheVariants as crew
 use Rattle.wh_edge.specs.declared.trouble.Trouble.{Trouble}
 use Rattle.wh_edge.specs.declared.trouble.Trouble.TheVariants as trouble
 
--- The history is one run from there, by these workers alone. Each worker had nothing before, and what it did are its
--- commands, in order, without as many as it missed.
-pub record WorkedFrom {X : Type 0} (fits : X → Bool) (count : X → ℕ) (origin : Origin) (works : List (Work X))
+-- The history is one run from there, by these workers alone, and has no more entries than the journal has positions. Each
+-- worker had nothing before, and what it did are its commands, in order, without as many as it missed.
+pub record WorkedFrom {X : Type 0} (fits : X → Bool) (count : X → ℕ) (origin : Origin) (works : List (Work X)) (journal : ℕ)
     (history : List Entry) (state : State) : Type 0 where
   pub run : Run origin.site origin.opening history state
+  pub within : length history ≤ journal
   pub callers : All (λ entry. entry.caller < length works) history
   pub passes : List Received
   pub in_order : InOrder (length works) passes
@@ -30,14 +31,15 @@ pub record WorkedFrom {X : Type 0} (fits : X → Bool) (count : X → ℕ) (orig
   pub missed : List ℕ
   pub worked : AllWorked fits count works passes history missed
 
--- The warehouse was opened at clock 0 with these planners, the workers did their works, and the text is the log of it.
+-- The warehouse was opened at clock 0 with these planners, the workers did their works over a journal of so many positions,
+-- and the text is the log of it.
 pub record Lives {X : Type 0} (fits : X → Bool) (count : X → ℕ) (site : Site) (planners : List X) (works : List (Work X))
-    (text : List ℕ) : Type 0 where
+    (journal : ℕ) (text : List ℕ) : Type 0 where
   pub slots : List ℕ
   pub tied : IsTied fits count planners slots
   pub history : List Entry
   pub state : State
-  pub worked : WorkedFrom fits count (record { site = site; opening = opened site.layout 0 slots }) works history state
+  pub worked : WorkedFrom fits count (record { site = site; opening = opened site.layout 0 slots }) works journal history state
   pub text_is : text ≡ text_of (log_lines Two (record { clock = 0; slots = slots; entries = history }))
 
 -- what is told of a crew that came to no history

@@ -23,6 +23,7 @@ use Rattle.wh_live.specs.Works.{requests}
 use Rattle.wh_live.specs.Lives.{Lives, IsWhyDead}
 use Rattle.wh_service.specs.Fleets.{IsMember, IsOfFleet, IsWhyUnclaimed, MakesPlanners}
 use Rattle.wh_service.specs.Hosts.{AreMembers, HaveSpares, IsTeam, ReadsAll, Hosts, HostsTo, IsWhyUnhosted}
+use Rattle.wh_service.proofs.Logged.{logged}
 use Rattle.wh_service.proofs.Played.{Gives, slots_each, tied_slots}
 
 -- the commands of one more client
@@ -60,9 +61,13 @@ few_works {X} gives options grid agents scripts planners works team few =
 -- what a team's run came to: each planner has the fleet's slots
 pub hosts : {X : Type 0} (fits : Floor → X → Bool) (count : X → ℕ) (gives : Gives X) (options : LiveOptions) (site : Site) (scripts : List (List Command)) (planners : List X) (works : List (Work X)) (old new : Input) (text : List ℕ)
     → ReadsAll old new site scripts → MakesPlanners fits count gives → IsOfFleet options.fleet → IsTeam gives options site.grid (length site.layout.agents) scripts planners works
-    → Lives (fits site.grid) count site planners works text → Hosts fits count gives options old new text
+    → Lives (fits site.grid) count site planners works options.journal text → Hosts fits count gives options old new text
 hosts fits count gives options site scripts planners works old new text reads makes range team lives =
     let each = recursion_from_All (IsMember gives options.fleet site.grid team.bank) planners team.planners_are.members in
+    let slots_are =
+    tied_slots count planners lives.slots lives.tied.seats lives.tied.counts
+    ∙ slots_each fits count gives options.fleet site.grid team.bank planners (length site.layout.agents) makes range team.planners_are.many_is each in
+    let few = few_works gives options site.grid (length site.layout.agents) scripts planners works team reads.clients_read.few in
     record {
       site = site;
       scripts = scripts;
@@ -71,9 +76,8 @@ hosts fits count gives options site scripts planners works old new text reads ma
       works = works;
       team = team;
       lives = lives;
-      slots =
-          tied_slots count planners lives.slots lives.tied.seats lives.tied.counts
-          ∙ slots_each fits count gives options.fleet site.grid team.bank planners (length site.layout.agents) makes range team.planners_are.many_is each;
+      slots = slots_are;
+      is_log = logged fits count gives options site scripts planners works old new text reads makes range team few lives slots_are;
     }
 
 -- a site and its clients, in other words

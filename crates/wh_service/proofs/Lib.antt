@@ -3,3 +3,9 @@ pub mod Played
 pub mod Behind
 pub mod Unverified
 pub mod Hosted
+pub mod InRange
+pub mod Asked
+pub mod Teams
+pub mod Logged
+pub mod Openings
+pub mod Replayed

@@ -34,6 +34,7 @@ use Rattle.wh_service.specs.declared.parts.PlannerParts.{PlannerParts}
 use Rattle.wh_service.specs.Plays.{IsOpened, Plays, PlaysThrough, PlaysUntil, PlaysWithoutTail, IsWhyUnplayed}
 use Rattle.wh_service.specs.Tails.{IsWhyNoTail, tail_after}
 use Rattle.wh_service.specs.Serves.{RanFrom, opening, Operates, Finishes, Serves, ServesUntil, ServesWithoutTail, IsWhyUnserved}
+use Rattle.wh_service.proofs.Replayed.{replay_logged}
 use Rattle.wh_service.proofs.Spared.{ran_from}
 
 -- ---- opening
@@ -69,7 +70,7 @@ pub equipped_at : {X : Type 0} {gives : Gives X} {fleet : Fleet} {grid : Floor} 
 equipped_at {X} {gives} {fleet} {grid} {n} {m} {planners} {spares} same e = subst (λ (k : ℕ). IsEquipped gives fleet grid k planners spares) same e
 
 -- members of a fleet on a grid plan on it, with the fleet's slots
-member_tells : {X : Type 0} (fits : Floor → X → Bool) (count : X → ℕ) (gives : Gives X) (fleet : Fleet) (grid : Floor) (bank : Bank) (planner : X)
+pub member_tells : {X : Type 0} (fits : Floor → X → Bool) (count : X → ℕ) (gives : Gives X) (fleet : Fleet) (grid : Floor) (bank : Bank) (planner : X)
     → MakesPlanners fits count gives → IsOfFleet fleet → IsMember gives fleet grid bank planner → (fits grid planner ≡ true) × (count planner ≡ fleet.slots)
 member_tells fits count gives fleet grid bank planner makes range m =
     let few : IsForPlanner m.parts.claim = (subst (λ n. 2 ≤ n) (sym m.slots_are) range.0, subst (λ n. n ≤ 64) (sym m.slots_are) range.1) in (
@@ -162,16 +163,19 @@ abbrev finishes : {X : Type 0} (fits : Floor → X → Bool) (count : X → ℕ)
     → SiteRead old between site.grid site.layout
     → MakesPlanners fits count gives → IsOfFleet fleet → IsEquipped gives fleet site.grid (length site.layout.agents) planners spares
     → PlaysThrough fits count site planners spares between new had has final written → Finishes fleet old new
-finishes fits count gives fleet site planners spares old between new had has final written at makes range e p = record {
-  between = between;
-  site = site;
-  site_read = at;
-  script = p.replays.read;
-  takes = p.replays.takes;
-  ended = p.replays.ended;
-  replies = p.replays.replies;
-  operates = operates fits count gives fleet site planners spares (lines_of p.replays.read) p.book final p.rest p.replays.replies makes range e p.opened p.replays.output;
-}
+finishes fits count gives fleet site planners spares old between new had has final written at makes range e p =
+    let done = operates fits count gives fleet site planners spares (lines_of p.replays.read) p.book final p.rest p.replays.replies makes range e p.opened p.replays.output in
+    record {
+      between = between;
+      site = site;
+      site_read = at;
+      script = p.replays.read;
+      takes = p.replays.takes;
+      ended = p.replays.ended;
+      replies = p.replays.replies;
+      operates = done;
+      is_log = replay_logged fleet site old between (lines_of p.replays.read) p.replays.replies at range done;
+    }
 
 pub serves : {X : Type 0} (fits : Floor → X → Bool) (count : X → ℕ) (gives : Gives X) (fleet : Fleet) (site : Site) (planners spares : List X) (tail : Tail) (old between new : Input)
     (had has : Option (List ℕ)) (written : ℕ)

@@ -24,7 +24,7 @@ all_back P [] ys all = all
 all_back P (x ∷ xs) ys all = all_back P xs ys all.1
 
 -- whether a command wants a spare planner
-wants : (s : State) (command : Command) → (WantsSpare s command) ⊎ (WantsSpare s command → ⊥)
+pub wants : (s : State) (command : Command) → (WantsSpare s command) ⊎ (WantsSpare s command → ⊥)
 wants s (Command.Replace agent) = elim (cases_Bool s.closed) [
   | inl closed ↦ inr (λ (k : IsKnown s agent). true≢false (sym closed ∙ k.not_closed))
   | inr still_open ↦ elim (cases_lt agent (length s.paths)) [
@@ -72,6 +72,7 @@ takes : {X : Type 0} (fits : X → Bool) (count : X → ℕ) (s : State) (comman
 takes fits count s command event old new all t = record {
   last = λ w. takes_last fits count event old new all (t.last w);
   other = λ others. ap (map count) (t.other others);
+  none_told = λ others. tells_for fits count None event tt (t.none_told others);
 }
 
 -- those that are left all plan on the map too

@@ -1,5 +1,5 @@
 -- What a whole run of `live` does.
-use Rattle.std.specs.Prelude.{◌≡◌, ◌⊎◌, ℕ, Bool, List, length, map, replicate, All, Option, Result}
+use Rattle.std.specs.Prelude.{◌≡◌, ◌⊎◌, ◌<◌, ◌^◌, ℕ, Bool, List, length, map, replicate, All, Option, Result}
 use Rattle.std.specs.declared.alloc.AllocError.{AllocError}
 use Rattle.std.specs.Io.KnownBytes.{Appends, Keeps}
 use Rattle.wh_lines.specs.Input.{Input}
@@ -7,6 +7,7 @@ use Rattle.wh_grid.specs.Grids.{Floor}
 use Rattle.wh_points.specs.Points.{Site}
 use Rattle.wh_event.specs.declared.event.Command.{Command}
 use Rattle.wh_claims.specs.Bank.{bank_total}
+use Rattle.wh_log.specs.Logs.{IsLogText}
 use Rattle.wh_claims.specs.declared.bank.Bank.{Bank}
 use Rattle.wh_edge.specs.Site.{SiteRead, SiteFault}
 use Rattle.wh_edge.specs.declared.work.Work.{Work}
@@ -49,7 +50,8 @@ pub record ReadsAll (old new : Input) (site : Site) (scripts : List (List Comman
   pub clients_read : ClientsRead (length site.layout.agents) between new scripts
 
 -- A site and its clients were read, and the team did its works; each agent's planner had the fleet's slots at the opening.
--- The text is the log of all that was done.
+-- The text is the log of all that was done: it has no more entries than the journal of the options has positions, and
+-- where these are fewer than 1,000,000,000 it is of the format, so that it is read back as what was done.
 pub record Hosts {X : Type 0} (fits : Floor → X → Bool) (count : X → ℕ) (gives : PlannerParts → Result X AllocError → Type 0) (options : LiveOptions)
     (old new : Input) (text : List ℕ) : Type 0 where
   pub site : Site
@@ -58,8 +60,9 @@ pub record Hosts {X : Type 0} (fits : Floor → X → Bool) (count : X → ℕ) 
   pub planners : List X
   pub works : List (Work X)
   pub team : IsTeam gives options site.grid (length site.layout.agents) scripts planners works
-  pub lives : Lives (fits site.grid) count site planners works text
+  pub lives : Lives (fits site.grid) count site planners works options.journal text
   pub slots : lives.slots ≡ replicate (length site.layout.agents) options.fleet.slots
+  pub is_log : options.journal < 10 ^ 9 → IsLogText (record { clock = 0; slots = lives.slots; entries = lives.history }) text
 
 -- a team did its works, and the log of them stands behind what was written
 pub record HostsTo {X : Type 0} (fits : Floor → X → Bool) (count : X → ℕ) (gives : PlannerParts → Result X AllocError → Type 0) (options : LiveOptions)

@@ -1,5 +1,5 @@
 -- What a whole run of `replay` does.
-use Rattle.std.specs.Prelude.{◌≡◌, ◌⊎◌, ℕ, Bool, true, false, List, ◌++◌, length, replicate, Option, Result, Ok, Err}
+use Rattle.std.specs.Prelude.{◌≡◌, ◌⊎◌, ◌<◌, ◌^◌, ℕ, Bool, true, false, List, ◌++◌, length, replicate, Option, Result, Ok, Err}
 use Rattle.std.specs.Io.KnownBytes.{Appends, Keeps, IsAtEnd}
 use Rattle.wh_text.specs.Lines.{lines_of}
 use Rattle.wh_lines.specs.Input.{Input, left, Takes}
@@ -18,14 +18,16 @@ use Rattle.wh_edge.specs.declared.trouble.Status.{Status}
 use Rattle.wh_edge.specs.declared.trouble.Status.TheVariants as status
 use Rattle.wh_options.specs.declared.chosen.Fleet.{Fleet}
 use Rattle.wh_options.specs.declared.chosen.Tail.{Tail}
+use Rattle.wh_options.specs.declared.chosen.Tail.TheVariants.{Log}
 use Rattle.wh_options.specs.declared.refused.Refusal.{Refusal}
 use Rattle.wh_options.specs.declared.refused.Refusal.TheVariants.{Asked, Mistake, NoMemory}
+use Rattle.wh_log.specs.Logs.{IsLogText}
 use Rattle.wh_replay.specs.Answers.{commands_of, replies_to, text_of}
 use Rattle.wh_replay.specs.Scripts.{WritesUntil}
 use Rattle.wh_replay.specs.declared.script.ReplayFault.{ReplayFault}
 use Rattle.wh_service.specs.Fleets.{IsWhyUnclaimed}
 use Rattle.wh_service.specs.Plays.{trouble_of}
-use Rattle.wh_service.specs.Tails.{IsWhyNoTail, tail_after}
+use Rattle.wh_service.specs.Tails.{IsWhyNoTail, tail_after, tail_text}
 
 -- how the program ends where its words give no options: help that was shown ends well
 abbrev pub ended_by : Refusal → Bool → Result Status Trouble
@@ -56,7 +58,8 @@ pub record Operates (fleet : Fleet) (site : Site) (lines : List (List ℕ)) (rep
   -- on a well-formed site no request is refused for want of a path
   pub served : IsFormed site → AllServed (entries_of outcomes)
 
--- A site was read, all that followed was read to the end, and these are the replies to its lines.
+-- A site was read, all that followed was read to the end, and these are the replies to its lines. The log of the entries, where
+-- they are fewer than 1,000,000,000, is of the format, so that it is read back as what was done.
 pub record Finishes (fleet : Fleet) (old new : Input) : Type 0 where
   pub between : Input
   pub site : Site
@@ -66,6 +69,9 @@ pub record Finishes (fleet : Fleet) (old new : Input) : Type 0 where
   pub ended : IsAtEnd (left new)
   pub replies : List (List ℕ)
   pub operates : Operates fleet site (lines_of script) replies
+  pub is_log : length (entries_of operates.outcomes) < 10 ^ 9 → IsLogText
+      (record { clock = 0; slots = replicate (length site.layout.agents) fleet.slots; entries = entries_of operates.outcomes })
+      (tail_text Log (opening fleet site) (entries_of operates.outcomes) operates.final)
 
 -- what is to follow the replies: the log of its entries, or the ledger of its last state
 abbrev pub follows : {fleet : Fleet} {old new : Input} → Tail → Finishes fleet old new → List ℕ

@@ -4,6 +4,7 @@ use Rattle.wh_token.specs.declared.roster.OpenFault.{OpenFault}
 use Rattle.wh_event.specs.declared.event.Spare.{Spare}
 use Rattle.wh_event.specs.declared.entry.Entry.{Entry}
 use Rattle.wh_event.specs.declared.event.Event.{Event}
+use Rattle.wh_event.specs.declared.event.Command.{Command}
 use Rattle.wh_event.specs.declared.reply.Reply.{Reply}
 
 -- Each planner plans on the map, and has the slots that the state tells. Fits and count say what a planner answers.
@@ -60,3 +61,8 @@ TellsFor fits count handed event = Unit {0}
 abbrev pub IsSeated : {X : Type 0} → Option ℕ → List X → Type 0
 IsSeated (Some agent) planners = agent < length planners
 IsSeated None planners = Unit {0}
+
+-- Only a Token asks a planner: at any other command the planners stay as they are.
+abbrev pub StaySeated : {X : Type 0} → Command → List X → List X → Type 0
+StaySeated (Command.Token agent) old new = Unit {0}
+StaySeated command old new = new ≡ old

@@ -23,10 +23,11 @@ abbrev pub WantsSpare : State → Command → Type 0
 WantsSpare s (Command.Replace agent) = IsKnown s agent
 WantsSpare s command = ⊥
 
--- such a Replace takes the last spare, and no other command takes one
+-- such a Replace takes the last spare, and no other command takes one or tells of one
 pub record Takes {X : Type 0} (fits : X → Bool) (count : X → ℕ) (s : State) (command : Command) (event : Event) (old new : List X) : Type 0 where
   pub last : WantsSpare s command → TakesLast fits count event old new
   pub other : (WantsSpare s command → ⊥) → new ≡ old
+  pub none_told : (WantsSpare s command → ⊥) → TellsFor fits count None event
 
 -- One command: with no entry it was refused for memory, and nothing changed; else the entry answers it.
 abbrev pub Moves : {X : Type 0} → (X → Bool) → (X → ℕ) → Site → ℕ → Command → Option Entry → State → List X → State → List X → Type 0

@@ -22,7 +22,7 @@ ghost use Rattle.wh_core.specs.Steps.{Step, Run, IsDue, IsNext, NoneIsNext, IsAl
 ghost use Rattle.wh_planner.specs.Asked.{IsDuty, Serves, legs};
 ghost use Rattle.wh_book.specs.Drafts.{IsSame, IsReady, Drafts, AllServed};
 ghost use Rattle.wh_token.specs.Commands.{event_of};
-ghost use Rattle.wh_token.specs.Fleet.{IsTied, AllFit, RefusesToOpen, TellsSpare, TellsFor, Swaps, IsSeated, replaced_agent};
+ghost use Rattle.wh_token.specs.Fleet.{IsTied, AllFit, RefusesToOpen, TellsSpare, TellsFor, Swaps, IsSeated, StaySeated, replaced_agent};
 ghost use Rattle.wh_token.specs.Runs.{Moves, Ran as RanBy, WantsSpare, entries_of};
 
 use crate::command::{event_of, replaced};
@@ -411,6 +411,7 @@ impl<P: Planner> Warehouse<P> {
     ) -> Result<Draft, AllocError>
         ensures same { IsSame self.old.book self.new.book }
         ensures drafts { IfOk result (Drafts self.new.book caller (event_of command told)) }
+        ensures still { StaySeated command self.old.planners self.new.planners }
         ensures tied { IsTied (λ b. P.fits_map b self.old.book.site.grid) (λ b. P.slot_count b) self.old.planners self.old.book.state.slots
             → IsTied (λ b. P.fits_map b self.old.book.site.grid) (λ b. P.slot_count b) self.new.planners self.new.book.state.slots }
     {
@@ -446,6 +447,7 @@ impl<P: Planner> Warehouse<P> {
         ensures event { IfOk result (λ ready. ((told : Told) × (ready.draft.entry.event ≡ event_of command told))) }
         ensures tells { IfOk result (λ ready. TellsFor (λ b. P.fits_map b self.old.book.site.grid) (λ b. P.slot_count b) spare ready.draft.entry.event) }
         ensures spare { MatchResult result (λ ready. ready.spare ≡ spare) (λ fault. fault.1 ≡ spare) }
+        ensures still { StaySeated command self.old.planners self.new.planners }
     {
         let told = self.tell(&spare);
         match self.draft(alloc, caller, command, told) {

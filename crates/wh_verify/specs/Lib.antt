@@ -1,2 +1,3 @@
 pub mod Verifying
 pub mod Following
+pub mod Written

@@ -2,8 +2,10 @@
 #![tactic(auto)]
 
 mod follower;
+mod laws;
 mod verifier;
 
+pub use laws::runs_are_logs;
 pub use verifier::{Verified, verify};
 
 #[cfg(test)]

@@ -10,6 +10,7 @@ returns-in-Ok-clause-ok g c =
     let many = sym c.requires.callers in
     record {
       run = done.run;
+      within = done.within;
       callers = subst (λ (n : ℕ). All (λ (entry : Entry). entry.caller < n) c.in-Ok.crewed.history.warehouse.book.history) many done.callers;
       passes = c.in_ok-desk.passes.items;
       in_order = subst (λ (n : ℕ). InOrder n c.in_ok-desk.passes.items) many c.in_ok-desk.ensures.order;

@@ -5,7 +5,7 @@ use Rattle.wh_desk.proofs.Telling.{called_if, told_if}
 use Rattle.wh_desk.proofs.desk.Desk.call.Goals as goal
 
 pub returns-clause-ok : goal.returns-clause-ok
-returns-clause-ok g c = called_if g.N.DeskName.origin _ c.enter-answer.new.self c.args.pass.now c.enter-answer.new.pass c.args.command c.enter-answer.result.outcome c.enter-answer.ensures.ok (subst (λ (j : Ledger). Run g.N.DeskName.origin.site g.N.DeskName.origin.opening j.history j.state) c.deref.ensures c.is_run.ensures)
+returns-clause-ok g c = called_if g.N.DeskName.origin _ c.enter-answer.new.self c.args.pass.now c.enter-answer.new.pass c.args.command c.enter-answer.result.outcome c.enter-answer.ensures.ok (subst (λ (j : Ledger g.row.P.Denot). Run g.N.DeskName.origin.site g.N.DeskName.origin.opening j.history j.state) c.deref.ensures c.is_run.ensures)
 
 pub returns-clause-told : goal.returns-clause-told
 returns-clause-told g c = told_if g.N.DeskName.origin g.N.DeskName.book _ c.enter-answer.new.self c.args.pass.now c.enter-answer.new.pass c.args.command c.enter-answer.result.outcome c.enter-answer.ensures.ok c.enter-answer.ensures.told

@@ -1,16 +1,16 @@
-use Rattle.std.proofs.Common.{arith, ap, sym, subst, ◌∙◌, ◌≡◌, ◌+◌, ◌<◌, ℕ, [], ◌∷◌, ◌++◌, length, Some, slice_get, slice_set}
+use Rattle.std.proofs.Common.{arith, ap, sym, subst, ◌∙◌, ◌≡◌, ◌+◌, ◌<◌, ℕ, List, [], ◌∷◌, ◌++◌, length, Some, slice_get, slice_set}
 use Rattle.std.proofs.lemmas.List.{length-map, length_push}
 use Rattle.wh_event.specs.declared.entry.Entry.{Entry}
 use Rattle.wh_token.specs.Fleet.{replaced_agent}
 use Rattle.wh_board.specs.Pasts.{Past, Extends, grown, past_of}
 use Rattle.wh_desk.specs.Lists.{entries_of, last_position, Ledger, Received}
-use Rattle.wh_desk.specs.Calls.{HandsBack}
+use Rattle.wh_desk.specs.Calls.{HandsBack, IsAskedBy, Reseats}
 use Rattle.wh_desk.specs.declared.pass.Held.{Held}
 use Rattle.wh_desk.specs.declared.pass.Row.{Row}
 use Rattle.wh_desk.specs.Kept.{pair_of, list_of, NoteKnows, PassKeeps, JournalKeeps}
 use Rattle.wh_desk.proofs.Entries.{last_push, entries_push_same}
 use Rattle.wh_desk.proofs.Receipts.{pass_push, journal_push, past_same, journal_same, journal_refused, shown_next, either_same}
-use Rattle.wh_desk.proofs.Handing.{seated, handed_back}
+use Rattle.wh_desk.proofs.Handing.{seated, handed_back, reseats}
 use Rattle.wh_desk.proofs.journal.Journal.append.Goals as goal
 
 pub invariant_of-self-then-not-add : goal.invariant_of-self-then-not-add
@@ -24,7 +24,7 @@ invariant_of-pass-2 g c =
     let made = c.in-Ok.made in
     let x : Held = record { position = at; entry = made.entry; note = c.in-Some.note } in
     let place : length h ≡ at = sym (ap length c.history.ensures.value) in
-    let all : list_of c.pass.inside.held.items ≡ entries_of h c.pass.inside.caller = ap (λ v. v.list) c.pass.view_is ∙ c.requires.whole ∙ sym (ap (λ (s : Ledger). entries_of s.history c.args.pass.now.caller) c.self.view_is) ∙ sym (ap (λ (v : Received). entries_of h v.caller) c.pass.view_is) in
+    let all : list_of c.pass.inside.held.items ≡ entries_of h c.pass.inside.caller = ap (λ v. v.list) c.pass.view_is ∙ c.requires.whole ∙ sym (ap (λ (s : Ledger g.row.P.Denot). entries_of s.history c.args.pass.now.caller) c.self.view_is) ∙ sym (ap (λ (v : Received). entries_of h v.caller) c.pass.view_is) in
     let mine : x.entry.caller ≡ c.pass.inside.caller = ap (λ (e : Entry). e.caller) c.in-Ok.ensures.entry ∙ c.in-Ok.ensures.caller in
     let items : c.note_down.new.held.items ≡ c.pass.inside.held.items ++ x ∷ [] = c.note_down.ensures.held ∙ ap (λ l. l ++ x ∷ []) c.in-Ok.ensures.held in
     let front : c.again.result.past.history ≡ h ++ x.entry ∷ [] = ap (λ k. k.past.history) c.again.ensures ∙ ap (λ p. p.history) c.front.ensures.past ∙ ap (λ p. p.history) c.if-not-add.ensures.added ∙ ap (λ (p : Past). p.history ++ c.entry.result.now ∷ []) c.self.invariant.added_is ∙ ap (λ (e : Entry). h ++ e ∷ []) (c.entry.ensures ∙ sym c.in-Ok.ensures.entry) in
@@ -51,10 +51,10 @@ invariant_of-self-2 g c =
     let done : c.commit-entry.result.entry ≡ e = c.commit-entry.ensures.entry in
     let grows : now.history ≡ h ++ e ∷ [] = c.commit-entry.ensures.history ∙ ap (λ (d : Entry). c.make_ready-made.new.warehouse.book.history ++ d ∷ []) done ∙ ap (λ (p : Past). p.history ++ e ∷ []) ready in
     let begins : now.origin ≡ was.origin = (λ i. record { site = c.commit-entry.ensures.site i; opening = c.commit-entry.ensures.opening i }) ∙ ap (λ (p : Past). p.origin) ready in
-    let room : length h < c.self.inside.capacity = omega (arith, ap (λ (s : Ledger). length s.history) c.self.view_is, ap (λ (s : Ledger). s.capacity) c.self.view_is, c.requires.room) in
+    let room : length h < c.self.inside.capacity = omega (arith, ap (λ (s : Ledger g.row.P.Denot). length s.history) c.self.view_is, ap (λ (s : Ledger g.row.P.Denot). s.capacity) c.self.view_is, c.requires.room) in
     let place : length h ≡ at = sym (ap length c.history.ensures.value) in
     let mine : e.caller ≡ caller = c.in-Ok.ensures.caller in
-    let all : list_of c.pass.inside.held.items ≡ entries_of h caller = ap (λ v. v.list) c.pass.view_is ∙ c.requires.whole ∙ sym (ap (λ (s : Ledger). entries_of s.history c.args.pass.now.caller) c.self.view_is) ∙ sym (ap (λ (v : Received). entries_of h v.caller) c.pass.view_is) in
+    let all : list_of c.pass.inside.held.items ≡ entries_of h caller = ap (λ v. v.list) c.pass.view_is ∙ c.requires.whole ∙ sym (ap (λ (s : Ledger g.row.P.Denot). entries_of s.history c.args.pass.now.caller) c.self.view_is) ∙ sym (ap (λ (v : Received). entries_of h v.caller) c.pass.view_is) in
     let items : c.note_down.new.held.items ≡ c.pass.inside.held.items ++ x ∷ [] = c.note_down.ensures.held ∙ ap (λ l. l ++ x ∷ []) c.in-Ok.ensures.held in
     let counted : c.len.result ≡ length c.pass.inside.held.items + 1 = omega (arith, ap length items, length_push c.pass.inside.held.items x, c.len.ensures) in
     let pushed = entries_push_same h e caller mine in
@@ -80,3 +80,14 @@ returns-clause-back g c =
     let entry = c.commit-entry.result.entry in
     let back = handed_back (replaced_agent entry) old.planners c.in-Ok.made.ready.spare c.commit-entry.new.self.planners c.commit-entry.result.back (λ agent is. omega (arith, c.commit-entry.ensures.seats, seated old.book.site old.book.state entry.reply entry.event c.commit-entry.new.self.book.state agent c.commit-entry.ensures.step is)) c.commit-entry.ensures.swaps in
     subst (λ handed. HandsBack (replaced_agent entry) handed c.commit-entry.result.back) c.in-Ok.ensures.spare back
+
+pub returns-clause-reseats : goal.returns-clause-reseats
+returns-clause-reseats g c =
+    let entry = c.commit-entry.result.entry in
+    let made = c.in-Ok.made.ready in
+    let back = c.commit-entry.result.back in
+    let now = c.commit-entry.new.self.planners in
+    let asked : IsAskedBy c.args.command entry.event = (c.in-Ok.ensures.event.0, ap (λ (e : Entry). e.event) c.commit-entry.ensures.entry ∙ c.in-Ok.ensures.event.1) in
+    let done = reseats entry c.args.command c.self.inside.warehouse.planners c.make_ready-made.new.warehouse.planners made.spare now back asked c.make_ready-made.ensures.still c.commit-entry.ensures.swaps in
+    subst (λ handed. Reseats (replaced_agent entry) c.args.self.now.planners handed now back) c.in-Ok.ensures.spare
+    (subst (λ (old : List g.row.P.Denot). Reseats (replaced_agent entry) old made.spare now back) (ap (λ (s : Ledger g.row.P.Denot). s.planners) c.self.view_is) done)

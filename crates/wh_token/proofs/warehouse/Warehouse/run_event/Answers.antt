@@ -22,6 +22,10 @@ returns-in-Ok-clause-moves g c =
             | then-wants w ↦ absurd (search rules)
             | else-wants w ↦ search rules
           ];
+          none_told = λ unwanted. elim c.if-wants.branch [
+            | then-wants w ↦ absurd (search rules)
+            | else-wants w ↦ rw w.spare-is at c.in-Ok.ensures.tells
+          ];
         },
       ),
     )
