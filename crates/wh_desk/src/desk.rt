@@ -204,7 +204,8 @@ impl<N: DeskName, H: Wait + Drop, P: Planner> Desk<N, H, P> {
     }
 
     /// Ends the desk. The history is one run; for each caller its entries are what its pass received, and there are no others.
-    /// There are no more entries than cells. It may wait until looks end. E95: a pass has not all that its caller did; the desk and the passes are dropped.
+    /// There are no more entries than cells. It may wait until looks end. E95: a pass has not all that its caller did; the desk
+    /// and the passes are dropped.
     pub fn finish(self, passes: Vec<Pass<N>>) -> Result<History<P>, Stale>
         requires { InOrder N.callers passes.items }
         ensures origin { IfOk result (λ r. origin_of r.warehouse.book ≡ N.origin) }
