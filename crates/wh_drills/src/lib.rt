@@ -13,3 +13,5 @@ mod desks;
 mod gates;
 #[cfg(test)]
 mod parts;
+#[cfg(test)]
+mod swaps;

@@ -1,7 +1,7 @@
 //! What the tests are made of: map A with its points, and planners for it.
 #![tactic(auto)]
 
-ghost use Rattle.std.specs.Prelude.{◌≡◌, ◌+◌, [], IfOk, length};
+ghost use Rattle.std.specs.Prelude.{◌≡◌, ◌≤◌, ◌+◌, [], IfOk, length};
 ghost use Rattle.wh_points.specs.Points.{IsLayout};
 ghost use Rattle.wh_claims.specs.Claim.{claim_amount};
 ghost use Rattle.wh_desk.specs.Lists.{AllAt};
@@ -42,6 +42,44 @@ fn claim(alloc: Global, slots: u32) -> Result<Claim, Fail>
         Ok(claim) => Ok(claim),
         Err(_) => Err("a claim".into()),
     }
+}
+
+/// What one planner is made of: a grid, and a claim of 2 to 64 slots.
+#[derive(Drop)]
+pub struct Parts {
+    pub grid: Arc<Grid>,
+    pub claim: Claim,
+    ghost at_least: { 2 ≤ claim_amount claim },
+    ghost at_most: { claim_amount claim ≤ 64 },
+}
+
+/// A planner with so many slots, made by `make`.
+pub fn planner<P: Planner, F: Fn(Parts) -> Result<P, AllocError>>(
+    alloc: Global,
+    grid: &Arc<Grid>,
+    slots: u32,
+    make: &F,
+) -> Result<P, Fail>
+    requires range { (2 ≤ slots) × (slots ≤ 64) }
+    requires callable { F.IsAlwaysCallable make.now }
+{
+    let grid = Arc::try_clone(grid)?;
+    let claim = claim(alloc, slots)?;
+    Ok(make(Parts { grid, claim })?)
+}
+
+/// Two planners of 4 slots, made by `make`.
+pub fn pair<P: Planner, F: Fn(Parts) -> Result<P, AllocError>>(
+    alloc: Global,
+    grid: &Arc<Grid>,
+    make: &F,
+) -> Result<Vec<P>, Fail>
+    requires { F.IsAlwaysCallable make.now }
+{
+    let mut planners = Vec::new(alloc);
+    planners.push(planner(alloc, grid, 4, make)?)?;
+    planners.push(planner(alloc, grid, 4, make)?)?;
+    Ok(planners)
 }
 
 /// A patient planner of 4 slots.
