@@ -6,7 +6,7 @@ ghost use Rattle.wh_board.specs.Pasts.{origin_of, past_of};
 ghost use Rattle.wh_desk.specs.Calls.{InOrder};
 
 use super::gates::{Open, Together, Turns};
-use super::parts::{Parts, floor, opened, pair};
+use super::parts::{Parts, staffed};
 use std::alloc::{AllocError, Global};
 use std::marker::Brand;
 use std::process::Abort;
@@ -163,9 +163,7 @@ fn run_made<P: Planner, F: Fn(Parts) -> Result<P, AllocError>, R: Threads + Wait
 ) -> Result<Left, Fail>
     requires { F.IsAlwaysCallable make.now }
 {
-    let (grid, points) = floor(alloc)?;
-    let planners = pair(alloc, &grid, make)?;
-    let warehouse = opened(alloc, grid, points, planners)?;
+    let warehouse = staffed(alloc, make)?;
     let cells = Cells::new(alloc, capacity)?;
     let publisher = Publisher::new(alloc, rt, warehouse.book())?;
     let works = works(alloc, chores)?;

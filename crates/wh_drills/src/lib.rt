@@ -14,4 +14,6 @@ mod gates;
 #[cfg(test)]
 mod parts;
 #[cfg(test)]
+mod stage;
+#[cfg(test)]
 mod swaps;

@@ -103,12 +103,30 @@ pub fn opened<P: Planner>(
     }
 }
 
-/// The client and the stops of `submit x A B`.
-pub fn task() -> Option<(Name, Stops)> {
-    match read_line(b"submit x A B") {
+/// The warehouse at clock 0, with planners that are made by `make`.
+pub fn staffed<P: Planner, F: Fn(Parts) -> Result<P, AllocError>>(
+    alloc: Global,
+    make: &F,
+) -> Result<Warehouse<P>, Fail>
+    requires { F.IsAlwaysCallable make.now }
+    ensures { IfOk result (λ w. w.book.history ≡ []) }
+{
+    let (grid, points) = floor(alloc)?;
+    let planners = pair(alloc, &grid, make)?;
+    opened(alloc, grid, points, planners)
+}
+
+/// The client and the stops of a line that submits.
+fn submitted(line: &[u8]) -> Option<(Name, Stops)> {
+    match read_line(line) {
         Ok(Some(Command::Submit { client, stops })) => Some((client, stops)),
         _ => None,
     }
+}
+
+/// The client and the stops of `submit x A B`.
+pub fn task() -> Option<(Name, Stops)> {
+    submitted(b"submit x A B")
 }
 
 /// Puts the next pass to those of the callers before.
