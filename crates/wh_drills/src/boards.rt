@@ -6,6 +6,7 @@ ghost use Rattle.wh_board.specs.Pasts.{origin_of, past_of};
 
 use super::gates::{comes, hold};
 use super::parts::{floor, opened, patient, task};
+use super::stage::{Drill, drilled};
 use std::alloc::Global;
 use std::marker::Brand;
 use std::process::Abort;
@@ -153,36 +154,15 @@ fn viewer_of<N: DeskName, H: Wait + Drop, P: Planner, R: Wait>(
     }
 }
 
-#[test]
-fn lag(rt: HostRuntime) -> Result<(), Fail> {
-    let alloc = rt.alloc();
-    let (grid, points) = floor(alloc)?;
-    let mut planners: Vec<Box<dyn Planner>> = Vec::new(alloc);
-    planners.push(Box::new(alloc, patient(alloc, &grid)?)?)?;
-    planners.push(Box::new(alloc, patient(alloc, &grid)?)?)?;
-    let warehouse = opened(alloc, grid, points, planners)?;
-    let cells = Cells::new(alloc, 10)?;
-    let publisher = Publisher::new(alloc, &rt, warehouse.book())?;
-    lags::<Brand, _, _, _>(&rt, alloc, warehouse, cells, publisher)
-}
-
-/// A tick for which memory may be wanting (`rt try --test --fail-alloc N`), and one more.
-fn lags<N: DeskName, H: Wait + Drop, P: Planner, R: Wait + Abort>(
+/// A tick for which memory may be wanting, and one more.
+pub fn lags<N: DeskName, H: Wait + Drop, P: Planner, R: Wait + Abort>(
     rt: &R,
     alloc: Global,
-    warehouse: Warehouse<P>,
-    cells: Cells,
-    publisher: Publisher<H>,
+    desk: Desk<N, H, P>,
+    mut passes: Vec<Pass<N>>,
 ) -> Result<(), Fail>
-    requires origin { origin_of warehouse.book ≡ N.origin }
-    requires history { warehouse.book.history ≡ [] }
-    requires cells { cells ≡ N.cells }
-    requires book { publisher.book ≡ N.book }
-    requires added { publisher.added ≡ past_of warehouse.book }
-    requires shown { publisher.shown ≡ past_of warehouse.book }
-    requires callers { N.callers ≡ 1 }
+    requires { N.callers ≡ 1 }
 {
-    let (desk, mut passes) = Desk::<N, H, P>::open(alloc, warehouse, cells, publisher, 1)?;
     let mut pass = passes.pop().ok_or("a pass")?;
     let mut viewer = viewer_of(rt, &desk)?;
     let entries = match desk.tick(rt, alloc, &mut pass) {
@@ -203,35 +183,19 @@ fn lags<N: DeskName, H: Wait + Drop, P: Planner, R: Wait + Abort>(
 }
 
 #[test]
-fn sixty_four_viewers(rt: HostRuntime) -> Result<(), Fail> {
-    let alloc = rt.alloc();
-    let (grid, points) = floor(alloc)?;
-    let mut planners: Vec<Box<dyn Planner>> = Vec::new(alloc);
-    planners.push(Box::new(alloc, patient(alloc, &grid)?)?)?;
-    planners.push(Box::new(alloc, patient(alloc, &grid)?)?)?;
-    let warehouse = opened(alloc, grid, points, planners)?;
-    let cells = Cells::new(alloc, 1)?;
-    let publisher = Publisher::new(alloc, &rt, warehouse.book())?;
-    no_place::<Brand, _, _, _>(&rt, alloc, warehouse, cells, publisher)
+fn lag(rt: HostRuntime) -> Result<(), Fail> {
+    drilled(&rt, rt.alloc(), Drill::Lag, 10, 1)
 }
 
-/// A 65th viewer has no place, until one of the 64 is gone.
-fn no_place<N: DeskName, H: Wait + Drop, P: Planner, R: Wait + Abort>(
+/// Viewers come until there is no place.
+pub fn no_place<N: DeskName, H: Wait + Drop, P: Planner, R: Wait + Abort>(
     rt: &R,
     alloc: Global,
-    warehouse: Warehouse<P>,
-    cells: Cells,
-    publisher: Publisher<H>,
+    desk: Desk<N, H, P>,
+    _passes: Vec<Pass<N>>,
 ) -> Result<(), Fail>
-    requires origin { origin_of warehouse.book ≡ N.origin }
-    requires history { warehouse.book.history ≡ [] }
-    requires cells { cells ≡ N.cells }
-    requires book { publisher.book ≡ N.book }
-    requires added { publisher.added ≡ past_of warehouse.book }
-    requires shown { publisher.shown ≡ past_of warehouse.book }
-    requires callers { N.callers ≡ 1 }
+    requires { N.callers ≡ 1 }
 {
-    let (desk, _passes) = Desk::<N, H, P>::open(alloc, warehouse, cells, publisher, 1)?;
     let mut viewers = Vec::new(alloc);
     for _ in 0..64u32 {
         viewers.push(viewer_of(rt, &desk)?)?;
@@ -240,4 +204,9 @@ fn no_place<N: DeskName, H: Wait + Drop, P: Planner, R: Wait + Abort>(
     drop(viewers.pop());
     assert!(rt; desk.viewer(rt).is_ok());
     Ok(())
+}
+
+#[test]
+fn sixty_four_viewers(rt: HostRuntime) -> Result<(), Fail> {
+    drilled(&rt, rt.alloc(), Drill::ManyViewers, 1, 1)
 }

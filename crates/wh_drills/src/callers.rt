@@ -1,21 +1,18 @@
 //! Two threads at a desk, each with a pass of its own.
 #![tactic(auto)]
 
-ghost use Rattle.std.specs.Prelude.{◌≡◌, []};
-ghost use Rattle.wh_board.specs.Pasts.{origin_of, past_of};
+ghost use Rattle.std.specs.Prelude.{◌≡◌};
 
-use super::parts::{finish_two, floor, opened, patient, task};
+use super::parts::{finish_two, task};
+use super::stage::{Drill, drilled};
 use std::alloc::Global;
-use std::marker::Brand;
 use std::process::Abort;
 use std::sync::Wait;
 use std::test::*;
 use std::thread::{Threads, join};
-use wh_board::Publisher;
-use wh_desk::{Cells, Desk, DeskName, Pass};
+use wh_desk::{Desk, DeskName, Pass};
 use wh_event::{Entry, Reply};
 use wh_planner::Planner;
-use wh_token::Warehouse;
 
 /// What a receipt of a submit tells.
 #[derive(Clone, Copy)]
@@ -24,48 +21,18 @@ struct Seen {
     task: u32,
 }
 
-#[test]
-fn two_callers(rt: HostRuntime) -> Result<(), Fail> {
-    let alloc = rt.alloc();
-    let (grid, points) = floor(alloc)?;
-    let mut planners: Vec<Box<dyn Planner>> = Vec::new(alloc);
-    planners.push(Box::new(alloc, patient(alloc, &grid)?)?)?;
-    planners.push(Box::new(alloc, patient(alloc, &grid)?)?)?;
-    let warehouse = opened(alloc, grid, points, planners)?;
-    let cells = Cells::new(alloc, 200)?;
-    let publisher = Publisher::new(alloc, &rt, warehouse.book())?;
-    two_hundred::<Brand, _, _, _>(&rt, alloc, warehouse, cells, publisher)
-}
-
-/// Each of two threads submits 100 times.
-fn two_hundred<
+/// Two callers submit in two threads.
+pub fn two_hundred<
     N: DeskName + Send + Sync,
     H: Wait + Send + Sync + Drop,
     P: Planner,
     R: Threads + Wait + Sync + Abort,
->(
-    rt: &R,
-    alloc: Global,
-    warehouse: Warehouse<P>,
-    cells: Cells,
-    publisher: Publisher<H>,
-) -> Result<(), Fail>
-    requires origin { origin_of warehouse.book ≡ N.origin }
-    requires history { warehouse.book.history ≡ [] }
-    requires cells { cells ≡ N.cells }
-    requires book { publisher.book ≡ N.book }
-    requires added { publisher.added ≡ past_of warehouse.book }
-    requires shown { publisher.shown ≡ past_of warehouse.book }
-    requires callers { N.callers ≡ 2 }
+>(rt: &R, alloc: Global, desk: Desk<N, H, P>, mut passes: Vec<Pass<N>>) -> Result<(), Fail>
+    requires { N.callers ≡ 2 }
 {
-    let (desk, mut passes) = Desk::<N, H, P>::open(alloc, warehouse, cells, publisher, 2)?;
     let one = passes.pop().ok_or("pass 1")?;
     let zero = passes.pop().ok_or("pass 0")?;
-    let (left, right) = join(
-        rt,
-        || submits(rt, alloc, &desk, zero),
-        || submits(rt, alloc, &desk, one),
-    );
+    let (left, right) = in_two_threads(rt, alloc, &desk, zero, one);
     let (zero, by_zero) = left;
     let (one, by_one) = right;
     assert!(rt; rises(&by_zero) && rises(&by_one));
@@ -77,6 +44,31 @@ fn two_hundred<
     let history = finish_two(alloc, desk, zero, one)?;
     hundred_each(rt, history.warehouse.history());
     Ok(())
+}
+
+#[test]
+fn two_callers(rt: HostRuntime) -> Result<(), Fail> {
+    drilled(&rt, rt.alloc(), Drill::TwoHundred, 200, 2)
+}
+
+/// Each thread submits 100 times.
+fn in_two_threads<
+    N: DeskName + Send + Sync,
+    H: Wait + Send + Sync + Drop,
+    P: Planner,
+    R: Threads + Wait + Sync,
+>(
+    rt: &R,
+    alloc: Global,
+    desk: &Desk<N, H, P>,
+    zero: Pass<N>,
+    one: Pass<N>,
+) -> ((Pass<N>, Vec<Seen>), (Pass<N>, Vec<Seen>)) {
+    join(
+        rt,
+        || submits(rt, alloc, desk, zero),
+        || submits(rt, alloc, desk, one),
+    )
 }
 
 /// Submits 100 times.

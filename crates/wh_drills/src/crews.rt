@@ -1,28 +1,105 @@
-//! Crews at a desk.
+//! Crews at a desk, beside a thread that looks at its board.
 #![tactic(auto)]
 
 ghost use Rattle.std.specs.Prelude.{◌≡◌, [], length};
 ghost use Rattle.wh_board.specs.Pasts.{origin_of, past_of};
+ghost use Rattle.wh_desk.specs.Calls.{InOrder};
 
-use super::gates::{Together, Turns};
-use super::parts::{floor, opened, patient};
-use std::alloc::Global;
+use super::gates::{Open, Together, Turns};
+use super::parts::{Parts, staffed};
+use std::alloc::{AllocError, Global};
 use std::marker::Brand;
 use std::process::Abort;
 use std::sync::Wait;
 use std::sync::atomic::AtomicU64;
 use std::sync::atomic::Ordering::SeqCst;
 use std::test::*;
-use std::thread::Threads;
-use wh_board::Publisher;
+use std::thread::{Threads, join, yield_now};
+use wh_board::{Publisher, Viewer};
 use wh_crew::{CrewFault, Crewed, Gate, crew};
 use wh_desk::{Cells, Desk, DeskName};
-use wh_edge::{Work, client_work};
+use wh_edge::{Work, agent_work, client_work, clock_work};
 use wh_event::{Entry, Reply};
 use wh_planner::Planner;
+use wh_planners::Patient;
 use wh_token::Warehouse;
 
-/// Opens a desk with as many callers as works, and has the crew work.
+/// What a worker is to do.
+#[derive(Clone, Copy)]
+enum Chore {
+    /// The commands of a script.
+    Client(&'static str),
+    /// This agent takes the token so often.
+    Agent(u32, u32),
+    /// So many ticks.
+    Clock(u32),
+}
+
+/// What a crew left: its history, how many calls of each worker were refused, and what was seen of the board.
+#[derive(Drop)]
+struct Left {
+    entries: Vec<Entry>,
+    missed: Vec<u64>,
+    seen: Seen,
+}
+
+/// The entries that the last look had, and how often a look had fewer than the one before.
+#[derive(Clone, Copy, PartialEq, Eq, Debug)]
+struct Seen {
+    last: u64,
+    falls: u64,
+}
+
+fn work<P: Planner>(alloc: Global, chore: Chore) -> Result<Work<P>, Fail> {
+    match chore {
+        Chore::Client(script) => match client_work(alloc, script.as_bytes()) {
+            Ok(work) => Ok(work),
+            Err(_) => Err("a script".into()),
+        },
+        Chore::Agent(agent, turns) => Ok(agent_work(alloc, agent, turns)?),
+        Chore::Clock(turns) => Ok(clock_work(alloc, turns)?),
+    }
+}
+
+fn works<P: Planner>(alloc: Global, chores: &[Chore]) -> Result<Vec<Work<P>>, Fail> {
+    let mut works = Vec::with_capacity(alloc, chores.len())?;
+    for chore in chores {
+        works.push(work(alloc, *chore)?)?;
+    }
+    Ok(works)
+}
+
+/// The same entries.
+fn copies(alloc: Global, entries: &[Entry]) -> Result<Vec<Entry>, Fail> {
+    let mut copies = Vec::with_capacity(alloc, entries.len())?;
+    for entry in entries {
+        copies.push(entry.copy(alloc)?)?;
+    }
+    Ok(copies)
+}
+
+/// Looks once more.
+fn look(viewer: &mut Viewer, seen: Seen) -> Seen {
+    let last = viewer.look().entries;
+    let fell = u64::from(last < seen.last);
+    Seen {
+        last,
+        falls: seen.falls.saturating_add(fell),
+    }
+}
+
+/// Looks so often.
+fn looks(mut viewer: Viewer, count: u32) -> (Viewer, Seen) {
+    let mut seen = Seen { last: 0, falls: 0 };
+    for _ in 0..count {
+        seen = look(&mut viewer, seen);
+        yield_now();
+    }
+    (viewer, seen)
+}
+
+/// Opens a desk with as many callers as works, and has the crew work, while another thread looks so often. It looks once
+/// more when the desk is gone.
 fn run<
     N: DeskName + Send + Sync,
     H: Wait + Send + Sync + Drop,
@@ -37,7 +114,8 @@ fn run<
     publisher: Publisher<H>,
     works: Vec<Work<P>>,
     gate: &G,
-) -> Result<Crewed<P>, Fail>
+    count: u32,
+) -> Result<Left, Fail>
     requires origin { origin_of warehouse.book ≡ N.origin }
     requires history { warehouse.book.history ≡ [] }
     requires cells { cells ≡ N.cells }
@@ -50,58 +128,82 @@ fn run<
         return Err("at most 64 workers".into());
     };
     let (desk, passes) = Desk::<N, H, P>::open(alloc, warehouse, cells, publisher, callers)?;
-    match crew(rt, alloc, desk, passes, works, gate) {
-        Ok(done) => Ok(done),
+    let Ok(viewer) = desk.viewer(rt) else {
+        return Err("a viewer".into());
+    };
+    let (looked, done) = join(
+        rt,
+        || looks(viewer, count),
+        || -> Result<Crewed<P>, CrewFault>
+            requires { InOrder N.callers passes.items × (length works.items ≡ length passes.items) }
+        { crew(rt, alloc, desk, passes, works, gate) },
+    );
+    let (mut viewer, seen) = looked;
+    match done {
+        Ok(done) => Ok(Left {
+            entries: copies(alloc, done.history.warehouse.history())?,
+            missed: done.missed,
+            seen: look(&mut viewer, seen),
+        }),
         Err(CrewFault::NoThread) => Err("a thread for each worker".into()),
         Err(CrewFault::NoMemory) => Err("memory".into()),
         Err(CrewFault::Stale) => Err("each pass has all".into()),
     }
 }
 
-/// The work of a script.
-fn script<P: Planner>(alloc: Global, lines: &[u8]) -> Result<Work<P>, Fail> {
-    match client_work(alloc, lines) {
-        Ok(work) => Ok(work),
-        Err(_) => Err("a script".into()),
-    }
+/// A crew over a desk with a journal of so many positions, whose planners are made by `make`.
+fn run_made<P: Planner, F: Fn(Parts) -> Result<P, AllocError>, R: Threads + Wait + Sync, G: Gate>(
+    rt: &R,
+    alloc: Global,
+    capacity: u64,
+    chores: &[Chore],
+    gate: &G,
+    count: u32,
+    make: &F,
+) -> Result<Left, Fail>
+    requires { F.IsAlwaysCallable make.now }
+{
+    let warehouse = staffed(alloc, make)?;
+    let cells = Cells::new(alloc, capacity)?;
+    let publisher = Publisher::new(alloc, rt, warehouse.book())?;
+    let works = works(alloc, chores)?;
+    run::<Brand, _, _, _, _>(rt, alloc, warehouse, cells, publisher, works, gate, count)
+}
+
+/// The same with boxed planners.
+fn crewed<R: Threads + Wait + Sync, G: Gate>(
+    rt: &R,
+    alloc: Global,
+    capacity: u64,
+    chores: &[Chore],
+    gate: &G,
+    count: u32,
+) -> Result<Left, Fail> {
+    let make = |parts: Parts| -> Result<Box<dyn Planner>, AllocError> {
+        let patient = Patient::new(parts.grid, parts.claim);
+        let planner: Box<dyn Planner> = Box::new(alloc, patient)?;
+        Ok(planner)
+    };
+    run_made(rt, alloc, capacity, chores, gate, count, &make)
 }
 
 /// Two workers, each of whom submits and then ticks.
-fn two_works<P: Planner>(alloc: Global) -> Result<Vec<Work<P>>, Fail> {
-    let mut works = Vec::new(alloc);
-    works.push(script(alloc, b"submit x A B\ntick\n")?)?;
-    works.push(script(alloc, b"submit y D C\ntick\n")?)?;
-    Ok(works)
-}
-
-fn together(workers: u64) -> Together {
-    Together {
-        workers,
-        begun: AtomicU64::new(0),
-        limits: AtomicU64::new(0),
-    }
-}
+const TWO: [Chore; 2] = [
+    Chore::Client("submit x A B\ntick\n"),
+    Chore::Client("submit y D C\ntick\n"),
+];
 
 #[test]
 fn gate_orders_workers(rt: HostRuntime) -> Result<(), Fail> {
-    let alloc = rt.alloc();
-    let (grid, points) = floor(alloc)?;
-    let mut planners: Vec<Box<dyn Planner>> = Vec::new(alloc);
-    planners.push(Box::new(alloc, patient(alloc, &grid)?)?)?;
-    planners.push(Box::new(alloc, patient(alloc, &grid)?)?)?;
-    let warehouse = opened(alloc, grid, points, planners)?;
-    let cells = Cells::new(alloc, 10)?;
-    let publisher = Publisher::new(alloc, &rt, warehouse.book())?;
-    let works = two_works(alloc)?;
     let gate = Turns {
         zero: AtomicU64::new(0),
         one: AtomicU64::new(0),
         limits: AtomicU64::new(0),
     };
-    let done = run::<Brand, _, _, _, _>(&rt, alloc, warehouse, cells, publisher, works, &gate)?;
+    let left = crewed(&rt, rt.alloc(), 10, &TWO, &gate, 0)?;
     assert_eq!(rt; gate.limits.load(SeqCst), 0);
-    assert_eq!(rt; done.missed.as_slice(), [0u64, 0].as_slice());
-    in_turn(&rt, done.history.warehouse.history());
+    assert_eq!(rt; left.missed.as_slice(), [0u64, 0].as_slice());
+    in_turn(&rt, left.entries.as_slice());
     Ok(())
 }
 
@@ -116,20 +218,50 @@ fn in_turn<R: Abort>(rt: &R, entries: &[Entry]) {
 }
 
 #[test]
-fn both_begin(rt: HostRuntime) -> Result<(), Fail> {
-    let alloc = rt.alloc();
-    let (grid, points) = floor(alloc)?;
-    let mut planners: Vec<Box<dyn Planner>> = Vec::new(alloc);
-    planners.push(Box::new(alloc, patient(alloc, &grid)?)?)?;
-    planners.push(Box::new(alloc, patient(alloc, &grid)?)?)?;
-    let warehouse = opened(alloc, grid, points, planners)?;
-    let cells = Cells::new(alloc, 10)?;
-    let publisher = Publisher::new(alloc, &rt, warehouse.book())?;
-    let works = two_works(alloc)?;
-    let gate = together(2);
-    let done = run::<Brand, _, _, _, _>(&rt, alloc, warehouse, cells, publisher, works, &gate)?;
+fn eight_begin(rt: HostRuntime) -> Result<(), Fail> {
+    let gate = Together {
+        workers: 8,
+        begun: AtomicU64::new(0),
+        limits: AtomicU64::new(0),
+    };
+    let left = crewed(&rt, rt.alloc(), 10, &[Chore::Clock(1); 8], &gate, 0)?;
     assert_eq!(rt; gate.limits.load(SeqCst), 0);
-    assert_eq!(rt; done.missed.as_slice(), [0u64, 0].as_slice());
-    assert_eq!(rt; done.history.warehouse.history().len(), 4);
+    assert_eq!(rt; left.missed.as_slice(), [0u64; 8].as_slice());
+    assert_eq!(rt; left.entries.len(), 8);
+    Ok(())
+}
+
+fn open() -> Open {
+    Open {
+        begun: AtomicU64::new(0),
+        ended: AtomicU64::new(0),
+    }
+}
+
+#[test]
+fn journal_of_ten(rt: HostRuntime) -> Result<(), Fail> {
+    let gate = open();
+    let chores = [
+        Chore::Client("submit x A B\n"),
+        Chore::Client("submit x B A\nsubmit y C D\n"),
+        Chore::Agent(0, 8),
+        Chore::Agent(1, 8),
+        Chore::Clock(8),
+    ];
+    let left = crewed(&rt, rt.alloc(), 10, &chores, &gate, 0)?;
+    let missed = (left.missed.iter()).fold(0u64, |sum, n| sum.saturating_add(*n));
+    assert_eq!(rt; (left.entries.len(), missed), (10, 17));
+    assert_eq!(rt;
+        (gate.begun.load(SeqCst), gate.ended.load(SeqCst)),
+        (27, 27)
+    );
+    Ok(())
+}
+
+#[test]
+fn board_never_back(rt: HostRuntime) -> Result<(), Fail> {
+    let left = crewed(&rt, rt.alloc(), 10, &TWO, &open(), 1000)?;
+    assert_eq!(rt; left.seen.falls, 0);
+    assert!(rt; left.seen.last <= 4);
     Ok(())
 }

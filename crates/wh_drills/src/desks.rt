@@ -1,51 +1,28 @@
 //! One caller after another at a desk.
 #![tactic(auto)]
 
-ghost use Rattle.std.specs.Prelude.{◌≡◌, []};
-ghost use Rattle.wh_board.specs.Pasts.{origin_of, past_of};
+ghost use Rattle.std.specs.Prelude.{◌≡◌};
 
-use super::parts::{finish_one, finish_two, floor, opened, patient, task};
+use super::parts::{finish_one, finish_two, task};
+use super::stage::{Drill, drilled};
 use std::alloc::Global;
-use std::marker::Brand;
 use std::process::Abort;
 use std::sync::Wait;
 use std::test::*;
-use wh_board::{Publisher, Viewer};
-use wh_desk::{Cells, Desk, DeskFault, DeskName, Pass, Receipt};
+use wh_board::Viewer;
+use wh_desk::{Desk, DeskFault, DeskName, Pass, Receipt};
 use wh_event::{Entry, Reply};
 use wh_planner::Planner;
-use wh_token::Warehouse;
-
-#[test]
-fn desk_receipts(rt: HostRuntime) -> Result<(), Fail> {
-    let alloc = rt.alloc();
-    let (grid, points) = floor(alloc)?;
-    let mut planners: Vec<Box<dyn Planner>> = Vec::new(alloc);
-    planners.push(Box::new(alloc, patient(alloc, &grid)?)?)?;
-    planners.push(Box::new(alloc, patient(alloc, &grid)?)?)?;
-    let warehouse = opened(alloc, grid, points, planners)?;
-    let cells = Cells::new(alloc, 3)?;
-    let publisher = Publisher::new(alloc, &rt, warehouse.book())?;
-    receipts::<Brand, _, _, _>(&rt, alloc, warehouse, cells, publisher)
-}
 
 /// Two callers fill a journal of three, while a viewer looks.
-fn receipts<N: DeskName, H: Wait + Drop, P: Planner, R: Wait + Abort>(
+pub fn receipts<N: DeskName, H: Wait + Drop, P: Planner, R: Wait + Abort>(
     rt: &R,
     alloc: Global,
-    warehouse: Warehouse<P>,
-    cells: Cells,
-    publisher: Publisher<H>,
+    desk: Desk<N, H, P>,
+    mut passes: Vec<Pass<N>>,
 ) -> Result<(), Fail>
-    requires origin { origin_of warehouse.book ≡ N.origin }
-    requires history { warehouse.book.history ≡ [] }
-    requires cells { cells ≡ N.cells }
-    requires book { publisher.book ≡ N.book }
-    requires added { publisher.added ≡ past_of warehouse.book }
-    requires shown { publisher.shown ≡ past_of warehouse.book }
-    requires callers { N.callers ≡ 2 }
+    requires { N.callers ≡ 2 }
 {
-    let (desk, mut passes) = Desk::<N, H, P>::open(alloc, warehouse, cells, publisher, 2)?;
     let Ok(mut viewer) = desk.viewer(rt) else {
         return Err("a viewer".into());
     };
@@ -61,6 +38,11 @@ fn receipts<N: DeskName, H: Wait + Drop, P: Planner, R: Wait + Abort>(
     three_entries(rt, history.warehouse.history());
     assert_eq!(rt; viewer.look().entries, 3);
     Ok(())
+}
+
+#[test]
+fn desk_receipts(rt: HostRuntime) -> Result<(), Fail> {
+    drilled(&rt, rt.alloc(), Drill::Receipts, 3, 2)
 }
 
 /// The viewer learns what was told of the first submit, and looks.
@@ -121,36 +103,15 @@ fn three_entries<R: Abort>(rt: &R, entries: &[Entry]) {
     );
 }
 
-#[test]
-fn one_place(rt: HostRuntime) -> Result<(), Fail> {
-    let alloc = rt.alloc();
-    let (grid, points) = floor(alloc)?;
-    let mut planners: Vec<Box<dyn Planner>> = Vec::new(alloc);
-    planners.push(Box::new(alloc, patient(alloc, &grid)?)?)?;
-    planners.push(Box::new(alloc, patient(alloc, &grid)?)?)?;
-    let warehouse = opened(alloc, grid, points, planners)?;
-    let cells = Cells::new(alloc, 1)?;
-    let publisher = Publisher::new(alloc, &rt, warehouse.book())?;
-    one_entry::<Brand, _, _, _>(&rt, alloc, warehouse, cells, publisher)
-}
-
-/// A journal of one entry.
-fn one_entry<N: DeskName, H: Wait + Drop, P: Planner, R: Wait + Abort>(
+/// One caller fills a journal of one.
+pub fn one_entry<N: DeskName, H: Wait + Drop, P: Planner, R: Wait + Abort>(
     rt: &R,
     alloc: Global,
-    warehouse: Warehouse<P>,
-    cells: Cells,
-    publisher: Publisher<H>,
+    desk: Desk<N, H, P>,
+    mut passes: Vec<Pass<N>>,
 ) -> Result<(), Fail>
-    requires origin { origin_of warehouse.book ≡ N.origin }
-    requires history { warehouse.book.history ≡ [] }
-    requires cells { cells ≡ N.cells }
-    requires book { publisher.book ≡ N.book }
-    requires added { publisher.added ≡ past_of warehouse.book }
-    requires shown { publisher.shown ≡ past_of warehouse.book }
-    requires callers { N.callers ≡ 1 }
+    requires { N.callers ≡ 1 }
 {
-    let (desk, mut passes) = Desk::<N, H, P>::open(alloc, warehouse, cells, publisher, 1)?;
     let mut pass = passes.pop().ok_or("a pass")?;
     let (client, stops) = task().ok_or("a task")?;
     let first = desk.submit(rt, alloc, &mut pass, client, stops);
@@ -159,6 +120,11 @@ fn one_entry<N: DeskName, H: Wait + Drop, P: Planner, R: Wait + Abort>(
     let history = finish_one(alloc, desk, pass)?;
     assert_eq!(rt; history.warehouse.history().len(), 1);
     Ok(())
+}
+
+#[test]
+fn one_place(rt: HostRuntime) -> Result<(), Fail> {
+    drilled(&rt, rt.alloc(), Drill::OnePlace, 1, 1)
 }
 
 /// Each later call finds the journal full.

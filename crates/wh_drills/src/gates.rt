@@ -70,3 +70,20 @@ impl Gate for Together {
 
     fn after(&self, _worker: u32, _call: u32) {}
 }
+
+/// Lets every call through, and counts how many were begun and how many were answered.
+#[derive(Drop)]
+pub struct Open {
+    pub begun: AtomicU64,
+    pub ended: AtomicU64,
+}
+
+impl Gate for Open {
+    fn before(&self, _worker: u32, _call: u32) {
+        self.begun.fetch_add(1, SeqCst);
+    }
+
+    fn after(&self, _worker: u32, _call: u32) {
+        self.ended.fetch_add(1, SeqCst);
+    }
+}

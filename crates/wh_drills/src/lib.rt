@@ -13,3 +13,7 @@ mod desks;
 mod gates;
 #[cfg(test)]
 mod parts;
+#[cfg(test)]
+mod stage;
+#[cfg(test)]
+mod swaps;

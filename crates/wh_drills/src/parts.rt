@@ -1,7 +1,7 @@
 //! What the tests are made of: map A with its points, and planners for it.
 #![tactic(auto)]
 
-ghost use Rattle.std.specs.Prelude.{◌≡◌, ◌+◌, [], IfOk, length};
+ghost use Rattle.std.specs.Prelude.{◌≡◌, ◌≤◌, ◌+◌, [], IfOk, length};
 ghost use Rattle.wh_points.specs.Points.{IsLayout};
 ghost use Rattle.wh_claims.specs.Claim.{claim_amount};
 ghost use Rattle.wh_desk.specs.Lists.{AllAt};
@@ -44,6 +44,44 @@ fn claim(alloc: Global, slots: u32) -> Result<Claim, Fail>
     }
 }
 
+/// What one planner is made of: a grid, and a claim of 2 to 64 slots.
+#[derive(Drop)]
+pub struct Parts {
+    pub grid: Arc<Grid>,
+    pub claim: Claim,
+    ghost at_least: { 2 ≤ claim_amount claim },
+    ghost at_most: { claim_amount claim ≤ 64 },
+}
+
+/// A planner with so many slots, made by `make`.
+pub fn planner<P: Planner, F: Fn(Parts) -> Result<P, AllocError>>(
+    alloc: Global,
+    grid: &Arc<Grid>,
+    slots: u32,
+    make: &F,
+) -> Result<P, Fail>
+    requires range { (2 ≤ slots) × (slots ≤ 64) }
+    requires callable { F.IsAlwaysCallable make.now }
+{
+    let grid = Arc::try_clone(grid)?;
+    let claim = claim(alloc, slots)?;
+    Ok(make(Parts { grid, claim })?)
+}
+
+/// Two planners of 4 slots, made by `make`.
+pub fn pair<P: Planner, F: Fn(Parts) -> Result<P, AllocError>>(
+    alloc: Global,
+    grid: &Arc<Grid>,
+    make: &F,
+) -> Result<Vec<P>, Fail>
+    requires { F.IsAlwaysCallable make.now }
+{
+    let mut planners = Vec::new(alloc);
+    planners.push(planner(alloc, grid, 4, make)?)?;
+    planners.push(planner(alloc, grid, 4, make)?)?;
+    Ok(planners)
+}
+
 /// A patient planner of 4 slots.
 pub fn patient(alloc: Global, grid: &Arc<Grid>) -> Result<Patient, Fail> {
     Ok(Patient::new(Arc::try_clone(grid)?, claim(alloc, 4)?))
@@ -65,12 +103,30 @@ pub fn opened<P: Planner>(
     }
 }
 
-/// The client and the stops of `submit x A B`.
-pub fn task() -> Option<(Name, Stops)> {
-    match read_line(b"submit x A B") {
+/// The warehouse at clock 0, with planners that are made by `make`.
+pub fn staffed<P: Planner, F: Fn(Parts) -> Result<P, AllocError>>(
+    alloc: Global,
+    make: &F,
+) -> Result<Warehouse<P>, Fail>
+    requires { F.IsAlwaysCallable make.now }
+    ensures { IfOk result (λ w. w.book.history ≡ []) }
+{
+    let (grid, points) = floor(alloc)?;
+    let planners = pair(alloc, &grid, make)?;
+    opened(alloc, grid, points, planners)
+}
+
+/// The client and the stops of a line that submits.
+fn submitted(line: &[u8]) -> Option<(Name, Stops)> {
+    match read_line(line) {
         Ok(Some(Command::Submit { client, stops })) => Some((client, stops)),
         _ => None,
     }
+}
+
+/// The client and the stops of `submit x A B`.
+pub fn task() -> Option<(Name, Stops)> {
+    submitted(b"submit x A B")
 }
 
 /// Puts the next pass to those of the callers before.

@@ -1,6 +1,6 @@
 use Rattle.std.proofs.Common.{length}
 use Rattle.wh_board.specs.Pasts.{origin_of}
-use Rattle.wh_drills.proofs.crews.gate_orders_workers.Given as goal
+use Rattle.wh_drills.proofs.crews.run_made.Given as goal
 
 -- the cells, the publisher and the warehouse that were just made
 abbrev pub ghosts-run : goal.ghosts-run
