@@ -217,13 +217,28 @@ fn in_turn<R: Abort>(rt: &R, entries: &[Entry]) {
     assert!(rt; matches!(entries[3].reply, Reply::Clock { now: 2, .. }));
 }
 
-#[test]
-fn eight_begin(rt: HostRuntime) -> Result<(), Fail> {
-    let gate = Together {
-        workers: 8,
+/// A gate at which each worker waits until all have begun.
+fn together(workers: u64) -> Together {
+    Together {
+        workers,
         begun: AtomicU64::new(0),
         limits: AtomicU64::new(0),
-    };
+    }
+}
+
+#[test]
+fn both_begin(rt: HostRuntime) -> Result<(), Fail> {
+    let gate = together(2);
+    let left = crewed(&rt, rt.alloc(), 10, &TWO, &gate, 0)?;
+    assert_eq!(rt; gate.limits.load(SeqCst), 0);
+    assert_eq!(rt; left.missed.as_slice(), [0u64, 0].as_slice());
+    assert_eq!(rt; left.entries.len(), 4);
+    Ok(())
+}
+
+#[test]
+fn eight_begin(rt: HostRuntime) -> Result<(), Fail> {
+    let gate = together(8);
     let left = crewed(&rt, rt.alloc(), 10, &[Chore::Clock(1); 8], &gate, 0)?;
     assert_eq!(rt; gate.limits.load(SeqCst), 0);
     assert_eq!(rt; left.missed.as_slice(), [0u64; 8].as_slice());
@@ -242,8 +257,8 @@ fn open() -> Open {
 fn journal_of_ten(rt: HostRuntime) -> Result<(), Fail> {
     let gate = open();
     let chores = [
-        Chore::Client("submit x A B\n"),
-        Chore::Client("submit x B A\nsubmit y C D\n"),
+        Chore::Client("submit x A B\nsubmit x B A\n"),
+        Chore::Client("submit y C D\n"),
         Chore::Agent(0, 8),
         Chore::Agent(1, 8),
         Chore::Clock(8),
