@@ -3,9 +3,10 @@
 ghost use Rattle.std.specs.Prelude.{◌≡◌, ◌+◌, [], IfOk, IfSome, length};
 ghost use Rattle.wh_board.specs.Pasts.{origin_of, past_of};
 ghost use Rattle.wh_desk.specs.Lists.{AllAt};
+ghost use Rattle.wh_desk.specs.Calls.{TellsReceipt};
 
 use crate::again::{Halt, TRIES, again, refused, tell};
-use crate::fleet::{bank, open};
+use crate::fleet::{bank, open, room};
 use std::alloc::{AllocError, Global};
 use std::marker::Brand;
 use std::sync::Wait;
@@ -44,7 +45,9 @@ fn ask<N: DeskName, H: Wait + Drop, P: Planner, R: Wait>(
     desk: &Desk<N, H, P>,
     pass: &mut Pass<N>,
     command: Command,
-) -> Result<Receipt, DeskFault> {
+) -> Result<Receipt, DeskFault>
+    ensures { IfOk result (λ r. IfSome r.told (λ t. TellsReceipt N.book N.origin r.position r.entry t)) }
+{
     match command {
         Command::Submit { client, stops } => desk.submit(rt, alloc, pass, client, stops),
         Command::Token { agent } => desk.request(rt, alloc, pass, agent),
@@ -73,9 +76,14 @@ fn tally<N: DeskName, H: Wait + Drop, P: Planner, R: Wait>(
 }
 
 /// Tells a receipt. The viewer learns what was told, if the entry was shown.
-fn tell_receipt<R: Print>(rt: &R, receipt: &Receipt, viewer: &mut Viewer) -> Result<(), Halt>
-    requires { IfSome receipt.now.told (λ told. told.book ≡ viewer.old.book) }
-    ensures { viewer.new.book ≡ viewer.old.book }
+fn tell_receipt<N: DeskName, R: Print>(
+    rt: &R,
+    receipt: &Receipt,
+    viewer: &mut Viewer,
+) -> Result<(), Halt>
+    requires told { IfSome receipt.now.told (λ t. TellsReceipt N.book N.origin receipt.now.position receipt.now.entry t) }
+    requires viewer { viewer.old.book ≡ N.book }
+    ensures { viewer.new.book ≡ N.book }
 {
     let position = receipt.position;
     print!(rt; "position {position} ")?;
@@ -106,7 +114,7 @@ fn call<N: DeskName, H: Wait + Drop, P: Planner, R: Print + Wait>(
     for _ in 0..TRIES {
         let before = tally(rt, desk, pass, other, viewer);
         match ask(rt, alloc, desk, pass, command.copy()) {
-            Ok(receipt) => return tell_receipt(rt, &receipt, viewer),
+            Ok(receipt) => return tell_receipt::<N, R>(rt, &receipt, viewer),
             Err(DeskFault::Full) => return tell(rt, b"refused E11"),
             Err(DeskFault::NoMemory) => {
                 let is_as_before = tally(rt, desk, pass, other, viewer) == before;
@@ -148,19 +156,20 @@ fn put_back<N: DeskName>(passes: &mut Vec<Pass<N>>, pass: Pass<N>) -> Result<(),
     Ok(())
 }
 
-/// Ends the desk, and tells its history: for each entry its caller and the reply. The list of passes has room.
+/// Ends the desk, and tells its history: for each entry its caller and the reply.
 fn end<N: DeskName, H: Wait + Drop, P: Planner, R: Print>(
     rt: &R,
+    alloc: Global,
     desk: Desk<N, H, P>,
-    mut passes: Vec<Pass<N>>,
     zero: Pass<N>,
     one: Pass<N>,
 ) -> Result<(), Halt>
     requires { N.callers ≡ 2 }
 {
-    if !passes.is_empty() || zero.caller() != 0 || one.caller() != 1 {
+    if zero.caller() != 0 || one.caller() != 1 {
         return Err(Halt::Odd);
     }
+    let mut passes = room(rt, alloc)?;
     put_back(&mut passes, zero)?;
     put_back(&mut passes, one)?;
     let Ok(history) = desk.finish(passes) else {
@@ -200,7 +209,7 @@ fn at_desk<N: DeskName, H: Wait + Drop, P: Planner, R: Print + Wait>(
         return Err(Halt::Odd);
     };
     calls(rt, alloc, &desk, &mut zero, &mut one, &mut viewer)?;
-    end(rt, desk, passes, zero, one)?;
+    end(rt, alloc, desk, zero, one)?;
     tell_seen(rt, &mut viewer)?;
     Ok(true)
 }

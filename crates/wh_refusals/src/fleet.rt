@@ -50,7 +50,9 @@ pub fn floor<R: Print>(rt: &R, alloc: Global) -> Result<(Arc<Grid>, Points), Hal
 }
 
 /// An empty list with room for two.
-fn room<R: Print, P: Drop>(rt: &R, alloc: Global) -> Result<Vec<P>, Halt> {
+pub fn room<R: Print, P: Drop>(rt: &R, alloc: Global) -> Result<Vec<P>, Halt>
+    ensures { IfOk result (λ row. row.items ≡ []) }
+{
     again!(rt, Vec::with_capacity(alloc, 2))
 }
 
