@@ -8,8 +8,8 @@ The program is built by `rt run` in crates/wh_refusals; its file `stdout` has th
 for memory n times it runs 2 n times. With the k-th request refused alone, it must end with status 0 and the row's text, but
 for at most one line `refused E90`, since the same call made again gives the row's answer. Two rows have other texts too:
 at the desk an entry may be `not shown`, and a line of the replay is not made again, so that the log has one entry less.
-With all requests from the k-th on refused, it must end with status 4 behind a beginning of such a text, and each call that
-was refused was made three times. The line `changed`, which tells that a value was not as before a refused call, stands
+With all requests from the k-th on refused, it must end with status 4 behind a beginning of such a text, and the last
+call was made three times. The line `changed`, which tells that a value was not as before a refused call, stands
 in no text. Where the process has no memory for its words, it ends with status 4 and prints nothing.
 """
 import argparse
@@ -80,7 +80,7 @@ def fault(outcome, row, text, on):
     if (status, answer, errors) == (4, '', REFUSED):
         return None
     if on:
-        most = TRIES + 3 if row == 'log_and_verify' else TRIES
+        most = 2 * TRIES + 3    # where an opening is refused, its planners are made anew; lines of the replay
         good = (status, errors) == (4, REFUSED) and TRIES <= refusals <= most
         good = good and any(whole.startswith(rest) for whole in texts(row, text, 3))
     else:
