@@ -1,11 +1,19 @@
 //! Readers and writers that fail, end early, or move few bytes at a time.
 
 use crate::answers::{AGENTS, MAP, POINTS, served};
+use std::alloc::Global;
 use std::io;
 use std::io::{Error, ErrorKind, Read, Write};
+use std::sync::Arc;
 use std::test::*;
-use wh_edge::Trouble;
+use wh_claims::Bank;
+use wh_edge::{Site, Trouble, read_site};
+use wh_lines::Lines;
 use wh_options::{PlannerKind, Tail};
+use wh_planners::Near;
+use wh_replay::{ReplayFault, replay};
+use wh_service::claim;
+use wh_token::Warehouse;
 
 const SCRIPT: &str = "submit x A B\nsubmit x A P1\ntick\nclose\ntick\n";
 
@@ -123,6 +131,81 @@ fn writers(rt: HostRuntime) -> Result<(), Fail> {
         );
         assert!(rt; trouble == Some(Trouble::Unwritten));
         assert!(rt; sink.taken.as_slice() == b"accepted 0\nrefused E".as_slice());
+    }
+    Ok(())
+}
+
+/// The warehouse at clock 0, with two planners of 4 slots.
+fn opened(alloc: Global) -> Result<Warehouse<Near>, Fail> {
+    let input = format!(in alloc; "{MAP}%%\n{POINTS}{AGENTS}")?;
+    let Site { grid, points } = read_site(&mut Lines::new(input.as_bytes()), alloc)?;
+    let grid = Arc::new(alloc, grid)?;
+    let (bank, mut seat) = Bank::new(alloc, 8)?;
+    let first = Near::new(alloc, Arc::try_clone(&grid)?, claim(&bank, &mut seat, 4)?)?;
+    let second = Near::new(alloc, Arc::try_clone(&grid)?, claim(&bank, &mut seat, 4)?)?;
+    let mut planners = Vec::new(alloc);
+    planners.push(first)?;
+    planners.push(second)?;
+    match Warehouse::open(alloc, grid, points, planners, 0) {
+        Ok(warehouse) => Ok(warehouse),
+        Err(_) => Err("a warehouse")?,
+    }
+}
+
+#[test]
+fn entries_stand_after_a_fault(rt: HostRuntime) -> Result<(), Fail> {
+    // how many bytes of the script are given, whether the reader then fails, how many the writer takes, whether it then fails
+    for (given, breaks, room, fails, fault, wanted) in [
+        (
+            30usize,
+            true,
+            1000usize,
+            true,
+            ReplayFault::Broken,
+            "accepted 0\nrefused E2 P1\n",
+        ),
+        (
+            1000,
+            false,
+            20,
+            true,
+            ReplayFault::Unwritten,
+            "accepted 0\nrefused E",
+        ),
+        (
+            1000,
+            false,
+            20,
+            false,
+            ReplayFault::Unwritten,
+            "accepted 0\nrefused E",
+        ),
+    ] {
+        let mut warehouse = opened(rt.alloc())?;
+        let mut spares = Vec::new(rt.alloc());
+        let source = Source {
+            rest: &SCRIPT.as_bytes()[..given.min(SCRIPT.len())],
+            piece: 1000,
+            fails: breaks,
+        };
+        let mut sink = Sink {
+            taken: Vec::new(rt.alloc()),
+            room,
+            fails,
+        };
+        let mut lines = Lines::new(source);
+        let replayed = replay(
+            &mut lines,
+            rt.alloc(),
+            &mut sink,
+            &mut warehouse,
+            &mut spares,
+        );
+        assert!(rt; replayed == Err(fault), "{given} bytes");
+        assert!(rt; sink.taken.as_slice() == wanted.as_bytes(), "{given} bytes");
+        assert_eq!(rt; warehouse.history().len(), 2);
+        // the begun line is no event
+        assert_eq!(rt; warehouse.clock(), 0);
     }
     Ok(())
 }

@@ -1,0 +1,254 @@
+//! The row of a desk: two callers fill a journal of three, while a viewer looks.
+
+ghost use Rattle.std.specs.Prelude.{◌≡◌, ◌+◌, [], IfOk, IfSome, length};
+ghost use Rattle.wh_board.specs.Pasts.{origin_of, past_of};
+ghost use Rattle.wh_desk.specs.Lists.{AllAt};
+ghost use Rattle.wh_desk.specs.Calls.{TellsReceipt};
+
+use crate::again::{Halt, TRIES, again, refused, tell};
+use crate::fleet::{bank, open, room};
+use std::alloc::{AllocError, Global};
+use std::marker::Brand;
+use std::sync::Wait;
+use wh_board::{Publisher, Viewer};
+use wh_book::Book;
+use wh_desk::{Cells, Desk, DeskFault, DeskName, Pass, Receipt};
+use wh_event::{Command, read_line, write_reply};
+use wh_planner::Planner;
+use wh_service::PlannerParts;
+use wh_token::Warehouse;
+
+/// How many positions the journal has.
+const POSITIONS: u64 = 3;
+
+/// What a viewer sees: how many entries there are, and how many tasks no agent has.
+fn seen(viewer: &mut Viewer) -> (u64, u32)
+    ensures { viewer.new.book ≡ viewer.old.book }
+{
+    let board = viewer.look();
+    (board.entries, board.open_tasks)
+}
+
+/// Tells what a viewer sees.
+fn tell_seen<R: Print>(rt: &R, viewer: &mut Viewer) -> Result<(), Halt>
+    ensures { viewer.new.book ≡ viewer.old.book }
+{
+    let (entries, open_tasks) = seen(viewer);
+    println!(rt; "entries {entries} open {open_tasks}")?;
+    Ok(())
+}
+
+/// Makes a call of the desk.
+fn ask<N: DeskName, H: Wait + Drop, P: Planner, R: Wait>(
+    rt: &R,
+    alloc: Global,
+    desk: &Desk<N, H, P>,
+    pass: &mut Pass<N>,
+    command: Command,
+) -> Result<Receipt, DeskFault>
+    ensures { IfOk result (λ r. IfSome r.told (λ t. TellsReceipt N.book N.origin r.position r.entry t)) }
+{
+    match command {
+        Command::Submit { client, stops } => desk.submit(rt, alloc, pass, client, stops),
+        Command::Token { agent } => desk.request(rt, alloc, pass, agent),
+        Command::Tick => desk.tick(rt, alloc, pass),
+        Command::Replace { agent } => desk.replace(rt, alloc, pass, agent, None).outcome,
+        Command::Close => desk.close(rt, alloc, pass),
+    }
+}
+
+/// What can be told from outside: how many entries the pass has, how long the history is in which both passes stand, and
+/// what a viewer sees.
+fn tally<N: DeskName, H: Wait + Drop, P: Planner, R: Wait>(
+    rt: &R,
+    desk: &Desk<N, H, P>,
+    pass: &Pass<N>,
+    other: &Pass<N>,
+    viewer: &mut Viewer,
+) -> (u64, Option<u64>, (u64, u32))
+    ensures { viewer.new.book ≡ viewer.old.book }
+{
+    let length = match desk.meet(rt, pass, other) {
+        Ok(met) => Some(met.length),
+        Err(_) => None,
+    };
+    (pass.len(), length, seen(viewer))
+}
+
+/// Tells a receipt. The viewer learns what was told, if the entry was shown.
+fn tell_receipt<N: DeskName, R: Print>(
+    rt: &R,
+    receipt: &Receipt,
+    viewer: &mut Viewer,
+) -> Result<(), Halt>
+    requires told { IfSome receipt.now.told (λ t. TellsReceipt N.book N.origin receipt.now.position receipt.now.entry t) }
+    requires viewer { viewer.old.book ≡ N.book }
+    ensures { viewer.new.book ≡ N.book }
+{
+    let position = receipt.position;
+    print!(rt; "position {position} ")?;
+    tell(rt, write_reply(&receipt.entry.reply).as_slice())?;
+    match &receipt.told {
+        Some(told) => viewer.learn(told),
+        None => tell(rt, b"not shown")?,
+    }
+    Ok(())
+}
+
+/// Makes a call of the desk, again where it was refused for memory, and tells what is answered.
+fn call<N: DeskName, H: Wait + Drop, P: Planner, R: Print + Wait>(
+    rt: &R,
+    alloc: Global,
+    desk: &Desk<N, H, P>,
+    pass: &mut Pass<N>,
+    other: &Pass<N>,
+    viewer: &mut Viewer,
+    line: &str,
+) -> Result<(), Halt>
+    requires { viewer.old.book ≡ N.book }
+    ensures { viewer.new.book ≡ N.book }
+{
+    let Ok(Some(command)) = read_line(line.as_bytes()) else {
+        return Err(Halt::Odd);
+    };
+    for _ in 0..TRIES {
+        let before = tally(rt, desk, pass, other, viewer);
+        match ask(rt, alloc, desk, pass, command.copy()) {
+            Ok(receipt) => return tell_receipt::<N, R>(rt, &receipt, viewer),
+            Err(DeskFault::Full) => return tell(rt, b"refused E11"),
+            Err(DeskFault::NoMemory) => {
+                let is_as_before = tally(rt, desk, pass, other, viewer) == before;
+                refused(rt, is_as_before)?;
+            }
+            Err(DeskFault::Stale | DeskFault::CellTaken) => return Err(Halt::Odd),
+        }
+    }
+    Err(Halt::NoMemory)
+}
+
+/// The calls of two callers, of which the last finds the journal full, and what a viewer sees meanwhile.
+fn calls<N: DeskName, H: Wait + Drop, P: Planner, R: Print + Wait>(
+    rt: &R,
+    alloc: Global,
+    desk: &Desk<N, H, P>,
+    zero: &mut Pass<N>,
+    one: &mut Pass<N>,
+    viewer: &mut Viewer,
+) -> Result<(), Halt>
+    requires { viewer.old.book ≡ N.book }
+{
+    call(rt, alloc, desk, zero, one, viewer, "submit x A B")?;
+    tell_seen(rt, viewer)?;
+    call(rt, alloc, desk, one, zero, viewer, "token 0")?;
+    call(rt, alloc, desk, one, zero, viewer, "tick")?;
+    call(rt, alloc, desk, zero, one, viewer, "submit x A B")?;
+    tell_seen(rt, viewer)
+}
+
+/// Puts the next pass to those of the callers before.
+fn put_back<N: DeskName>(passes: &mut Vec<Pass<N>>, pass: Pass<N>) -> Result<(), AllocError>
+    requires next { length passes.old.items ≡ pass.caller }
+    requires order { AllAt (λ k p. p.caller ≡ k) passes.old.items }
+    ensures next { IfOk result (λ _. length passes.new.items ≡ pass.caller + 1) }
+    ensures order { IfOk result (λ _. AllAt (λ k p. p.caller ≡ k) passes.new.items) }
+{
+    passes.push(pass)?;
+    Ok(())
+}
+
+/// Ends the desk, and tells its history: for each entry its caller and the reply.
+fn end<N: DeskName, H: Wait + Drop, P: Planner, R: Print>(
+    rt: &R,
+    alloc: Global,
+    desk: Desk<N, H, P>,
+    zero: Pass<N>,
+    one: Pass<N>,
+) -> Result<(), Halt>
+    requires { N.callers ≡ 2 }
+{
+    if zero.caller() != 0 || one.caller() != 1 {
+        return Err(Halt::Odd);
+    }
+    let mut passes = room(rt, alloc)?;
+    put_back(&mut passes, zero)?;
+    put_back(&mut passes, one)?;
+    let Ok(history) = desk.finish(passes) else {
+        return Err(Halt::Odd);
+    };
+    for entry in history.warehouse.history() {
+        let caller = entry.caller;
+        print!(rt; "caller {caller} ")?;
+        tell(rt, write_reply(&entry.reply).as_slice())?;
+    }
+    Ok(())
+}
+
+/// Opens a desk and goes through the row. False: the desk could not be opened, and what was handed in was dropped.
+fn at_desk<N: DeskName, H: Wait + Drop, P: Planner, R: Print + Wait>(
+    rt: &R,
+    alloc: Global,
+    warehouse: Warehouse<P>,
+    cells: Cells,
+    publisher: Publisher<H>,
+) -> Result<bool, Halt>
+    requires origin { origin_of warehouse.book ≡ N.origin }
+    requires history { warehouse.book.history ≡ [] }
+    requires cells { cells ≡ N.cells }
+    requires book { publisher.book ≡ N.book }
+    requires added { publisher.added ≡ past_of warehouse.book }
+    requires shown { publisher.shown ≡ past_of warehouse.book }
+    requires callers { N.callers ≡ 2 }
+{
+    let Ok((desk, mut passes)) = Desk::<N, H, P>::open(alloc, warehouse, cells, publisher, 2) else {
+        return Ok(false);
+    };
+    let Ok(mut viewer) = desk.viewer(rt) else {
+        return Err(Halt::Odd);
+    };
+    let (Some(mut one), Some(mut zero)) = (passes.pop(), passes.pop()) else {
+        return Err(Halt::Odd);
+    };
+    calls(rt, alloc, &desk, &mut zero, &mut one, &mut viewer)?;
+    end(rt, alloc, desk, zero, one)?;
+    tell_seen(rt, &mut viewer)?;
+    Ok(true)
+}
+
+/// The cells of the journal.
+fn cells<R: Print>(rt: &R, alloc: Global) -> Result<Cells, Halt> {
+    again!(rt, Cells::new(alloc, POSITIONS))
+}
+
+/// The one that publishes.
+fn publisher<'a, R: Print + Wait>(
+    rt: &'a R,
+    alloc: Global,
+    book: &Book,
+) -> Result<Publisher<&'a R>, Halt>
+    ensures shown { IfOk result (λ p. p.shown ≡ past_of book.now) }
+    ensures added { IfOk result (λ p. p.added ≡ past_of book.now) }
+{
+    again!(rt, Publisher::new(alloc, rt, book))
+}
+
+/// Two callers fill a journal of three, while a viewer looks. Where the desk could not be opened, it is opened with another
+/// warehouse, since the old one was dropped.
+pub fn desk_receipts<R: Print + Wait, P: Planner, F: Fn(PlannerParts) -> Result<P, AllocError>>(
+    rt: &R,
+    alloc: Global,
+    make: &F,
+) -> Result<(), Halt>
+    requires { F.IsAlwaysCallable make.now }
+{
+    let (bank, mut seat) = bank(rt, alloc, 1024)?;
+    for _ in 0..TRIES {
+        let warehouse = open(rt, alloc, &bank, &mut seat, make)?;
+        let cells = cells(rt, alloc)?;
+        let publisher = publisher(rt, alloc, warehouse.book())?;
+        if at_desk::<Brand, _, _, _>(rt, alloc, warehouse, cells, publisher)? {
+            return Ok(());
+        }
+        refused(rt, bank.free(&mut seat) == 1024)?;
+    }
+    Err(Halt::NoMemory)
+}
