@@ -10,7 +10,7 @@ use wh_claims::Bank;
 use wh_edge::{Site, Trouble, read_site};
 use wh_lines::Lines;
 use wh_options::{PlannerKind, Tail};
-use wh_planners::Near;
+use wh_planners::Patient;
 use wh_replay::{ReplayFault, replay};
 use wh_service::claim;
 use wh_token::Warehouse;
@@ -136,13 +136,13 @@ fn writers(rt: HostRuntime) -> Result<(), Fail> {
 }
 
 /// The warehouse at clock 0, with two planners of 4 slots.
-fn opened(alloc: Global) -> Result<Warehouse<Near>, Fail> {
+fn opened(alloc: Global) -> Result<Warehouse<Patient>, Fail> {
     let input = format!(in alloc; "{MAP}%%\n{POINTS}{AGENTS}")?;
     let Site { grid, points } = read_site(&mut Lines::new(input.as_bytes()), alloc)?;
     let grid = Arc::new(alloc, grid)?;
     let (bank, mut seat) = Bank::new(alloc, 8)?;
-    let first = Near::new(alloc, Arc::try_clone(&grid)?, claim(&bank, &mut seat, 4)?)?;
-    let second = Near::new(alloc, Arc::try_clone(&grid)?, claim(&bank, &mut seat, 4)?)?;
+    let first = Patient::new(Arc::try_clone(&grid)?, claim(&bank, &mut seat, 4)?);
+    let second = Patient::new(Arc::try_clone(&grid)?, claim(&bank, &mut seat, 4)?);
     let mut planners = Vec::new(alloc);
     planners.push(first)?;
     planners.push(second)?;
