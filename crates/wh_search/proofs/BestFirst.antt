@@ -1,11 +1,7 @@
 -- a best-first search over states by time, where all times from the horizon on are alike:
 -- what makes the first goal the least, from two properties of the estimate alone
 use Rattle.std.proofs.Common.{◌≡◌, ℕ, ◌+◌, ◌<◌, ◌≤◌, ◌⊎◌, inl, inr, refl, sym, ap, subst, suc, zero, arith}
-
--- after k steps from the start
-abbrev pub Reaches : {S : Type 0} → (ℕ → S → S → Type 0) → S → ℕ → S → Type 0
-Reaches Step start zero t = t ≡ start
-Reaches {S} Step start (suc k) t = (s : S) × Reaches Step start k s × Step k s t
+use Rattle.wh_search.specs.States.{Reaches}
 
 -- steps and goals, which are alike at all times from the horizon on, and an estimate
 pub record IsSpace {S : Type 0} (Step : ℕ → S → S → Type 0) (Goal : ℕ → S → Type 0) (start : S) (horizon : ℕ) (estimate : S → ℕ) : Type 0 where
@@ -40,7 +36,8 @@ alike_next h i j k (inl e) (inr p) = inr (p.0, omega (arith, p.1))
 alike_next h i j k (inr q) (inl f) = inr (omega (arith, q.0), omega (arith, q.1))
 alike_next h i j k (inr q) (inr p) = inr (p.0, omega (arith, p.1, q.1))
 
-alike_le : (h j k : ℕ) → Alike h j k → j ≤ k
+-- no later
+pub alike_le : (h j k : ℕ) → Alike h j k → j ≤ k
 alike_le h j k (inl e) = omega arith
 alike_le h j k (inr p) = p.1
 
@@ -52,7 +49,7 @@ done_beyond Step Goal start horizon limit estimate Met Waits f m small late k s 
     (d.0, d.1, elim d.2 [ inl w ↦ late d.0 w | inr b ↦ omega arith ])
 
 -- each state that is reached, of no more than m, was met
-met : {S : Type 0} (Step : ℕ → S → S → Type 0) (Goal : ℕ → S → Type 0) (start : S) (horizon limit : ℕ) (estimate : S → ℕ) (Met : ℕ → S → Type 0) (Waits : ℕ → Type 0)
+pub met : {S : Type 0} (Step : ℕ → S → S → Type 0) (Goal : ℕ → S → Type 0) (start : S) (horizon limit : ℕ) (estimate : S → ℕ) (Met : ℕ → S → Type 0) (Waits : ℕ → Type 0)
     → IsSpace Step Goal start horizon estimate → IsFrontier Step Goal start horizon limit estimate Met Waits → (m : ℕ) → m ≤ limit → ((bound : ℕ) → Waits bound → m < bound)
     → (k : ℕ) (t : S) → k + estimate t ≤ m → Reaches Step start k t → Covers Met horizon k t
 met Step Goal start horizon limit estimate Met Waits p f m small late zero t h r =

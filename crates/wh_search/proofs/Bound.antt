@@ -11,8 +11,8 @@ use Rattle.wh_path.specs.Paths.{horizon}
 use Rattle.wh_search.specs.Steps.{AddsNone, marked_count}
 use Rattle.wh_search.proofs.Cells.{same_cell, count-subset, count-more, marked_count-is, past_end}
 use Rattle.wh_search.specs.Tours.{longest_tour}
-use Rattle.wh_search.specs.States.{State, Steps, IsEnd}
-use Rattle.wh_search.proofs.BestFirst.{Reaches, IsSpace}
+use Rattle.wh_search.specs.States.{State, Steps, IsEnd, Reaches}
+use Rattle.wh_search.proofs.BestFirst.{IsSpace}
 use Rattle.wh_search.proofs.Reach.{reaches_inside, reaches_few}
 
 -- a list n times

@@ -8,10 +8,11 @@ pub mod Paths
 pub mod Bins
 pub mod Kept
 pub mod Expands
-pub mod Counts
+pub mod Told
 pub mod Searches
 pub mod Layered
 pub mod Trails
 pub mod Stops
+pub mod Efforts
 pub mod Parks
 pub mod Nearest

@@ -8,8 +8,8 @@ use Rattle.wh_path.specs.Paths.{horizon, at, cell_at}
 use Rattle.wh_search.specs.Steps.{Go}
 use Rattle.wh_search.proofs.Times.{go_later, may_rest_later}
 use Rattle.wh_search.specs.Tours.{IsTour}
-use Rattle.wh_search.specs.States.{State, Arrives, Steps, IsEnd, IsEstimate}
-use Rattle.wh_search.proofs.BestFirst.{Reaches, IsSpace}
+use Rattle.wh_search.specs.States.{State, Arrives, Steps, IsEnd, Reaches, IsEstimate}
+use Rattle.wh_search.proofs.BestFirst.{IsSpace}
 
 -- a state is passable where the first one is
 pub reaches_inside : (g : Floor) (others : Others) (via : List Cell) (start : State) → IsPassable g start.cell → (k : ℕ) (s : State) → Reaches (Steps g others via) start k s → IsPassable g s.cell

@@ -1,5 +1,5 @@
 -- what the search has found when it ends
-use Rattle.std.proofs.Common.{◌≡◌, ◌≢◌, ℕ, ◌+◌, ◌<◌, ◌≤◌, inl, inr, ◌∙◌, List, ◌∷◌, length, refl, sym, ap, subst, Option, Some, None, arith}
+use Rattle.std.proofs.Common.{◌≡◌, ◌≢◌, ℕ, ◌+◌, ◌-◌, ◌<◌, ◌≤◌, inl, inr, ◌∙◌, List, ◌∷◌, length, refl, sym, ap, subst, Option, Some, None, arith}
 use Rattle.std.proofs.lemmas.Bool.{cases_lt}
 use Rattle.std.proofs.lemmas.List.Elements.{All-weaker}
 use Rattle.wh_grid.specs.declared.cell.Cell.{Cell}
@@ -9,14 +9,17 @@ use Rattle.wh_resv.specs.Others.{IsClearStep, StaysAway, MayRest}
 use Rattle.wh_resv.specs.Calls.{IsVacant}
 use Rattle.wh_search.specs.declared.frontier.Node.{Node}
 use Rattle.wh_search.specs.declared.errand.Errand.{Errand}
+use Rattle.wh_search.specs.declared.moment.Moment.{Moment}
 use Rattle.wh_search.specs.declared.queue.Queue.{Queue}
 use Rattle.wh_search.specs.Queues.{Waiting, Pops}
-use Rattle.wh_search.specs.Frontiers.{Problem, problem, state_of, node_at, total_at, HasState, IsExpanded, IsKept, IsErrand, IsTrace}
+use Rattle.wh_search.specs.Frontiers.{Problem, problem, state_of, node_at, total_at, total_of, moment_of, HasState, IsExpanded, IsKept, IsTold, IsErrand, IsTrace}
+use Rattle.wh_search.specs.Expansions.{AreExpanded}
 use Rattle.wh_search.specs.Guides.{guide_estimate}
-use Rattle.wh_search.specs.States.{State, Steps, IsEnd}
+use Rattle.wh_search.specs.States.{State, Steps, IsEnd, Reaches}
 use Rattle.wh_search.specs.Tours.{IsTour, IsLeastTour}
-use Rattle.wh_search.proofs.BestFirst.{IsSpace, IsDone, IsFrontier, Covers, no_goal_by, start_before}
+use Rattle.wh_search.proofs.BestFirst.{Alike, IsSpace, IsDone, IsFrontier, Covers, met, alike_le, no_goal_by, start_before}
 use Rattle.wh_search.proofs.Bound.{end_by_bound}
+use Rattle.wh_search.proofs.Expands.{arrives_one}
 use Rattle.wh_search.proofs.Reach.{is_space, step_falls}
 use Rattle.wh_search.proofs.Visits.{tour_ends}
 use Rattle.wh_search.proofs.Kept.{Falls, kept_pop}
@@ -102,15 +105,15 @@ popped p nodes queue rest bound index kept pop =
     let mine = kept.queued bound index pop.was in
     record { within = mine.within; few = (kept.reached index mine.within).few; total = mine.total; small = mine.small; expanded = mine.expanded; kept = kept_pop p nodes queue rest bound index kept pop }
 
--- the first end is no later than the last index of any tour
-pub found_least : (e : Errand) (nodes : List Node) (queue rest : Queue) (bound index : ℕ) → IsErrand e → IsKept (problem e) nodes queue None → Pops queue rest bound index
-    → (q : List Cell) → IsTour e.grid.now e.others.now e.loc e.via.now e.ends.now q → (node_at nodes index).time ≤ last_index q
-found_least e nodes queue rest bound index h kept pop q tour =
+-- the time and estimate of what is taken are no later than the last index of any tour
+pub popped_least : (e : Errand) (nodes : List Node) (queue rest : Queue) (bound index : ℕ) → IsErrand e → IsKept (problem e) nodes queue None → Pops queue rest bound index
+    → (q : List Cell) → IsTour e.grid.now e.others.now e.loc e.via.now e.ends.now q → total_at (problem e) (node_at nodes index) ≤ last_index q
+popped_least e nodes queue rest bound index h kept pop q tour =
     let p = problem e in
-    let n = (node_at nodes index).time in
+    let n = total_at p (node_at nodes index) in
     let mine = kept.queued bound index pop.was in
     let total = mine.total in
-    let in_time = (kept.reached index mine.within).in_time in
+    let small = mine.small in
     let there = tour_ends e.grid.now e.others.now e.loc e.via.now e.ends.now e.first q h.arrives tour in
     let m = last_index q in
     let space = errand_space e h in
@@ -121,6 +124,47 @@ found_least e nodes queue rest bound index h kept pop q tour =
       | inl b ↦ absurd (no_goal_by (steps_of p) (ends_of p) p.start p.horizon p.limit (guess_of p) (IsThere nodes) (BoundWaits queue) space (is_frontier p nodes queue kept) m (omega arith)
           (λ c w. omega (arith, pop.least c w.0 w.1)) there.0 there.1 there.2)
     ]
+
+-- the first end is no later than the last index of any tour
+pub found_least : (e : Errand) (nodes : List Node) (queue rest : Queue) (bound index : ℕ) → IsErrand e → IsKept (problem e) nodes queue None → Pops queue rest bound index
+    → (q : List Cell) → IsTour e.grid.now e.others.now e.loc e.via.now e.ends.now q → (node_at nodes index).time ≤ last_index q
+found_least e nodes queue rest bound index h kept pop q tour = omega (arith, popped_least e nodes queue rest bound index h kept pop q tour)
+
+alike_by : (h w i j k : ℕ) → h ≡ w → i ≡ j → Alike h j k → Alike w i k
+alike_by h w i j k same time (inl a) = inl (time ∙ a)
+alike_by h w i j k same time (inr p) = inr (omega (arith, p.0), omega (arith, p.1))
+
+-- what was expanded when an end is taken that a tour leads to
+pub found_expanded : (e : Errand) (nodes : List Node) (queue rest : Queue) (bound index : ℕ) (path : List Cell) (x : List Moment) → IsErrand e → IsKept (problem e) nodes queue None → Pops queue rest bound index → IsTold (problem e) nodes queue None x
+    → IsTour e.grid.now e.others.now e.loc e.via.now e.ends.now path → last_index path ≡ (node_at nodes index).time → AreExpanded e.grid.now e.others.now e.via.now e.loc (guide_estimate e.guide) e.soonest (last_index path) x
+found_expanded e nodes queue rest bound index path x h kept pop told tour size =
+    let p = problem e in
+    let mine = kept.queued bound index pop.was in
+    let total = mine.total in
+    let in_time = (kept.reached index mine.within).in_time in
+    let low = kept.base in
+    record {
+      reached = λ m c. record { first = e.first; arrives = h.arrives; reaches = told.reached m c };
+      may_lead = λ m c. told.may_lead m c path tour;
+      each_time = λ k b. told.before index k mine.within (omega (arith, size));
+      all = λ k s r less late.
+          let one = arrives_one e.via.now 0 e.loc r.first e.first r.arrives h.arrives in
+          let reaches : Reaches (steps_of p) p.start k s = subst (λ (f : ℕ). Reaches (steps_of p) (record { leg = f; cell = e.loc }) k s) one r.reaches in
+          let from = start_before (steps_of p) (ends_of p) p.start p.horizon (guess_of p) (errand_space e h) k s reaches in
+          let waits : (c : ℕ) → BoundWaits queue c → last_index path - 1 < c = λ c w. omega (arith, size, pop.least c w.0 w.1) in
+          let m = met (steps_of p) (ends_of p) p.start p.horizon p.limit (guess_of p) (IsThere nodes) (BoundWaits queue) (errand_space e h) (is_frontier p nodes queue kept) (last_index path - 1) (omega (arith, size)) waits k s (omega arith) reaches in
+          let i = m.holds in
+          let n = node_at nodes i.index in
+          let early = alike_le p.horizon m.time k m.alike in
+          elim (told.each i.index i.within) [
+            | inl a ↦ record { moment = moment_of n; among = a; state_is = i.state_is; alike = alike_by p.horizon (horizon e.others.now.paths) n.time m.time k h.horizon_is i.time_is m.alike }
+            | inr d ↦ elim d [
+              | inl w ↦ (let same : total_at p n ≡ total_of p m.time s = ap (λ (j : ℕ). total_of p j (state_of n)) i.time_is ∙ ap (total_of p m.time) i.state_is in
+                  absurd (omega (arith, same, waits (total_at p n) (i.index, w))))
+              | inr z ↦ absurd z
+            ]
+          ];
+    }
 
 -- where nothing that was met waits, there is no tour, however long
 pub none_waits : (e : Errand) (Met : ℕ → State → Type 0) (Waits : ℕ → Type 0) → IsErrand e → IsFrontier (steps_of (problem e)) (ends_of (problem e)) (problem e).start (problem e).horizon (problem e).limit (guess_of (problem e)) Met Waits

@@ -1,5 +1,5 @@
 -- a delivery is a tour with all stops but the last one on the way, and the fields that are there give its estimate
-use Rattle.std.proofs.Common.{◌≡◌, ℕ, ◌+◌, ◌-◌, ◌*◌, ◌<◌, ◌≤◌, ◌^◌, ◌⊎◌, inl, inr, ◌∙◌, List, [], ◌∷◌, length, take, drop, get_or, Option, Some, None, IsSomeAnd, MatchOption, Contains, Result, Ok, Err, IfOk, min, refl, sym, ap, subst, suc, zero, length-take, length-drop, arith}
+use Rattle.std.proofs.Common.{◌≡◌, ℕ, ◌+◌, ◌-◌, ◌*◌, ◌<◌, ◌≤◌, ◌^◌, ◌⊎◌, inl, inr, ◌∙◌, List, [], ◌∷◌, length, take, drop, get_or, Option, Some, None, IsSomeAnd, MatchOption, IfSome, Contains, Result, Ok, Err, IfOk, min, refl, sym, ap, subst, suc, zero, length-take, length-drop, arith}
 use Rattle.std.specs.Borrow.{Bor}
 use Rattle.std.proofs.lemmas.Bool.{cases_lt}
 use Rattle.std.proofs.lemmas.List.{take_all}
@@ -23,6 +23,10 @@ use Rattle.wh_search.specs.Tours.{IsTour, IsLeastTour}
 pub ok_weaker : {X E : Type 0} (r : Result X E) (Q R : X → Type 0) → ((x : X) → Q x → R x) → IfOk r Q → IfOk r R
 ok_weaker (Ok x) Q R f h = f x h
 ok_weaker (Err e) Q R f h = h
+
+pub some_weaker : {X : Type 0} (o : Option X) (Q R : X → Type 0) → ((x : X) → Q x → R x) → IfSome o Q → IfSome o R
+some_weaker (Some x) Q R f h = f x h
+some_weaker None Q R f h = h
 
 pub far_most : (o : Option ℕ) (k : ℕ) → far o k ≤ 2 ^ 64 - 1
 far_most None k = omega arith

@@ -8,8 +8,7 @@ use Rattle.wh_path.specs.Paths.{at, end, last_index, VisitsInOrder, cell_at}
 use Rattle.wh_path.proofs.AtLemmas.{at-beyond, at-rests}
 use Rattle.wh_search.proofs.Cells.{same_or_not}
 use Rattle.wh_search.specs.Tours.{IsTour}
-use Rattle.wh_search.specs.States.{State, Arrives, Steps, IsEnd}
-use Rattle.wh_search.proofs.BestFirst.{Reaches}
+use Rattle.wh_search.specs.States.{State, Arrives, Steps, IsEnd, Reaches}
 use Rattle.wh_search.proofs.Reach.{tour_go, arrival}
 
 -- each stop that is visited by k is among the first l

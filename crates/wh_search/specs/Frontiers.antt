@@ -1,16 +1,18 @@
 -- what a search keeps: the states that it met, and how far each is expanded
-use Rattle.std.specs.Prelude.{◌≡◌, ℕ, ◌+◌, ◌<◌, ◌≤◌, ◌^◌, ◌⊎◌, Option, Some, None, List, [], ◌∷◌, ◌++◌, length, max, slice_index_or}
+use Rattle.std.specs.Prelude.{◌≡◌, ℕ, ◌+◌, ◌<◌, ◌≤◌, ◌^◌, ◌⊎◌, Option, Some, None, List, [], ◌∷◌, ◌++◌, length, max, slice_index_or, Contains}
 use Rattle.wh_grid.specs.declared.cell.Cell.{Cell}
 use Rattle.wh_grid.specs.Grids.{Floor, IsPassable}
 use Rattle.wh_resv.specs.Others.{Others}
-use Rattle.wh_path.specs.Paths.{horizon}
+use Rattle.wh_path.specs.Paths.{horizon, last_index}
 use Rattle.wh_search.specs.declared.errand.Errand.{Errand}
 use Rattle.wh_search.specs.declared.frontier.Node.{Node}
+use Rattle.wh_search.specs.declared.moment.Moment.{Moment}
 use Rattle.wh_search.specs.declared.queue.Queue.{Queue}
 use Rattle.wh_search.specs.Queues.{IsQueue, Waiting, Pushes}
+use Rattle.wh_search.specs.Expansions.{state_at, IsAtTime}
 use Rattle.wh_search.specs.Guides.{guide_estimate}
-use Rattle.wh_search.specs.States.{State, Arrives, Steps, IsEnd, IsEstimate, Leads}
-use Rattle.wh_search.specs.Tours.{longest_tour}
+use Rattle.wh_search.specs.States.{State, Arrives, Steps, IsEnd, IsEstimate, Leads, Reaches}
+use Rattle.wh_search.specs.Tours.{longest_tour, IsTour}
 
 -- what is searched for
 pub record Problem : Type 0 where
@@ -40,6 +42,9 @@ pub record IsErrand (e : Errand) : Type 0 where
 
 abbrev pub state_of : Node → State
 state_of n = record { leg = n.leg; cell = n.cell }
+
+abbrev pub moment_of : Node → Moment
+moment_of n = record { time = n.time; leg = n.leg; cell = n.cell }
 
 abbrev pub node_at : List Node → ℕ → Node
 node_at nodes i = slice_index_or nodes i (record { time = 0; leg = 0; cell = record { x = 0; y = 0 }; parent = 0 })
@@ -100,10 +105,14 @@ pub record IsKept (p : Problem) (nodes : List Node) (queue : Queue) (busy : Opti
   pub queued : (bound i : ℕ) → Waiting queue bound i → IsQueued p nodes bound i
   pub cases : (i : ℕ) → i < length nodes → Waits queue i ⊎ IsExpanded p nodes (node_at nodes i).time (state_of (node_at nodes i)) (p.limit + 1) ⊎ IsBusy busy i
 
--- so many states were expanded: no node has a later time, and none that waits again one so late
-pub record IsCounted (p : Problem) (nodes : List Node) (queue : Queue) (expanded : ℕ) : Type 0 where
-  pub times : (i : ℕ) → i < length nodes → (node_at nodes i).time ≤ expanded
-  pub again : (bound i : ℕ) → Waiting queue bound i → total_at p (node_at nodes i) < bound → (node_at nodes i).time < expanded
+-- what was expanded so far: each moment can be reached and may lead to the end of any tour, and at each time before a node's there is one;
+-- each node is among them, or waits for its first time, or is the one that is being expanded
+pub record IsTold (p : Problem) (nodes : List Node) (queue : Queue) (busy : Option ℕ) (expanded : List Moment) : Type 0 where
+  pub reached : (m : Moment) → Contains expanded m → Reaches (Steps p.grid p.others p.via) p.start m.time (state_at m)
+  pub may_lead : (m : Moment) → Contains expanded m → (q : List Cell) → IsTour p.grid p.others p.start.cell p.via p.ends q → total_of p m.time (state_at m) ≤ last_index q
+  pub before : (i k : ℕ) → i < length nodes → k < (node_at nodes i).time → IsAtTime expanded k
+  pub each : (i : ℕ) → i < length nodes → Contains expanded (moment_of (node_at nodes i)) ⊎ Waiting queue (total_at p (node_at nodes i)) i ⊎ IsBusy busy i
+  pub again : (bound i : ℕ) → Waiting queue bound i → total_at p (node_at nodes i) < bound → Contains expanded (moment_of (node_at nodes i))
 
 -- a node was met: it is too late, or one like it was there, or it was added
 pub data Meets (p : Problem) (nodes : List Node) (queue : Queue) (new_nodes : List Node) (new_queue : Queue) (n : Node) : Type 0 where

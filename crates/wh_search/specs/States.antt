@@ -1,6 +1,6 @@
 -- where an agent is with how many stops behind it, and the steps between such states
 use Rattle.std.specs.Prelude.{◌≡◌, ◌≢◌, ℕ, ◌+◌, ◌<◌, ◌≤◌, List, [], ◌∷◌, length, Contains}
-use Prim.Native.Nat.{suc}
+use Prim.Native.Nat.{zero, suc}
 use Rattle.wh_grid.specs.declared.cell.Cell.{Cell}
 use Rattle.wh_grid.specs.Grids.{Floor, IsPassable, IsMove}
 use Rattle.wh_resv.specs.Others.{Others, MayRest}
@@ -41,3 +41,8 @@ pub record IsEstimate (g : Floor) (via : List Cell) (ends : List Cell) (estimate
 abbrev pub Leads : Floor → Others → List Cell → ℕ → State → List Cell → ℕ → State → Type 0
 Leads g others via i s [] n t = (i ≡ n) × (s ≡ t)
 Leads g others via i s (c ∷ cs) n t = (u : State) × (c ≡ u.cell) × Steps g others via i s u × Leads g others via (suc i) u cs n t
+
+-- after k steps from the start
+abbrev pub Reaches : {S : Type 0} → (ℕ → S → S → Type 0) → S → ℕ → S → Type 0
+Reaches Step start zero t = t ≡ start
+Reaches {S} Step start (suc k) t = (s : S) × Reaches Step start k s × Step k s t

@@ -1,15 +1,18 @@
 //! The states that were met, and those of them that are still to be looked at.
 #![tactic(auto)]
 
-ghost use Rattle.std.specs.Prelude.{◌≡◌, ℕ, ◌+◌, ◌*◌, ◌<◌, ◌≤◌, ◌^◌, ◌↔◌, ◌⊎◌, Option, Some, None, [], ◌∷◌, ◌++◌, IsTrue, OnOk, IfOk, List, Contains, length, vec_len, slice_index_or};
+ghost use Rattle.std.specs.Prelude.{◌≡◌, ℕ, ◌+◌, ◌*◌, ◌<◌, ◌≤◌, ◌^◌, ◌↔◌, ◌⊎◌, Option, Some, None, [], ◌∷◌, ◌++◌, IsTrue, cond, OnOk, IfOk, List, Contains, length, vec_len, slice_index_or};
 ghost use Rattle.wh_grid.specs.declared.cell.Cell.{Cell};
 ghost use Rattle.wh_resv.specs.Calls.{IsVacant};
 ghost use Rattle.wh_search.specs.Queues.{IsQueue, Waiting};
 ghost use Rattle.wh_search.specs.Guides.{guide_estimate};
-ghost use Rattle.wh_search.specs.Frontiers.{problem, node_at, state_of, total_at, HasState, IsExpanded, Meets, IsKept, IsCounted, IsErrand};
+ghost use Rattle.wh_search.specs.Frontiers.{problem, node_at, state_of, moment_of, total_at, HasState, IsExpanded, Meets, IsKept, IsTold, IsErrand};
 ghost use Rattle.wh_search.specs.States.{IsEnd, State};
+ghost use Rattle.wh_search.specs.Tours.{IsTour};
+ghost use Rattle.wh_path.specs.Paths.{last_index};
 
 use crate::errand::{Errand, arrive};
+use crate::moment::Moment;
 use crate::moves::moves_from;
 use crate::queue::Queue;
 use crate::seen::{Seen, Slot, spread};
@@ -38,14 +41,14 @@ pub struct Look {
     pub mark: u64,
 }
 
-/// The states that were met, those of them that wait, where to find them again, and how many of
-/// them were expanded.
+/// The states that were met, those of them that wait, where to find them again, and those that
+/// were expanded.
 #[derive(Drop)]
 pub struct Frontier {
     pub nodes: Vec<Node>,
     pub queue: Queue,
     pub seen: Seen,
-    pub expanded: u64,
+    pub expanded: Vec<Moment>,
 }
 
 /// Whether a node stands for another: the same state, at the same time or earlier from the horizon on.
@@ -77,12 +80,13 @@ impl Frontier {
         ensures sound { IfOk result (λ f. IsQueue f.queue) }
         ensures base { IfOk result (λ f. f.queue.base ≡ base) }
         ensures none { IfOk result (λ f. (bound node : ℕ) → Waiting f.queue bound node → ⊥) }
+        ensures expanded { IfOk result (λ f. f.expanded.items ≡ []) }
     {
         Ok(Frontier {
             nodes: Vec::with_capacity(alloc, 512)?,
             queue: Queue::new(alloc, base, stride)?,
             seen: Seen::new(alloc, stride)?,
-            expanded: 0,
+            expanded: Vec::with_capacity(alloc, 256)?,
         })
     }
 
@@ -133,7 +137,7 @@ impl Frontier {
         requires limit { errand.now.limit < 2 ^ 62 }
         requires left { left ≡ guide_estimate errand.now.guide leg cell }
         requires queue { IsQueue self.old.queue }
-        ensures expanded { OnOk result (self.new.expanded ≡ self.old.expanded) }
+        ensures expanded { OnOk result (self.new.expanded.items ≡ self.old.expanded.items) }
         ensures met { OnOk result (Meets (problem errand.now) self.old.nodes.items self.old.queue self.new.nodes.items self.new.queue (record { time = time; leg = leg; cell = cell; parent = parent })) }
     {
         if time > errand.limit || left > errand.limit - time {
@@ -166,6 +170,22 @@ impl Frontier {
             && errand.others.may_rest(node.cell, node.time as u64)
     }
 
+    /// Notes a node as expanded where this is its first time.
+    fn note(&mut self, node: Node, first: bool) -> Result<(), AllocError>
+        ensures nodes { OnOk result (self.new.nodes.items ≡ self.old.nodes.items) }
+        ensures queue { OnOk result (self.new.queue ≡ self.old.queue) }
+        ensures expanded { OnOk result (self.new.expanded.items ≡ cond first (self.old.expanded.items ++ moment_of node ∷ []) self.old.expanded.items) }
+    {
+        if first {
+            self.expanded.push(Moment {
+                time: node.time,
+                leg: node.leg,
+                cell: node.cell,
+            })?;
+        }
+        Ok(())
+    }
+
     /// Meets each state to which a node leads with just this bound by time and estimate, and
     /// lets the node wait for the next one; where it waited before, meets all that are left.
     pub fn expand(&mut self, errand: &Errand, index: usize, bound: u64) -> Result<(), AllocError>
@@ -176,11 +196,12 @@ impl Frontier {
         requires alone { IsVacant errand.now.others.now.paths (node_at self.old.nodes.items index).cell (node_at self.old.nodes.items index).time }
         requires total { (node_at self.old.nodes.items index).time + guide_estimate errand.now.guide (node_at self.old.nodes.items index).leg (node_at self.old.nodes.items index).cell ≤ bound }
         requires small { bound ≤ errand.now.limit }
-        requires counted { IsCounted (problem errand.now) self.old.nodes.items self.old.queue self.old.expanded }
-        requires again { total_at (problem errand.now) (node_at self.old.nodes.items index) < bound → (node_at self.old.nodes.items index).time < self.old.expanded }
+        requires told { IsTold (problem errand.now) self.old.nodes.items self.old.queue (Some index) self.old.expanded.items }
+        requires again { total_at (problem errand.now) (node_at self.old.nodes.items index) < bound → Contains self.old.expanded.items (moment_of (node_at self.old.nodes.items index)) }
+        requires may_lead { (q : List Cell) → IsTour errand.now.grid.now errand.now.others.now errand.now.loc errand.now.via.now errand.now.ends.now q → total_at (problem errand.now) (node_at self.old.nodes.items index) ≤ last_index q }
         requires no_end { IsEnd errand.now.others.now errand.now.via.now errand.now.ends.now (node_at self.old.nodes.items index).time (state_of (node_at self.old.nodes.items index)) → ⊥ }
         ensures kept { OnOk result (IsKept (problem errand.now) self.new.nodes.items self.new.queue None) }
-        ensures counted { OnOk result (IsCounted (problem errand.now) self.new.nodes.items self.new.queue self.new.expanded) }
+        ensures told { OnOk result (IsTold (problem errand.now) self.new.nodes.items self.new.queue None self.new.expanded.items) }
     {
         let _width = errand.grid.width();
         let _height = errand.grid.height();
@@ -191,8 +212,8 @@ impl Frontier {
         let lefts = errand.guide.around(behind, from.cell);
         let here = lefts[0];
         let own = time.saturating_add(here);
-        // a node that waited before was counted then
-        self.expanded = self.expanded.saturating_add(u64::from(own == bound));
+        // a node that waited before was noted then
+        self.note(from, own == bound)?;
         let upto = errand.upto(own, bound);
         let mut next = u64::MAX;
         for i in 0..5 {

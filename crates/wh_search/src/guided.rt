@@ -9,9 +9,11 @@ ghost use Rattle.wh_path.specs.Paths.{last_index};
 ghost use Rattle.wh_search.specs.Deliveries.{IsDelivery, IsLawful, IsLeast, IsEnough, IfNoPath, AreStops};
 ghost use Rattle.wh_search.specs.Fields.{AreFieldsOf};
 ghost use Rattle.wh_search.specs.Guides.{IsOnward};
+ghost use Rattle.wh_search.specs.Expansions.{IsSearch, IsEffort};
 
 use crate::errand::{Errand, arrive};
 use crate::guide::{Guide, onward_of};
+use crate::moment::count_once;
 use crate::search::{Found, search};
 use std::alloc::{AllocError, Global};
 use wh_field::Field;
@@ -28,7 +30,7 @@ pub enum Fault {
     NoMemory,
 }
 
-/// A least path, or none where there is no delivery, and how many states were expanded.
+/// A least path, or none where there is no delivery, and which states were expanded.
 fn find<'x>(
     alloc: Global,
     grid: &'x Grid,
@@ -41,7 +43,7 @@ fn find<'x>(
     requires clear { MayRest others.now loc 0 }
     requires stops { AreStops stops.now }
     requires fields { AreFieldsOf grid.now stops.now fields.now }
-    ensures counted { IfOk result (λ found. IfSome found.path (λ p. last_index p ≤ found.states)) }
+    ensures expanded { IfOk result (λ found. IfSome found.path (λ p. IsSearch grid.now others.now loc stops.now fields.now (last_index p) found.expanded.items)) }
     ensures found { IfOk result (λ found. MatchOption found.path
         ((q : List Cell) → IsDelivery grid.now others.now loc stops.now q → ⊥)
         (λ p. IsLeast grid.now others.now loc stops.now p)) }
@@ -49,7 +51,7 @@ fn find<'x>(
     let Some(soonest) = others.not_before(stops[stops.len() - 1]) else {
         return Ok(Found {
             path: None,
-            states: 0,
+            expanded: Vec::new(alloc),
         });
     };
     let onward = onward_of(alloc, stops, fields)?;
@@ -95,20 +97,18 @@ pub fn deliver_guided<'x>(
     ensures none { IfNoPath result ((q : List Cell) → IsDelivery grid.now others.now loc stops.now q → ⊥) }
 {
     match find(alloc, grid, others, loc, stops, fields) {
-        Ok(
-            Found {
-                path: Some(path),
-                ..
-            },
-        ) => Ok(path),
-        Ok(Found { path: None, .. }) => Err(Fault::NoPath),
+        Ok(Found { path, .. }) => match path {
+            Some(path) => Ok(path),
+            None => Err(Fault::NoPath),
+        },
         Err(_) => Err(Fault::NoMemory),
     }
 }
 
 /// How many states, each of a cell, a time and a number of stops behind, have their successors
-/// made by `deliver_guided` on these arguments; or its fault. They are no fewer than the steps of
-/// a least path.
+/// made by `deliver_guided` on these arguments; or its fault. They are those of a best-first
+/// search: each can be reached and may, by the fields, lead to a least path, and all that may lead
+/// to a shorter one are among them.
 pub fn guided_steps<'x>(
     alloc: Global,
     grid: &'x Grid,
@@ -121,17 +121,18 @@ pub fn guided_steps<'x>(
     requires clear { MayRest others.now loc 0 }
     requires stops { AreStops stops.now }
     requires fields { AreFieldsOf grid.now stops.now fields.now }
+    ensures effort { IfOk result (λ n. IsEffort grid.now others.now loc stops.now fields.now n) }
     ensures enough { IfOk result (λ n. IsEnough grid.now others.now loc stops.now n) }
     ensures none { IfNoPath result ((q : List Cell) → IsDelivery grid.now others.now loc stops.now q → ⊥) }
 {
     match find(alloc, grid, others, loc, stops, fields) {
-        Ok(
-            Found {
-                path: Some(_),
-                states,
+        Ok(Found { path, expanded }) => match path {
+            Some(_path) => match count_once(alloc, &expanded) {
+                Ok(states) => Ok(states),
+                Err(_) => Err(Fault::NoMemory),
             },
-        ) => Ok(states),
-        Ok(Found { path: None, .. }) => Err(Fault::NoPath),
+            None => Err(Fault::NoPath),
+        },
         Err(_) => Err(Fault::NoMemory),
     }
 }

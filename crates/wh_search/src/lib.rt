@@ -7,6 +7,7 @@ mod frontier;
 mod guide;
 mod guided;
 pub mod layers;
+mod moment;
 mod moves;
 mod parking;
 mod queue;

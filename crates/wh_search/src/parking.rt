@@ -66,13 +66,10 @@ pub fn park<'x>(
     ensures none { IfNoPath result ((q : List Cell) → IsParking grid.now others.now loc allowed.now q → ⊥) }
 {
     match find_parking(alloc, grid, others, loc, allowed) {
-        Ok(
-            Found {
-                path: Some(path),
-                ..
-            },
-        ) => Ok(path),
-        Ok(Found { path: None, .. }) => Err(Fault::NoPath),
+        Ok(Found { path, .. }) => match path {
+            Some(path) => Ok(path),
+            None => Err(Fault::NoPath),
+        },
         Err(_) => Err(Fault::NoMemory),
     }
 }

@@ -6,26 +6,29 @@ ghost use Rattle.wh_grid.specs.declared.cell.Cell.{Cell};
 ghost use Rattle.wh_path.specs.Paths.{last_index};
 ghost use Rattle.wh_resv.specs.Others.{MayRest};
 ghost use Rattle.wh_search.specs.Frontiers.{problem, node_at, state_of, IsKept, IsErrand};
+ghost use Rattle.wh_search.specs.Expansions.{AreExpanded};
+ghost use Rattle.wh_search.specs.Guides.{guide_estimate};
 ghost use Rattle.wh_search.specs.Tours.{IsTour, IsLeastTour};
 
 use crate::errand::Errand;
 use crate::frontier::Frontier;
+use crate::moment::Moment;
 use crate::trail::walk_back;
 use std::alloc::{AllocError, Global};
 use wh_path::TimedPath;
 
-/// A least path, if there is one, and how many states were expanded.
+/// A least path, if there is one, and which states were expanded.
 #[derive(Drop)]
 pub struct Found {
     pub path: Option<TimedPath>,
-    pub states: u64,
+    pub expanded: Vec<Moment>,
 }
 
 /// A least tour, or none where there is no tour.
 pub fn search(alloc: Global, errand: &Errand) -> Result<Found, AllocError>
     requires errand { IsErrand errand.now }
     requires clear { MayRest errand.now.others.now errand.now.loc 0 }
-    ensures counted { IfOk result (λ found. IfSome found.path (λ p. last_index p ≤ found.states)) }
+    ensures expanded { IfOk result (λ found. IfSome found.path (λ p. AreExpanded errand.now.grid.now errand.now.others.now errand.now.via.now errand.now.loc (guide_estimate errand.now.guide) errand.now.soonest (last_index p) found.expanded.items)) }
     ensures found { IfOk result (λ found. MatchOption found.path
         ((q : List Cell) → IsTour errand.now.grid.now errand.now.others.now errand.now.loc errand.now.via.now errand.now.ends.now q → ⊥)
         (λ p. IsLeastTour errand.now.grid.now errand.now.others.now errand.now.loc errand.now.via.now errand.now.ends.now p)) }
@@ -40,14 +43,14 @@ pub fn search(alloc: Global, errand: &Errand) -> Result<Found, AllocError>
         let Some((bound, index)) = frontier.queue.pop() else {
             return Ok(Found {
                 path: None,
-                states: frontier.expanded,
+                expanded: frontier.expanded,
             });
         };
         if frontier.is_end(errand, index) {
             let path = walk_back(alloc, errand, &frontier.nodes, index)?;
             return Ok(Found {
                 path: Some(path),
-                states: frontier.expanded,
+                expanded: frontier.expanded,
             });
         }
         frontier.expand(errand, index, bound)?;

@@ -1,13 +1,15 @@
-use Rattle.std.proofs.Common.{◌≡◌, ◌+◌, ◌-◌, ◌*◌, ◌≤◌, List, length, take, drop, MatchOption, Contains, refl, ap, sym, subst, ◌∙◌, arith}
+use Rattle.std.proofs.Common.{◌≡◌, ℕ, IfSome, ◌+◌, ◌-◌, ◌*◌, ◌≤◌, List, length, take, drop, MatchOption, Contains, refl, ap, sym, subst, ◌∙◌, arith}
 use Rattle.std.proofs.lemmas.Nat.{mul-le}
 use Rattle.wh_grid.specs.declared.cell.Cell.{Cell}
 use Rattle.wh_grid.specs.Grids.{passable_cells}
 use Rattle.wh_path.specs.Paths.{last_index, cell_at}
 use Rattle.wh_search.specs.Deliveries.{IsDelivery, IsLeast}
-use Rattle.wh_search.specs.Guides.{IsOnward}
+use Rattle.wh_search.specs.declared.moment.Moment.{Moment}
+use Rattle.wh_search.specs.Expansions.{AreExpanded, IsSearch}
+use Rattle.wh_search.specs.Guides.{IsOnward, stops_estimate}
 use Rattle.wh_search.specs.Tours.{IsTour, IsLeastTour}
 use Rattle.wh_resv.specs.Others.{MayRest}
-use Rattle.wh_search.proofs.Stops.{ok_weaker, path_weaker, delivery_rests, stops_estimates, via_size, last_only, last_part, one_only}
+use Rattle.wh_search.proofs.Stops.{ok_weaker, some_weaker, path_weaker, delivery_rests, stops_estimates, via_size, last_only, last_part, one_only}
 use Rattle.wh_search.proofs.guided.find.Goals as goal
 
 pub returns-in_default-clause-found : goal.returns-in_default-clause-found
@@ -51,3 +53,17 @@ returns-clause-found c =
     (λ found. MatchOption found.path ((q : List Cell) → IsTour g o c.args.loc via ends q → ⊥) (λ p. IsLeastTour g o c.args.loc via ends p))
     (λ found. MatchOption found.path ((q : List Cell) → IsDelivery g o c.args.loc stops q → ⊥) (λ p. IsLeast g o c.args.loc stops p))
     (λ found h. path_weaker g o c.args.loc stops via ends found.path c.requires.stops.0 refl (last_part stops) h) c.search.ensures.found
+
+pub returns-clause-expanded : goal.returns-clause-expanded
+returns-clause-expanded c =
+    let g = c.args.grid.now in
+    let o = c.args.others.now in
+    let stops = c.args.stops.now in
+    let onward = c.deref.result.now in
+    let Expanded : ℕ → List Moment → Type 0 = AreExpanded g o (take (length stops - 1) stops) c.args.loc (stops_estimate c.args.fields.now onward) c.in-Some.soonest in
+    let on : IsOnward c.args.fields.now stops onward = subst (IsOnward c.args.fields.now stops) (sym c.deref.ensures.value) c.in_ok-onward.ensures in
+    ok_weaker c.search.result
+    (λ found. IfSome found.path (λ p. Expanded (last_index p) found.expanded.items))
+    (λ found. IfSome found.path (λ p. IsSearch g o c.args.loc stops c.args.fields.now (last_index p) found.expanded.items))
+    (λ found h. some_weaker found.path (λ p. Expanded (last_index p) found.expanded.items) (λ p. IsSearch g o c.args.loc stops c.args.fields.now (last_index p) found.expanded.items)
+    (λ p x. record { onward = onward; by_fields = on; soonest = c.in-Some.soonest; not_sooner = c.in-Some.ensures.some; expanded = x }) h) c.search.ensures.expanded

@@ -1,9 +1,9 @@
-use Rattle.std.proofs.Common.{ℕ, ◌<◌, length, List, [], None, refl, subst, sym, arith}
+use Rattle.std.proofs.Common.{ℕ, ◌<◌, length, List, [], None, refl, subst, sym, ◌∙◌, arith}
 use Rattle.wh_search.specs.declared.frontier.Node.{Node}
-use Rattle.wh_search.specs.Frontiers.{problem, node_at, IsReached, IsTrace, Meets}
+use Rattle.wh_search.specs.Frontiers.{problem, node_at, IsReached, IsTrace, IsTold, Meets}
 use Rattle.wh_search.proofs.Expands.{kept_first}
-use Rattle.wh_search.proofs.Counts.{counted_none, counted_meets, counted_pop}
-use Rattle.wh_search.proofs.Searches.{popped, trace_size, node_alone, found_tour, none_found, errand_falls}
+use Rattle.wh_search.proofs.Told.{told_none, told_meets, told_pop}
+use Rattle.wh_search.proofs.Searches.{popped, popped_least, trace_size, node_alone, found_tour, found_expanded, none_found, errand_falls}
 use Rattle.wh_search.proofs.search.search.Goals as goal
 
 pub loop-init : goal.loop-init
@@ -17,7 +17,8 @@ loop-init c =
     let queue = c.in_ok-frontier.frontier.queue in
     let m : Meets p [] queue nodes c.meet.new.self.queue n = subst (λ (x : List Node). Meets p x queue nodes c.meet.new.self.queue n) first.nodes c.in_ok-meet.ensures.met in (
       kept_first p nodes queue c.meet.new.self.queue n refl refl h.arrives.few h.inside (errand_falls e h 0 p.start h.arrives.few h.inside) first.sound (omega (arith, first.base, c.max-base.ensures, c.estimate-left.ensures)) first.none m,
-      counted_meets p [] queue nodes c.meet.new.self.queue n c.meet.new.self.expanded (counted_none p queue c.meet.new.self.expanded first.none) (λ b i w. absurd (first.none b i w)) (omega arith) m,
+      subst (IsTold p nodes c.meet.new.self.queue None) (sym (c.in_ok-meet.ensures.expanded ∙ first.expanded))
+          (told_meets p [] queue nodes c.meet.new.self.queue n [] (told_none p queue first.none) (λ b i w. absurd (first.none b i w)) (λ k b. absurd (omega arith)) m),
     )
 
 pub returns-in_default-clause-found : goal.returns-in_default-clause-found
@@ -80,18 +81,22 @@ pub expand-requires-clause-small : goal.expand-requires-clause-small
 expand-requires-clause-small c =
     (popped (problem c.args.errand.now) c.loop.frontier.nodes.items c.loop.frontier.queue c.pop.new.self c.in-Some.bound c.in-Some.index c.loop.invariant.0 c.in-Some.ensures.some).small
 
-pub returns-then-is_end-clause-counted : goal.returns-then-is_end-clause-counted
-returns-then-is_end-clause-counted c =
+pub returns-then-is_end-clause-expanded : goal.returns-then-is_end-clause-expanded
+returns-then-is_end-clause-expanded c =
     let e = c.args.errand.now in
     let nodes = c.loop.frontier.nodes.items in
-    let h = popped (problem e) nodes c.loop.frontier.queue c.pop.new.self c.in-Some.bound c.in-Some.index c.loop.invariant.0 c.in-Some.ensures.some in
     let trace : IsTrace (problem e) c.in_ok-path.path (node_at nodes c.in-Some.index) =
     subst (λ (y : List Node). IsTrace (problem e) c.in_ok-path.path (node_at y c.in-Some.index)) c.deref.ensures.value c.in_ok-path.ensures in
-    omega (arith, trace_size (problem e) c.in_ok-path.path (node_at nodes c.in-Some.index) trace, c.loop.invariant.1.times c.in-Some.index h.within)
+    let tour = found_tour e nodes c.loop.frontier.queue c.pop.new.self c.in-Some.bound c.in-Some.index c.in_ok-path.path c.requires.errand c.loop.invariant.0 c.in-Some.ensures.some (c.is_end.ensures.0 c.if-is_end.true) trace in
+    found_expanded e nodes c.loop.frontier.queue c.pop.new.self c.in-Some.bound c.in-Some.index c.in_ok-path.path c.loop.frontier.expanded.items c.requires.errand c.loop.invariant.0 c.in-Some.ensures.some c.loop.invariant.1 tour.is_tour (trace_size (problem e) c.in_ok-path.path (node_at nodes c.in-Some.index) trace)
 
-pub expand-requires-clause-counted : goal.expand-requires-clause-counted
-expand-requires-clause-counted c =
-    counted_pop (problem c.args.errand.now) c.loop.frontier.nodes.items c.loop.frontier.queue c.pop.new.self c.in-Some.bound c.in-Some.index c.loop.frontier.expanded c.loop.invariant.1 c.in-Some.ensures.some
+pub expand-requires-clause-told : goal.expand-requires-clause-told
+expand-requires-clause-told c =
+    told_pop (problem c.args.errand.now) c.loop.frontier.nodes.items c.loop.frontier.queue c.pop.new.self c.in-Some.bound c.in-Some.index c.loop.frontier.expanded.items c.loop.invariant.1 c.in-Some.ensures.some
 
 pub expand-requires-clause-again : goal.expand-requires-clause-again
 expand-requires-clause-again c = λ less. c.loop.invariant.1.again c.in-Some.bound c.in-Some.index c.in-Some.ensures.some.was less
+
+pub expand-requires-clause-may_lead : goal.expand-requires-clause-may_lead
+expand-requires-clause-may_lead c =
+    popped_least c.args.errand.now c.loop.frontier.nodes.items c.loop.frontier.queue c.pop.new.self c.in-Some.bound c.in-Some.index c.requires.errand c.loop.invariant.0 c.in-Some.ensures.some

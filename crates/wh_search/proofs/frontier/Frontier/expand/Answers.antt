@@ -1,18 +1,18 @@
-use mir.Val.{bool_byte}
-use Rattle.std.proofs.Common.{inl, inr, List, get_or, eq-eqb, Bool, true, false, not, IsTrue, ◌≡◌, ℕ, ◌+◌, ◌-◌, ◌<◌, ◌≤◌, ◌^◌, length, take, min, ap, subst, sym, refl, ◌∙◌, arith}
+use Rattle.std.proofs.Common.{inl, inr, List, get_or, eq-eqb, eqb, Contains, [], ◌∷◌, ◌++◌, cond, Bool, true, false, not, IsTrue, ◌≡◌, ℕ, ◌+◌, ◌-◌, ◌<◌, ◌≤◌, ◌^◌, length, take, min, ap, subst, sym, refl, ◌∙◌, arith}
 use Rattle.std.proofs.lemmas.Bool.{cases_eq}
 use Rattle.std.proofs.lemmas.List.{take_all, get_or_read}
 use Rattle.std.proofs.lemmas.List.Elements.{All-nil}
 use Rattle.wh_search.specs.Steps.{Go}
 use Rattle.wh_search.specs.declared.frontier.Frontier.{Frontier}
 use Rattle.wh_search.specs.declared.frontier.Node.{Node}
-use Rattle.wh_search.specs.Frontiers.{problem, node_at, state_of, total_at, IsExpanded, IsCounted}
+use Rattle.wh_search.specs.declared.queue.Queue.{Queue}
+use Rattle.wh_search.specs.Frontiers.{problem, node_at, state_of, moment_of, total_at, IsExpanded}
 use Rattle.wh_field.specs.Sides.{around}
 use Rattle.wh_search.specs.Guides.{guide_estimate}
 use Rattle.wh_search.specs.States.{IsEnd}
 use Rattle.wh_search.proofs.Expands.{IsExpanding, IsMet, estimate_beside, move_at, onward_of, expanding_met, expanding_not, expanding_done, expanded_less}
-use Rattle.wh_search.proofs.Kept.{kept_done, kept_again}
-use Rattle.wh_search.proofs.Counts.{counted_less, counted_meets, counted_again}
+use Rattle.wh_search.proofs.Kept.{kept_done, kept_again, met_node}
+use Rattle.wh_search.proofs.Told.{IsNoted, node_reaches, told_note, told_again, noted_meets}
 use Rattle.wh_search.proofs.Searches.{errand_falls}
 use Rattle.wh_search.proofs.frontier.Frontier.expand.Goals as goal
 use Rattle.wh_search.proofs.frontier.Frontier.expand.Goals.{then-total-upto, else-total-upto+then-total-bound+then-not-look+then-allows+in_ok-meet, else-total-upto+then-total-bound+else-not-look, else-total-upto+else-total-bound, else-not-look-via-then-not-look+else-allows, else-not-look-via-else-not-look}
@@ -26,6 +26,8 @@ loop-i-init c =
     let e = c.args.errand.now in
     let p = problem e in
     let nodes = c.args.self.now.nodes.items in
+    let queue = c.args.self.now.queue in
+    let x = c.args.self.now.expanded.items in
     let n = node_at nodes c.args.index in
     let from = c.index-from.result.now in
     let own = c.saturating_add-own.result in
@@ -34,14 +36,16 @@ loop-i-init c =
     let total : total_at p from ≤ c.args.bound = subst (λ (y : Node). total_at p y ≤ c.args.bound) (sym is) c.requires.total in
     let bounded = c.requires.small in
     let few = c.requires.errand.small in
-    let soon : from.time ≤ c.args.self.now.expanded = subst (λ (y : Node). y.time ≤ c.args.self.now.expanded) (sym is) (c.requires.counted.times c.args.index (omega arith)) in
-    let more = c.saturating_add-self.ensures in
-    let later : from.time < c.saturating_add-self.result = elim (cases_eq own c.args.bound) [
-      | inl y ↦ (let one : c.from.result ≡ 1 = c.from.ensures ∙ ap bool_byte (eq-eqb own c.args.bound y) in omega arith)
-      | inr y ↦ (let less : total_at p n < c.args.bound = subst (λ (m : Node). total_at p m < c.args.bound) is (omega (arith, c.saturating_add-own.ensures, left)) in
-          let old : from.time < c.args.self.now.expanded = subst (λ (m : Node). m.time < c.args.self.now.expanded) (sym is) (c.requires.again less) in
-          omega arith)
-    ] in (
+    let before : eqb own c.args.bound ≡ false → Contains x (moment_of n) = λ no. elim (cases_eq own c.args.bound) [
+      | inl y ↦ (let yes = eq-eqb own c.args.bound y in absurd (cc))
+      | inr y ↦ c.requires.again (subst (λ (m : Node). total_at p m < c.args.bound) is (omega (arith, c.saturating_add-own.ensures, left)))
+    ] in
+    let noted : IsNoted p nodes queue c.args.index c.note.new.self.expanded.items =
+    told_note p nodes queue c.args.index x c.note.new.self.expanded.items (eqb own c.args.bound) c.requires.told (node_reaches p nodes c.requires.kept.reached c.args.index (omega arith)) c.requires.may_lead before
+    (subst (λ (m : Node). c.note.new.self.expanded.items ≡ cond (eqb own c.args.bound) (x ++ moment_of m ∷ []) x) is c.in_ok-note.ensures.expanded) in
+    let P : List Node → Queue → Type 0 = λ ns q. IsExpanding p ns q c.args.index c.args.bound c.upto-upto.result (2 ^ 64 - 1) from [] × IsNoted p ns q c.args.index c.note.new.self.expanded.items in
+    subst (λ (ns : List Node). P ns c.note.new.self.queue) (sym c.in_ok-note.ensures.nodes)
+    (subst (P nodes) (sym c.in_ok-note.ensures.queue) (
       record {
         kept = c.requires.kept;
         within = omega arith;
@@ -50,9 +54,8 @@ loop-i-init c =
         later = omega (arith, c.upto-upto.ensures.limit);
         met = All-nil (IsMet p nodes from c.args.bound c.upto-upto.result (2 ^ 64 - 1));
       },
-      counted_less p nodes c.args.self.now.queue c.args.self.now.expanded c.saturating_add-self.result (omega arith) c.requires.counted,
-      later,
-    )
+      noted,
+    ))
 
 pub loop-i-preserved : goal.loop-i-preserved
 loop-i-preserved c =
@@ -65,7 +68,7 @@ loop-i-preserved c =
     let m = c.arrive-leg.result in
     let here = move_at moves i in
     let small : i < length moves = omega arith in
-    let P : Frontier → ℕ → Type 0 = λ f n. IsExpanding p f.nodes.items f.queue c.args.index c.args.bound c.upto-upto.result n from (take (i + 1) moves) × IsCounted p f.nodes.items f.queue f.expanded × (from.time < f.expanded) in
+    let P : Frontier → ℕ → Type 0 = λ f n. IsExpanding p f.nodes.items f.queue c.args.index c.args.bound c.upto-upto.result n from (take (i + 1) moves) × IsNoted p f.nodes.items f.queue c.args.index f.expanded.items in
     let put : (f g : Frontier) (n o : ℕ) → f ≡ g → n ≡ o → P g o → P f n = λ f g n o a b x. subst (λ (y : Frontier). P y n) (sym a) (subst (P g) (sym b) x) in
     let total : c.saturating_add-total.result ≡ min (onward_of p from m here) (2 ^ 64 - 1) = c.saturating_add-total.ensures ∙ ap (λ n. min (from.time + 1 + n) (2 ^ 64 - 1)) c.estimate_by-left.ensures in
     let bounded = c.requires.small in
@@ -77,19 +80,17 @@ loop-i-preserved c =
         expanding_not p l.self.nodes.items l.self.queue c.args.index c.args.bound c.upto-upto.result l.next w.min-next.result from moves i m small l.invariant.0 c.arrive-leg.ensures
             (λ lo hi go. let lt = w.if-total-upto.true in absurd (omega arith)) (λ beyond. let least = w.min-next.ensures in omega arith) (let least = w.min-next.ensures in omega arith) (let least = w.min-next.ensures in let lt = w.if-total-upto.true in omega arith),
         l.invariant.1,
-        l.invariant.2,
       )
       | else-total-upto+then-total-bound+then-not-look+then-allows+in_ok-meet w ↦ put _ _ _ _ w.self-is w.next-is
           (let a = w.allows.ensures.0 w.if-allows.true in
           let go : Go p.grid p.others from.time from.cell here = record { passable = a.0; move = c.moves_from-moves.ensures.moves i (record { x = 0; y = 0 }) small; may = a.1 } in
           let next_node : Node = record { time = from.time + 1; leg = m; cell = here; parent = c.args.index } in
-          let same : w.meet.new.self.expanded ≡ l.self.expanded = w.in_ok-meet.ensures.expanded in
-          let sooner : from.time < l.self.expanded = l.invariant.2 in
-          let counted = counted_meets p l.self.nodes.items l.self.queue w.meet.new.self.nodes.items w.meet.new.self.queue next_node l.self.expanded l.invariant.1 (λ b j v. (l.invariant.0.kept.queued b j v).within) (omega arith) w.in_ok-meet.ensures.met in (
+          let new_nodes = w.meet.new.self.nodes.items in
+          let stays = met_node p l.self.nodes.items l.self.queue new_nodes w.meet.new.self.queue next_node w.in_ok-meet.ensures.met c.args.index l.invariant.0.within in
+          let noted = noted_meets p l.self.nodes.items l.self.queue new_nodes w.meet.new.self.queue c.args.index next_node l.self.expanded.items l.invariant.1 l.invariant.0.within (λ b j v. (l.invariant.0.kept.queued b j v).within) (ap (λ (y : Node). y.time + 1) (sym l.invariant.0.here)) stays.1 w.in_ok-meet.ensures.met in (
             expanding_met p l.self.nodes.items l.self.queue w.meet.new.self.nodes.items w.meet.new.self.queue c.args.index c.args.bound c.upto-upto.result l.next from moves i m small l.invariant.0 go c.arrive-leg.ensures (let le = w.if-total-upto.false in omega arith)
                 (errand_falls e c.requires.errand (from.time + 1) (record { leg = m; cell = here }) c.arrive-leg.ensures.few a.0) w.in_ok-meet.ensures.met c.upto-upto.ensures.limit,
-            subst (IsCounted p w.meet.new.self.nodes.items w.meet.new.self.queue) (sym same) counted,
-            omega (arith, same),
+            subst (IsNoted p new_nodes w.meet.new.self.queue c.args.index) (sym w.in_ok-meet.ensures.expanded) noted,
           ))
       | else-total-upto+then-total-bound+else-not-look w ↦ put _ _ _ _ w.self-is w.next-is (
         expanding_not p l.self.nodes.items l.self.queue c.args.index c.args.bound c.upto-upto.result l.next l.next from moves i m small l.invariant.0 c.arrive-leg.ensures
@@ -99,14 +100,12 @@ loop-i-preserved c =
             ])
             (λ beyond. let le = w.if-total-upto.false in absurd (omega arith)) (omega arith) l.invariant.0.later,
         l.invariant.1,
-        l.invariant.2,
       )
       | else-total-upto+else-total-bound w ↦ put _ _ _ _ w.self-is w.next-is (
         expanding_not p l.self.nodes.items l.self.queue c.args.index c.args.bound c.upto-upto.result l.next l.next from moves i m small l.invariant.0 c.arrive-leg.ensures
             (λ lo hi go. let less = w.if-total-bound.false in absurd (omega arith))
             (λ beyond. let le = w.if-total-upto.false in absurd (omega arith)) (omega arith) l.invariant.0.later,
         l.invariant.1,
-        l.invariant.2,
       )
     ]
 
@@ -130,10 +129,13 @@ returns-in_ok-push-clause-kept c =
       expanded = expanding_done p l.self.nodes.items l.self.queue c.args.index c.args.bound c.upto-upto.result l.next from moves x (λ d a b m. c.moves_from-moves.ensures.complete d (omega arith) (omega arith) m) (omega arith) (omega arith) (subst E (sym is) c.requires.no_end);
     }) c.in_ok-push.ensures
 
-pub returns-in_ok-push-clause-counted : goal.returns-in_ok-push-clause-counted
-returns-in_ok-push-clause-counted c =
+pub returns-in_ok-push-clause-told : goal.returns-in_ok-push-clause-told
+returns-in_ok-push-clause-told c =
     let l = c.loop-i in
-    counted_again (problem c.args.errand.now) l.self.nodes.items l.self.queue c.push.new.self l.next c.args.index l.self.expanded l.invariant.1 (subst (λ (n : Node). n.time < l.self.expanded) (sym l.invariant.0.here) l.invariant.2) c.in_ok-push.ensures
+    told_again (problem c.args.errand.now) l.self.nodes.items l.self.queue c.push.new.self l.next c.args.index l.self.expanded.items l.invariant.1 c.in_ok-push.ensures
+
+pub returns-else-next-errand-clause-told : goal.returns-else-next-errand-clause-told
+returns-else-next-errand-clause-told c = c.loop-i.invariant.1.told
 
 pub returns-else-next-errand-clause-kept : goal.returns-else-next-errand-clause-kept
 returns-else-next-errand-clause-kept c =
