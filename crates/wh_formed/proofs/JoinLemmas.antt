@@ -13,13 +13,14 @@ use Rattle.wh_points.specs.declared.points.Point.{Point}
 use Rattle.wh_points.specs.Points.{Layout, Site, IsPointCell, point_at}
 use Rattle.wh_points.specs.Formed.{IsJoin}
 use Rattle.wh_formed.specs.Fills.{IsOpen, IsReached, Reaches}
-use Rattle.wh_formed.specs.Cuts.{cells_of, nth_cell, IsCutOf, IsFirstFailing}
+use Rattle.wh_path.specs.Paths.{cell_at}
+use Rattle.wh_formed.specs.Cuts.{cells_of, IsCutOf, IsFirstFailing}
 use Rattle.wh_formed.specs.Verdicts.{AreJoined, JoinedBy, cell_of}
 
 -- Part 1: the cells of the points
 
 -- the cell of a number
-pub nth-cells_of : (layout : Layout) (n : ℕ) → n < length layout.points → nth_cell (cells_of layout) n ≡ cell_of layout n
+pub nth-cells_of : (layout : Layout) (n : ℕ) → n < length layout.points → cell_at (cells_of layout) n ≡ cell_of layout n
 nth-cells_of layout n h = get_or-map (λ (p : Point). p.cell) layout.points n _ _ h
 
 -- a point has its cell

@@ -6,7 +6,8 @@ use Rattle.wh_grid.specs.Grids.{Floor, IsMove, IsPassable}
 use Rattle.wh_path.proofs.WalkLemmas.{move_back}
 use Rattle.wh_points.specs.declared.points.Point.{Point}
 use Rattle.wh_points.specs.Points.{Site}
-use Rattle.wh_formed.specs.Cuts.{IsCutOf, IsFirstFailing, cells_of, nth_cell}
+use Rattle.wh_path.specs.Paths.{cell_at}
+use Rattle.wh_formed.specs.Cuts.{IsCutOf, IsFirstFailing, cells_of}
 use Rattle.wh_formed.specs.Fills.{IsMarked, IsOpenTable, IsReached, Reaches}
 use Rattle.wh_formed.specs.Labels.{AreLabels, AreLinked, MarksPassable, ShareNumber}
 use Rattle.wh_formed.specs.Verdicts.{JoinedBy, cell_of}
@@ -65,15 +66,15 @@ module _ (site : Site) (o : List Bool) (numbers : List ℕ) (table : IsOpenTable
 
 -- the first later cell without a number in common is the first later point that is not joined
 pub cut_by_numbers : (site : Site) (cells : List Cell) (o : List Bool) (numbers : List ℕ) → cells ≡ cells_of site.layout → IsOpenTable site.grid cells o → AreLabels site.grid (IsMarked site.grid o) numbers
-    → (a : ℕ) (cut : Option ℕ) → IsFirstFailing (λ b. AreLinked site.grid numbers (nth_cell cells a) (nth_cell cells b)) a (length cells) cut → a < length cells → IsCutOf site a cut
+    → (a : ℕ) (cut : Option ℕ) → IsFirstFailing (λ b. AreLinked site.grid numbers (cell_at cells a) (cell_at cells b)) a (length cells) cut → a < length cells → IsCutOf site a cut
 cut_by_numbers site cells o numbers same table labels a cut first inside =
     let listed : IsOpenTable site.grid (cells_of site.layout) o = subst (λ cs. IsOpenTable site.grid cs o) same table in
     let count : length cells ≡ length site.layout.points = ap length same ∙ length-map site.layout.points (λ (p : Point). p.cell) in
-    let cell : (n : ℕ) → n < length site.layout.points → nth_cell cells n ≡ cell_of site.layout n = λ n h. ap (λ cs. nth_cell cs n) same ∙ nth-cells_of site.layout n h in
-    let here : nth_cell cells a ≡ cell_of site.layout a = cell a (omega arith) in
-    let Test : ℕ → Type 0 = λ b. AreLinked site.grid numbers (nth_cell cells a) (nth_cell cells b) in
+    let cell : (n : ℕ) → n < length site.layout.points → cell_at cells n ≡ cell_of site.layout n = λ n h. ap (λ cs. cell_at cs n) same ∙ nth-cells_of site.layout n h in
+    let here : cell_at cells a ≡ cell_of site.layout a = cell a (omega arith) in
+    let Test : ℕ → Type 0 = λ b. AreLinked site.grid numbers (cell_at cells a) (cell_at cells b) in
     let Linked : Cell → Cell → Type 0 = λ x y. AreLinked site.grid numbers x y in
     cut_by_test site a Test (λ b h. (
-      λ l. linked_join site o numbers listed labels (cell_of site.layout a) (cell_of site.layout b) (subst (λ x. Linked x (cell_of site.layout b)) here (subst (Linked (nth_cell cells a)) (cell b h) l)),
-      λ j. subst (λ x. Linked x (nth_cell cells b)) (sym here) (subst (Linked (cell_of site.layout a)) (sym (cell b h)) (joined_links site o numbers listed labels (cell_of site.layout a) (cell_of site.layout b) j)),
+      λ l. linked_join site o numbers listed labels (cell_of site.layout a) (cell_of site.layout b) (subst (λ x. Linked x (cell_of site.layout b)) here (subst (Linked (cell_at cells a)) (cell b h) l)),
+      λ j. subst (λ x. Linked x (cell_at cells b)) (sym here) (subst (Linked (cell_of site.layout a)) (sym (cell b h)) (joined_links site o numbers listed labels (cell_of site.layout a) (cell_of site.layout b) j)),
     )) cut (subst (λ n. IsFirstFailing Test a n cut) count first)

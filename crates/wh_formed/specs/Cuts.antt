@@ -8,10 +8,6 @@ use Rattle.wh_formed.specs.Verdicts.{AreJoined}
 abbrev pub cells_of : Layout → List Cell
 cells_of layout = map (λ point. point.cell) layout.points
 
--- the cell at a place of a list; past its end a cell of no meaning
-abbrev pub nth_cell : List Cell → ℕ → Cell
-nth_cell cells i = slice_index_or cells i (record { x = 0; y = 0 })
-
 -- the first number above a and below n at which T fails, or none where it holds at each
 abbrev pub IsFirstFailing : (ℕ → Type 0) → ℕ → ℕ → Option ℕ → Type 0
 IsFirstFailing T a n None = (b : ℕ) → a < b → b < n → T b

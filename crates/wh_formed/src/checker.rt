@@ -3,7 +3,8 @@
 
 ghost use Rattle.std.specs.Prelude.{◌≡◌, ◌<◌, ◌≤◌, ◌*◌, ◌^◌, IfOk, length};
 ghost use Rattle.wh_formed.specs.declared.verdict.Verdict.{Verdict};
-ghost use Rattle.wh_formed.specs.Cuts.{AreCuts, IsFirstFailing, cells_of, nth_cell};
+ghost use Rattle.wh_path.specs.Paths.{cell_at};
+ghost use Rattle.wh_formed.specs.Cuts.{AreCuts, IsFirstFailing, cells_of};
 ghost use Rattle.wh_formed.specs.Labels.{AreLinked};
 ghost use Rattle.wh_formed.specs.Verdicts.{IsVerdict};
 
@@ -22,7 +23,7 @@ fn first_unlinked(grid: &Grid, numbers: &[u32], cells: &[Cell], a: usize) -> Opt
     requires size { length numbers.now ≡ grid.now.width * grid.now.height }
     requires few { length cells.now < 2 ^ 32 }
     requires inside { a < length cells.now }
-    ensures { IsFirstFailing (λ b. AreLinked grid.now numbers.now (nth_cell cells.now a) (nth_cell cells.now b)) a (length cells.now) result }
+    ensures { IsFirstFailing (λ b. AreLinked grid.now numbers.now (cell_at cells.now a) (cell_at cells.now b)) a (length cells.now) result }
 {
     let from = cells[a];
     for b in a + 1..cells.len() {
@@ -69,7 +70,7 @@ fn cuts(
                 requires size { length numbers.now ≡ grid.now.width * grid.now.height }
                 requires few { length cells.now < 2 ^ 32 }
                 requires inside { a < length cells.now }
-                ensures { IsFirstFailing (λ b. AreLinked grid.entry.now numbers.entry.now (nth_cell cells.entry.now a) (nth_cell cells.entry.now b)) a (length cells.entry.now) result }
+                ensures { IsFirstFailing (λ b. AreLinked grid.entry.now numbers.entry.now (cell_at cells.entry.now a) (cell_at cells.entry.now b)) a (length cells.entry.now) result }
             { first_unlinked(grid, numbers, cells, a) },
         )
         .collect(rt, alloc)?;
