@@ -19,7 +19,9 @@ for memory n times it runs 2 n times: with the k-th request refused alone, and w
   many lines `refused E90` as the row's code allows: a call is made 3 times, and then the row ends. A warehouse or a desk
   that could not be opened was dropped with its parts. So it is not opened again at once: the first call for new parts is
   made 3 times. A line of the replay is made once, the next ones too, and then the log is asked for 3 times.
-- Each request that was refused is told by one line of its own: a call that was refused asks for nothing more.
+- Each request that was refused is told by one line of its own: a call that was refused asks for nothing more. But the
+  check of a site that has parkings enough makes one request first that it can do without: refused alone, the row's text
+  is as with ample memory, and where all later ones are refused each try of that call has it refused untold.
 - From one request to the next, the place in the row stays or moves on.
 
 The line `changed`, which tells that a value was not as before a refused call, stands in no text.
@@ -38,21 +40,22 @@ CRATE = os.path.join(ROOT, 'crates/wh_refusals')
 HIDDEN = 'not shown\n'
 TRIES = 3
 
-# The calls that ask for memory before a line of a row is told, in order: how often one is refused where all later
-# requests are refused too.
+# The calls that ask for memory before a line of a row is told, in order: where all later requests are refused too, how
+# often one is told to be refused, and how many refused requests are not told.
 NONE = []
-CALLS = [TRIES]
-OPENING = [TRIES, 1 + TRIES]    # the parts of a warehouse or of a desk, and its opening
+CALLS = [(TRIES, 0)]
+OPENING = [(TRIES, 0), (1 + TRIES, 0)]  # the parts of a warehouse or of a desk, and its opening
+CHECK = [(TRIES, 0), (TRIES, TRIES), (TRIES, TRIES - 1)]    # a site, the request that its check can do without, and the others
 ROWS = {
-    'line_ends': [CALLS] * 4,
-    'checks': [CALLS] * 3,
+    'line_ends': [CALLS, CALLS, CHECK, CHECK],
+    'checks': [CHECK, CHECK, CALLS],
     'one_delivery': [OPENING + CALLS] + [CALLS] * 9,
     'two_agents_cross': [OPENING + CALLS] + [CALLS] * 3,
     # free slots are told without memory
     'replace_and_spares': [OPENING + CALLS] + [CALLS] * 7 + [NONE] * 2,
     # so are what a viewer sees, that the journal is full, and the history
     'desk_receipts': [OPENING + OPENING + CALLS, NONE, CALLS, CALLS, NONE, NONE, CALLS, NONE, NONE, NONE],
-    # three lines of the replay (`replay_places`), the line `%%`, the log's six lines, and what four texts are
+    # three lines of the replay (`replay_place`), the line `%%`, the log's six lines, and what four texts are
     'log_and_verify': [OPENING, NONE, NONE, NONE, CALLS] + [NONE] * 5 + [CALLS] * 4,
 }
 
@@ -78,7 +81,7 @@ def desk_place(lines, at):
         2: ([first, look, second, HIDDEN, third, full, last, *entries, end], 4),
         3: ([first, look, second, third, HIDDEN, full, behind, *entries, behind], 7),
     }[at]
-    return hidden, [hidden[:ended] + [REFUSED] * TRIES]
+    return hidden, [hidden[:ended] + [REFUSED] * TRIES], 0
 
 
 def replay_text(done, end):
@@ -101,15 +104,17 @@ def replay_place(lines, at):
     assert replay_text([True] * 3, end) == lines
     alone = replay_text([other != at for other in range(3)], end)
     later = itertools.product([True, False], repeat=2 - at)
-    return alone, [replay_text([True] * at + [False, *done], end)[:4] + [REFUSED] * TRIES for done in later]
+    return alone, [replay_text([True] * at + [False, *done], end)[:4] + [REFUSED] * TRIES for done in later], 0
 
 
 def places(row, lines):
-    """In order, where a request of the row may be refused: the text if it is refused alone, and those if all later ones are."""
+    """In order, where a request of the row may be refused: the text if it is refused alone, those if all later ones are too,
+    and how many refused requests these do not tell."""
     found = []
     for at, calls in enumerate(ROWS[row]):
-        for times in calls:
-            found.append((lines[:at] + [REFUSED] + lines[at:], [lines[:at] + [REFUSED] * times]))
+        for times, untold in calls:
+            told = [] if untold == times else [REFUSED]
+            found.append((lines[:at] + told + lines[at:], [lines[:at] + [REFUSED] * times], untold))
         if row == 'desk_receipts' and at in (0, 2, 3):
             found.append(desk_place(lines, at))
         if row == 'log_and_verify' and at < 3:
@@ -131,18 +136,22 @@ class Program:
         return outcome, int.from_bytes(open(self.count, 'rb').read(), sys.byteorder)
 
 
-def place_of(row, left, alone, on):
-    """Which of the places that are left it is at which both outcomes may come (None: none of them)."""
-    for at, (text, texts) in enumerate(left):
-        if alone == (0, row + '\n' + ''.join(text), '') and on in [(4, row + '\n' + ''.join(each), REFUSED) for each in texts]:
+def place_of(row, left, alone, on, refused):
+    """Which of the places that are left it is at which both outcomes may come, the second with so many requests refused (None:
+    none of them)."""
+    told = on[1].count(REFUSED) + on[1].count(HIDDEN)
+    for at, (text, texts, untold) in enumerate(left):
+        ends = [(4, row + '\n' + ''.join(each), REFUSED) for each in texts]
+        if alone == (0, row + '\n' + ''.join(text), '') and on in ends and refused == told + untold:
             return at
     return None
 
 
 def go_through(program, row, lines):
-    """Refuses each request of a row: the faults, and how many requests are before the row, of calls, and of publications."""
+    """Refuses each request of a row: the faults, and how many requests are before the row, of calls, of publications, and could be
+    done without."""
     (plain, requests), (nobody, start) = program.run(row), program.run('-' * len(row))
-    faults, left, again, hidden = [], places(row, lines), 0, 0
+    faults, left, again, hidden, spared = [], places(row, lines), 0, 0, 0
     if plain != (0, row + '\n' + ''.join(lines), '') or nobody != (1, '', ''):
         faults.append(f'{row}, with ample memory: {plain}, {nobody}')
     for number in range(1, requests + 1):
@@ -150,16 +159,17 @@ def go_through(program, row, lines):
         if number <= start:
             good = alone == on == (4, '', REFUSED)
         else:
-            at = place_of(row, left, alone, on)
-            good = at is not None and on[1].count(REFUSED) + on[1].count(HIDDEN) == asked - (number - 1)
+            at = place_of(row, left, alone, on, asked - (number - 1))
+            good = at is not None
             left = left[at or 0:]
+            spared += alone == plain
         if not good:
             faults.append(f'{row}, request {number} of {requests}: alone {alone}; all later ones too {on}, which asked {asked} times')
         again += REFUSED in alone[1]
         hidden += HIDDEN in alone[1]
     if not again:
         faults.append(f'{row}: no call was refused and made again')
-    return faults, start, again, hidden
+    return faults, start, again, hidden, spared
 
 
 def main():
@@ -167,7 +177,7 @@ def main():
     parser.add_argument('--program', default=os.path.join(CRATE, 'out/wh_refusals'))
     parser.add_argument('--row', action='append', choices=list(ROWS))
     options = parser.parse_args()
-    texts, failed, sums = stored(), 0, [0, 0, 0]
+    texts, failed, sums = stored(), 0, [0, 0, 0, 0]
     with tempfile.TemporaryDirectory() as scratch:
         program = Program(options.program, scratch)
         for row in options.row or ROWS:
@@ -176,9 +186,10 @@ def main():
                 print(fault)
             failed += len(faults)
             sums = [one + other for one, other in zip(sums, counts)]
-            print(f'{row}: of {sum(counts)} requests {counts[0]} before the row, {counts[1]} of calls, {counts[2]} of publications')
+            print(f'{row}: of {sum(counts)} requests {counts[0]} before the row, {counts[1]} of calls, {counts[2]} of publications, '
+                  f'{counts[3]} done without')
     print(f'{2 * sum(sums)} runs: {sums[0]} requests before a row, {sums[1]} of calls that were refused and made again, '
-          f'{sums[2]} of publications: not shown; {failed} faults')
+          f'{sums[2]} of publications: not shown, {sums[3]} that were done without; {failed} faults')
     sys.exit(failed != 0)
 
 
