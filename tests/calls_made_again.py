@@ -148,8 +148,8 @@ def place_of(row, left, alone, on, refused):
 
 
 def go_through(program, row, lines):
-    """Refuses each request of a row: the faults, and how many requests are before the row, of calls, of publications, and could be
-    done without."""
+    """Refuses each request of a row: the faults, how many requests it has, and how many are before the row, of
+    calls, of publications, and done without."""
     (plain, requests), (nobody, start) = program.run(row), program.run('-' * len(row))
     faults, left, again, hidden, spared = [], places(row, lines), 0, 0, 0
     if plain != (0, row + '\n' + ''.join(lines), '') or nobody != (1, '', ''):
@@ -169,7 +169,7 @@ def go_through(program, row, lines):
         hidden += HIDDEN in alone[1]
     if not again:
         faults.append(f'{row}: no call was refused and made again')
-    return faults, start, again, hidden, spared
+    return faults, requests, start, again, hidden, spared
 
 
 def main():
@@ -177,7 +177,7 @@ def main():
     parser.add_argument('--program', default=os.path.join(CRATE, 'out/wh_refusals'))
     parser.add_argument('--row', action='append', choices=list(ROWS))
     options = parser.parse_args()
-    texts, failed, sums = stored(), 0, [0, 0, 0, 0]
+    texts, failed, sums = stored(), 0, [0] * 5
     with tempfile.TemporaryDirectory() as scratch:
         program = Program(options.program, scratch)
         for row in options.row or ROWS:
@@ -186,10 +186,10 @@ def main():
                 print(fault)
             failed += len(faults)
             sums = [one + other for one, other in zip(sums, counts)]
-            print(f'{row}: of {sum(counts)} requests {counts[0]} before the row, {counts[1]} of calls, {counts[2]} of publications, '
-                  f'{counts[3]} done without')
-    print(f'{2 * sum(sums)} runs: {sums[0]} requests before a row, {sums[1]} of calls that were refused and made again, '
-          f'{sums[2]} of publications: not shown, {sums[3]} that were done without; {failed} faults')
+            print(f'{row}: of {counts[0]} requests {counts[1]} before the row, {counts[2]} of calls, {counts[3]} of publications, '
+                  f'{counts[4]} done without')
+    print(f'{2 * sums[0]} runs: {sums[1]} requests before a row, {sums[2]} of calls that were refused and made again, '
+          f'{sums[3]} of publications: not shown, {sums[4]} that were done without; {failed} faults')
     sys.exit(failed != 0)
 
 
