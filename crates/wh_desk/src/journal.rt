@@ -67,7 +67,10 @@ impl<N: DeskName, H: Wait + Drop, P: Planner> Journal<N, H, P> {
         requires shown { publisher.shown ≡ past_of warehouse.book }
         requires callers { callers ≡ N.callers }
         ensures history { IfOk result (λ j. j.history ≡ []) }
+        ensures state { IfOk result (λ j. j.state ≡ warehouse.book.state) }
         ensures capacity { IfOk result (λ j. j.capacity ≡ length cells.now) }
+        ensures shown { IfOk result (λ j. j.shown ≡ []) }
+        ensures planners { IfOk result (λ j. j.planners ≡ warehouse.planners) }
     {
         let rows = empty_rows(alloc, callers)?;
         Ok(Journal {
@@ -174,6 +177,8 @@ impl<N: DeskName, H: Wait + Drop, P: Planner> Journal<N, H, P> {
         ensures origin { origin_of result.book ≡ N.origin }
         ensures run { Run N.origin.site N.origin.opening result.book.history result.book.state }
         ensures history { result.book.history ≡ self.history }
+        ensures state { result.book.state ≡ self.state }
+        ensures planners { result.planners ≡ self.planners }
         ensures callers { All (λ entry. entry.caller < N.callers) self.history }
         ensures within { length self.history ≤ length N.cells }
     {

@@ -495,6 +495,8 @@ impl<P: Planner> Warehouse<P> {
         ensures event { IfOk result (λ done. ((told : Told) × (done.entry.event ≡ event_of command told))) }
         ensures tells { IfOk result (λ done. TellsFor (λ b. P.fits_map b self.old.book.site.grid) (λ b. P.slot_count b) spare done.entry.event) }
         ensures spare { IfErr result (λ fault. fault.1 ≡ spare) }
+        ensures swaps { IfOk result (λ done. ((mid : List P) × StaySeated command self.old.planners mid × Swaps (replaced_agent done.entry) mid spare self.new.planners done.back)) }
+        ensures still { IfErr result (λ _. StaySeated command self.old.planners self.new.planners) }
         ensures tied { IsTied (λ b. P.fits_map b self.old.book.site.grid) (λ b. P.slot_count b) self.old.planners self.old.book.state.slots
             → IsTied (λ b. P.fits_map b self.old.book.site.grid) (λ b. P.slot_count b) self.new.planners self.new.book.state.slots }
     {
