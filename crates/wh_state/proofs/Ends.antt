@@ -11,6 +11,7 @@ use Rattle.wh_path.proofs.AtLemmas.{at-one, end-advanced}
 use Rattle.wh_tasks.specs.Marks.{IsInside}
 use Rattle.wh_state.specs.Floors.{AreEnds}
 
+-- as std's `drop-map`
 take-map : {X Y : Type 0} (f : X → Y) (n : ℕ) (xs : List X) → take n (map f xs) ≡ map f (take n xs)
 take-map f zero xs = refl
 take-map f (suc n) [] = refl
