@@ -61,19 +61,19 @@ told : (visits : List Visit) (heads : List ℕ) (paths : List (List Cell)) (exce
 told visits heads paths except i c d k j n b ne there = subst (λ (p : ℕ). IsThere paths except p c k) (sym n.path_is) (record { within = b; other = ne; there = there })
 
 pub is_vacant : (heads : List ℕ) (visits : List Visit) (paths : List (List Cell)) (except : ℕ) (c : Cell) (k place : ℕ) → except < length paths → AreNoted heads visits paths except (length paths) → k < 2 ^ 64 → place ≡ 0
-    → IsWalking visits (get_or heads (slot c) 0) place (IsAt paths except c k) → IsVacant (remove paths except) c k
+    → IsWalking visits (get_or heads (slot (length heads) c) 0) place (IsAt paths except c k) → IsVacant (remove paths except) c k
 is_vacant heads visits paths except c k place e noted small z w =
     all_removed-from (λ q. at q k ≢ c) paths except
     (λ i d b ne here. let n = noted_at heads visits paths except noted i d b ne c k small here in
-    walking_done visits (get_or heads (slot c) 0) place (IsAt paths except c k) z w n.0.place n.0.within n.0.linked (n.0.since, n.0.until, told visits heads paths except i c c k k n.0 b ne n.1))
+    walking_done visits (get_or heads (slot (length heads) c) 0) place (IsAt paths except c k) z w n.0.place n.0.within n.0.linked (n.0.since, n.0.until, told visits heads paths except i c c k k n.0 b ne n.1))
 
 pub none_exchange : (heads : List ℕ) (visits : List Visit) (paths : List (List Cell)) (except : ℕ) (from to : Cell) (k place : ℕ) → except < length paths → AreNoted heads visits paths except (length paths) → k < 2 ^ 64 → place ≡ 0
-    → IsWalking visits (get_or heads (slot to) 0) place (IsExchange paths except from to k) → NoneExchanges (remove paths except) from to k
+    → IsWalking visits (get_or heads (slot (length heads) to) 0) place (IsExchange paths except from to k) → NoneExchanges (remove paths except) from to k
 none_exchange heads visits paths except from to k place e noted small z w =
     all_removed-from (λ q. at q k ≡ to → at q (k + 1) ≢ from) paths except
     (λ i d b ne here back. let n = noted_at heads visits paths except noted i d b ne to k small here in
     let same : get_or paths i d ≡ path_of paths i = get_or_default paths i d [] b in
-    walking_done visits (get_or heads (slot to) 0) place (IsExchange paths except from to k) z w n.0.place n.0.within n.0.linked
+    walking_done visits (get_or heads (slot (length heads) to) 0) place (IsExchange paths except from to k) z w n.0.place n.0.within n.0.linked
     ((n.0.since, n.0.until, told visits heads paths except i to to k k n.0 b ne n.1), told visits heads paths except i from to (k + 1) k n.0 b ne (ap (λ (q : List Cell). at q (k + 1)) (sym same) ∙ back)))
 
 -- one of the others is there
@@ -100,7 +100,7 @@ soon_there q c k j late there =
     ]
 
 pub never_comes : (heads : List ℕ) (visits : List Visit) (paths : List (List Cell)) (except : ℕ) (c : Cell) (k place : ℕ) → except < length paths → AreNoted heads visits paths except (length paths) → k < 2 ^ 64 → ((i : ℕ) → i < length paths → i ≢ except → last_index (path_of paths i) < 2 ^ 64) → place ≡ 0
-    → IsWalking visits (get_or heads (slot c) 0) place (Comes paths except c k) → All (λ q. StaysAway q c k) (remove paths except)
+    → IsWalking visits (get_or heads (slot (length heads) c) 0) place (Comes paths except c k) → All (λ q. StaysAway q c k) (remove paths except)
 never_comes heads visits paths except c k place e noted small short z w =
     all_removed-from (λ q. StaysAway q c k) paths except
     (λ i d b ne. record {
@@ -114,11 +114,11 @@ never_comes heads visits paths except c k place e noted small short z w =
     })
   where
     comes_by : (heads : List ℕ) (visits : List Visit) (paths : List (List Cell)) (except : ℕ) (c : Cell) (k place i t : ℕ) → i < length paths → i ≢ except → k ≤ t → at (path_of paths i) t ≡ c → place ≡ 0
-        → IsWalking visits (get_or heads (slot c) 0) place (Comes paths except c k) → IsNoted heads visits i c t → ⊥
+        → IsWalking visits (get_or heads (slot (length heads) c) 0) place (Comes paths except c k) → IsNoted heads visits i c t → ⊥
     comes_by heads visits paths except c k place i t b ne late there z w n =
         let until = n.until in
         let p = sym n.path_is in
-        walking_done visits (get_or heads (slot c) 0) place (Comes paths except c k) z w n.place n.within n.linked
+        walking_done visits (get_or heads (slot (length heads) c) 0) place (Comes paths except c k) z w n.place n.within n.linked
         (n.cell_is, omega arith, omega arith, (λ f. ne (p ∙ f)), subst (λ (m : ℕ). StaysAway (path_of paths m) c k → ⊥) p (λ s. s.away t late there))
 
 -- one of the others comes

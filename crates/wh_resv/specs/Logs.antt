@@ -1,5 +1,5 @@
 -- visits of cells, in chains by cell
-use Rattle.std.specs.Prelude.{◌≡◌, ℕ, ◌+◌, ◌*◌, ◌%◌, ◌<◌, ◌≤◌, List, length, slice_index, slice_index_or}
+use Rattle.std.specs.Prelude.{◌≡◌, ℕ, ◌+◌, ◌-◌, ◌*◌, ◌<◌, ◌≤◌, List, length, slice_index, slice_index_or, bit_and}
 use Prim.Native.Nat.{zero, suc}
 use Rattle.wh_grid.specs.declared.cell.Cell.{Cell}
 use Rattle.wh_resv.specs.Links.{LeadsTo}
@@ -13,20 +13,20 @@ abbrev pub link_of : List Visit → ℕ → ℕ
 link_of visits zero = 0
 link_of visits (suc j) = (visit_at visits j).next
 
--- the number of a cell's chain
-abbrev pub slot : Cell → ℕ
-slot c = (c.x + c.y * 128) % 8192
+-- the number of a cell's chain, among so many chains
+abbrev pub slot : ℕ → Cell → ℕ
+slot size c = bit_and (c.x + c.y * 131) (size - 1)
 
--- there is a head for each chain, and each link leads down
+-- there are chains, and each link leads down
 pub record IsLog (heads : List ℕ) (visits : List Visit) : Type 0 where
-  pub size : length heads ≡ 8192
+  pub some : 0 < length heads
   pub within : (s : ℕ) → slice_index heads s ≤ length visits
   pub down : (j : ℕ) → j < length visits → (visit_at visits j).next ≤ j
 
 -- in the chain of the cell stands a visit there of this path, at this time
 pub record IsNoted (heads : List ℕ) (visits : List Visit) (path : ℕ) (c : Cell) (k : ℕ) : Type 0 where
   pub place : ℕ
-  pub linked : LeadsTo (link_of visits) (slice_index heads (slot c)) place
+  pub linked : LeadsTo (link_of visits) (slice_index heads (slot (length heads) c)) place
   pub within : place < length visits
   pub cell_is : (visit_at visits place).cell ≡ c
   pub path_is : (visit_at visits place).path ≡ path

@@ -1,26 +1,27 @@
 -- marks of cells at times
-use Rattle.std.specs.Prelude.{◌≢◌, ℕ, ◌+◌, ◌*◌, ◌%◌, ◌<◌, ◌⊎◌, Bool, false, IsTrue, List, slice_index_or}
+use Rattle.std.specs.Prelude.{◌≡◌, ◌≢◌, ℕ, ◌+◌, ◌-◌, ◌*◌, ◌%◌, ◌<◌, ◌⊎◌, Bool, false, IsTrue, List, length, slice_index_or, bit_and}
 use Rattle.wh_grid.specs.declared.cell.Cell.{Cell}
 use Rattle.wh_path.specs.Paths.{at, path_of}
 
--- the place of the mark of a cell at a time
-abbrev pub mark : Cell → ℕ → ℕ
-mark c k = (c.x + c.y * 128 + k % 65536 * 40503) % 65536
+-- the place of the mark of a cell at a time, among so many marks
+abbrev pub mark : ℕ → Cell → ℕ → ℕ
+mark size c k = bit_and (c.x + c.y * 131 + k % 65536 * 40503) (size - 1)
 
 -- the place of the mark of a cell at which a path ends
-abbrev pub rest_mark : Cell → ℕ
-rest_mark c = 65536 + (c.x + c.y * 128) % 8192
+abbrev pub rest_mark : ℕ → Cell → ℕ
+rest_mark size c = bit_and (c.x * 3 + c.y * 137 + 1) (size - 1)
 
 abbrev pub IsSet : List Bool → ℕ → Type 0
 IsSet marks i = IsTrue (slice_index_or marks i false)
 
 -- one of the two marks of a cell at a time is set
 abbrev pub IsMarked : List Bool → Cell → ℕ → Type 0
-IsMarked marks c k = IsSet marks (mark c k) ⊎ IsSet marks (rest_mark c)
+IsMarked marks c k = IsSet marks (mark (length marks) c k) ⊎ IsSet marks (rest_mark (length marks) c)
 
 -- what was set stays so
-abbrev pub KeepsMarks : List Bool → List Bool → Type 0
-KeepsMarks old new = (i : ℕ) → IsSet old i → IsSet new i
+pub record KeepsMarks (old new : List Bool) : Type 0 where
+  pub size : length new ≡ length old
+  pub set : (i : ℕ) → IsSet old i → IsSet new i
 
 -- each path but one, of those with a smaller number than n, is marked at all times
 abbrev pub AreMarked : List Bool → List (List Cell) → ℕ → ℕ → Type 0

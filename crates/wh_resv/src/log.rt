@@ -1,7 +1,7 @@
 //! Visits of cells, in chains by cell.
 #![tactic(auto)]
 
-ghost use Rattle.std.specs.Prelude.{◌≡◌, ℕ, ◌+◌, ◌*◌, ◌%◌, ◌<◌, ◌≤◌, ◌^◌, List, IfOk, OnOk, length};
+ghost use Rattle.std.specs.Prelude.{◌≡◌, ℕ, ◌+◌, ◌-◌, ◌*◌, ◌%◌, ◌<◌, ◌≤◌, ◌^◌, List, IfOk, OnOk, length};
 ghost use Rattle.wh_grid.specs.declared.cell.Cell.{Cell};
 ghost use Rattle.wh_resv.specs.Logs.{slot, IsLog, IsNoted, KeepsNotes};
 
@@ -29,21 +29,23 @@ pub struct Log {
     pub visits: Vec<Visit>,
 }
 
-/// The number of a cell's chain.
-pub fn slot_of(cell: Cell) -> usize
-    ensures value { result ≡ slot cell }
-    ensures bound { result < 8192 }
+/// The number of a cell's chain, among so many chains. It is a good spread where they are a power of two.
+pub fn slot_of(size: usize, cell: Cell) -> usize
+    requires { 0 < size }
+    ensures value { result ≡ slot size cell }
+    ensures bound { result < size }
 {
-    (cell.x as usize + cell.y as usize * 128) % 8192
+    (cell.x as usize + cell.y as usize * 131) & (size - 1)
 }
 
 impl Log {
-    /// A log with no visit.
-    pub fn new(alloc: Global) -> Result<Self, AllocError>
+    /// A log with no visit, of so many chains.
+    pub fn new(alloc: Global, size: usize) -> Result<Self, AllocError>
+        requires { 0 < size }
         ensures { IfOk result (λ l. IsLog l.heads.items l.visits.items) }
     {
         Ok(Log {
-            heads: vec![in alloc; 0; 8192]?,
+            heads: vec![in alloc; 0; size]?,
             visits: Vec::new(alloc),
         })
     }
@@ -58,7 +60,7 @@ impl Log {
         if path as u64 > MOST || self.visits.len() as u64 >= MOST {
             return Err(AllocError);
         }
-        let slot = slot_of(cell);
+        let slot = slot_of(self.heads.len(), cell);
         let next = self.heads[slot];
         self.visits.push(Visit {
             cell,

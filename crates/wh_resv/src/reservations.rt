@@ -43,7 +43,7 @@ impl<'a> Model for Reservations<'a> {
 
     ghost invariant = { λ r. (r.except < length r.paths.now) × IsLog r.log.heads.items r.log.visits.items
         × AreNoted r.log.heads.items r.log.visits.items r.paths.now r.except (length r.paths.now)
-        × (length r.marks.items ≡ 73728) × AreMarked r.marks.items r.paths.now r.except (length r.paths.now)
+        × (0 < length r.marks.items) × AreMarked r.marks.items r.paths.now r.except (length r.paths.now)
         × (r.latest ≡ horizon (remove r.paths.now r.except)) × (r.latest < 2 ^ 61) };
 }
 
@@ -61,18 +61,54 @@ fn enter(log: &mut Log, q: &TimedPath, path: usize) -> Result<(), AllocError>
     log.add(q.end(), last, u64::MAX, path)
 }
 
-/// The log of all paths but one.
-fn log_of(alloc: Global, paths: &[TimedPath], except: usize) -> Result<Log, AllocError>
+/// The log of all paths but one, with so many chains.
+fn log_of(alloc: Global, paths: &[TimedPath], except: usize, size: usize) -> Result<Log, AllocError>
+    requires { 0 < size }
     ensures log { IfOk result (λ l. IsLog l.heads.items l.visits.items) }
     ensures noted { IfOk result (λ l. AreNoted l.heads.items l.visits.items paths.now except (length paths.now)) }
 {
-    let mut log = Log::new(alloc)?;
+    let mut log = Log::new(alloc, size)?;
     for i in 0..paths.len() {
         if i != except {
             enter(&mut log, &paths[i], i)?;
         }
     }
     Ok(log)
+}
+
+/// How many chains and marks there are.
+#[derive(Clone, Copy)]
+struct Tables {
+    chains: usize,
+    marks: usize,
+}
+
+/// Few visits are kept in small tables, which take less time to make. Up to 13,000 visits a fifth of the marks is set at
+/// most.
+fn tables_for(paths: &[TimedPath]) -> Tables
+    ensures chains { 0 < result.chains }
+    ensures marks { 0 < result.marks }
+{
+    let mut visits = 0u64;
+    for path in paths {
+        visits = visits.saturating_add(path.remaining()).saturating_add(1);
+    }
+    if visits <= 200 {
+        Tables {
+            chains: 256,
+            marks: 1024,
+        }
+    } else if visits <= 1600 {
+        Tables {
+            chains: 1024,
+            marks: 8192,
+        }
+    } else {
+        Tables {
+            chains: 8192,
+            marks: 65_536,
+        }
+    }
 }
 
 /// Whether the path of this number is one of the others, and at a cell at time k.
@@ -145,7 +181,7 @@ fn vacant(paths: &[TimedPath], except: usize, log: &Log, cell: Cell, k: u64) -> 
     requires noted { AreNoted log.now.heads.items log.now.visits.items paths.now except (length paths.now) }
     ensures { IsTrue result ↔ IsVacant (remove paths.now except) cell k }
 {
-    let mut place = log.heads[slot_of(cell)] as usize;
+    let mut place = log.heads[slot_of(log.heads.len(), cell)] as usize;
     while place > 0 {
         let visit = log.visits[place - 1];
         if is_at(paths, except, visit, cell, k) {
@@ -164,7 +200,7 @@ fn unbarred(paths: &[TimedPath], except: usize, log: &Log, from: Cell, to: Cell,
     requires time { k + 1 < 2 ^ 64 }
     ensures { IsTrue result ↔ (IsVacant (remove paths.now except) to (k + 1) × NoneExchanges (remove paths.now except) from to k) }
 {
-    let mut place = log.heads[slot_of(to)] as usize;
+    let mut place = log.heads[slot_of(log.heads.len(), to)] as usize;
     while place > 0 {
         let visit = log.visits[place - 1];
         if bars(paths, except, visit, from, to, k) {
@@ -178,7 +214,7 @@ fn unbarred(paths: &[TimedPath], except: usize, log: &Log, from: Cell, to: Cell,
 /// Whether the marks alone say that nobody is at a cell at time k.
 fn is_plainly_vacant(paths: &[TimedPath], except: usize, marks: &[bool], cell: Cell, k: u64) -> bool
     requires except { except < length paths.now }
-    requires size { length marks.now ≡ 73728 }
+    requires some { 0 < length marks.now }
     requires marked { AreMarked marks.now paths.now except (length paths.now) }
     ensures { IsTrue result → IsVacant (remove paths.now except) cell k }
 {
@@ -198,7 +234,7 @@ fn is_plainly_unbarred(
     k: u64,
 ) -> bool
     requires except { except < length paths.now }
-    requires size { length marks.now ≡ 73728 }
+    requires some { 0 < length marks.now }
     requires marked { AreMarked marks.now paths.now except (length paths.now) }
     requires time { k + 1 < 2 ^ 64 }
     ensures { IsTrue result → (IsVacant (remove paths.now except) to (k + 1) × NoneExchanges (remove paths.now except) from to k) }
@@ -216,7 +252,7 @@ fn none_comes(paths: &[TimedPath], except: usize, log: &Log, cell: Cell, k: u64)
     requires short { horizon (remove paths.now except) < 2 ^ 61 }
     ensures { IsTrue result ↔ All (λ q. StaysAway q cell k) (remove paths.now except) }
 {
-    let mut place = log.heads[slot_of(cell)] as usize;
+    let mut place = log.heads[slot_of(log.heads.len(), cell)] as usize;
     while place > 0 {
         let visit = log.visits[place - 1];
         if comes(paths, except, visit, cell, k) {
@@ -242,7 +278,7 @@ fn not_before(paths: &[TimedPath], except: usize, log: &Log, cell: Cell) -> Opti
     ensures none { IfNone result ((k : ℕ) → All (λ q. StaysAway q cell k) (remove paths.now except) → ⊥) }
 {
     let mut soonest: u64 = 0;
-    let mut place = log.heads[slot_of(cell)] as usize;
+    let mut place = log.heads[slot_of(log.heads.len(), cell)] as usize;
     while place > 0 {
         let visit = log.visits[place - 1];
         if visit.cell.is(cell) {
@@ -274,8 +310,9 @@ impl<'a> Reservations<'a> {
         ensures { IfOk result (λ r. r ≡ record { paths = remove paths.now except; nofollow = nofollow }) }
     {
         let except = except as usize;
-        let log = log_of(alloc, paths, except)?;
-        let marks = marks_of(alloc, paths, except)?;
+        let size = tables_for(paths);
+        let log = log_of(alloc, paths, except, size.chains)?;
+        let marks = marks_of(alloc, paths, except, size.marks)?;
         let latest = greatest_end(&paths[..except]).max(greatest_end(&paths[except + 1..]));
         Ok(Reservations {
             paths,

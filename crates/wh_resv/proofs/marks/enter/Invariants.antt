@@ -1,7 +1,7 @@
-use Rattle.std.proofs.Common.{◌≡◌, ℕ, ◌<◌, length}
+use Rattle.std.proofs.Common.{ℕ, ◌<◌}
 use Rattle.wh_path.specs.Paths.{at}
 use Rattle.wh_resv.specs.Marked.{IsMarked, KeepsMarks}
 use Rattle.wh_resv.proofs.marks.enter.Given as goal
 
 abbrev pub invariant-loop-k : goal.invariant-loop-k
-invariant-loop-k l = (length l.marks ≡ 73728) × KeepsMarks l.initial.marks l.marks × ((j : ℕ) → j < l.k → IsMarked l.marks (at l.q j) j)
+invariant-loop-k l = KeepsMarks l.fn.marks l.marks × ((j : ℕ) → j < l.k → IsMarked l.marks (at l.q j) j)

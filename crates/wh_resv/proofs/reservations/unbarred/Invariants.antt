@@ -1,10 +1,10 @@
-use Rattle.std.proofs.Common.{get_or}
+use Rattle.std.proofs.Common.{get_or, length}
 use Rattle.wh_resv.specs.Logs.{slot}
 use Rattle.wh_resv.proofs.Walks.{IsWalking, Bars}
 use Rattle.wh_resv.proofs.reservations.unbarred.Given as goal
 
 abbrev pub invariant-loop-place : goal.invariant-loop-place
-invariant-loop-place l = IsWalking l.log.visits.items (get_or l.log.heads.items (slot l.to) 0) l.place (Bars l.paths l.except l.from l.to l.k)
+invariant-loop-place l = IsWalking l.log.visits.items (get_or l.log.heads.items (slot (length l.log.heads.items) l.to) 0) l.place (Bars l.paths l.except l.from l.to l.k)
 
 abbrev pub decreases-loop-place : goal.decreases-loop-place
 decreases-loop-place l = l.place
