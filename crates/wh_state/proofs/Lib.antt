@@ -2,6 +2,5 @@ pub mod Pointwise
 pub mod Below
 pub mod Ties
 pub mod Steps
-pub mod Ends
 pub mod FloorLemmas
 pub mod Foretelling

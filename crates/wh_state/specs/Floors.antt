@@ -1,6 +1,5 @@
 use Rattle.std.specs.Prelude.{◌≡◌, ℕ, ◌<◌, ◌≤◌, List, [], ◌∷◌, false, Some, length, map, slice_get, All}
 use Rattle.wh_grid.specs.declared.cell.Cell.{Cell}
-use Rattle.wh_path.specs.Paths.{ends}
 use Rattle.wh_tasks.specs.declared.task.Task.{Task}
 use Rattle.wh_tasks.specs.declared.task.Load.{Load}
 use Rattle.wh_tasks.specs.Tasks.{IsTask, visited, load_for}
@@ -12,10 +11,6 @@ use Rattle.wh_core.specs.States.{State}
 pub record Standing : Type 0 where
   pub state : State
   pub room : ℕ
-
--- the cells where the paths end, in the agents' order
-abbrev pub AreEnds : List (List Cell) → List Cell → Type 0
-AreEnds paths cells = cells ≡ ends paths
 
 -- Loads and tasks agree: an agent's load is what its task leaves it to do, and the agent of a task of which a stop is
 -- left has no other load. So each task has at most one agent, and each agent at most one task.

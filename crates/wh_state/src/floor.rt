@@ -11,7 +11,6 @@ ghost use Rattle.wh_core.specs.States.{State, arrived, picked, dropped, submitte
 ghost use Rattle.wh_state.specs.Floors.{Standing, standing_at};
 
 use crate::arrivals::{Arrivals, arrive_all, foretell_all};
-use crate::paths::Paths;
 use std::alloc::{AllocError, Global};
 use std::marker::Model;
 use wh_grid::Cell;
@@ -24,7 +23,7 @@ use wh_text::Name;
 pub struct Floor {
     clock: u32,
     closed: bool,
-    paths: Paths,
+    paths: Vec<TimedPath>,
     loads: Vec<Load>,
     slots: Vec<u32>,
     tasks: TaskSet,
@@ -39,7 +38,7 @@ impl Model for Floor {
       state = record {
         clock = f.clock;
         closed = f.closed;
-        paths = f.paths;
+        paths = f.paths.items;
         loads = f.loads.items;
         slots = f.slots.items;
         tasks = f.tasks.tasks;
@@ -47,7 +46,7 @@ impl Model for Floor {
       room = f.tasks.room;
     } };
 
-    ghost invariant = { λ f. IsSound f.clock f.paths f.loads.items f.slots.items f.tasks.tasks };
+    ghost invariant = { λ f. IsSound f.clock f.paths.items f.loads.items f.slots.items f.tasks.tasks };
 }
 
 impl Floor {
@@ -63,9 +62,10 @@ impl Floor {
         requires seats { length slots.items ≡ length starts.now }
         ensures { IfOk result (λ floor. floor.state ≡ standing_at starts.now clock slots.items) }
     {
-        let paths = Paths::standing(alloc, starts)?;
+        let mut paths = Vec::new(alloc);
         let mut loads = Vec::new(alloc);
-        for _start in starts {
+        for start in starts {
+            paths.push(TimedPath::one(alloc, *start)?)?;
             loads.push(Load::None)?;
         }
         Ok(Floor {
@@ -135,7 +135,10 @@ impl Floor {
         ensures height { marks.new.height ≡ marks.old.height }
         ensures room { marks.new.room + length marks.new.cells ≡ marks.old.room + length marks.old.cells }
     {
-        self.paths.other_ends(agent, marks);
+        let paths = self.paths.as_slice();
+        marks.clear();
+        add_ends(marks, &paths[..agent as usize]);
+        add_ends(marks, &paths[agent as usize + 1..]);
     }
 
     /// The tasks.
@@ -183,7 +186,7 @@ impl Floor {
         ensures picked { result.picked ≡ picked (moved self.now.state) }
         ensures dropped { result.dropped ≡ dropped (moved self.now.state) }
     {
-        foretell_all(self.paths.as_slice(), &self.loads, &self.tasks)
+        foretell_all(&self.paths, &self.loads, &self.tasks)
     }
 
     /// An agent without a load goes by a path from now on to fetch an open task, and the agents arrive.
@@ -202,7 +205,7 @@ impl Floor {
         requires { agent < length self.old.state.paths }
         ensures { self.new.state ≡ adopted agent path self.old.state }
     {
-        self.paths.put(agent, path);
+        self.paths[agent as usize] = path;
     }
 
     /// An agent's planner has so many slots from now on.
@@ -227,7 +230,7 @@ impl Floor {
         ensures room { self.new.room ≡ self.old.room }
     {
         self.clock += 1;
-        self.paths.advance();
+        advance_all(&mut self.paths);
     }
 
     /// The arrivals of all agents.
@@ -237,12 +240,7 @@ impl Floor {
         ensures dropped { result.dropped ≡ dropped self.old.state }
         ensures room { self.new.room ≡ self.old.room }
     {
-        arrive_all(
-            self.clock,
-            self.paths.as_slice(),
-            &mut self.loads,
-            &mut self.tasks,
-        )
+        arrive_all(self.clock, &self.paths, &mut self.loads, &mut self.tasks)
     }
 
     /// An agent without a load goes by a path from now on to fetch an open task.
@@ -253,8 +251,28 @@ impl Floor {
         ensures { (task : Job) × IsTask self.old.state.tasks n task × (self.new.state ≡ adopted agent path (assigned agent n task self.old.state)) }
     {
         let _task = self.tasks.task(n);
-        self.paths.put(agent, path);
+        self.paths[agent as usize] = path;
         self.loads[agent as usize] = Load::Fetching(n);
         self.tasks.assign(n, agent);
+    }
+}
+
+/// Each path loses its first cell where a second follows.
+fn advance_all(paths: &mut [TimedPath])
+    ensures { paths.new ≡ map advanced paths.old }
+{
+    for path in paths.iter_mut() {
+        path.advance();
+    }
+}
+
+/// Puts the cells where these paths end into a set.
+fn add_ends(marks: &mut EndSet, paths: &[TimedPath])
+    requires inside { All (λ path. IsInside marks.old.width marks.old.height (end path)) paths.now }
+    requires room { length paths.now ≤ marks.old.room }
+    ensures { marks.new ≡ record marks.old { cells = marks.old.cells ++ map end paths.now; room = marks.old.room - length paths.now } }
+{
+    for path in paths {
+        marks.add(path.end());
     }
 }

@@ -1,7 +1,7 @@
 //! A set of cells that answers in constant time.
 #![tactic(auto)]
 
-ghost use Rattle.std.specs.Prelude.{◌≡◌, ◌+◌, ◌-◌, ◌*◌, ◌<◌, ◌≤◌, ◌↔◌, [], ◌∷◌, ◌++◌, length, slice_set, IsTrue, IfOk, Contains};
+ghost use Rattle.std.specs.Prelude.{◌≡◌, ◌+◌, ◌-◌, ◌*◌, ◌<◌, ◌≤◌, ◌↔◌, [], ◌∷◌, ◌++◌, length, IsTrue, IfOk, Contains};
 ghost use Rattle.wh_tasks.specs.Marks.{Ends, IsInside, IsMarked};
 
 use std::alloc::{AllocError, Global};
@@ -27,8 +27,7 @@ impl Sides {
 }
 
 /// The cells at which other paths end: a mark for each cell of the grid, row by row, and the list of those marked.
-/// Whether a cell is in it takes constant time, and to empty it takes as long as it has cells. A change of one cell looks at
-/// all that are in it, and at nothing else where it is the same cell.
+/// Whether a cell is in it takes constant time, and to empty it takes as long as it has cells.
 #[derive(Drop)]
 pub struct EndSet {
     sides: Sides,
@@ -84,30 +83,6 @@ impl EndSet {
         self.cells.push_reserved(cell);
     }
 
-    /// How many cells are in it, each counted as often as it came.
-    pub fn len(&self) -> usize
-        ensures { result ≡ length self.now.cells }
-    {
-        self.cells.len()
-    }
-
-    /// Puts a cell in place of the one that came as the i-th, from 0. It takes no memory.
-    pub fn put(&mut self, i: usize, cell: Cell)
-        requires inside { IsInside self.old.width self.old.height cell }
-        requires there { i < length self.old.cells }
-        ensures { self.new ≡ record self.old { cells = slice_set self.old.cells i cell } }
-    {
-        let gone = self.cells[i];
-        if gone.is(cell) {
-            return;
-        }
-        self.cells[i] = cell;
-        let left = self.sides.place(gone);
-        self.marks[left] = holds(&self.cells, gone);
-        let taken = self.sides.place(cell);
-        self.marks[taken] = true;
-    }
-
     /// Takes all cells out.
     pub fn clear(&mut self)
         ensures { self.new ≡ record self.old { cells = []; room = self.old.room + length self.old.cells } }
@@ -115,18 +90,6 @@ impl EndSet {
         unmark(&mut self.marks, self.sides, &self.cells);
         self.cells.clear();
     }
-}
-
-/// Whether a cell is one of these.
-fn holds(cells: &[Cell], cell: Cell) -> bool
-    ensures { IsTrue result ↔ Contains cells.now cell }
-{
-    for other in cells {
-        if other.is(cell) {
-            return true;
-        }
-    }
-    false
 }
 
 /// Takes the marks of the cells away, which are all that are set.

@@ -1,7 +1,7 @@
 use Rattle.std.proofs.Common.{◌<◌, length, arith}
 use Rattle.std.proofs.lemmas.List.Edits.{map_over_more}
 use Rattle.wh_path.specs.Paths.{advanced}
-use Rattle.wh_state.proofs.paths.advance_all.Goals as goal
+use Rattle.wh_state.proofs.floor.advance_all.Goals as goal
 
 pub loop-path-preserved : goal.loop-path-preserved
 loop-path-preserved c =
