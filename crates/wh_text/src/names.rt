@@ -79,7 +79,6 @@ impl Name {
         Some(Name { bytes: kept(word) })
     }
 
-    /// The bytes, 1 to 16.
     /// Its bytes, 1 to 16.
     pub fn as_slice(&self) -> &[u8]
         ensures value { result.now ≡ self.now }
@@ -88,7 +87,6 @@ impl Name {
         self.bytes.as_slice()
     }
 
-    /// The same name.
     /// The same name, in a place of its own.
     pub fn copy(&self) -> Name
         ensures { result ≡ self.now }
