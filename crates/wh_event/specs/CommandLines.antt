@@ -24,21 +24,24 @@ abbrev pub submit_of : List (List ℕ) → Option Command
 submit_of [] = None
 submit_of (client ∷ stops) = submit_by (name_of client) (stops_of stops)
 
+-- the agent that one word names
+abbrev pub agent_of : List (List ℕ) → Option ℕ
+agent_of (agent ∷ []) = small_number_of agent
+agent_of _ = None
+
 abbrev pub token_by : Option ℕ → Option Command
 token_by None = None
 token_by (Some agent) = Some (Token agent)
 
 abbrev pub token_of : List (List ℕ) → Option Command
-token_of (agent ∷ []) = token_by (small_number_of agent)
-token_of _ = None
+token_of rest = token_by (agent_of rest)
 
 abbrev pub replace_by : Option ℕ → Option Command
 replace_by None = None
 replace_by (Some agent) = Some (Replace agent)
 
 abbrev pub replace_of : List (List ℕ) → Option Command
-replace_of (agent ∷ []) = replace_by (small_number_of agent)
-replace_of _ = None
+replace_of rest = replace_by (agent_of rest)
 
 abbrev pub tick_of : List (List ℕ) → Option Command
 tick_of [] = Some Tick

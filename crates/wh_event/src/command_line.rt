@@ -5,7 +5,7 @@ ghost use Rattle.wh_text.specs.Words.{words_of};
 ghost use Rattle.wh_event.specs.declared.event.Command.{Command};
 ghost use Rattle.wh_event.specs.declared.fault.LineFault.TheVariants as faults;
 ghost use Rattle.wh_event.specs.CommandLines as lines;
-ghost use Rattle.wh_event.specs.CommandLines.{command_of, command_by, named};
+ghost use Rattle.wh_event.specs.CommandLines.{command_of, command_by, named, formed};
 ghost use Rattle.wh_event.specs.Grammar.{Asks, IsSkipped};
 
 use crate::event::Command;
@@ -31,57 +31,68 @@ fn stops_of(mut words: Words) -> Option<Stops>
     Some(Stops::of(names))
 }
 
-fn submit_of(mut words: Words) -> Option<Command>
-    ensures { result ≡ lines.submit_of words.entry }
+fn submit_of(mut words: Words) -> Result<Option<Command>, LineFault>
+    ensures { result ≡ formed (lines.submit_of words.entry) }
 {
-    let client = Name::read(words.next_word()?)?;
-    let stops = stops_of(words)?;
-    Some(Command::Submit { client, stops })
+    let Some(client) = words.next_word().and_then(Name::read) else {
+        return Err(LineFault::Form);
+    };
+    let Some(stops) = stops_of(words) else {
+        return Err(LineFault::Form);
+    };
+    Ok(Some(Command::Submit { client, stops }))
 }
 
-fn token_of(mut words: Words) -> Option<Command>
-    ensures { result ≡ lines.token_of words.entry }
-{
-    let agent = words.next_word()?;
-    if words.next_word().is_some() {
-        return None;
-    }
-    let agent = small_number(agent)?;
-    Some(Command::Token { agent })
-}
-
-fn replace_of(mut words: Words) -> Option<Command>
-    ensures { result ≡ lines.replace_of words.entry }
+/// The agent that the one word which is left names.
+fn agent_of(mut words: Words) -> Option<u32>
+    ensures { result ≡ lines.agent_of words.entry }
 {
     let agent = words.next_word()?;
     if words.next_word().is_some() {
         return None;
     }
-    let agent = small_number(agent)?;
-    Some(Command::Replace { agent })
+    small_number(agent)
 }
 
-fn tick_of(mut words: Words) -> Option<Command>
-    ensures { result ≡ lines.tick_of words.entry }
+fn token_of(words: Words) -> Result<Option<Command>, LineFault>
+    ensures { result ≡ formed (lines.token_of words.entry) }
 {
-    match words.next_word() {
-        Some(_) => None,
-        None => Some(Command::Tick),
+    match agent_of(words) {
+        Some(agent) => Ok(Some(Command::Token { agent })),
+        None => Err(LineFault::Form),
     }
 }
 
-fn close_of(mut words: Words) -> Option<Command>
-    ensures { result ≡ lines.close_of words.entry }
+fn replace_of(words: Words) -> Result<Option<Command>, LineFault>
+    ensures { result ≡ formed (lines.replace_of words.entry) }
 {
-    match words.next_word() {
-        Some(_) => None,
-        None => Some(Command::Close),
+    match agent_of(words) {
+        Some(agent) => Ok(Some(Command::Replace { agent })),
+        None => Err(LineFault::Form),
     }
 }
 
-/// The command that a line's first word names.
-fn command_named(name: &[u8], rest: Words) -> Option<Command>
-    ensures { result ≡ named name.now rest.entry }
+fn tick_of(mut words: Words) -> Result<Option<Command>, LineFault>
+    ensures { result ≡ formed (lines.tick_of words.entry) }
+{
+    match words.next_word() {
+        Some(_) => Err(LineFault::Form),
+        None => Ok(Some(Command::Tick)),
+    }
+}
+
+fn close_of(mut words: Words) -> Result<Option<Command>, LineFault>
+    ensures { result ≡ formed (lines.close_of words.entry) }
+{
+    match words.next_word() {
+        Some(_) => Err(LineFault::Form),
+        None => Ok(Some(Command::Close)),
+    }
+}
+
+/// The command that a line's first word names, handed on as it was made: it has room for nine names.
+fn command_named(name: &[u8], rest: Words) -> Result<Option<Command>, LineFault>
+    ensures { result ≡ formed (named name.now rest.entry) }
 {
     if name == b"submit".as_slice() {
         submit_of(rest)
@@ -94,7 +105,7 @@ fn command_named(name: &[u8], rest: Words) -> Option<Command>
     } else if name == b"close".as_slice() {
         close_of(rest)
     } else {
-        None
+        Err(LineFault::Form)
     }
 }
 
@@ -113,10 +124,7 @@ fn read_words(mut words: Words) -> Result<Option<Command>, LineFault>
     if begins_comment(name) {
         return Ok(None);
     }
-    match command_named(name, words) {
-        Some(command) => Ok(Some(command)),
-        None => Err(LineFault::Form),
-    }
+    command_named(name, words)
 }
 
 /// What a line of a script asks, without its line's end: a command, or None where it is empty, of blanks, or a

@@ -15,15 +15,19 @@ pub struct Entry {
     pub reply: Reply,
 }
 
+// A history keeps millions of entries, nearly all of requests and ticks: they have no room for what few of them need.
+const _: () = prove!(size_of::<Entry>() <= 112);
+
 impl Entry {
-    /// The same entry; a path in its reply wants memory.
+    /// The same entry; the stops of a task and a path want memory.
     pub fn copy(&self, alloc: Global) -> Result<Entry, AllocError>
         ensures { IfOk result (λ entry. entry ≡ self.now) }
     {
+        let event = self.event.copy(alloc)?;
         let reply = self.reply.copy(alloc)?;
         Ok(Entry {
             caller: self.caller,
-            event: self.event.copy(),
+            event,
             reply,
         })
     }

@@ -1,9 +1,10 @@
 //! What is asked of the warehouse.
 #![tactic(auto)]
 
-ghost use Rattle.std.specs.Prelude.{◌≡◌};
+ghost use Rattle.std.specs.Prelude.{◌≡◌, IfOk};
 
-use crate::stops::Stops;
+use crate::stops::{KeptStops, Stops};
+use std::alloc::{AllocError, Global};
 use wh_text::Name;
 
 /// What a line of a script asks.
@@ -54,7 +55,7 @@ pub enum Spare {
 #[derive(Drop)]
 pub enum Event {
     /// A client hands in a task with its stops.
-    Submit { client: Name, stops: Stops },
+    Submit { client: Name, stops: KeptStops },
     /// An agent takes the token.
     Request { agent: u32 },
     /// The clock goes on by one step.
@@ -66,14 +67,14 @@ pub enum Event {
 }
 
 impl Event {
-    /// The same event.
-    pub fn copy(&self) -> Event
-        ensures { result ≡ self.now }
+    /// The same event; the stops of a task want memory.
+    pub fn copy(&self, alloc: Global) -> Result<Event, AllocError>
+        ensures { IfOk result (λ event. event ≡ self.now) }
     {
-        match self {
+        Ok(match self {
             Event::Submit { client, stops } => Event::Submit {
                 client: client.copy(),
-                stops: stops.copy(),
+                stops: stops.copy(alloc)?,
             },
             Event::Request { agent } => Event::Request { agent: *agent },
             Event::Tick => Event::Tick,
@@ -82,6 +83,6 @@ impl Event {
                 spare: *spare,
             },
             Event::Close => Event::Close,
-        }
+        })
     }
 }

@@ -15,7 +15,7 @@ pub use event::{Command, Event, Spare};
 pub use fault::LineFault;
 pub use reply::{Refusal, Reply};
 pub use reply_text::{put, put_number, replies_tell, write_reply};
-pub use stops::Stops;
+pub use stops::{KeptStops, Stops};
 
 #[cfg(test)]
 mod tests;

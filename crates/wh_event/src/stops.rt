@@ -1,9 +1,10 @@
 //! The names of a task's stops.
 #![tactic(auto)]
 
-ghost use Rattle.std.specs.Prelude.{◌≡◌, ◌≤◌, length};
+ghost use Rattle.std.specs.Prelude.{◌≡◌, ◌≤◌, length, IfOk};
 
 use arrayvec::ArrayVec;
+use std::alloc::{AllocError, Global};
 use std::marker::Model;
 use wh_text::Name;
 
@@ -50,5 +51,43 @@ impl Stops {
             names.push(name.copy());
         }
         Stops { names }
+    }
+}
+
+/// The names of a task's stops, behind a box: a history keeps room for eight names only where a task was handed in.
+#[derive(Drop)]
+pub struct KeptStops {
+    stops: Box<Stops>,
+}
+
+impl Model for KeptStops {
+    ghost use Rattle.std.specs.Prelude.{ℕ, List};
+
+    ghost Value = { List (List ℕ) };
+
+    ghost view = { λ k. k.stops.value };
+}
+
+impl KeptStops {
+    /// These stops.
+    pub fn new(alloc: Global, stops: Stops) -> Result<KeptStops, AllocError>
+        ensures { IfOk result (λ kept. kept ≡ stops) }
+    {
+        let stops = Box::new(alloc, stops)?;
+        Ok(KeptStops { stops })
+    }
+
+    /// The stops.
+    pub fn stops(&self) -> &Stops
+        ensures { result.now ≡ self.now }
+    {
+        &self.stops
+    }
+
+    /// The same stops.
+    pub fn copy(&self, alloc: Global) -> Result<KeptStops, AllocError>
+        ensures { IfOk result (λ kept. kept ≡ self.now) }
+    {
+        KeptStops::new(alloc, self.stops.copy())
     }
 }

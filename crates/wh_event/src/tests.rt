@@ -171,7 +171,7 @@ fn entries(rt: HostRuntime) -> Result<(), Fail> {
     names.push(name(b"A"));
     names.push(name(b"B"));
     let client = name(b"x");
-    let stops = Stops::of(names).copy();
+    let stops = KeptStops::new(rt.alloc(), Stops::of(names).copy())?;
     let entry = Entry {
         caller: 63,
         event: Event::Submit { client, stops },
@@ -188,6 +188,6 @@ fn entries(rt: HostRuntime) -> Result<(), Fail> {
         return Err(Fail::new("another event"));
     };
     assert!(rt; client.as_slice() == b"x".as_slice());
-    assert!(rt; are(stops.as_slice(), &[b"A", b"B"]));
+    assert!(rt; are(stops.stops().as_slice(), &[b"A", b"B"]));
     Ok(())
 }
