@@ -31,7 +31,7 @@ fn entry(alloc: Global, most: usize, mut words: Words) -> Result<Entry, EntryFau
     let Some(caller) = caller(number) else {
         return Err(EntryFault::Form);
     };
-    let event = event(most, &mut words)?;
+    let event = event(alloc, most, &mut words)?;
     let reply = reply(alloc, words)?;
     Ok(Entry {
         caller,

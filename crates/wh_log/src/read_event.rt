@@ -7,7 +7,8 @@ ghost use Rattle.wh_log.specs.ReadEvents as reading;
 use crate::entry_fault::EntryFault;
 use crate::read_words::{literal, name, small};
 use arrayvec::ArrayVec;
-use wh_event::{Event, Spare, Stops};
+use std::alloc::Global;
+use wh_event::{Event, KeptStops, Spare, Stops};
 use wh_text::Name;
 use wh_words::Words;
 
@@ -44,12 +45,12 @@ fn counted(most: usize, names: ArrayVec<Name, 8>) -> Result<Stops, EntryFault>
 }
 
 #[tactic(auto, unfolding(crate::specs::ReadEvents::submit_at))]
-fn submit(most: usize, words: &mut Words) -> Result<Event, EntryFault>
+fn submit(alloc: Global, most: usize, words: &mut Words) -> Result<Event, EntryFault>
     requires { most ≤ 8 }
     ensures { Reads (λ event. event) result words.new (reading.submit_at most words.old) }
 {
     let client = name(words)?;
-    let stops = stops(most, words)?;
+    let stops = KeptStops::new(alloc, stops(most, words)?)?;
     Ok(Event::Submit { client, stops })
 }
 
@@ -116,7 +117,7 @@ fn replace(words: &mut Words) -> Result<Event, EntryFault>
 
 /// An event and the equals sign behind it.
 #[tactic(auto, unfolding(crate::specs::ReadEvents::event_at))]
-pub fn event(most: usize, words: &mut Words) -> Result<Event, EntryFault>
+pub fn event(alloc: Global, most: usize, words: &mut Words) -> Result<Event, EntryFault>
     requires { most ≤ 8 }
     ensures { Reads (λ event. event) result words.new (reading.event_at most words.old) }
 {
@@ -124,7 +125,7 @@ pub fn event(most: usize, words: &mut Words) -> Result<Event, EntryFault>
         return Err(EntryFault::Form);
     };
     if name == b"submit".as_slice() {
-        submit(most, words)
+        submit(alloc, most, words)
     } else if name == b"token".as_slice() {
         token(words)
     } else if name == b"tick".as_slice() {

@@ -82,7 +82,7 @@ fn push_event(out: &mut Vec<u8>, event: &Event) -> Result<(), AllocError>
         Event::Submit { client, stops } => {
             push_word(out, b"submit")?;
             push_word(out, client.as_slice())?;
-            push_stops(out, stops)
+            push_stops(out, stops.stops())
         }
         Event::Request { agent } => {
             push_word(out, b"token")?;
