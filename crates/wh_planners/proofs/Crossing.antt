@@ -20,6 +20,7 @@ use Rattle.wh_field.specs.contracts.field.Field as Field
 use Rattle.wh_grid.specs.contracts.cell.Cell as Cell
 use Rattle.wh_grid.proofs.cell.Cell.TheSendSync.{the_send as cell_send, the_sync as cell_sync}
 use Rattle.wh_grid.proofs.grid.Grid.TheSendSync.{the_send as grid_send, the_sync as grid_sync}
+use Rattle.wh_search.specs.contracts.memory.SearchMemory as Memory
 use Rattle.wh_planners.specs.contracts.cache.FieldCache as FieldCache
 use Rattle.wh_planners.specs.contracts.near.Near as Near
 use Rattle.wh_planners.specs.contracts.near.Near.TheInside as Inside
@@ -40,5 +41,8 @@ fields_send =
       (cache_send Cell.the_row Field.the_row (Default.the_row Fold.the_row) Fold.the_row _ _ _ _ _ cell_send cell_sync field_send (search sendable depth 20), tt),
     )
 
+memory_send : IsSend Memory.the_row
+memory_send = search (heap.crosses, sendable) depth 20
+
 pub near_send : IsSend Near.the_row
-near_send = view_send Inside.the_row _ _ _ _ (declared_send Inside.the_type (search (grid_send, grid_sync, heap.crosses, sendable) depth 20, (claim_send, (fields_send, tt))))
+near_send = view_send Inside.the_row _ _ _ _ (declared_send Inside.the_type (search (grid_send, grid_sync, heap.crosses, sendable) depth 20, (claim_send, (fields_send, (memory_send, tt)))))

@@ -26,7 +26,7 @@ use wh_grid::{Cell, Grid};
 use wh_path::TimedPath;
 use wh_planner::{Duty, PlanFault, Planner, Scene};
 use wh_resv::Reservations;
-use wh_search::{Fault, deliver_guided, park};
+use wh_search::{Fault, SearchMemory, deliver_in, park_in};
 
 /// The paths of all agents but the one that asks. The error comes where memory is wanting, or the agent's number has
 /// more than 32 bits.
@@ -69,6 +69,7 @@ fn fields_of<'a>(cache: &'a FieldCache, stops: &[Cell]) -> [Option<&'a Field>; 8
 fn deliver(
     alloc: Global,
     cache: &mut FieldCache,
+    memory: &mut SearchMemory,
     grid: &Grid,
     others: &Reservations,
     loc: Cell,
@@ -88,13 +89,22 @@ fn deliver(
         return Err(Fault::NoMemory);
     }
     let fields = fields_of(cache, stops);
-    deliver_guided(alloc, grid, others, loc, stops, &fields[..stops.len()])
+    deliver_in(
+        alloc,
+        memory,
+        grid,
+        others,
+        loc,
+        stops,
+        &fields[..stops.len()],
+    )
 }
 
 /// A least lawful path through the stops.
 fn plan_delivery(
     alloc: Global,
     cache: &mut FieldCache,
+    memory: &mut SearchMemory,
     scene: &Scene,
     stops: &[Cell],
 ) -> Result<TimedPath, PlanFault>
@@ -114,7 +124,7 @@ fn plan_delivery(
         return Err(PlanFault::NoPath);
     }
     match reserve(alloc, scene) {
-        Ok(others) => match deliver(alloc, cache, scene.grid, &others, loc, stops) {
+        Ok(others) => match deliver(alloc, cache, memory, scene.grid, &others, loc, stops) {
             Ok(path) => Ok(path),
             Err(Fault::NoPath) => Err(PlanFault::NoPath),
             Err(Fault::NoMemory) => Err(PlanFault::NoMemory),
@@ -124,7 +134,12 @@ fn plan_delivery(
 }
 
 /// A least lawful path to one of the allowed cells.
-fn plan_parking(alloc: Global, scene: &Scene, allowed: &[Cell]) -> Result<TimedPath, PlanFault>
+fn plan_parking(
+    alloc: Global,
+    memory: &mut SearchMemory,
+    scene: &Scene,
+    allowed: &[Cell],
+) -> Result<TimedPath, PlanFault>
     requires agent { scene.now.agent < length scene.now.paths.now }
     requires resting { steps_left scene.now.paths.now scene.now.agent ≡ 0 }
     requires free { AllFree scene.now.nofollow scene.now.paths.now }
@@ -137,7 +152,7 @@ fn plan_parking(alloc: Global, scene: &Scene, allowed: &[Cell]) -> Result<TimedP
         return Err(PlanFault::NoPath);
     }
     match reserve(alloc, scene) {
-        Ok(others) => match park(alloc, scene.grid, &others, loc, allowed) {
+        Ok(others) => match park_in(alloc, memory, scene.grid, &others, loc, allowed) {
             Ok(path) => Ok(path),
             Err(Fault::NoPath) => Err(PlanFault::NoPath),
             Err(Fault::NoMemory) => Err(PlanFault::NoMemory),
@@ -146,13 +161,14 @@ fn plan_parking(alloc: Global, scene: &Scene, allowed: &[Cell]) -> Result<TimedP
     }
 }
 
-/// Searches for a least path, and keeps a distance field for each slot of its claim. Where it is dropped, its claim
-/// gives the slots back.
+/// Searches for a least path, and keeps a distance field for each slot of its claim, and memory for the next search.
+/// Where it is dropped, its claim gives the slots back.
 #[derive(Drop)]
 pub struct Near {
     grid: Arc<Grid, Global>,
     claim: Claim,
     fields: FieldCache,
+    memory: SearchMemory,
 }
 
 impl Model for Near {
@@ -184,6 +200,7 @@ impl Near {
             grid,
             claim,
             fields,
+            memory: SearchMemory::empty(alloc),
         })
     }
 
@@ -230,8 +247,10 @@ impl Planner for Near {
         ensures no_path { IfErr result (λ fault. fault ≡ PlanFault.NoPath → HasNoClearWay scene.now.grid.now scene.now.paths.now scene.now.agent (Serves duty.entry)) }
     {
         match duty {
-            Duty::Deliver { stops } => plan_delivery(alloc, &mut self.fields, scene, stops),
-            Duty::Park { allowed } => plan_parking(alloc, scene, allowed),
+            Duty::Deliver { stops } => {
+                plan_delivery(alloc, &mut self.fields, &mut self.memory, scene, stops)
+            }
+            Duty::Park { allowed } => plan_parking(alloc, &mut self.memory, scene, allowed),
         }
     }
 }

@@ -7,6 +7,7 @@ ghost use Rattle.wh_resv.specs.Calls.{IsVacant};
 ghost use Rattle.wh_search.specs.Queues.{IsQueue, Waiting};
 ghost use Rattle.wh_search.specs.Guides.{guide_estimate};
 ghost use Rattle.wh_search.specs.Frontiers.{problem, node_at, state_of, moment_of, total_at, HasState, IsExpanded, Meets, IsKept, IsTold, IsErrand};
+ghost use Rattle.wh_search.specs.Rooms.{frontier_room};
 ghost use Rattle.wh_search.specs.States.{IsEnd, State};
 ghost use Rattle.wh_search.specs.Tours.{IsTour};
 ghost use Rattle.wh_path.specs.Paths.{last_index};
@@ -74,20 +75,41 @@ pub fn holds(cells: &[Cell], cell: Cell) -> bool
 }
 
 impl Frontier {
-    pub fn new(alloc: Global, base: u64, stride: usize) -> Result<Self, AllocError>
-        requires { 0 < stride }
-        ensures nodes { IfOk result (λ f. f.nodes.items ≡ []) }
-        ensures sound { IfOk result (λ f. IsQueue f.queue) }
-        ensures base { IfOk result (λ f. f.queue.base ≡ base) }
-        ensures none { IfOk result (λ f. (bound node : ℕ) → Waiting f.queue bound node → ⊥) }
-        ensures expanded { IfOk result (λ f. f.expanded.items ≡ []) }
+    /// One that has taken no memory.
+    pub fn empty(alloc: Global) -> Self
+        ensures { frontier_room result ≡ 0 }
     {
-        Ok(Frontier {
-            nodes: Vec::with_capacity(alloc, 512)?,
-            queue: Queue::new(alloc, base, stride)?,
-            seen: Seen::new(alloc, stride)?,
-            expanded: Vec::with_capacity(alloc, 256)?,
-        })
+        Frontier {
+            nodes: Vec::new(alloc),
+            queue: Queue::empty(alloc),
+            seen: Seen::empty(alloc),
+            expanded: Vec::new(alloc),
+        }
+    }
+
+    /// For how much there is room in its largest table.
+    pub fn room(&self) -> usize
+        ensures { result ≡ frontier_room self.now }
+    {
+        let lists = self.nodes.capacity().max(self.expanded.capacity());
+        lists.max(self.queue.room()).max(self.seen.room())
+    }
+
+    /// Forgets all that it holds, and makes room where there is too little.
+    pub fn restart(&mut self, base: u64, stride: usize) -> Result<(), AllocError>
+        requires { 0 < stride }
+        ensures nodes { OnOk result (self.new.nodes.items ≡ []) }
+        ensures sound { OnOk result (IsQueue self.new.queue) }
+        ensures base { OnOk result (self.new.queue.base ≡ base) }
+        ensures none { OnOk result ((bound node : ℕ) → Waiting self.new.queue bound node → ⊥) }
+        ensures expanded { OnOk result (self.new.expanded.items ≡ []) }
+    {
+        self.nodes.clear();
+        self.nodes.reserve(512)?;
+        self.queue.restart(base, stride)?;
+        self.seen.restart(stride)?;
+        self.expanded.clear();
+        self.expanded.reserve(256)
     }
 
     /// Looks for a state at a time among those that were met.

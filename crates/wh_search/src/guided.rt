@@ -12,9 +12,11 @@ ghost use Rattle.wh_search.specs.Guides.{IsOnward};
 ghost use Rattle.wh_search.specs.Expansions.{IsSearch, IsEffort};
 
 use crate::errand::{Errand, arrive};
+use crate::frontier::Frontier;
 use crate::guide::{Guide, onward_of};
+use crate::memory::SearchMemory;
 use crate::moment::count_once;
-use crate::search::{Found, search};
+use crate::search::search;
 use std::alloc::{AllocError, Global};
 use wh_field::Field;
 use wh_grid::{Cell, Grid};
@@ -30,29 +32,28 @@ pub enum Fault {
     NoMemory,
 }
 
-/// A least path, or none where there is no delivery, and which states were expanded.
+/// A least path, or none where there is no delivery. The frontier has the states that were
+/// expanded.
 fn find<'x>(
     alloc: Global,
+    frontier: &mut Frontier,
     grid: &'x Grid,
     others: &'x Reservations<'x>,
     loc: Cell,
     stops: &'x [Cell],
     fields: &'x [Option<&'x Field>],
-) -> Result<Found, AllocError>
+) -> Result<Option<TimedPath>, AllocError>
     requires inside { IsPassable grid.now loc }
     requires clear { MayRest others.now loc 0 }
     requires stops { AreStops stops.now }
     requires fields { AreFieldsOf grid.now stops.now fields.now }
-    ensures expanded { IfOk result (λ found. IfSome found.path (λ p. IsSearch grid.now others.now loc stops.now fields.now (last_index p) found.expanded.items)) }
-    ensures found { IfOk result (λ found. MatchOption found.path
+    ensures expanded { IfOk result (λ found. IfSome found (λ p. IsSearch grid.now others.now loc stops.now fields.now (last_index p) frontier.new.expanded.items)) }
+    ensures found { IfOk result (λ found. MatchOption found
         ((q : List Cell) → IsDelivery grid.now others.now loc stops.now q → ⊥)
         (λ p. IsLeast grid.now others.now loc stops.now p)) }
 {
     let Some(soonest) = others.not_before(stops[stops.len() - 1]) else {
-        return Ok(Found {
-            path: None,
-            expanded: Vec::new(alloc),
-        });
+        return Ok(None);
     };
     let onward = onward_of(alloc, stops, fields)?;
     let last = stops.len() - 1;
@@ -74,7 +75,7 @@ fn find<'x>(
         limit: horizon + stops.len() as u64 * u64::from(grid.cells()),
         soonest,
     };
-    search(alloc, &errand)
+    search(alloc, frontier, &errand)
 }
 
 /// A lawful path from loc through the stops, with the least last index of all. The fields that are
@@ -96,11 +97,41 @@ pub fn deliver_guided<'x>(
     ensures least { IfOk result (λ p. (q : List Cell) → IsDelivery grid.now others.now loc stops.now q → last_index p ≤ last_index q) }
     ensures none { IfNoPath result ((q : List Cell) → IsDelivery grid.now others.now loc stops.now q → ⊥) }
 {
-    match find(alloc, grid, others, loc, stops, fields) {
-        Ok(Found { path, .. }) => match path {
-            Some(path) => Ok(path),
-            None => Err(Fault::NoPath),
-        },
+    let mut memory = SearchMemory::empty(alloc);
+    deliver_in(alloc, &mut memory, grid, others, loc, stops, fields)
+}
+
+/// As `deliver_guided`, in memory that is kept from one search to the next.
+pub fn deliver_in<'x>(
+    alloc: Global,
+    memory: &mut SearchMemory,
+    grid: &'x Grid,
+    others: &'x Reservations<'x>,
+    loc: Cell,
+    stops: &'x [Cell],
+    fields: &'x [Option<&'x Field>],
+) -> Result<TimedPath, Fault>
+    requires inside { IsPassable grid.now loc }
+    requires clear { MayRest others.now loc 0 }
+    requires stops { AreStops stops.now }
+    requires fields { AreFieldsOf grid.now stops.now fields.now }
+    ensures lawful { IfOk result (λ p. IsLawful grid.now others.now loc stops.now p) }
+    ensures least { IfOk result (λ p. (q : List Cell) → IsDelivery grid.now others.now loc stops.now q → last_index p ≤ last_index q) }
+    ensures none { IfNoPath result ((q : List Cell) → IsDelivery grid.now others.now loc stops.now q → ⊥) }
+{
+    let found = find(
+        alloc,
+        &mut memory.frontier,
+        grid,
+        others,
+        loc,
+        stops,
+        fields,
+    );
+    memory.settle(alloc);
+    match found {
+        Ok(Some(path)) => Ok(path),
+        Ok(None) => Err(Fault::NoPath),
         Err(_) => Err(Fault::NoMemory),
     }
 }
@@ -125,14 +156,13 @@ pub fn guided_steps<'x>(
     ensures enough { IfOk result (λ n. IsEnough grid.now others.now loc stops.now n) }
     ensures none { IfNoPath result ((q : List Cell) → IsDelivery grid.now others.now loc stops.now q → ⊥) }
 {
-    match find(alloc, grid, others, loc, stops, fields) {
-        Ok(Found { path, expanded }) => match path {
-            Some(_path) => match count_once(alloc, &expanded) {
-                Ok(states) => Ok(states),
-                Err(_) => Err(Fault::NoMemory),
-            },
-            None => Err(Fault::NoPath),
+    let mut frontier = Frontier::empty(alloc);
+    match find(alloc, &mut frontier, grid, others, loc, stops, fields) {
+        Ok(Some(_path)) => match count_once(alloc, &frontier.expanded) {
+            Ok(states) => Ok(states),
+            Err(_) => Err(Fault::NoMemory),
         },
+        Ok(None) => Err(Fault::NoPath),
         Err(_) => Err(Fault::NoMemory),
     }
 }

@@ -7,6 +7,7 @@ mod frontier;
 mod guide;
 mod guided;
 pub mod layers;
+mod memory;
 mod moment;
 mod moves;
 mod parking;
@@ -16,8 +17,9 @@ mod seen;
 mod trail;
 
 pub use fresh::deliver;
-pub use guided::{Fault, deliver_guided, guided_steps};
-pub use parking::park;
+pub use guided::{Fault, deliver_guided, deliver_in, guided_steps};
+pub use memory::SearchMemory;
+pub use parking::{park, park_in};
 
 #[cfg(test)]
 mod tests;

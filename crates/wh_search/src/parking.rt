@@ -10,9 +10,11 @@ ghost use Rattle.wh_search.specs.Deliveries.{IfNoPath};
 ghost use Rattle.wh_search.specs.Parkings.{IsParking, IsLeastParking};
 
 use crate::errand::Errand;
+use crate::frontier::Frontier;
 use crate::guide::Guide;
 use crate::guided::Fault;
-use crate::search::{Found, search};
+use crate::memory::SearchMemory;
+use crate::search::search;
 use std::alloc::{AllocError, Global};
 use wh_field::NearestField;
 use wh_grid::{Cell, Grid};
@@ -22,14 +24,15 @@ use wh_resv::Reservations;
 /// A least path to one of the allowed cells, or none.
 fn find_parking<'x>(
     alloc: Global,
+    frontier: &mut Frontier,
     grid: &'x Grid,
     others: &'x Reservations<'x>,
     loc: Cell,
     allowed: &'x [Cell],
-) -> Result<Found, AllocError>
+) -> Result<Option<TimedPath>, AllocError>
     requires inside { IsPassable grid.now loc }
     requires clear { MayRest others.now loc 0 }
-    ensures { IfOk result (λ found. MatchOption found.path
+    ensures { IfOk result (λ found. MatchOption found
         ((q : List Cell) → IsParking grid.now others.now loc allowed.now q → ⊥)
         (λ p. IsLeastParking grid.now others.now loc allowed.now p)) }
 {
@@ -47,7 +50,7 @@ fn find_parking<'x>(
         limit: horizon + u64::from(grid.cells()),
         soonest: 0,
     };
-    search(alloc, &errand)
+    search(alloc, frontier, &errand)
 }
 
 /// A lawful path from loc to one of the allowed cells, with the least last index of all; it makes
@@ -65,11 +68,29 @@ pub fn park<'x>(
     ensures least { IfOk result (λ p. IsLeastParking grid.now others.now loc allowed.now p) }
     ensures none { IfNoPath result ((q : List Cell) → IsParking grid.now others.now loc allowed.now q → ⊥) }
 {
-    match find_parking(alloc, grid, others, loc, allowed) {
-        Ok(Found { path, .. }) => match path {
-            Some(path) => Ok(path),
-            None => Err(Fault::NoPath),
-        },
+    let mut memory = SearchMemory::empty(alloc);
+    park_in(alloc, &mut memory, grid, others, loc, allowed)
+}
+
+/// As `park`, in memory that is kept from one search to the next.
+pub fn park_in<'x>(
+    alloc: Global,
+    memory: &mut SearchMemory,
+    grid: &'x Grid,
+    others: &'x Reservations<'x>,
+    loc: Cell,
+    allowed: &'x [Cell],
+) -> Result<TimedPath, Fault>
+    requires inside { IsPassable grid.now loc }
+    requires clear { MayRest others.now loc 0 }
+    ensures least { IfOk result (λ p. IsLeastParking grid.now others.now loc allowed.now p) }
+    ensures none { IfNoPath result ((q : List Cell) → IsParking grid.now others.now loc allowed.now q → ⊥) }
+{
+    let found = find_parking(alloc, &mut memory.frontier, grid, others, loc, allowed);
+    memory.settle(alloc);
+    match found {
+        Ok(Some(path)) => Ok(path),
+        Ok(None) => Err(Fault::NoPath),
         Err(_) => Err(Fault::NoMemory),
     }
 }

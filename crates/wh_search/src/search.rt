@@ -12,46 +12,37 @@ ghost use Rattle.wh_search.specs.Tours.{IsTour, IsLeastTour};
 
 use crate::errand::Errand;
 use crate::frontier::Frontier;
-use crate::moment::Moment;
 use crate::trail::walk_back;
 use std::alloc::{AllocError, Global};
 use wh_path::TimedPath;
 
-/// A least path, if there is one, and which states were expanded.
-#[derive(Drop)]
-pub struct Found {
-    pub path: Option<TimedPath>,
-    pub expanded: Vec<Moment>,
-}
-
-/// A least tour, or none where there is no tour.
-pub fn search(alloc: Global, errand: &Errand) -> Result<Found, AllocError>
+/// A least tour, or none where there is no tour. The frontier has the states that were expanded;
+/// what it held before does not matter.
+pub fn search(
+    alloc: Global,
+    frontier: &mut Frontier,
+    errand: &Errand,
+) -> Result<Option<TimedPath>, AllocError>
     requires errand { IsErrand errand.now }
     requires clear { MayRest errand.now.others.now errand.now.loc 0 }
-    ensures expanded { IfOk result (λ found. IfSome found.path (λ p. AreExpanded errand.now.grid.now errand.now.others.now errand.now.via.now errand.now.loc (guide_estimate errand.now.guide) errand.now.soonest (last_index p) found.expanded.items)) }
-    ensures found { IfOk result (λ found. MatchOption found.path
+    ensures expanded { IfOk result (λ found. IfSome found (λ p. AreExpanded errand.now.grid.now errand.now.others.now errand.now.via.now errand.now.loc (guide_estimate errand.now.guide) errand.now.soonest (last_index p) frontier.new.expanded.items)) }
+    ensures found { IfOk result (λ found. MatchOption found
         ((q : List Cell) → IsTour errand.now.grid.now errand.now.others.now errand.now.loc errand.now.via.now errand.now.ends.now q → ⊥)
         (λ p. IsLeastTour errand.now.grid.now errand.now.others.now errand.now.loc errand.now.via.now errand.now.ends.now p)) }
 {
     let left = errand.guide.estimate(errand.first, errand.loc);
     let base = errand.soonest.max(left);
     let stride = (left as usize).min(4096) + 16;
-    let mut frontier = Frontier::new(alloc, base, stride)?;
+    frontier.restart(base, stride)?;
     let look = frontier.look(errand, 0, errand.first, errand.loc);
     frontier.meet(errand, 0, errand.first, errand.loc, 0, left, look)?;
     for _ in 0..u64::MAX {
         let Some((bound, index)) = frontier.queue.pop() else {
-            return Ok(Found {
-                path: None,
-                expanded: frontier.expanded,
-            });
+            return Ok(None);
         };
         if frontier.is_end(errand, index) {
             let path = walk_back(alloc, errand, &frontier.nodes, index)?;
-            return Ok(Found {
-                path: Some(path),
-                expanded: frontier.expanded,
-            });
+            return Ok(Some(path));
         }
         frontier.expand(errand, index, bound)?;
     }

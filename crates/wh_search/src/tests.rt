@@ -1,6 +1,8 @@
 //! Small errands on a floor of rows `.....` and `@.@@@`, and one on an open floor.
 
-use crate::{Fault, deliver, deliver_guided, guided_steps, layers, park};
+use crate::{
+    Fault, SearchMemory, deliver, deliver_guided, deliver_in, guided_steps, layers, park, park_in,
+};
 use std::process::Abort;
 use std::test::Fail;
 use wh_field::Field;
@@ -105,6 +107,11 @@ fn parks(rt: HostRuntime) -> Result<(), Fail> {
     let allowed = [at(4), Cell { x: 1, y: 1 }];
     let nearest = park(rt.alloc(), &grid, &others, loc, &allowed);
     assert_eq!(&rt; last(&rt, nearest)?, Some(2));
+    let mut memory = SearchMemory::empty(rt.alloc());
+    let first = park_in(rt.alloc(), &mut memory, &grid, &others, loc, &[at(4)]);
+    assert_eq!(&rt; last(&rt, first)?, None);
+    let again = park_in(rt.alloc(), &mut memory, &grid, &others, loc, &allowed);
+    assert_eq!(&rt; last(&rt, again)?, Some(2));
     let plainly = layers::park(rt.alloc(), &grid, &others, loc, &allowed);
     assert_eq!(&rt; last(&rt, plainly)?, Some(2));
     Ok(())
@@ -169,11 +176,12 @@ fn compare_all<R: Abort + AllocGlobal>(rt: &R, other: &[(u16, u16)]) -> Result<C
     let others = Reservations::build(rt.alloc(), &paths, 0, false)?;
     let cells = [at(0), at(1), at(2), at(3), at(4), Cell { x: 1, y: 1 }];
     let mut count = Compared { all: 0, none: 0 };
+    let mut memory = SearchMemory::empty(rt.alloc());
     for loc in cells {
         if grid.passable(loc) && others.may_rest(loc, 0) {
             for pickup in cells {
                 for delivery in cells {
-                    let plain = agreed(rt, &grid, &others, loc, pickup, delivery)?;
+                    let plain = agreed(rt, &mut memory, &grid, &others, loc, pickup, delivery)?;
                     count.all = count.all.saturating_add(1);
                     if plain.is_none() {
                         count.none = count.none.saturating_add(1);
@@ -185,9 +193,10 @@ fn compare_all<R: Abort + AllocGlobal>(rt: &R, other: &[(u16, u16)]) -> Result<C
     Ok(count)
 }
 
-/// The last index of what all three searches find.
+/// The last index of what all the searches find, one of them in kept memory.
 fn agreed<R: Abort + AllocGlobal>(
     rt: &R,
+    memory: &mut SearchMemory,
     grid: &Grid,
     others: &Reservations,
     loc: Cell,
@@ -203,6 +212,8 @@ fn agreed<R: Abort + AllocGlobal>(
     let fields = [Some(&first), Some(&second)];
     let guided = deliver_guided(rt.alloc(), grid, others, loc, &stops, &fields);
     assert_eq!(rt; last(rt, guided)?, plain);
+    let kept = deliver_in(rt.alloc(), memory, grid, others, loc, &stops, &fields);
+    assert_eq!(rt; last(rt, kept)?, plain);
     assert_eq!(rt;
         last(rt, deliver(rt.alloc(), grid, others, loc, &stops))?,
         plain

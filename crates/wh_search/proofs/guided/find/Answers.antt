@@ -50,9 +50,9 @@ returns-clause-found c =
     let via = take n stops in
     let ends = take (length stops - n) (drop n stops) in
     ok_weaker c.search.result
-    (λ found. MatchOption found.path ((q : List Cell) → IsTour g o c.args.loc via ends q → ⊥) (λ p. IsLeastTour g o c.args.loc via ends p))
-    (λ found. MatchOption found.path ((q : List Cell) → IsDelivery g o c.args.loc stops q → ⊥) (λ p. IsLeast g o c.args.loc stops p))
-    (λ found h. path_weaker g o c.args.loc stops via ends found.path c.requires.stops.0 refl (last_part stops) h) c.search.ensures.found
+    (λ found. MatchOption found ((q : List Cell) → IsTour g o c.args.loc via ends q → ⊥) (λ p. IsLeastTour g o c.args.loc via ends p))
+    (λ found. MatchOption found ((q : List Cell) → IsDelivery g o c.args.loc stops q → ⊥) (λ p. IsLeast g o c.args.loc stops p))
+    (λ found h. path_weaker g o c.args.loc stops via ends found c.requires.stops.0 refl (last_part stops) h) c.search.ensures.found
 
 pub returns-clause-expanded : goal.returns-clause-expanded
 returns-clause-expanded c =
@@ -63,7 +63,7 @@ returns-clause-expanded c =
     let Expanded : ℕ → List Moment → Type 0 = AreExpanded g o (take (length stops - 1) stops) c.args.loc (stops_estimate c.args.fields.now onward) c.in-Some.soonest in
     let on : IsOnward c.args.fields.now stops onward = subst (IsOnward c.args.fields.now stops) (sym c.deref.ensures.value) c.in_ok-onward.ensures in
     ok_weaker c.search.result
-    (λ found. IfSome found.path (λ p. Expanded (last_index p) found.expanded.items))
-    (λ found. IfSome found.path (λ p. IsSearch g o c.args.loc stops c.args.fields.now (last_index p) found.expanded.items))
-    (λ found h. some_weaker found.path (λ p. Expanded (last_index p) found.expanded.items) (λ p. IsSearch g o c.args.loc stops c.args.fields.now (last_index p) found.expanded.items)
+    (λ found. IfSome found (λ p. Expanded (last_index p) c.search.new.frontier.expanded.items))
+    (λ found. IfSome found (λ p. IsSearch g o c.args.loc stops c.args.fields.now (last_index p) c.search.new.frontier.expanded.items))
+    (λ found h. some_weaker found (λ p. Expanded (last_index p) c.search.new.frontier.expanded.items) (λ p. IsSearch g o c.args.loc stops c.args.fields.now (last_index p) c.search.new.frontier.expanded.items)
     (λ p x. record { onward = onward; by_fields = on; soonest = c.in-Some.soonest; not_sooner = c.in-Some.ensures.some; expanded = x }) h) c.search.ensures.expanded

@@ -30,6 +30,6 @@ returns c =
     let o = c.args.others.now in
     let ends = c.args.allowed.now in
     ok_weaker c.search.result
-    (λ found. MatchOption found.path ((q : List Cell) → IsTour g o c.args.loc [] ends q → ⊥) (λ p. IsLeastTour g o c.args.loc [] ends p))
-    (λ found. MatchOption found.path ((q : List Cell) → IsParking g o c.args.loc ends q → ⊥) (λ p. IsLeastParking g o c.args.loc ends p))
-    (λ found h. parking_weaker g o c.args.loc ends found.path h) c.search.ensures.found
+    (λ found. MatchOption found ((q : List Cell) → IsTour g o c.args.loc [] ends q → ⊥) (λ p. IsLeastTour g o c.args.loc [] ends p))
+    (λ found. MatchOption found ((q : List Cell) → IsParking g o c.args.loc ends q → ⊥) (λ p. IsLeastParking g o c.args.loc ends p))
+    (λ found h. parking_weaker g o c.args.loc ends found h) c.search.ensures.found

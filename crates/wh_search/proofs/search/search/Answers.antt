@@ -13,8 +13,8 @@ loop-init c =
     let p = problem e in
     let n : Node = record { time = 0; leg = e.first; cell = e.loc; parent = 0 } in
     let nodes = c.meet.new.self.nodes.items in
-    let first = c.in_ok-frontier.ensures in
-    let queue = c.in_ok-frontier.frontier.queue in
+    let first = c.in_ok-restart.ensures in
+    let queue = c.restart.new.self.queue in
     let m : Meets p [] queue nodes c.meet.new.self.queue n = subst (λ (x : List Node). Meets p x queue nodes c.meet.new.self.queue n) first.nodes c.in_ok-meet.ensures.met in (
       kept_first p nodes queue c.meet.new.self.queue n refl refl h.arrives.few h.inside (errand_falls e h 0 p.start h.arrives.few h.inside) first.sound (omega (arith, first.base, c.max-base.ensures, c.estimate-left.ensures)) first.none m,
       subst (IsTold p nodes c.meet.new.self.queue None) (sym (c.in_ok-meet.ensures.expanded ∙ first.expanded))
