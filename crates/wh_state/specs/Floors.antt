@@ -1,5 +1,6 @@
 use Rattle.std.specs.Prelude.{◌≡◌, ℕ, ◌<◌, ◌≤◌, List, [], ◌∷◌, false, Some, length, map, slice_get, All}
 use Rattle.wh_grid.specs.declared.cell.Cell.{Cell}
+use Rattle.wh_path.specs.Paths.{ends}
 use Rattle.wh_tasks.specs.declared.task.Task.{Task}
 use Rattle.wh_tasks.specs.declared.task.Load.{Load}
 use Rattle.wh_tasks.specs.Tasks.{IsTask, visited, load_for}
@@ -20,9 +21,10 @@ pub record AreTied (loads : List Load) (tasks : List Task) : Type 0 where
       slice_get loads agent ≡ Some (load_for n task)
 
 -- what a floor keeps
-pub record IsSound (clock : ℕ) (paths : List (List Cell)) (loads : List Load) (slots : List ℕ) (tasks : List Task) : Type 0 where
+pub record IsSound (clock : ℕ) (paths : List (List Cell)) (cells : List Cell) (loads : List Load) (slots : List ℕ) (tasks : List Task) : Type 0 where
   pub clock_fits : clock ≤ 1000000000
   pub few : length paths ≤ 256
+  pub ends_each : cells ≡ ends paths
   pub loads_each : length loads ≡ length paths
   pub slots_each : length slots ≡ length paths
   pub tied : AreTied loads tasks

@@ -3,7 +3,6 @@
 
 ghost use Rattle.std.specs.Prelude.{◌≡◌, ◌≢◌, ℕ, ◌+◌, ◌-◌, ◌<◌, ◌≤◌, List, [], ◌∷◌, ◌++◌, length, map, IfOk, OnOk, OnErr, Some, slice_get, IsTrue, ◌↔◌, All};
 ghost use Rattle.wh_path.specs.Paths.{advanced, end, ends, others};
-ghost use Rattle.wh_tasks.specs.Marks.{IsInside};
 ghost use Rattle.wh_tasks.specs.declared.task.Load.{Load as Burden};
 ghost use Rattle.wh_tasks.specs.declared.task.Task.{Task as Job};
 ghost use Rattle.wh_tasks.specs.Tasks.{IsTask, IsOpen};
@@ -13,17 +12,19 @@ ghost use Rattle.wh_state.specs.Floors.{Standing, standing_at};
 use crate::arrivals::{Arrivals, arrive_all, foretell_all};
 use std::alloc::{AllocError, Global};
 use std::marker::Model;
-use wh_grid::Cell;
+use wh_grid::{Cell, Grid};
 use wh_path::TimedPath;
-use wh_tasks::{EndSet, Load, Places, TaskSet};
+use wh_tasks::{EndSet, Load, PathEnds, Places, TaskSet};
 use wh_text::Name;
 
-/// The state of the warehouse. For each agent it has a path from now on, a load, and its planner's slots.
+/// The state of the warehouse. For each agent it has a path from now on, the cell where that ends, a load, and its
+/// planner's slots.
 #[derive(Drop)]
 pub struct Floor {
     clock: u32,
     closed: bool,
     paths: Vec<TimedPath>,
+    ends: PathEnds,
     loads: Vec<Load>,
     slots: Vec<u32>,
     tasks: TaskSet,
@@ -46,13 +47,14 @@ impl Model for Floor {
       room = f.tasks.room;
     } };
 
-    ghost invariant = { λ f. IsSound f.clock f.paths.items f.loads.items f.slots.items f.tasks.tasks };
+    ghost invariant = { λ f. IsSound f.clock f.paths.items f.ends f.loads.items f.slots.items f.tasks.tasks };
 }
 
 impl Floor {
-    /// The floor at the opening: each agent stands at its start and has no load, and there are no tasks.
+    /// The floor of a grid at the opening: each agent stands at its start and has no load, and there are no tasks.
     pub fn open(
         alloc: Global,
+        grid: &Grid,
         clock: u32,
         starts: &[Cell],
         slots: Vec<u32>,
@@ -68,10 +70,12 @@ impl Floor {
             paths.push(TimedPath::one(alloc, *start)?)?;
             loads.push(Load::None)?;
         }
+        let ends = PathEnds::of(alloc, grid.width(), grid.height(), starts)?;
         Ok(Floor {
             clock,
             closed: false,
             paths,
+            ends,
             loads,
             slots,
             tasks: TaskSet::new(alloc),
@@ -125,20 +129,12 @@ impl Floor {
         }
     }
 
-    /// Puts the cells where the paths of all agents but this one end into a set, in place of what it has.
-    pub fn other_ends(&self, agent: u32, marks: &mut EndSet)
+    /// The cells where the paths of all agents but this one end. It takes constant time.
+    pub fn other_ends(&self, agent: u32) -> EndSet<'_>
         requires known { agent < length self.now.state.paths }
-        requires inside { All (λ path. IsInside marks.old.width marks.old.height (end path)) self.now.state.paths }
-        requires room { length self.now.state.paths ≤ marks.old.room + length marks.old.cells }
-        ensures cells { marks.new.cells ≡ ends (others self.now.state.paths agent) }
-        ensures width { marks.new.width ≡ marks.old.width }
-        ensures height { marks.new.height ≡ marks.old.height }
-        ensures room { marks.new.room + length marks.new.cells ≡ marks.old.room + length marks.old.cells }
+        ensures { result ≡ ends (others self.now.state.paths agent) }
     {
-        let paths = self.paths.as_slice();
-        marks.clear();
-        add_ends(marks, &paths[..agent as usize]);
-        add_ends(marks, &paths[agent as usize + 1..]);
+        self.ends.but(agent)
     }
 
     /// The tasks.
@@ -205,6 +201,7 @@ impl Floor {
         requires { agent < length self.old.state.paths }
         ensures { self.new.state ≡ adopted agent path self.old.state }
     {
+        self.ends.set(agent, path.end());
         self.paths[agent as usize] = path;
     }
 
@@ -223,7 +220,7 @@ impl Floor {
         self.closed = true;
     }
 
-    /// One step of time, without the arrivals.
+    /// One step of time, without the arrivals. No path ends elsewhere.
     fn step(&mut self)
         requires { self.old.state.clock < 1000000000 }
         ensures state { self.new.state ≡ moved self.old.state }
@@ -251,6 +248,7 @@ impl Floor {
         ensures { (task : Job) × IsTask self.old.state.tasks n task × (self.new.state ≡ adopted agent path (assigned agent n task self.old.state)) }
     {
         let _task = self.tasks.task(n);
+        self.ends.set(agent, path.end());
         self.paths[agent as usize] = path;
         self.loads[agent as usize] = Load::Fetching(n);
         self.tasks.assign(n, agent);
@@ -263,16 +261,5 @@ fn advance_all(paths: &mut [TimedPath])
 {
     for path in paths.iter_mut() {
         path.advance();
-    }
-}
-
-/// Puts the cells where these paths end into a set.
-fn add_ends(marks: &mut EndSet, paths: &[TimedPath])
-    requires inside { All (λ path. IsInside marks.old.width marks.old.height (end path)) paths.now }
-    requires room { length paths.now ≤ marks.old.room }
-    ensures { marks.new ≡ record marks.old { cells = marks.old.cells ++ map end paths.now; room = marks.old.room - length paths.now } }
-{
-    for path in paths {
-        marks.add(path.end());
     }
 }

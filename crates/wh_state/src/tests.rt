@@ -7,9 +7,9 @@ use crate::{Arrivals, Floor};
 use std::alloc::{AllocError, Global};
 use std::process::Abort;
 use std::test::Fail;
-use wh_grid::Cell;
+use wh_grid::{Cell, Grid};
 use wh_path::TimedPath;
-use wh_tasks::{Counts, EndSet, Load, Phase, Places};
+use wh_tasks::{Counts, Load, Phase, Places};
 use wh_text::Name;
 
 fn at(x: u16, y: u16) -> Cell
@@ -18,14 +18,15 @@ fn at(x: u16, y: u16) -> Cell
     Cell { x, y }
 }
 
-/// A floor with an agent at each of these cells, at clock 0.
+/// A floor of five columns and three rows with an agent at each of these cells, at clock 0.
 fn floor_with(rt: &impl Abort, alloc: Global, starts: &[Cell]) -> Result<Floor, AllocError> {
     let mut slots = Vec::new(alloc);
     for _ in 0..starts.len() {
         slots.push(4)?;
     }
     assert!(rt; starts.len() <= 256 && slots.len() == starts.len());
-    Floor::open(alloc, 0, starts, slots)
+    let grid = Grid::new(5, 3, vec![in alloc; true; 15]?);
+    Floor::open(alloc, &grid, 0, starts, slots)
 }
 
 /// Submits a task with these stops.
@@ -58,6 +59,27 @@ fn take(
     assert!(rt; floor.tasks().is_open(n));
     floor.take(agent, n, path);
     Ok(())
+}
+
+/// An agent goes over these cells.
+fn park(
+    rt: &impl Abort,
+    alloc: Global,
+    floor: &mut Floor,
+    agent: u32,
+    cells: &[Cell],
+) -> Result<(), AllocError> {
+    assert!(rt; !cells.is_empty());
+    let path = TimedPath::over(Vec::from_slice(alloc, cells)?);
+    assert!(rt; (agent as usize) < floor.paths().len());
+    floor.park(agent, path);
+    Ok(())
+}
+
+/// Whether an agent may choose a task.
+fn eligible(rt: &impl Abort, floor: &Floor, agent: u32, n: u32) -> bool {
+    assert!(rt; (agent as usize) < floor.paths().len());
+    floor.tasks().eligible(n, &floor.other_ends(agent))
 }
 
 /// The next tick's arrivals.
@@ -218,12 +240,15 @@ fn ends_of_others(rt: HostRuntime) -> Result<(), Fail> {
     let mut floor = floor_with(&rt, alloc, &[at(1, 0), at(3, 0)])?;
     submit(&rt, alloc, &mut floor, &[at(1, 0), at(4, 1), at(1, 2)])?;
     submit(&rt, alloc, &mut floor, &[at(1, 0), at(3, 0), at(1, 2)])?;
-    let mut ends = EndSet::new(alloc, 5, 3, 2)?;
-    ends.add(at(3, 0));
-    assert!(rt; floor.tasks().eligible(0, &ends));
-    assert!(rt; !floor.tasks().eligible(1, &ends));
-    assert!(rt; !floor.tasks().eligible(2, &ends));
-    ends.clear();
-    assert!(rt; floor.tasks().eligible(1, &ends));
+    assert!(rt; eligible(&rt, &floor, 0, 0));
+    assert!(rt; !eligible(&rt, &floor, 0, 1));
+    assert!(rt; !eligible(&rt, &floor, 0, 2));
+    assert!(rt; !eligible(&rt, &floor, 1, 0));
+    park(&rt, alloc, &mut floor, 1, &[at(3, 0), at(3, 1)])?;
+    assert!(rt; eligible(&rt, &floor, 0, 1));
+    tick(&rt, &mut floor);
+    assert!(rt; eligible(&rt, &floor, 0, 1));
+    take(&rt, alloc, &mut floor, 1, 1, &[at(3, 1), at(4, 1)])?;
+    assert!(rt; !eligible(&rt, &floor, 0, 0));
     Ok(())
 }

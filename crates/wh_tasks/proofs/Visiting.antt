@@ -18,7 +18,7 @@ pub bool_cases : (b : Bool) → (b ≡ true) ⊎ (b ≡ false)
 bool_cases true = inl refl
 bool_cases false = inr refl
 
-is_cell-same : (c d : Cell) → is_cell c d ≡ true → c ≡ d
+pub is_cell-same : (c d : Cell) → is_cell c d ≡ true → c ≡ d
 is_cell-same c d e = grind arith
 
 is_cell-other : (c d : Cell) → is_cell c d ≡ false → c ≢ d

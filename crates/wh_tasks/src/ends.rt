@@ -1,8 +1,8 @@
-//! A set of cells that answers in constant time.
+//! The cells at which paths end, with a count of them for each cell of the grid.
 #![tactic(auto)]
 
-ghost use Rattle.std.specs.Prelude.{◌≡◌, ◌+◌, ◌-◌, ◌*◌, ◌<◌, ◌≤◌, ◌↔◌, [], ◌∷◌, ◌++◌, length, IsTrue, IfOk, Contains};
-ghost use Rattle.wh_tasks.specs.Marks.{Ends, IsInside, IsMarked};
+ghost use Rattle.std.specs.Prelude.{◌≡◌, ℕ, ◌+◌, ◌*◌, ◌<◌, ◌≤◌, ◌↔◌, length, IsTrue, IfOk, IfNone, IfSome, Contains, remove, slice_set, slice_index_or};
+ghost use Rattle.wh_tasks.specs.Ends.{IsInside, IsRaised, count_of, times};
 
 use std::alloc::{AllocError, Global};
 use std::marker::Model;
@@ -16,88 +16,166 @@ struct Sides {
 }
 
 impl Sides {
-    /// Where the mark of a cell stands.
-    fn place(self, cell: Cell) -> usize
-        requires { IsInside self.width self.height cell }
-        ensures place { result ≡ cell.y * self.width + cell.x }
-        ensures within { result < self.width * self.height }
+    /// Where the count of a cell stands. A cell outside the sides has none.
+    fn place(self, cell: Cell) -> Option<usize>
+        ensures inside { IfSome result (λ place. IsInside self.width self.height cell × (place ≡ cell.y * self.width + cell.x) × (place < self.width * self.height)) }
+        ensures outside { IfNone result (¬ IsInside self.width self.height cell) }
     {
-        cell.y as usize * self.width as usize + cell.x as usize
+        if cell.x < self.width && cell.y < self.height {
+            Some(cell.y as usize * self.width as usize + cell.x as usize)
+        } else {
+            None
+        }
     }
 }
 
-/// The cells at which other paths end: a mark for each cell of the grid, row by row, and the list of those marked.
-/// Whether a cell is in it takes constant time, and to empty it takes as long as it has cells.
+/// The cell at which each path ends, and for each cell of the grid, row by row, how many end there. Whether others than
+/// one of them end at a cell takes constant time, and so does a change. It takes memory only when it is made.
 #[derive(Drop)]
-pub struct EndSet {
+pub struct PathEnds {
     sides: Sides,
-    marks: Vec<bool>,
+    counts: Vec<u16>,
     cells: Vec<Cell>,
 }
 
-impl Model for EndSet {
-    ghost use Rattle.std.specs.Prelude.{◌-◌, vec_capacity, vec_len};
-    ghost use Rattle.wh_tasks.specs.Marks.{Ends, IsMarked};
+impl Model for PathEnds {
+    ghost use Rattle.std.specs.Prelude.{List};
+    ghost use Rattle.wh_grid.specs.declared.cell.Cell.{Cell as Place};
+    ghost use Rattle.wh_tasks.specs.Ends.{IsCounted};
 
-    ghost Value = { Ends };
+    ghost Value = { List Place };
 
-    ghost view = { λ e. record { width = e.sides.width; height = e.sides.height; cells = e.cells.items; room = vec_capacity e.cells - vec_len e.cells } };
+    ghost view = { λ e. e.cells.items };
 
-    ghost invariant = { λ e. IsMarked e.sides.width e.sides.height e.marks.items e.cells.items };
+    ghost invariant = { λ e. IsCounted e.sides.width e.sides.height e.counts.items e.cells.items };
 }
 
-impl EndSet {
-    /// The empty set over a grid of these sides, with room for so many cells. The error comes where memory is wanting; no
-    /// other call takes memory.
-    pub fn new(alloc: Global, width: u16, height: u16, most: usize) -> Result<EndSet, AllocError>
-        ensures { IfOk result (λ ends. ends ≡ record { width = width; height = height; cells = []; room = most }) }
+impl PathEnds {
+    /// The ends of paths on a grid of these sides. The error comes where memory is wanting.
+    pub fn of(
+        alloc: Global,
+        width: u16,
+        height: u16,
+        cells: &[Cell],
+    ) -> Result<PathEnds, AllocError>
+        requires few { length cells.now ≤ 65535 }
+        ensures { IfOk result (λ ends. ends ≡ cells.now) }
     {
-        let marks = vec![in alloc; false; width as usize * height as usize]?;
-        let cells = Vec::with_capacity(alloc, most)?;
-        Ok(EndSet {
-            sides: Sides { width, height },
-            marks,
+        let sides = Sides { width, height };
+        let mut counts = vec![in alloc; 0u16; width as usize * height as usize]?;
+        for cell in cells {
+            raise(&mut counts, sides, *cell);
+        }
+        let cells = Vec::from_slice(alloc, cells)?;
+        Ok(PathEnds {
+            sides,
+            counts,
             cells,
         })
     }
 
-    /// Whether the cell is in it.
-    pub fn has(&self, cell: Cell) -> bool
-        ensures { IsTrue result ↔ Contains self.now.cells cell }
+    /// The path of an agent ends at this cell from now on.
+    pub fn set(&mut self, agent: u32, cell: Cell)
+        requires { agent < length self.old }
+        ensures { self.new ≡ slice_set self.old agent cell }
     {
-        if cell.x < self.sides.width && cell.y < self.sides.height {
-            self.marks[self.sides.place(cell)]
-        } else {
-            false
+        let before = self.cells[agent as usize];
+        lower(&mut self.counts, self.sides, before);
+        raise(&mut self.counts, self.sides, cell);
+        self.cells[agent as usize] = cell;
+    }
+
+    /// The ends of the paths of all agents but this one.
+    pub fn but(&self, agent: u32) -> EndSet<'_>
+        requires { agent < length self.now }
+        ensures { result ≡ remove self.now agent }
+    {
+        EndSet {
+            all: self,
+            but: agent as usize,
+            own: self.cells[agent as usize],
         }
     }
 
-    /// Puts a cell in. It takes no memory.
-    pub fn add(&mut self, cell: Cell)
-        requires inside { IsInside self.old.width self.old.height cell }
-        requires room { 1 ≤ self.old.room }
-        ensures { self.new ≡ record self.old { cells = self.old.cells ++ cell ∷ []; room = self.old.room - 1 } }
+    /// How many paths end at the cell. A cell outside the sides has no count.
+    fn count(&self, cell: Cell) -> Option<u16>
+        ensures { IfSome result (λ count. count ≡ times cell self.now) }
     {
-        let place = self.sides.place(cell);
-        self.marks[place] = true;
-        self.cells.push_reserved(cell);
-    }
-
-    /// Takes all cells out.
-    pub fn clear(&mut self)
-        ensures { self.new ≡ record self.old { cells = []; room = self.old.room + length self.old.cells } }
-    {
-        unmark(&mut self.marks, self.sides, &self.cells);
-        self.cells.clear();
+        let place = self.sides.place(cell)?;
+        Some(self.counts[place])
     }
 }
 
-/// Takes the marks of the cells away, which are all that are set.
-fn unmark(marks: &mut [bool], sides: Sides, cells: &[Cell])
-    requires { IsMarked sides.width sides.height marks.old cells.now }
-    ensures { IsMarked sides.width sides.height marks.new [] }
+/// The ends of all paths but one.
+#[derive(Drop)]
+pub struct EndSet<'a> {
+    all: &'a PathEnds,
+    but: usize,
+    own: Cell,
+}
+
+impl<'a> Model for EndSet<'a> {
+    ghost use Rattle.std.specs.Prelude.{◌≡◌, ◌<◌, List, length, remove, slice_index_or};
+    ghost use Rattle.wh_grid.specs.declared.cell.Cell.{Cell as Place};
+
+    ghost Value = { List Place };
+
+    ghost view = { λ e. remove e.all.now e.but };
+
+    ghost invariant = { λ e. (e.but < length e.all.now) × (slice_index_or e.all.now e.but e.own ≡ e.own) };
+}
+
+impl<'a> EndSet<'a> {
+    /// Whether any of these paths ends at the cell.
+    pub fn has(&self, cell: Cell) -> bool
+        ensures { IsTrue result ↔ Contains self.now cell }
+    {
+        match self.all.count(cell) {
+            Some(count) => u16::from(cell.is(self.own)) < count,
+            None => self.lists(cell),
+        }
+    }
+
+    /// The same, by going over the list.
+    fn lists(&self, cell: Cell) -> bool
+        ensures { IsTrue result ↔ Contains self.now cell }
+    {
+        let all = self.all;
+        let cells = all.cells.as_slice();
+        is_among(&cells[..self.but], cell) || is_among(&cells[self.but + 1..], cell)
+    }
+}
+
+/// Whether the cell is one of these.
+fn is_among(cells: &[Cell], cell: Cell) -> bool
+    ensures { IsTrue result ↔ Contains cells.now cell }
 {
-    for cell in cells {
-        marks[sides.place(*cell)] = false;
+    for other in cells {
+        if other.is(cell) {
+            return true;
+        }
+    }
+    false
+}
+
+/// One path more ends at the cell.
+fn raise(counts: &mut [u16], sides: Sides, cell: Cell)
+    requires size { length counts.old ≡ sides.width * sides.height }
+    requires fits { IsInside sides.width sides.height cell → count_of sides.width counts.old cell < 65535 }
+    ensures { IsRaised sides.width sides.height counts.old counts.new cell }
+{
+    if let Some(place) = sides.place(cell) {
+        counts[place] += 1;
+    }
+}
+
+/// One path less ends at the cell.
+fn lower(counts: &mut [u16], sides: Sides, cell: Cell)
+    requires size { length counts.old ≡ sides.width * sides.height }
+    requires some { IsInside sides.width sides.height cell → 0 < count_of sides.width counts.old cell }
+    ensures { IsRaised sides.width sides.height counts.new counts.old cell }
+{
+    if let Some(place) = sides.place(cell) {
+        counts[place] -= 1;
     }
 }

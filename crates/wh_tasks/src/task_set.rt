@@ -155,7 +155,7 @@ impl TaskSet {
 
     /// Whether an agent may choose the task of a number, where the others' paths have these ends.
     pub fn eligible(&self, n: u32, ends: &EndSet) -> bool
-        ensures { IsTrue result ↔ ((task : Job) × IsEligible self.now.tasks ends.now.cells n task) }
+        ensures { IsTrue result ↔ ((task : Job) × IsEligible self.now.tasks ends.now n task) }
     {
         match self.tasks.get(n as usize) {
             None => false,
@@ -167,8 +167,8 @@ impl TaskSet {
     /// first stops of those that may be chosen are sought, and of those as near as the nearest of them the first is taken.
     /// The field is not asked for what lies farther.
     pub fn nearest<F: Distances>(&self, field: &mut F, ends: &EndSet) -> Option<u32>
-        ensures none { IfNone result (NoneEligible self.now.tasks ends.now.cells) }
-        ensures nearest { IfSome result (λ n. (task : Job) × IsNearest (F.grid field.old) self.now.tasks ends.now.cells (F.source field.old) n task) }
+        ensures none { IfNone result (NoneEligible self.now.tasks ends.now) }
+        ensures nearest { IfSome result (λ n. (task : Job) × IsNearest (F.grid field.old) self.now.tasks ends.now (F.source field.old) n task) }
         ensures grid { F.grid field.new ≡ F.grid field.old }
         ensures source { F.source field.new ≡ F.source field.old }
     {
@@ -184,9 +184,9 @@ impl TaskSet {
     /// From now on the field seeks the first stops of the tasks that may be chosen, and no other cell. Answers the first of
     /// these tasks.
     fn seek<F: Distances>(&self, field: &mut F, ends: &EndSet) -> Option<u32>
-        ensures none { IfNone result (NoneEligible self.now.tasks ends.now.cells) }
-        ensures first { IfSome result (λ n. (task : Job) × IsFirst self.now.tasks ends.now.cells n task) }
-        ensures sought { AreSought (F.grid field.old) self.now.tasks ends.now.cells (F.sought field.new) }
+        ensures none { IfNone result (NoneEligible self.now.tasks ends.now) }
+        ensures first { IfSome result (λ n. (task : Job) × IsFirst self.now.tasks ends.now n task) }
+        ensures sought { AreSought (F.grid field.old) self.now.tasks ends.now (F.sought field.new) }
         ensures grid { F.grid field.new ≡ F.grid field.old }
         ensures source { F.source field.new ≡ F.source field.old }
     {
@@ -204,8 +204,8 @@ impl TaskSet {
 
     /// The first of the tasks that may be chosen and are at most so far away.
     fn first_within<F: Distances>(&self, field: &mut F, ends: &EndSet, limit: u32) -> Option<u32>
-        ensures none { IfNone result (NoneWithin (F.grid field.old) self.now.tasks ends.now.cells (F.source field.old) limit) }
-        ensures first { IfSome result (λ n. (task : Job) × IsFirstWithin (F.grid field.old) self.now.tasks ends.now.cells (F.source field.old) limit n task) }
+        ensures none { IfNone result (NoneWithin (F.grid field.old) self.now.tasks ends.now (F.source field.old) limit) }
+        ensures first { IfSome result (λ n. (task : Job) × IsFirstWithin (F.grid field.old) self.now.tasks ends.now (F.source field.old) limit n task) }
         ensures grid { F.grid field.new ≡ F.grid field.old }
         ensures source { F.source field.new ≡ F.source field.old }
     {
@@ -260,7 +260,7 @@ impl TaskSet {
 
 /// Whether none of the cells is among the ends.
 fn none_in(cells: &[Cell], ends: &EndSet) -> bool
-    ensures { IsTrue result ↔ All (λ cell. ¬ Contains ends.now.cells cell) cells.now }
+    ensures { IsTrue result ↔ All (λ cell. ¬ Contains ends.now cell) cells.now }
 {
     for cell in cells {
         if ends.has(*cell) {

@@ -2,7 +2,7 @@
 #![tactic(auto)]
 
 use crate::{
-    Arrived, Counts, Distances, EndSet, Foretold, Load, Phase, Places, TaskSet, Visit, arrive,
+    Arrived, Counts, Distances, Foretold, Load, PathEnds, Phase, Places, TaskSet, Visit, arrive,
     foretell, laws,
 };
 use std::process::Abort;
@@ -63,22 +63,35 @@ fn nearest_task_first(rt: HostRuntime) -> Result<(), Fail> {
     ]?;
     let grid = Grid::new(5, 3, rows);
     let mut lazy = LazyField::from(rt.alloc(), &grid, LEFT)?;
-    let mut ends = EndSet::new(rt.alloc(), 5, 3, 2)?;
+    let mut all = PathEnds::of(rt.alloc(), 5, 3, &[A, RIGHT])?;
     let mut set = TaskSet::new(rt.alloc());
-    assert_eq!(rt; set.nearest(&mut lazy, &ends), None);
+    assert_eq!(rt; set.nearest(&mut lazy, &all.but(0)), None);
     submit(&rt, &mut set, Places::of(&[D, C]))?;
     submit(&rt, &mut set, Places::of(&[A, B]))?;
-    assert_eq!(rt; set.nearest(&mut lazy, &ends), Some(1));
+    assert_eq!(rt; set.nearest(&mut lazy, &all.but(0)), Some(1));
     submit(&rt, &mut set, Places::of(&[C, D]))?;
-    assert_eq!(rt; set.nearest(&mut lazy, &ends), Some(1));
-    ends.add(B);
-    assert!(rt; ends.has(B) && !ends.has(A) && !ends.has(Cell { x: 3, y: 9 }));
+    assert_eq!(rt; set.nearest(&mut lazy, &all.but(0)), Some(1));
+    all.set(1, B);
+    let ends = all.but(0);
     assert!(rt; set.eligible(0, &ends) && !set.eligible(1, &ends) && !set.eligible(3, &ends));
     assert_eq!(rt; set.nearest(&mut lazy, &ends), Some(2));
-    ends.clear();
+    all.set(1, RIGHT);
     assign(&rt, &mut set, 1);
     lazy.turn(rt.alloc(), &grid, RIGHT)?;
-    assert_eq!(rt; set.nearest(&mut lazy, &ends), Some(0));
+    assert_eq!(rt; set.nearest(&mut lazy, &all.but(0)), Some(0));
+    Ok(())
+}
+
+#[test]
+fn ends_of_others(rt: HostRuntime) -> Result<(), Fail> {
+    let outside = Cell { x: 3, y: 9 };
+    let mut all = PathEnds::of(rt.alloc(), 5, 3, &[A, B, B])?;
+    assert!(rt; !all.but(0).has(A) && all.but(1).has(A) && all.but(1).has(B));
+    assert!(rt; !all.but(0).has(LEFT) && !all.but(0).has(outside));
+    all.set(2, outside);
+    assert!(rt; !all.but(1).has(B) && all.but(1).has(outside) && !all.but(2).has(outside));
+    all.set(2, A);
+    assert!(rt; all.but(0).has(A) && all.but(2).has(A) && !all.but(1).has(outside));
     Ok(())
 }
 
@@ -89,7 +102,8 @@ fn far_tasks(rt: HostRuntime) -> Result<(), Fail> {
     row[35] = false;
     let grid = Grid::new(40, 1, row);
     let mut lazy = LazyField::from(rt.alloc(), &grid, Cell { x: 0, y: 0 })?;
-    let ends = EndSet::new(rt.alloc(), 40, 1, 0)?;
+    let all = PathEnds::of(rt.alloc(), 40, 1, &[Cell { x: 0, y: 0 }])?;
+    let ends = all.but(0);
     let mut set = TaskSet::new(rt.alloc());
     for x in [37, 30, 20, 38] {
         submit(

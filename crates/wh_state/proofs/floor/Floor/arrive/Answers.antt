@@ -26,7 +26,7 @@ loads-kept c =
 pub invariant_of-self : goal.invariant_of-self
 invariant_of-self c =
     rw (loads-kept c, tasks-are c)
-    (sound-arrived c.self.inside.clock c.self.inside.paths.items c.self.inside.loads.items c.self.inside.slots.items c.self.inside.tasks.tasks c.self.invariant)
+    (sound-arrived c.self.inside.clock c.self.inside.paths.items c.self.inside.ends c.self.inside.loads.items c.self.inside.slots.items c.self.inside.tasks.tasks c.self.invariant)
 
 pub returns-clause-state : goal.returns-clause-state
 returns-clause-state c =

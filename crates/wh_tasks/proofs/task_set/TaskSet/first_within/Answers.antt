@@ -33,7 +33,7 @@ returns-then-none_in-clause-first g c =
     let clear = rw c.as_slice.ensures.value at c.if-none_in.ensures.0 refl in
     let within = rw items at c.loop-n-test.true in (
       task,
-      near-first grid tasks c.args.ends.now.cells source limit i (get_or c.deref-n-items.result.now i 0) some.0 task within (ap (λ ns. get_or ns i 0) items)
+      near-first grid tasks c.args.ends.now source limit i (get_or c.deref-n-items.result.now i 0) some.0 task within (ap (λ ns. get_or ns i 0) items)
           (record { there = c.task-task.ensures.task; is_open = listed-open tasks i task within there; clear = clear }) some.1.0 some.1.1 kept.holds,
     )
 
@@ -52,7 +52,7 @@ loop-n-preserved g c =
     record {
       grid = near.grid ∙ kept.grid;
       source = near.source ∙ kept.source;
-      holds = near-more grid c.args.self.now.tasks c.args.ends.now.cells source limit c.loop-n.n-index task (rw items at c.task-task.ensures.task)
+      holds = near-more grid c.args.self.now.tasks c.args.ends.now source limit c.loop-n.n-index task (rw items at c.task-task.ensures.task)
           (λ clear. elim c.else-is_some.branch [
             | else-is_some-via-then-is_some+else-none_in w ↦ (let no = (rw w.as_slice.ensures.value at w.if-none_in.ensures.1) clear in cc)
             | else-is_some-via-else-is_some w ↦ said-none c.within-near.result (IsBeyond grid source limit task) (sym w.if-is_some.ensures) farther
@@ -63,4 +63,4 @@ pub returns-clause-none : goal.returns-clause-none
 returns-clause-none g c =
     let items : c.deref-n-items.result.now ≡ open_from 0 c.args.self.now.tasks =
     c.deref-n-items.ensures.value ∙ c.self.invariant.numbers_are ∙ ap (λ s. open_from 0 s.tasks) c.self.view_is in
-    near-none (g.F.Distances.grid c.args.field.now) c.args.self.now.tasks c.args.ends.now.cells (g.F.Distances.source c.args.field.now) c.args.limit c.loop-n.n-index (rw items at c.loop-n-test.false) c.loop-n.invariant.holds
+    near-none (g.F.Distances.grid c.args.field.now) c.args.self.now.tasks c.args.ends.now (g.F.Distances.source c.args.field.now) c.args.limit c.loop-n.n-index (rw items at c.loop-n-test.false) c.loop-n.invariant.holds

@@ -1,8 +1,5 @@
-use Rattle.std.proofs.Common.{◌≡◌, ◌+◌, ◌<◌, ◌⊎◌, inl, inr, ℕ, Bool, true, false, length, ap, sym, ◌∙◌, refl, arith, vec_len}
-use Rattle.std.specs.Prelude.{IsTrue}
+use Rattle.std.proofs.Common.{◌≡◌, inl, inr, length, ap, sym, ◌∙◌, refl, arith, vec_len}
 use Rattle.std.proofs.lemmas.Bool.Decides.{eqb_tells}
-use Rattle.wh_tasks.specs.declared.task.Task.{Task}
-use Rattle.wh_tasks.specs.Tasks.{IsTask, IsOpen}
 use Rattle.wh_tasks.specs.Sets.{open_from}
 use Rattle.wh_tasks.proofs.Numbers.{open_from-listed, open_from-has}
 use Rattle.wh_tasks.proofs.task_set.TaskSet.has_open.Goals as goal

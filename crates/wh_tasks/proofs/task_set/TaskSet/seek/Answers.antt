@@ -18,7 +18,7 @@ loop-n-preserved g c =
     let kept = c.loop-n.invariant in
     let grid = g.F.Distances.grid c.args.field.now in
     let tasks = c.args.self.now.tasks in
-    let ends = c.args.ends.now.cells in
+    let ends = c.args.ends.now in
     let i = c.loop-n.n-index in
     let n = get_or c.deref-n-items.result.now i 0 in
     let task = c.task-task.result.now in
@@ -47,17 +47,17 @@ pub returns-clause-none : goal.returns-clause-none
 returns-clause-none g c =
     let items : c.deref-n-items.result.now ≡ open_from 0 c.args.self.now.tasks =
     c.deref-n-items.ensures.value ∙ c.self.invariant.numbers_are ∙ ap (λ s. open_from 0 s.tasks) c.self.view_is in
-    seek-none c.args.self.now.tasks c.args.ends.now.cells c.loop-n.n-index c.loop-n.first (rw items at c.loop-n-test.false) c.loop-n.invariant.holds.earliest
+    seek-none c.args.self.now.tasks c.args.ends.now c.loop-n.n-index c.loop-n.first (rw items at c.loop-n-test.false) c.loop-n.invariant.holds.earliest
 
 pub returns-clause-first : goal.returns-clause-first
 returns-clause-first g c =
     let items : c.deref-n-items.result.now ≡ open_from 0 c.args.self.now.tasks =
     c.deref-n-items.ensures.value ∙ c.self.invariant.numbers_are ∙ ap (λ s. open_from 0 s.tasks) c.self.view_is in
-    seek-first c.args.self.now.tasks c.args.ends.now.cells c.loop-n.n-index c.loop-n.first (rw items at c.loop-n-test.false) c.loop-n.invariant.holds.earliest
+    seek-first c.args.self.now.tasks c.args.ends.now c.loop-n.n-index c.loop-n.first (rw items at c.loop-n-test.false) c.loop-n.invariant.holds.earliest
 
 pub returns-clause-sought : goal.returns-clause-sought
 returns-clause-sought g c =
     let items : c.deref-n-items.result.now ≡ open_from 0 c.args.self.now.tasks =
     c.deref-n-items.ensures.value ∙ c.self.invariant.numbers_are ∙ ap (λ s. open_from 0 s.tasks) c.self.view_is in
-    sought-all (g.F.Distances.grid c.args.field.now) c.args.self.now.tasks c.args.ends.now.cells (g.F.Distances.sought c.loop-n.field) c.loop-n.n-index c.loop-n.first (rw items at c.loop-n-test.false)
+    sought-all (g.F.Distances.grid c.args.field.now) c.args.self.now.tasks c.args.ends.now (g.F.Distances.sought c.loop-n.field) c.loop-n.n-index c.loop-n.first (rw items at c.loop-n-test.false)
     c.loop-n.invariant.holds
