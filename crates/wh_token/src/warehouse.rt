@@ -413,7 +413,7 @@ impl<P: Planner> Warehouse<P> {
     {
         self.book.reserve_entry()?;
         if self.book.closed() {
-            let event = event_of(command, told);
+            let event = event_of(alloc, command, told)?;
             return self.book.refuse(alloc, caller, event, Refusal::Closed);
         }
         match command {
