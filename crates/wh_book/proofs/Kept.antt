@@ -1,15 +1,13 @@
 -- what is ready for the book, and what the laws give where it is prepared
-use Rattle.std.proofs.Common.{◌≡◌, ◌≢◌, ℕ, ◌<◌, ◌≤◌, ◌∙◌, List, [], ◌∷◌, ◌++◌, length, get_or, sym, subst, refl, ap, arith}
+use Rattle.std.proofs.Common.{◌≡◌, ◌≢◌, ℕ, ◌<◌, ◌≤◌, ◌∙◌, List, [], ◌∷◌, ◌++◌, length, sym, subst, refl, ap, arith}
 use Prim.Native.Nat.{suc}
 use Rattle.std.specs.Prelude.{Some, slice_get, All}
 use Rattle.std.proofs.lemmas.Option.{same_Some, slice_get-get_or}
-use Rattle.std.proofs.lemmas.List.{get_or_default}
 use Rattle.wh_grid.specs.declared.cell.Cell.{Cell}
-use Rattle.wh_path.specs.Paths.{end, AllFree, last_index}
+use Rattle.wh_path.specs.Paths.{AllFree}
 use Rattle.wh_points.specs.Points.{Site, IsLayout}
 use Rattle.wh_tasks.specs.declared.task.Task.{Task}
 use Rattle.wh_tasks.specs.declared.task.Load.{Load}
-use Rattle.wh_tasks.specs.Marks.{IsInside}
 use Rattle.wh_planner.specs.Duties.{IsLawful, Delivers}
 use Rattle.wh_core.specs.States.{State, opened, arrived, adopted, assigned}
 use Rattle.wh_core.specs.Steps.{Step, Run, IsDue, IsNext, last_clock}
@@ -57,16 +55,6 @@ run-more site old entries mid entry new run step = run-join site old entries mid
 -- the paths are free of each other, so that a planner may be asked
 pub kept-free : (site : Site) (opening : State) (history : List Entry) (state : State) → IsKept site opening history state → AllFree site.layout.nofollow state.paths
 kept-free site opening history state kept = (orderly-reached site history state (kept-reached site opening history state kept)).free
-
--- the paths end within the sides of the grid
-pub kept-inside : (site : Site) (opening : State) (history : List Entry) (state : State) → IsKept site opening history state →
-    All (λ path. IsInside site.grid.width site.grid.height (end path)) state.paths
-kept-inside site opening history state kept = λ k d lt.
-    let orderly = orderly-reached site history state (kept-reached site opening history state kept) in
-    let path = get_or state.paths k [] in
-    let passable = (orderly.course k lt).walk.passable (last_index path) in
-    let here : IsInside site.grid.width site.grid.height (end path) = record { in_width = passable.in_width; in_height = passable.in_height } in
-    subst (λ p. IsInside site.grid.width site.grid.height (end p)) (get_or_default state.paths k [] d lt) here
 
 -- an agent that may be given something to do has no load
 pub kept-idle : (site : Site) (opening : State) (history : List Entry) (state : State) (agent : ℕ) → IsKept site opening history state → IsDue state agent →

@@ -1,4 +1,4 @@
-use Rattle.std.specs.Prelude.{◌≡◌, ◌≢◌, ℕ, ◌+◌, ◌<◌, ◌≤◌, List, Some, length, slice_get, All, Contains}
+use Rattle.std.specs.Prelude.{◌≡◌, ◌≢◌, ℕ, ◌<◌, ◌≤◌, List, Some, length, slice_get, All, Contains}
 use Rattle.wh_points.specs.Points.{Layout, Site, IsPointCell}
 use Rattle.wh_tasks.specs.declared.task.Task.{Task}
 use Rattle.wh_tasks.specs.declared.task.Load.{Load}
@@ -6,8 +6,6 @@ use Rattle.wh_tasks.specs.Tasks.{IsTask, IsOpen}
 use Rattle.wh_core.specs.States.{State, arrived, submitted, adopted, assigned, moved, reseated, shut}
 use Rattle.wh_core.specs.Steps.{Step, Run, IsDeliveryCell, most_tasks, last_clock}
 use Rattle.wh_grid.specs.declared.cell.Cell.{Cell}
-use Rattle.wh_grid.specs.Grids.{Floor}
-use Rattle.wh_tasks.specs.Marks.{Ends}
 use Rattle.wh_core.specs.Laws.{IsOpening}
 use Rattle.wh_event.specs.declared.entry.Entry.{Entry}
 use Rattle.wh_event.specs.declared.event.Event.{Event}
@@ -95,9 +93,3 @@ pub record MayPark (layout : Layout) (s : State) (ends : List Cell) (cell : Cell
 -- no entry is a refusal for want of a path
 abbrev pub AllServed : List Entry → Type 0
 AllServed entries = All (λ entry. entry.reply ≢ Reply.Refused Refusal.NoPath) entries
-
--- the set of cells is over the grid, and has place for so many
-pub record Suits (ends : Ends) (g : Floor) (count : ℕ) : Type 0 where
-  pub width : ends.width ≡ g.width
-  pub height : ends.height ≡ g.height
-  pub place : count ≤ ends.room + length ends.cells

@@ -8,7 +8,7 @@ ghost use Rattle.wh_tasks.specs.declared.task.Task.{Task as Job};
 ghost use Rattle.wh_tasks.specs.Tasks.{IsTask};
 ghost use Rattle.wh_planner.specs.Duties.{IsLawful, Delivers, ParksAt};
 ghost use Rattle.wh_core.specs.States.{State, opened};
-ghost use Rattle.wh_core.specs.Steps.{Step, Run, Refuses, IsDue, IsNext, NoneIsNext, IsDeliveryCell, MakesWay, IsAllowed, other_ends, last_clock};
+ghost use Rattle.wh_core.specs.Steps.{Step, Run, Refuses, IsDue, IsNext, NoneIsNext, IsDeliveryCell, MakesWay, IsAllowed, last_clock};
 ghost use Rattle.wh_core.specs.Laws.{IsOpening};
 ghost use Rattle.wh_event.specs.declared.event.Event.{Event as Asked};
 ghost use Rattle.wh_grid.specs.declared.cell.Cell.{Cell as Place};
@@ -16,7 +16,7 @@ ghost use Rattle.wh_event.specs.declared.reply.Reply.{Reply as Answer};
 ghost use Rattle.wh_event.specs.declared.reply.Refusal.{Refusal as Reason};
 ghost use Rattle.wh_points.specs.Formed.{IsFormed};
 ghost use Rattle.wh_book.specs.Settings.{IsStop, faulty};
-ghost use Rattle.wh_book.specs.Drafts.{Seen, IsSame, IsReady, Drafts, Changes, CanChange, AllServed, Suits};
+ghost use Rattle.wh_book.specs.Drafts.{Seen, IsSame, IsReady, Drafts, Changes, CanChange, AllServed};
 
 use crate::choice::nearest;
 use crate::draft::{Change, Draft};
@@ -29,7 +29,7 @@ use wh_field::LazyField;
 use wh_grid::Cell;
 use wh_path::TimedPath;
 use wh_state::Floor;
-use wh_tasks::{EndSet, Load, TaskSet};
+use wh_tasks::{Load, TaskSet};
 use wh_text::Name;
 
 /// The state, the history that led to it, and what the opening state was made of.
@@ -81,7 +81,7 @@ impl Book {
         let _agents = setting.agents();
         let first_slots = Vec::from_slice(alloc, slots.as_slice())?;
         let starts = setting.starts(alloc)?;
-        let floor = Floor::open(alloc, clock, starts.as_slice(), slots)?;
+        let floor = Floor::open(alloc, setting.grid(), clock, starts.as_slice(), slots)?;
         Ok(Book {
             setting,
             first_clock: clock,
@@ -406,49 +406,23 @@ impl Book {
         Draft::new(alloc, entry, Change::Park { agent, path })
     }
 
-    /// An empty set of cells that suits the grid and the agents.
-    pub fn no_ends(&self, alloc: Global) -> Result<EndSet, AllocError>
-        ensures { IfOk result (λ marks. Suits marks self.now.site.grid (length self.now.state.paths)) }
-    {
-        let grid = self.setting.grid();
-        EndSet::new(alloc, grid.width(), grid.height(), self.paths().len())
-    }
-
-    /// Puts the cells where the others' paths end into the set, in place of what it has. It takes no memory.
-    pub fn other_ends(&self, agent: u32, marks: &mut EndSet)
+    /// The task that the agent takes. It takes no memory.
+    pub fn next(&self, agent: u32, near: &mut LazyField) -> Option<u32>
         requires known { agent < length self.now.state.paths }
-        requires suits { Suits marks.old self.now.site.grid (length self.now.state.paths) }
-        ensures suits { Suits marks.new self.now.site.grid (length self.now.state.paths) }
-        ensures ends { marks.new.cells ≡ other_ends self.now.state agent }
-    {
-        let _kept = &self.history;
-        self.floor.other_ends(agent, marks);
-    }
-
-    /// The task that the agent takes, where these are the others' ends. It takes no memory.
-    pub fn next(&self, agent: u32, near: &mut LazyField, marks: &EndSet) -> Option<u32>
-        requires known { agent < length self.now.state.paths }
-        requires marks { marks.now.cells ≡ other_ends self.now.state agent }
         requires over { near.old.grid ≡ self.now.site.grid }
         ensures grid { near.new.grid ≡ near.old.grid }
         ensures none { IfNone result (NoneIsNext self.now.state agent) }
         ensures nearest { IfSome result (λ n. (task : Job) × IsNext self.now.site self.now.state agent n task) }
     {
-        let _kept = &self.history;
-        nearest(&self.floor, near, marks, agent)
+        nearest(&self.floor, agent, near)
     }
 
-    /// The cells at which the agent may park, where these are the others' ends.
-    pub fn allowed(
-        &self,
-        alloc: Global,
-        agent: u32,
-        marks: &EndSet,
-    ) -> Result<Vec<Cell>, AllocError>
-        requires { marks.now.cells ≡ other_ends self.now.state agent }
+    /// The cells at which the agent may park.
+    pub fn allowed(&self, alloc: Global, agent: u32) -> Result<Vec<Cell>, AllocError>
+        requires { agent < length self.now.state.paths }
         ensures { IfOk result (λ cells. (cell : Place) → Contains cells.items cell ↔ IsAllowed self.now.site self.now.state agent cell) }
     {
-        let cells = free_points(alloc, self.setting.points(), &self.floor, marks)?;
+        let cells = free_points(alloc, self.setting.points(), &self.floor, agent)?;
         Ok(cells)
     }
 }

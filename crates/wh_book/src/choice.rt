@@ -9,17 +9,15 @@ ghost use Rattle.wh_core.specs.Steps.{NoneIsNext, other_ends};
 
 use wh_field::LazyField;
 use wh_state::Floor;
-use wh_tasks::EndSet;
 
-/// The task that the agent takes: of those that it may take, the nearest one; these are the others' ends. The field is
-/// filled no further than to that task. It takes no memory.
-pub fn nearest(floor: &Floor, near: &mut LazyField, marks: &EndSet, agent: u32) -> Option<u32>
-    requires known { agent < length floor.now.state.paths }
-    requires marks { marks.now.cells ≡ other_ends floor.now.state agent }
+/// The task that the agent takes: of those that it may take, the nearest one. The field is filled no further than to that
+/// task. It takes no memory.
+pub fn nearest(floor: &Floor, agent: u32, near: &mut LazyField) -> Option<u32>
+    requires { agent < length floor.now.state.paths }
     ensures grid { near.new.grid ≡ near.old.grid }
     ensures none { IfNone result (NoneIsNext floor.now.state agent) }
     ensures nearest { IfSome result (λ n. (task : Job) × IsNearest near.old.grid floor.now.state.tasks (other_ends floor.now.state agent) (place_of floor.now.state.paths agent) n task) }
 {
     near.again(floor.paths()[agent as usize].start());
-    floor.tasks().nearest(near, marks)
+    floor.tasks().nearest(near, &floor.other_ends(agent))
 }

@@ -10,7 +10,7 @@ returns-clause-nearest c =
     let s = c.args.floor.now.state in
     let agent = c.args.agent in
     let grid : c.again.new.self.grid ≡ c.args.near.now.grid = ap (λ (f : Seeking). f.grid) c.again.ensures in
-    let read = c.index-paths-agent.is ∙ get_or_default c.paths.result.now agent c.index-paths-agent.result [] (rw c.paths.ensures.value c.requires.known) in
+    let read = c.index-paths-agent.is ∙ get_or_default c.paths.result.now agent c.index-paths-agent.result [] (rw c.paths.ensures.value c.requires) in
     let here : c.again.new.self.cell ≡ place_of s.paths agent =
     ap (λ (f : Seeking). f.cell) c.again.ensures ∙ c.start.ensures ∙ ap (λ (p : List Cell). at p 0) read ∙ ap (λ (ps : List (List Cell)). place_of ps agent) c.paths.ensures.value in
-    rw (grid, here, c.tasks.ensures.tasks, c.requires.marks) at c.nearest.ensures.nearest
+    rw (grid, here, c.tasks.ensures.tasks, c.other_ends.ensures) at c.nearest.ensures.nearest

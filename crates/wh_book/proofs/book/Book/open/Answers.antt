@@ -1,5 +1,4 @@
-use Rattle.std.proofs.Common.{rules, ◌≡◌, ◌∙◌, List, ℕ, refl, ap, sym}
-use Rattle.wh_core.specs.States.{opened}
+use Rattle.std.proofs.Common.{rules}
 use Rattle.wh_book.proofs.Kept.{kept-opened}
 use Rattle.wh_book.proofs.book.Book.open.Goals as goal
 
