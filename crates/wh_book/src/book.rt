@@ -24,7 +24,7 @@ use crate::parking::free_points;
 use crate::setting::{Fault, Setting};
 use std::alloc::{AllocError, Global};
 use std::marker::Model;
-use wh_event::{Entry, Event, Refusal, Reply, Spare, Stops};
+use wh_event::{Entry, Event, KeptStops, Refusal, Reply, Spare, Stops};
 use wh_field::LazyField;
 use wh_grid::Cell;
 use wh_path::TimedPath;
@@ -240,10 +240,11 @@ impl Book {
         ensures same { IsSame self.old self.new }
         ensures drafts { IfOk result (Drafts self.new caller (Asked.Submit client stops)) }
     {
-        let places = match self.setting.places(&stops) {
+        let stops = KeptStops::new(alloc, stops)?;
+        let places = match self.setting.places(stops.stops()) {
             Ok(places) => places,
             Err(fault) => {
-                let refusal = refusal_of(fault, &stops);
+                let refusal = refusal_of(fault, stops.stops());
                 return self.refuse(alloc, caller, Event::Submit { client, stops }, refusal);
             }
         };

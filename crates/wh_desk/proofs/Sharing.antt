@@ -28,20 +28,16 @@ use Rattle.wh_desk.specs.contracts.pass.Pass as pass
 use Rattle.wh_desk.specs.contracts.pass.Held as held
 use Rattle.wh_token.specs.contracts.warehouse.Warehouse as warehouse
 use Rattle.wh_book.specs.contracts.book.Book as book
-use Rattle.wh_tasks.specs.contracts.ends.EndSet as marks
 use Rattle.wh_field.specs.contracts.lazy.LazyField as near
 
 book_send : IsSend book.the_row
 book_send = search (sendable, crosses) depth 60 fits 20000
 
-marks_send : IsSend marks.the_row
-marks_send = search (sendable, crosses) depth 60 fits 20000
-
 near_send : IsSend near.the_row
 near_send = search (sendable, crosses) depth 60 fits 20000
 
 pub warehouse_send : (P : RattleType) → IsSend P → IsSend (warehouse.the_row P)
-warehouse_send P s = search (sendable, crosses, book_send, marks_send, near_send) depth 60 fits 20000
+warehouse_send P s = search (sendable, crosses, book_send, near_send) depth 60 fits 20000
 
 pub entry_send : IsSend entry.the_row
 entry_send = search (sendable, crosses) depth 60 fits 20000

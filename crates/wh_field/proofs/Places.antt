@@ -1,14 +1,16 @@
 -- the places of cells
-use Rattle.std.proofs.Common.{◌≡◌, ◌≢◌, ℕ, ◌+◌, ◌*◌, ◌<◌, ◌≤◌, ◌⊎◌, inl, inr, ◌∙◌, List, [], ◌∷◌, ◌++◌, refl, sym, ap, subst, arith}
-use Rattle.std.proofs.lemmas.Bool.{cases_lt}
+use Rattle.std.proofs.Common.{◌≡◌, ◌≢◌, ℕ, ◌+◌, ◌*◌, ◌<◌, ◌≤◌, ◌⊎◌, inl, inr, ◌∙◌, List, [], set, replicate, get_or-set_same, get_or-set_other, length, length-set, get_or, Bool, true, false, refl, sym, ap, subst, arith}
+use Rattle.std.proofs.lemmas.Bool.{cases_lt, cases_eq}
 use Rattle.std.proofs.lemmas.Nat.{mul-add-lt, same_from_place, mul-le}
-use Rattle.std.proofs.lemmas.List.{length_push, get_or_push, get_or_append_left, get_or_past}
+use Rattle.std.proofs.lemmas.List.{length-replicate, get_or-replicate, get_or_past}
+use Rattle.std.specs.Prelude.{Some, slice_get}
+use Rattle.std.proofs.lemmas.Option.{slice_get-get_or}
 use Rattle.std.proofs.Math.Nat.{mul_comm, mul-add, mul-one}
 use Rattle.wh_grid.specs.declared.cell.Cell.{Cell}
 use Rattle.wh_field.proofs.Tables.{Contains-none}
 use Rattle.wh_grid.specs.Grids.{Floor, IsPassable}
 use Rattle.wh_field.specs.Tables.{value, blocked, unseen, IsWalled}
-use Rattle.wh_field.specs.Places.{stride, place, IsAllowed, IsAllowedAt, IsOpenBelow, IsOpen}
+use Rattle.wh_field.specs.Places.{stride, place, IsAllowed, IsAllowedAt, IsOpenAt, IsOpenBelow, IsOpen}
 
 -- cells with the same coordinates are one
 pub same_cell : (c d : Cell) → c.x ≡ d.x → c.y ≡ d.y → c ≡ d
@@ -42,22 +44,45 @@ row_before_last g c w =
     let f = mul-add-lt (c.y + 1) (g.width + 1) c.x (g.height + 1) (let h = w.in_height in omega arith) (let h = w.in_width in omega arith) in
     omega (arith, mul_comm (g.width + 1) (g.height + 1))
 
--- one more entry
-pub open_push : (g : Floor) (avoid : List Cell) (n m : ℕ) (t : List ℕ) (v : ℕ) → IsOpenBelow g avoid n t → m ≡ n + 1
-    → ((v ≡ blocked) × (IsAllowedAt g avoid n → ⊥)) ⊎ ((v ≡ unseen) × IsAllowedAt g avoid n) → IsOpenBelow g avoid m (t ++ v ∷ [])
-open_push g avoid n m t v o e here =
-    let size = o.size in
+-- at first all places are blocked, and the row above has no cell
+pub open_first : (g : Floor) (n : ℕ) → n ≡ (g.width + 1) * (g.height + 2) → IsOpenBelow g ((0 + 1) * (g.width + 1)) (replicate n blocked)
+open_first g n e =
+    let all : (i : ℕ) → value (replicate n blocked) i ≡ blocked = λ i. elim (cases_lt i n) [
+      | inl less ↦ get_or-replicate n i blocked 4294967294 less
+      | inr more ↦ get_or_past (replicate n blocked) i 4294967294 (omega (arith, length-replicate n blocked))
+    ] in
     record {
-      size = omega (arith, length_push t v);
-      each = λ i h. elim (cases_lt i n) [
-        | inl less ↦ (let same : value (t ++ v ∷ []) i ≡ value t i = get_or_append_left t (v ∷ []) 4294967294 i (omega arith) in
-            elim (o.each i less) [ inl a ↦ inl (same ∙ a.0, a.1) | inr a ↦ inr (same ∙ a.0, a.1) ])
-        | inr more ↦ (let at_n : n ≡ i = omega arith in
-            let new : value (t ++ v ∷ []) i ≡ v = get_or_push t v 4294967294 i (omega arith) in
-            let P : ℕ → Type 0 = λ x. IsAllowedAt g avoid x in
-            elim here [ inl a ↦ inl (new ∙ a.0, λ b. a.1 (subst P (sym at_n) b)) | inr a ↦ inr (new ∙ a.0, subst P at_n a.1) ])
-      ];
+      size = length-replicate n blocked ∙ e;
+      each = λ i h. inl (all i, λ a. let here = a.here in let f = row_least a.cell.y (g.width + 1) in omega arith);
+      rest = λ i h. all i;
     }
+
+-- one more entry
+pub open_set : (g : Floor) (n m : ℕ) (t : List ℕ) (v : ℕ) → IsOpenBelow g n t → m ≡ n + 1 → n < (g.width + 1) * (g.height + 2)
+    → ((v ≡ blocked) × (IsAllowedAt g [] n → ⊥)) ⊎ ((v ≡ unseen) × IsAllowedAt g [] n) → IsOpenBelow g m (set t n v)
+open_set g n m t v o e within here =
+    let size = o.size in
+    let new : value (set t n v) n ≡ v = get_or-set_same t n v 4294967294 (omega arith) in
+    let others : (i : ℕ) → i ≢ n → value (set t n v) i ≡ value t i = λ i ne. get_or-set_other t n i v 4294967294 ne in
+    record {
+      size = length-set t n v ∙ o.size;
+      each = λ i h. elim (cases_eq i n) [
+        | inl same ↦ subst (IsOpenAt g [] (set t n v)) (sym same) (elim here [ inl a ↦ inl (new ∙ a.0, a.1) | inr a ↦ inr (new ∙ a.0, a.1) ])
+        | inr ne ↦ elim (o.each i (omega arith)) [ inl a ↦ inl (others i ne ∙ a.0, a.1) | inr a ↦ inr (others i ne ∙ a.0, a.1) ]
+      ];
+      rest = λ i h. others i (λ same. omega arith) ∙ o.rest i (omega arith);
+    }
+
+-- one more place that is blocked and has no cell
+pub open_more : (g : Floor) (n m : ℕ) (t : List ℕ) → IsOpenBelow g n t → m ≡ n + 1 → (IsAllowedAt g [] n → ⊥) → IsOpenBelow g m t
+open_more g n m t o e none = record {
+  size = o.size;
+  each = λ i h. elim (cases_lt i n) [
+    | inl less ↦ o.each i less
+    | inr more ↦ (let same : n ≡ i = omega arith in inl (o.rest i (omega arith), λ a. none (subst (IsAllowedAt g []) (sym same) a)))
+  ];
+  rest = λ i h. o.rest i (omega arith);
+}
 
 -- the row above, the place that closes a row, and the row below have no cell
 pub none_above : (g : Floor) (avoid : List Cell) (i : ℕ) → i < g.width + 1 → IsAllowedAt g avoid i → ⊥
@@ -74,6 +99,16 @@ none_beside g avoid y i e a =
 
 pub none_below : (g : Floor) (avoid : List Cell) (i : ℕ) → (g.height + 1) * (g.width + 1) ≤ i → IsAllowedAt g avoid i → ⊥
 none_below g avoid i h a = let e = a.here in let f = row_before_last g a.cell a.allowed.passable in omega arith
+
+-- with all rows of cells it is open: the last row has no cell
+pub open_last : (g : Floor) (t : List ℕ) → IsOpenBelow g ((g.height + 1) * (g.width + 1)) t → IsOpen g [] t
+open_last g t o = record {
+  size = o.size;
+  each = λ i h. elim (cases_lt i ((g.height + 1) * (g.width + 1))) [
+    | inl less ↦ o.each i less
+    | inr more ↦ inl (o.rest i more, none_below g [] i more)
+  ];
+}
 
 -- what is not blocked has an allowed cell
 pub open_at : (g : Floor) (avoid : List Cell) (t : List ℕ) (i : ℕ) → IsOpen g avoid t → value t i ≢ blocked → IsAllowedAt g avoid i
@@ -112,3 +147,10 @@ pub entry_blocked : (g : Floor) (c : Cell) (n : ℕ) → n ≡ place g c → c.x
 entry_blocked g c n e w p a =
     let v = a.allowed.passable.in_width in
     p (subst (IsPassable g) (place_one g a.cell c (omega arith) (omega arith) (a.here ∙ e)) a.allowed.passable)
+
+-- a mark that is set is there
+pub true_there : (marks : List Bool) (i : ℕ) → get_or marks i false ≡ true → slice_get marks i ≡ Some true
+true_there marks i is = elim (cases_lt i (length marks)) [
+  | inl less ↦ slice_get-get_or marks i false less ∙ ap Some is
+  | inr more ↦ absurd (let past = get_or_past marks i false more in cc)
+]

@@ -28,13 +28,20 @@ pub record IsAllowedAt (g : Floor) (avoid : List Cell) (i : ℕ) : Type 0 where
   pub here : place g cell ≡ i
   pub allowed : IsAllowed g avoid cell
 
--- the first n places of a table have no numbers yet, and those that are not blocked are those of allowed cells
-pub record IsOpenBelow (g : Floor) (avoid : List Cell) (n : ℕ) (t : List ℕ) : Type 0 where
-  pub size : length t ≡ n
-  pub each : (i : ℕ) → i < n → ((value t i ≡ blocked) × (IsAllowedAt g avoid i → ⊥)) ⊎ ((value t i ≡ unseen) × IsAllowedAt g avoid i)
+-- this place of a table has no number yet, and is not blocked just where it is that of an allowed cell
+abbrev pub IsOpenAt : Floor → List Cell → List ℕ → ℕ → Type 0
+IsOpenAt g avoid t i = ((value t i ≡ blocked) × (IsAllowedAt g avoid i → ⊥)) ⊎ ((value t i ≡ unseen) × IsAllowedAt g avoid i)
 
-abbrev pub IsOpen : Floor → List Cell → List ℕ → Type 0
-IsOpen g avoid t = IsOpenBelow g avoid ((g.width + 1) * (g.height + 2)) t
+-- no place of a table has a number yet, and those that are not blocked are those of allowed cells
+pub record IsOpen (g : Floor) (avoid : List Cell) (t : List ℕ) : Type 0 where
+  pub size : length t ≡ (g.width + 1) * (g.height + 2)
+  pub each : (i : ℕ) → i < (g.width + 1) * (g.height + 2) → IsOpenAt g avoid t i
+
+-- the first n places of a table are open, and all others are still blocked
+pub record IsOpenBelow (g : Floor) (n : ℕ) (t : List ℕ) : Type 0 where
+  pub size : length t ≡ (g.width + 1) * (g.height + 2)
+  pub each : (i : ℕ) → i < n → IsOpenAt g [] t i
+  pub rest : (i : ℕ) → n ≤ i → value t i ≡ blocked
 
 -- one of the sources is at this place, and is allowed
 pub record IsSourceAt (g : Floor) (avoid sources : List Cell) (i : ℕ) : Type 0 where

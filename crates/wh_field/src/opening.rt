@@ -13,28 +13,29 @@ use wh_grid::{Cell, Grid};
 pub fn open_table(alloc: Global, grid: &Grid) -> Result<Vec<u32>, AllocError>
     ensures { IfOk result (λ t. IsOpen grid.now [] t.items) }
 {
-    let width = grid.width();
     let height = grid.height();
-    let stride = width as usize + 1;
-    let mut table = Vec::with_capacity(alloc, stride * (height as usize + 2))?;
-    for i in 0..stride {
-        table.push(BLOCKED)?;
-    }
+    let places = (grid.width() as usize + 1) * (height as usize + 2);
+    let mut table = vec![in alloc; BLOCKED; places]?;
     for y in 0..height {
-        for x in 0..width {
-            let mark = if grid.passable(Cell { x, y }) {
-                UNSEEN
-            } else {
-                BLOCKED
-            };
-            table.push(mark)?;
-        }
-        table.push(BLOCKED)?;
-    }
-    for i in 0..stride {
-        table.push(BLOCKED)?;
+        open_row(&mut table, grid, y as usize);
     }
     Ok(table)
+}
+
+/// Opens the passable cells of a row of a blocked table.
+fn open_row(table: &mut [u32], grid: &Grid, y: usize)
+    requires inside { y < grid.now.height }
+    requires above { IsOpenBelow grid.now ((y + 1) * (grid.now.width + 1)) table.old }
+    ensures { IsOpenBelow grid.now ((y + 1 + 1) * (grid.now.width + 1)) table.new }
+{
+    let width = grid.width() as usize;
+    let _height = grid.height();
+    let cells = grid.rows();
+    let before = y * width;
+    let start = (y + 1) * (width + 1);
+    for x in 0..width {
+        table[start + x] = if cells[before + x] { UNSEEN } else { BLOCKED };
+    }
 }
 
 /// The place of a cell in a table; none where the cell lies outside.

@@ -7,9 +7,10 @@ ghost use Rattle.wh_search.specs.Rooms.{frontier_room};
 use crate::frontier::Frontier;
 use std::alloc::Global;
 
-/// For how much there may be room in a table that is kept. A search of some 8000 states takes no
-/// more; a longer one is rare, and no reason to hold on to its memory.
-const MOST_KEPT: usize = 32768;
+/// For how much there may be room in each table that is kept: at most 426,000 bytes in all, since
+/// each of many planners may keep so much. To a search that takes more, asking for its memory is
+/// little.
+const MOST_KEPT: usize = 8192;
 
 /// The memory that a search takes, kept for the next one. No answer depends on what is left in it.
 #[derive(Drop)]

@@ -14,7 +14,7 @@ use wh_grid::{Cell, Grid};
 use wh_ledger::DeliveryLedger;
 use wh_resv::Reservations;
 use wh_search::deliver;
-use wh_tasks::EndSet;
+use wh_tasks::PathEnds;
 
 /// A map is read: how many passable cells it has.
 pub fn read_map<R: AllocGlobal + Print + Clock>(rt: &R, sizes: &Sizes) -> io::Result<()> {
@@ -88,13 +88,14 @@ pub fn nearest_tasks<R: AllocGlobal + Print + Clock>(rt: &R, sizes: &Sizes) -> i
     let side = sizes.field_side;
     let grid = open_map(rt.alloc(), side)?;
     let tasks = open_tasks(rt.alloc(), side, sizes.tasks, 1)?;
-    let ends = EndSet::new(rt.alloc(), side, side, 0)?;
+    let ends = PathEnds::of(rt.alloc(), side, side, &[Cell { x: 0, y: 0 }])?;
+    let others = ends.but(0);
     let mut field = LazyField::from(rt.alloc(), &grid, Cell { x: 0, y: 0 })?;
     let since = Instant::now(rt)?;
     let mut sum: u64 = 0;
     for number in 0..sizes.sources {
         field.again(scattered(number ^ 21, side));
-        let nearest = tasks.nearest(&mut field, &ends);
+        let nearest = tasks.nearest(&mut field, &others);
         sum = sum.saturating_add(u64::from(nearest.unwrap_or(0)));
     }
     sizes.tell(rt, since, "choose the nearest task, sum of numbers", sum)

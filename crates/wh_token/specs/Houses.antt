@@ -1,20 +1,17 @@
 -- what callers see of a warehouse, and what it keeps
 use Rattle.std.specs.Prelude.{◌≡◌, ℕ, List, Option, length}
 use Rattle.wh_field.specs.Fields.{Seeking}
-use Rattle.wh_tasks.specs.Marks.{Ends}
 use Rattle.wh_book.specs.declared.draft.Draft.{Draft}
-use Rattle.wh_book.specs.Drafts.{Seen, Suits}
+use Rattle.wh_book.specs.Drafts.{Seen}
 
 -- what callers see of a warehouse: the book, and the agents' planners in the agents' order
 pub record House (X : Type 0) : Type 0 where
   pub book : Seen
   pub planners : List X
 
--- What a warehouse keeps: so many planners as there are agents, and, to look for tasks, a set of cells and a field over its
--- grid.
-pub record IsFurnished (book : Seen) (planners : ℕ) (marks : Ends) (near : Seeking) : Type 0 where
+-- what a warehouse keeps: so many planners as there are agents, and, to look for tasks, a field over its grid
+pub record IsFurnished (book : Seen) (planners : ℕ) (near : Seeking) : Type 0 where
   pub seats : planners ≡ length book.state.paths
-  pub suits : Suits marks book.site.grid (length book.state.paths)
   pub over : near.grid ≡ book.site.grid
 
 -- what was prepared: the draft of the entry, and the planner that was handed in

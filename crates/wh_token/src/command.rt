@@ -1,23 +1,27 @@
 //! The event that a command is.
 #![tactic(auto)]
 
-ghost use Rattle.std.specs.Prelude.{◌≡◌};
+ghost use Rattle.std.specs.Prelude.{◌≡◌, IfOk};
 ghost use Rattle.wh_token.specs.Commands as commands;
 ghost use Rattle.wh_token.specs.Fleet.{replaced_agent};
 
-use wh_event::{Command, Entry, Event, Reply, Spare};
+use std::alloc::{AllocError, Global};
+use wh_event::{Command, Entry, Event, KeptStops, Reply, Spare};
 
-/// The event of the command, with what is told of the spare planner.
-pub(crate) fn event_of(command: Command, told: Spare) -> Event
-    ensures { result ≡ commands.event_of command told }
+/// The event of the command, with what is told of the spare planner. The stops of a task want memory.
+pub(crate) fn event_of(alloc: Global, command: Command, told: Spare) -> Result<Event, AllocError>
+    ensures { IfOk result (λ event. event ≡ commands.event_of command told) }
 {
-    match command {
-        Command::Submit { client, stops } => Event::Submit { client, stops },
+    Ok(match command {
+        Command::Submit { client, stops } => Event::Submit {
+            client,
+            stops: KeptStops::new(alloc, stops)?,
+        },
         Command::Token { agent } => Event::Request { agent },
         Command::Tick => Event::Tick,
         Command::Replace { agent } => Event::Replace { agent, spare: told },
         Command::Close => Event::Close,
-    }
+    })
 }
 
 /// The agent whose planner the entry replaces.

@@ -39,14 +39,13 @@ use wh_ledger::DeliveryLedger;
 use wh_path::TimedPath;
 use wh_planner::{Duty, PlanFault, Planner, Scene};
 use wh_points::Points;
-use wh_tasks::{EndSet, Load, Task};
+use wh_tasks::{Load, Task};
 
 /// The book and the agents' planners.
 #[derive(Drop)]
 pub struct Warehouse<P = Box<dyn Planner>> {
     book: Book,
     planners: Vec<P>,
-    marks: EndSet,
     near: LazyField,
 }
 
@@ -58,7 +57,7 @@ impl<P> Model for Warehouse<P> {
 
     ghost view = { λ w. record { book = w.book; planners = w.planners.items } };
 
-    ghost invariant = { λ w. IsFurnished w.book (length w.planners.items) w.marks w.near };
+    ghost invariant = { λ w. IsFurnished w.book (length w.planners.items) w.near };
 }
 
 impl<P: Planner> Warehouse<P> {
@@ -114,11 +113,9 @@ impl<P: Planner> Warehouse<P> {
         let slots = slots_of(alloc, planners.as_slice(), &grid)?;
         let near = LazyField::from(alloc, &grid, Cell { x: 0, y: 0 })?;
         let book = Book::open(alloc, Setting::new(grid, points), start, slots)?;
-        let marks = book.no_ends(alloc)?;
         Ok(Warehouse {
             book,
             planners,
-            marks,
             near,
         })
     }
@@ -362,19 +359,18 @@ impl<P: Planner> Warehouse<P> {
         ensures tied { IsTied (λ b. P.fits_map b self.old.book.site.grid) (λ b. P.slot_count b) self.old.planners self.old.book.state.slots
             → IsTied (λ b. P.fits_map b self.old.book.site.grid) (λ b. P.slot_count b) self.new.planners self.old.book.state.slots }
     {
-        self.book.other_ends(agent, &mut self.marks);
-        if let Some(task) = self.book.next(agent, &mut self.near, &self.marks) {
+        if let Some(task) = self.book.next(agent, &mut self.near) {
             return self.draft_delivery(alloc, caller, agent, task);
         }
         let here = self.book.paths()[agent as usize].start();
         if !self.book.tasks().delivers_at(here) {
             return self.book.draft_rested(alloc, caller, agent);
         }
-        let allowed = self.book.allowed(alloc, agent, &self.marks)?;
+        let allowed = self.book.allowed(alloc, agent)?;
         self.draft_parking(alloc, caller, agent, allowed.as_slice())
     }
 
-    /// The draft of a request. Where no task is open the others' ends decide nothing, so they are not gathered.
+    /// The draft of a request. Where no task is open the agent rests, wherever it is.
     fn draft_request(&mut self, alloc: Global, caller: u32, agent: u32) -> Result<Draft, AllocError>
         requires not_closed { self.old.book.state.closed ≡ false }
         requires room { 1 ≤ self.old.book.entry_room }
@@ -417,7 +413,7 @@ impl<P: Planner> Warehouse<P> {
     {
         self.book.reserve_entry()?;
         if self.book.closed() {
-            let event = event_of(command, told);
+            let event = event_of(alloc, command, told)?;
             return self.book.refuse(alloc, caller, event, Refusal::Closed);
         }
         match command {
@@ -472,13 +468,31 @@ impl<P: Planner> Warehouse<P> {
             → IsTied (λ b. P.fits_map b self.old.book.site.grid) (λ b. P.slot_count b) self.new.planners self.new.book.state.slots }
     {
         let Ready { draft, spare } = ready;
+        self.commit_draft(draft, spare)
+    }
+
+    /// Commits a draft, for which this planner was handed in.
+    fn commit_draft(&mut self, draft: Draft, spare: Option<P>) -> Committed<P>
+        requires ready { IsReady self.old.book draft }
+        requires tells { TellsFor (λ b. P.fits_map b self.old.book.site.grid) (λ b. P.slot_count b) spare draft.entry.event }
+        ensures entry { result.entry ≡ draft.entry }
+        ensures site { self.new.book.site ≡ self.old.book.site }
+        ensures opening { self.new.book.opening ≡ self.old.book.opening }
+        ensures history { self.new.book.history ≡ self.old.book.history ++ result.entry ∷ [] }
+        ensures step { Step self.old.book.site self.old.book.state result.entry self.new.book.state }
+        ensures served { IsFormed self.old.book.site → result.entry.reply ≢ Answer.Refused Reason.NoPath }
+        ensures seats { length self.old.planners ≡ length self.old.book.state.paths }
+        ensures swaps { Swaps (replaced_agent result.entry) self.old.planners spare self.new.planners result.back }
+        ensures tied { IsTied (λ b. P.fits_map b self.old.book.site.grid) (λ b. P.slot_count b) self.old.planners self.old.book.state.slots
+            → IsTied (λ b. P.fits_map b self.old.book.site.grid) (λ b. P.slot_count b) self.new.planners self.new.book.state.slots }
+    {
         let agent = replaced(&draft.entry);
         let entry = self.book.commit(draft);
         let back = swap(&mut self.planners, agent, spare);
         Committed { entry, back }
     }
 
-    /// Prepares and commits.
+    /// Drafts and commits at once.
     pub fn step(
         &mut self,
         alloc: Global,
@@ -500,8 +514,11 @@ impl<P: Planner> Warehouse<P> {
         ensures tied { IsTied (λ b. P.fits_map b self.old.book.site.grid) (λ b. P.slot_count b) self.old.planners self.old.book.state.slots
             → IsTied (λ b. P.fits_map b self.old.book.site.grid) (λ b. P.slot_count b) self.new.planners self.new.book.state.slots }
     {
-        let ready = self.prepare(alloc, caller, command, spare)?;
-        Ok(self.commit(ready))
+        let told = self.tell(&spare);
+        match self.draft(alloc, caller, command, told) {
+            Ok(draft) => Ok(self.commit_draft(draft, spare)),
+            Err(AllocError) => Err((NoMemory, spare)),
+        }
     }
 
     /// Whether the command is a Replace of a known agent, while open.

@@ -1,0 +1,6 @@
+use Rattle.std.proofs.Common.{◌+◌, ◌*◌}
+use Rattle.wh_field.specs.Places.{IsOpenBelow}
+use Rattle.wh_field.proofs.opening.open_row.Given as goal
+
+abbrev pub invariant-loop-x : goal.invariant-loop-x
+invariant-loop-x l = IsOpenBelow l.grid ((l.y + 1) * (l.grid.width + 1) + l.x) l.table
