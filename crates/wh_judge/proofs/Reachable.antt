@@ -1,31 +1,19 @@
 -- what a run says of its last state
-use Rattle.std.proofs.Common.{◌≡◌, ℕ, ◌+◌, ◌≤◌, List, [], ◌∷◌, ◌++◌, Some, length, refl, arith}
-use Rattle.std.specs.Prelude.{All, slice_get}
+use Rattle.std.proofs.Common.{◌≡◌, ℕ, ◌≤◌, List, [], ◌∷◌, ◌++◌, Some, length, refl}
+use Rattle.std.specs.Prelude.{slice_get}
 use Rattle.wh_points.specs.Points.{Site, IsLayout}
-use Rattle.wh_path.specs.Paths.{end}
-use Rattle.wh_tasks.specs.Marks.{Ends, IsInside}
 use Rattle.wh_tasks.specs.declared.task.Load.{Load}
 use Rattle.wh_core.specs.States.{State, opened}
 use Rattle.wh_core.specs.Steps.{Step, IsDue, last_clock}
 use Rattle.wh_core.specs.Laws.{IsReached}
 use Rattle.wh_event.specs.declared.entry.Entry.{Entry}
 use Rattle.wh_core.proofs.StepKinds.{run-join}
-use Rattle.wh_core.proofs.Seats.{seats-reached}
-use Rattle.wh_book.specs.Drafts.{IsKept, Suits}
-use Rattle.wh_book.proofs.Kept.{kept-inside, kept-idle}
+use Rattle.wh_book.specs.Drafts.{IsKept}
+use Rattle.wh_book.proofs.Kept.{kept-idle}
 use Rattle.wh_judge.specs.Judged.{IsReachable}
 
 kept : (site : Site) (entries : List Entry) (s : State) → (reached : IsReached site entries s) → IsKept site reached.opening entries s
 kept site entries s reached = record { is_opening = reached.is_opening; run = reached.run }
-
-pub inside-ends : (site : Site) (s : State) (ends : Ends) (most : ℕ) → IsReachable site s → Suits ends site.grid most → All (λ path. IsInside ends.width ends.height (end path)) s.paths
-inside-ends site s ends most reached suits = rw (suits.width, suits.height) (kept-inside _ _ _ _ (kept site reached.0 s reached.1))
-
-pub room-for : (site : Site) (s : State) (ends : Ends) → IsReachable site s → Suits ends site.grid (length site.layout.agents) → length s.paths ≤ ends.room + length ends.cells
-room-for site s ends reached suits =
-    let seats = (seats-reached site reached.0 s reached.1).paths in
-    let enough = suits.place in
-    omega arith
 
 pub idle-at-rest : (site : Site) (s : State) (agent : ℕ) → IsReachable site s → IsDue s agent → slice_get s.loads agent ≡ Some Load.None
 idle-at-rest site s agent reached due = kept-idle _ _ _ _ agent (kept site reached.0 s reached.1) due

@@ -3,14 +3,10 @@
 
 ghost use Rattle.std.specs.Prelude.{◌≡◌, ◌≢◌, ◌<◌, ◌≤◌, ◌↔◌, false, IsTrue, length};
 ghost use Rattle.wh_path.specs.Paths.{place_of, steps_left};
-ghost use Rattle.wh_core.specs.Steps.{IsKnown, IsDue, IsDeliveryCell, other_ends};
-ghost use Rattle.wh_book.specs.Drafts.{Suits};
-ghost use Rattle.wh_judge.specs.Judged.{IsReachable};
+ghost use Rattle.wh_core.specs.Steps.{IsKnown, IsDue, IsDeliveryCell};
 
-use crate::instance::Instance;
 use wh_grid::Cell;
 use wh_state::Floor;
-use wh_tasks::EndSet;
 
 /// Whether the warehouse is open and has an agent of this number.
 pub fn is_known(floor: &Floor, agent: u32) -> bool
@@ -60,16 +56,4 @@ pub fn is_in_the_way(floor: &Floor, agent: u32) -> bool
     ensures { IsTrue result ↔ IsDeliveryCell floor.now.state (place_of floor.now.state.paths agent) }
 {
     floor.tasks().delivers_at(place(floor, agent))
-}
-
-/// Puts the cells where the others' paths end into the set, in place of what it has.
-pub fn gather(instance: &Instance, floor: &Floor, ends: &mut EndSet, agent: u32)
-    requires known { agent < length floor.now.state.paths }
-    requires reached { IsReachable instance.now floor.now.state }
-    requires suits { Suits ends.old instance.now.grid (length instance.now.layout.agents) }
-    ensures ends { ends.new.cells ≡ other_ends floor.now.state agent }
-    ensures suits { Suits ends.new instance.now.grid (length instance.now.layout.agents) }
-{
-    let _grid = instance.grid();
-    floor.other_ends(agent, ends);
 }

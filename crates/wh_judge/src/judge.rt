@@ -5,7 +5,6 @@ ghost use Rattle.std.specs.Prelude.{◌≡◌, ◌≤◌, false, IsTrue, IfOk, O
 ghost use Rattle.wh_points.specs.Points.{IsLayout};
 ghost use Rattle.wh_core.specs.States.{State, opened};
 ghost use Rattle.wh_core.specs.Steps.{Step, last_clock};
-ghost use Rattle.wh_book.specs.Drafts.{Suits};
 ghost use Rattle.wh_judge.specs.Judged.{Decides, IsReachable, IsStep};
 
 use crate::instance::Instance;
@@ -18,31 +17,34 @@ use wh_event::{Entry, Event, Reply};
 use wh_field::LazyField;
 use wh_grid::Cell;
 use wh_state::Floor;
-use wh_tasks::EndSet;
 
 /// Whether the event may be answered so; if so, it is done.
 fn answer(
     alloc: Global,
     instance: &Instance,
     floor: &mut Floor,
-    ends: &mut EndSet,
     near: &mut LazyField,
     event: Event,
     reply: Reply,
 ) -> Result<bool, AllocError>
     requires reached { IsReachable instance.now floor.old.state }
-    requires suits { Suits ends.old instance.now.grid (length instance.now.layout.agents) }
     requires grid { near.old.grid ≡ instance.now.grid }
     ensures answer { IfOk result (Decides instance.now floor.old.state reply event floor.new.state) }
     ensures kept { IfOk result (λ b. b ≡ false → floor.new.state ≡ floor.old.state) }
     ensures err { OnErr result (floor.new.state ≡ floor.old.state) }
     ensures reached { IsReachable instance.now floor.new.state }
-    ensures suits { Suits ends.new instance.now.grid (length instance.now.layout.agents) }
     ensures grid { near.new.grid ≡ instance.now.grid }
 {
     match event {
-        Event::Submit { client, stops } => submit(alloc, instance, floor, client, &stops, &reply),
-        Event::Request { agent } => request(alloc, instance, floor, ends, near, agent, reply),
+        Event::Submit { client, stops } => submit(
+            alloc,
+            instance,
+            floor,
+            client,
+            stops.stops(),
+            &reply,
+        ),
+        Event::Request { agent } => request(alloc, instance, floor, near, agent, reply),
         Event::Tick => Ok(tick(instance, floor, &reply)),
         Event::Replace { agent, spare } => Ok(replace(instance, floor, agent, spare, &reply)),
         Event::Close => Ok(close(instance, floor, &reply)),
@@ -62,37 +64,35 @@ fn opening(
     ensures reached { IfOk result (λ floor. IsReachable instance.now floor.state) }
 {
     let _agents = instance.agents();
-    let _grid = instance.grid();
     let starts = instance.starts(alloc)?;
-    let floor = Floor::open(alloc, clock, &starts, slots)?;
+    let floor = Floor::open(alloc, instance.grid(), clock, &starts, slots)?;
     Ok(floor)
 }
 
 /// The warehouse as a log tells it: the instance, and the state after the entries so far. Beside the state it keeps one
-/// set of cells and one distance field, for its questions.
+/// distance field, for its questions.
 #[derive(Drop)]
 pub struct Judge<'a> {
     instance: Instance<'a>,
     floor: Floor,
-    ends: EndSet,
     near: LazyField,
 }
 
 impl<'a> Model for Judge<'a> {
-    ghost use Rattle.std.specs.Prelude.{◌≡◌, length};
-    ghost use Rattle.wh_book.specs.Drafts.{Suits};
+    ghost use Rattle.std.specs.Prelude.{◌≡◌};
     ghost use Rattle.wh_judge.specs.Judged.{Judged, IsReachable};
 
     ghost Value = { Judged };
 
     ghost view = { λ j. record { site = j.instance; state = j.floor.state } };
 
-    ghost invariant = { λ j. IsReachable j.instance j.floor.state × Suits j.ends j.instance.grid (length j.instance.layout.agents) × (j.near.grid ≡ j.instance.grid) };
+    ghost invariant = { λ j. IsReachable j.instance j.floor.state × (j.near.grid ≡ j.instance.grid) };
 }
 
 impl<'a> Judge<'a> {
     /// The warehouse as it opens, before any entry, at a clock of at most 1,000,000,000, with the slots of each agent's
-    /// planner. The error comes where memory is wanting: for the state, and thirteen bytes a cell.
+    /// planner. The error comes where memory is wanting: for the state, with two bytes a cell for the paths' ends, and
+    /// twelve bytes a cell for the field.
     pub fn open(
         alloc: Global,
         instance: Instance<'a>,
@@ -104,13 +104,11 @@ impl<'a> Judge<'a> {
         ensures { IfOk result (λ judge. judge ≡ record { site = instance.entry; state = opened instance.entry.layout clock slots.items }) }
     {
         let grid = instance.grid();
-        let ends = EndSet::new(alloc, grid.width(), grid.height(), instance.agents())?;
         let near = LazyField::from(alloc, grid, Cell { x: 0, y: 0 })?;
         let floor = opening(alloc, &instance, clock, slots)?;
         Ok(Judge {
             instance,
             floor,
-            ends,
             near,
         })
     }
@@ -149,7 +147,6 @@ impl<'a> Judge<'a> {
             alloc,
             &self.instance,
             &mut self.floor,
-            &mut self.ends,
             &mut self.near,
             event,
             reply,

@@ -2,7 +2,7 @@
 #![tactic(auto)]
 
 ghost use Rattle.std.specs.Prelude.{◌≡◌, ◌⊎◌, ◌<◌, ◌↔◌, IsTrue, IfOk, length};
-ghost use Rattle.wh_core.specs.Steps.{NoneIsNext, IsDeliveryCell, MakesWay, other_ends};
+ghost use Rattle.wh_core.specs.Steps.{NoneIsNext, IsDeliveryCell, MakesWay};
 ghost use Rattle.wh_path.specs.Paths.{place_of};
 ghost use Rattle.wh_judge.specs.Judged.{LacksDelivery, LacksParking, CanPark};
 
@@ -15,18 +15,10 @@ use wh_book::free_points;
 use wh_field::LazyField;
 use wh_planner::other_ends;
 use wh_state::Floor;
-use wh_tasks::EndSet;
 
 /// Whether the agent has nothing to do, and is in nobody's way.
-pub fn may_rest(
-    instance: &Instance,
-    floor: &Floor,
-    ends: &EndSet,
-    near: &mut LazyField,
-    agent: u32,
-) -> bool
+pub fn may_rest(instance: &Instance, floor: &Floor, near: &mut LazyField, agent: u32) -> bool
     requires known { agent < length floor.now.state.paths }
-    requires ends { ends.now.cells ≡ other_ends floor.now.state agent }
     requires grid { near.old.grid ≡ instance.now.grid }
     ensures rests { IsTrue result ↔ (NoneIsNext floor.now.state agent × (¬ IsDeliveryCell floor.now.state (place_of floor.now.state.paths agent))) }
     ensures grid { near.new.grid ≡ instance.now.grid }
@@ -34,19 +26,12 @@ pub fn may_rest(
     if is_in_the_way(floor, agent) {
         return false;
     }
-    none_is_next(instance, floor, ends, near, agent)
+    none_is_next(instance, floor, near, agent)
 }
 
 /// Whether the agent has to make way.
-pub fn makes_way(
-    instance: &Instance,
-    floor: &Floor,
-    ends: &EndSet,
-    near: &mut LazyField,
-    agent: u32,
-) -> bool
+pub fn makes_way(instance: &Instance, floor: &Floor, near: &mut LazyField, agent: u32) -> bool
     requires known { agent < length floor.now.state.paths }
-    requires ends { ends.now.cells ≡ other_ends floor.now.state agent }
     requires grid { near.old.grid ≡ instance.now.grid }
     ensures way { IsTrue result ↔ MakesWay floor.now.state agent }
     ensures grid { near.new.grid ≡ instance.now.grid }
@@ -54,7 +39,7 @@ pub fn makes_way(
     if !is_in_the_way(floor, agent) {
         return false;
     }
-    none_is_next(instance, floor, ends, near, agent)
+    none_is_next(instance, floor, near, agent)
 }
 
 /// Whether the agent has a task before it and no clear way to deliver it.
@@ -62,17 +47,15 @@ fn lacks_delivery(
     alloc: Global,
     instance: &Instance,
     floor: &Floor,
-    ends: &EndSet,
     near: &mut LazyField,
     agent: u32,
 ) -> Result<bool, AllocError>
     requires known { agent < length floor.now.state.paths }
-    requires ends { ends.now.cells ≡ other_ends floor.now.state agent }
     requires grid { near.old.grid ≡ instance.now.grid }
     ensures lacks { IfOk result (λ b. IsTrue b ↔ LacksDelivery instance.now floor.now.state agent) }
     ensures grid { near.new.grid ≡ instance.now.grid }
 {
-    match next(instance, floor, ends, near, agent) {
+    match next(instance, floor, near, agent) {
         None => Ok(false),
         Some(n) => {
             let stops = floor.tasks().task(n).stops.as_slice();
@@ -87,15 +70,13 @@ fn can_park(
     alloc: Global,
     instance: &Instance,
     floor: &Floor,
-    ends: &EndSet,
     agent: u32,
 ) -> Result<bool, AllocError>
     requires known { agent < length floor.now.state.paths }
-    requires ends { ends.now.cells ≡ other_ends floor.now.state agent }
     ensures { IfOk result (λ b. IsTrue b ↔ CanPark instance.now floor.now.state agent) }
 {
     let avoid = other_ends(alloc, floor.paths(), agent as usize)?;
-    let allowed = free_points(alloc, instance.points(), floor, ends)?;
+    let allowed = free_points(alloc, instance.points(), floor, agent)?;
     let leads = has_route_to_any(
         alloc,
         instance.grid(),
@@ -111,20 +92,18 @@ fn lacks_parking(
     alloc: Global,
     instance: &Instance,
     floor: &Floor,
-    ends: &EndSet,
     near: &mut LazyField,
     agent: u32,
 ) -> Result<bool, AllocError>
     requires known { agent < length floor.now.state.paths }
-    requires ends { ends.now.cells ≡ other_ends floor.now.state agent }
     requires grid { near.old.grid ≡ instance.now.grid }
     ensures lacks { IfOk result (λ b. IsTrue b ↔ LacksParking instance.now floor.now.state agent) }
     ensures grid { near.new.grid ≡ instance.now.grid }
 {
-    if !makes_way(instance, floor, ends, near, agent) {
+    if !makes_way(instance, floor, near, agent) {
         return Ok(false);
     }
-    Ok(!can_park(alloc, instance, floor, ends, agent)?)
+    Ok(!can_park(alloc, instance, floor, agent)?)
 }
 
 /// Whether the agent lacks a clear way for what it is to do.
@@ -132,18 +111,16 @@ pub fn lacks_way(
     alloc: Global,
     instance: &Instance,
     floor: &Floor,
-    ends: &EndSet,
     near: &mut LazyField,
     agent: u32,
 ) -> Result<bool, AllocError>
     requires known { agent < length floor.now.state.paths }
-    requires ends { ends.now.cells ≡ other_ends floor.now.state agent }
     requires grid { near.old.grid ≡ instance.now.grid }
     ensures lacks { IfOk result (λ b. IsTrue b ↔ (LacksDelivery instance.now floor.now.state agent ⊎ LacksParking instance.now floor.now.state agent)) }
     ensures grid { near.new.grid ≡ instance.now.grid }
 {
-    if lacks_delivery(alloc, instance, floor, ends, near, agent)? {
+    if lacks_delivery(alloc, instance, floor, near, agent)? {
         return Ok(true);
     }
-    lacks_parking(alloc, instance, floor, ends, near, agent)
+    lacks_parking(alloc, instance, floor, near, agent)
 }

@@ -9,11 +9,10 @@ ghost use Rattle.wh_planner.specs.Duties.{Delivers, ParksAt, IsLawful};
 ghost use Rattle.wh_event.specs.declared.event.Event.TheVariants as events;
 ghost use Rattle.wh_event.specs.declared.reply.Reply.TheVariants as replies;
 ghost use Rattle.wh_event.specs.declared.reply.Refusal.TheVariants as refusals;
-ghost use Rattle.wh_core.specs.Steps.{Refuses, IsNext, IsAllowed, other_ends};
-ghost use Rattle.wh_book.specs.Drafts.{Suits};
+ghost use Rattle.wh_core.specs.Steps.{Refuses, IsNext, IsAllowed};
 ghost use Rattle.wh_judge.specs.Judged.{Decides, IsReachable};
 
-use crate::agents::{gather, is_due, is_moving, is_stranger};
+use crate::agents::{is_due, is_moving, is_stranger};
 use crate::choice::is_next;
 use crate::course::{is_course, may_deliver};
 use crate::instance::Instance;
@@ -24,26 +23,23 @@ use wh_event::{Refusal, Reply};
 use wh_field::LazyField;
 use wh_path::TimedPath;
 use wh_state::Floor;
-use wh_tasks::EndSet;
 use wh_text::Name;
 
 /// Whether the agent may take the task of this number by this path.
 fn may_take(
     instance: &Instance,
     floor: &Floor,
-    ends: &EndSet,
     near: &mut LazyField,
     agent: u32,
     n: u32,
     path: &TimedPath,
 ) -> bool
     requires known { agent < length floor.now.state.paths }
-    requires ends { ends.now.cells ≡ other_ends floor.now.state agent }
     requires grid { near.old.grid ≡ instance.now.grid }
     ensures takes { IsTrue result ↔ ((task : Job) × IsNext instance.now floor.now.state agent n task × IsLawful instance.now.grid instance.now.layout.nofollow floor.now.state.paths agent (length task.stops) (Delivers task.stops) path.now) }
     ensures grid { near.new.grid ≡ instance.now.grid }
 {
-    if !is_next(instance, floor, ends, near, agent, n) {
+    if !is_next(instance, floor, near, agent, n) {
         return false;
     }
     let stops = floor.tasks().task(n).stops.as_slice();
@@ -58,13 +54,12 @@ fn may_take(
 }
 
 /// Whether the agent may adopt the path to park at its end, where a point is.
-fn may_park(instance: &Instance, floor: &Floor, ends: &EndSet, agent: u32, path: &TimedPath) -> bool
+fn may_park(instance: &Instance, floor: &Floor, agent: u32, path: &TimedPath) -> bool
     requires known { agent < length floor.now.state.paths }
-    requires ends { ends.now.cells ≡ other_ends floor.now.state agent }
     requires point { IsPointCell instance.now.layout (end path.now) }
     ensures { IsTrue result ↔ IsLawful instance.now.grid instance.now.layout.nofollow floor.now.state.paths agent 2 (ParksAt (IsAllowed instance.now floor.now.state agent)) path.now }
 {
-    if !may_end(floor, path.end(), ends) {
+    if !may_end(floor, agent, path.end()) {
         return false;
     }
     is_course(
@@ -81,25 +76,21 @@ fn may_park(instance: &Instance, floor: &Floor, ends: &EndSet, agent: u32, path:
 fn take(
     instance: &Instance,
     floor: &mut Floor,
-    ends: &mut EndSet,
     near: &mut LazyField,
     agent: u32,
     n: u32,
     path: TimedPath,
 ) -> bool
     requires reached { IsReachable instance.now floor.old.state }
-    requires suits { Suits ends.old instance.now.grid (length instance.now.layout.agents) }
     requires grid { near.old.grid ≡ instance.now.grid }
     ensures answer { Decides instance.now floor.old.state (replies.Took n path) (events.Request agent) floor.new.state result }
     ensures kept { result ≡ false → floor.new.state ≡ floor.old.state }
-    ensures suits { Suits ends.new instance.now.grid (length instance.now.layout.agents) }
     ensures grid { near.new.grid ≡ instance.now.grid }
 {
     if !is_due(floor, agent) {
         return false;
     }
-    gather(instance, floor, ends, agent);
-    if !may_take(instance, floor, ends, near, agent, n, &path) {
+    if !may_take(instance, floor, near, agent, n, &path) {
         return false;
     }
     floor.take(agent, n, path);
@@ -107,25 +98,16 @@ fn take(
 }
 
 /// Whether the agent may be told to rest.
-fn rest(
-    instance: &Instance,
-    floor: &Floor,
-    ends: &mut EndSet,
-    near: &mut LazyField,
-    agent: u32,
-) -> bool
+fn rest(instance: &Instance, floor: &Floor, near: &mut LazyField, agent: u32) -> bool
     requires reached { IsReachable instance.now floor.now.state }
-    requires suits { Suits ends.old instance.now.grid (length instance.now.layout.agents) }
     requires grid { near.old.grid ≡ instance.now.grid }
     ensures answer { Decides instance.now floor.now.state replies.Rested (events.Request agent) floor.now.state result }
-    ensures suits { Suits ends.new instance.now.grid (length instance.now.layout.agents) }
     ensures grid { near.new.grid ≡ instance.now.grid }
 {
     if !is_due(floor, agent) {
         return false;
     }
-    gather(instance, floor, ends, agent);
-    if !may_rest(instance, floor, ends, near, agent) {
+    if !may_rest(instance, floor, near, agent) {
         return false;
     }
     true
@@ -135,31 +117,27 @@ fn rest(
 fn park(
     instance: &Instance,
     floor: &mut Floor,
-    ends: &mut EndSet,
     near: &mut LazyField,
     agent: u32,
     point: &Name,
     path: TimedPath,
 ) -> bool
     requires reached { IsReachable instance.now floor.old.state }
-    requires suits { Suits ends.old instance.now.grid (length instance.now.layout.agents) }
     requires grid { near.old.grid ≡ instance.now.grid }
     ensures answer { Decides instance.now floor.old.state (replies.Parked point.now path) (events.Request agent) floor.new.state result }
     ensures kept { result ≡ false → floor.new.state ≡ floor.old.state }
-    ensures suits { Suits ends.new instance.now.grid (length instance.now.layout.agents) }
     ensures grid { near.new.grid ≡ instance.now.grid }
 {
     if !is_due(floor, agent) {
         return false;
     }
-    gather(instance, floor, ends, agent);
     if !instance.is_at(point, path.end()) {
         return false;
     }
-    if !may_park(instance, floor, ends, agent, &path) {
+    if !may_park(instance, floor, agent, &path) {
         return false;
     }
-    if !makes_way(instance, floor, ends, near, agent) {
+    if !makes_way(instance, floor, near, agent) {
         return false;
     }
     floor.park(agent, path);
@@ -171,22 +149,18 @@ fn has_no_path(
     alloc: Global,
     instance: &Instance,
     floor: &Floor,
-    ends: &mut EndSet,
     near: &mut LazyField,
     agent: u32,
 ) -> Result<bool, AllocError>
     requires reached { IsReachable instance.now floor.now.state }
-    requires suits { Suits ends.old instance.now.grid (length instance.now.layout.agents) }
     requires grid { near.old.grid ≡ instance.now.grid }
     ensures lacks { IfOk result (λ b. IsTrue b ↔ Refuses instance.now floor.now.state refusals.NoPath (events.Request agent)) }
-    ensures suits { Suits ends.new instance.now.grid (length instance.now.layout.agents) }
     ensures grid { near.new.grid ≡ instance.now.grid }
 {
     if !is_due(floor, agent) {
         return Ok(false);
     }
-    gather(instance, floor, ends, agent);
-    lacks_way(alloc, instance, floor, ends, near, agent)
+    lacks_way(alloc, instance, floor, near, agent)
 }
 
 /// Whether the refusal may be given to the agent.
@@ -194,16 +168,13 @@ fn refuses_request(
     alloc: Global,
     instance: &Instance,
     floor: &Floor,
-    ends: &mut EndSet,
     near: &mut LazyField,
     agent: u32,
     refusal: &Refusal,
 ) -> Result<bool, AllocError>
     requires reached { IsReachable instance.now floor.now.state }
-    requires suits { Suits ends.old instance.now.grid (length instance.now.layout.agents) }
     requires grid { near.old.grid ≡ instance.now.grid }
     ensures refuses { IfOk result (λ b. IsTrue b ↔ Refuses instance.now floor.now.state refusal.now (events.Request agent)) }
-    ensures suits { Suits ends.new instance.now.grid (length instance.now.layout.agents) }
     ensures grid { near.new.grid ≡ instance.now.grid }
 {
     let _grid = instance.grid();
@@ -213,7 +184,7 @@ fn refuses_request(
         Refusal::TasksFull => Ok(false),
         Refusal::UnknownAgent(told) => Ok(is_stranger(floor, agent) && *told == agent),
         Refusal::Moving(left) => Ok(is_moving(floor, agent, *left)),
-        Refusal::NoPath => has_no_path(alloc, instance, floor, ends, near, agent),
+        Refusal::NoPath => has_no_path(alloc, instance, floor, near, agent),
         Refusal::ClockFull => Ok(false),
         Refusal::Closed => Ok(floor.closed()),
         Refusal::ForeignPlanner => Ok(false),
@@ -226,32 +197,27 @@ pub fn request(
     alloc: Global,
     instance: &Instance,
     floor: &mut Floor,
-    ends: &mut EndSet,
     near: &mut LazyField,
     agent: u32,
     reply: Reply,
 ) -> Result<bool, AllocError>
     requires reached { IsReachable instance.now floor.old.state }
-    requires suits { Suits ends.old instance.now.grid (length instance.now.layout.agents) }
     requires grid { near.old.grid ≡ instance.now.grid }
     ensures answer { IfOk result (Decides instance.now floor.old.state reply (events.Request agent) floor.new.state) }
     ensures kept { IfOk result (λ b. b ≡ false → floor.new.state ≡ floor.old.state) }
     ensures err { OnErr result (floor.new.state ≡ floor.old.state) }
-    ensures suits { Suits ends.new instance.now.grid (length instance.now.layout.agents) }
     ensures grid { near.new.grid ≡ instance.now.grid }
 {
     match reply {
         Reply::Accepted { .. } => Ok(false),
-        Reply::Took { task, path } => Ok(take(instance, floor, ends, near, agent, task, path)),
-        Reply::Rested => Ok(rest(instance, floor, ends, near, agent)),
-        Reply::Parked { point, path } => {
-            Ok(park(instance, floor, ends, near, agent, &point, path))
-        }
+        Reply::Took { task, path } => Ok(take(instance, floor, near, agent, task, path)),
+        Reply::Rested => Ok(rest(instance, floor, near, agent)),
+        Reply::Parked { point, path } => Ok(park(instance, floor, near, agent, &point, path)),
         Reply::Clock { .. } => Ok(false),
         Reply::Replaced { .. } => Ok(false),
         Reply::Closed => Ok(false),
         Reply::Refused(refusal) => {
-            let refuses = refuses_request(alloc, instance, floor, ends, near, agent, &refusal)?;
+            let refuses = refuses_request(alloc, instance, floor, near, agent, &refusal)?;
             Ok(refuses)
         }
     }

@@ -4,7 +4,7 @@ use Rattle.wh_judge.proofs.judge.answer.Goals as goal
 pub returns-in-Submit-clause-reached : goal.returns-in-Submit-clause-reached
 returns-in-Submit-clause-reached c =
     reached-result c.args.instance.now c.args.floor.now.state c.args.reply c.args.event c.submit.new.floor.state c.submit.result c.requires.reached
-    (rw c.in-Submit.is c.submit.ensures.answer) c.submit.ensures.kept c.submit.ensures.err
+    (rw c.in-Submit.is (rw c.stops-in-Submit.ensures at c.submit.ensures.answer)) c.submit.ensures.kept c.submit.ensures.err
 
 pub returns-in-Request-clause-reached : goal.returns-in-Request-clause-reached
 returns-in-Request-clause-reached c =

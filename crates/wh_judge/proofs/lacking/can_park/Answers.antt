@@ -13,5 +13,5 @@ returns c =
     let avoid : c.deref.result.now ≡ other_ends s agent =
     c.deref.ensures.value ∙ c.in_ok-avoid.ensures ∙ ap (λ (ps : List (List Cell)). ends (others ps agent)) c.paths.ensures.value in
     can-park site s agent c.in_ok-allowed.allowed.items c.in_ok-leads.leads
-    (λ cell. rw (c.points.ensures.value, c.requires.ends) at (c.in_ok-allowed.ensures cell))
+    (λ cell. rw c.points.ensures.value at (c.in_ok-allowed.ensures cell))
     (rw (c.grid.ensures.value, avoid, c.place.ensures, c.deref-2.ensures.value) at c.in_ok-leads.ensures)
