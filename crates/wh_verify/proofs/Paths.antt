@@ -1,6 +1,6 @@
 -- the paths of a run: how many steps they have at most, and that a log can tell them
-use Rattle.std.proofs.Common.{◌≡◌, ℕ, ◌+◌, ◌-◌, ◌*◌, ◌<◌, ◌≤◌, ◌∙◌, Bool, List, [], ◌∷◌, length, map, take, drop, get_or, max, refl, sym, subst, ap, arith}
-use Prim.Native.Nat.{zero, suc}
+use Rattle.std.proofs.Common.{◌≡◌, ℕ, ◌+◌, ◌*◌, ◌<◌, ◌≤◌, ◌∙◌, List, [], ◌∷◌, length, map, take, drop, get_or, sym, subst, ap, arith}
+use Prim.Native.Nat.{suc}
 use Rattle.std.specs.List.{AllByRecursion, All}
 use Rattle.std.proofs.lemmas.List.Sums.{count_by-le-length}
 use Rattle.std.proofs.lemmas.List.Elements.{All-append, All-drop, All-head, All-map, All-set, All-tail, All-take, All-weaker}
@@ -10,7 +10,6 @@ use Rattle.wh_grid.specs.Grids.{Floor, IsPassable, IsMove, passable_cells}
 use Rattle.wh_path.specs.Paths.{at, advanced, horizon, last_index, others, IsWalk}
 use Rattle.wh_path.proofs.AtLemmas.{at-within, origin}
 use Rattle.wh_points.specs.Points.{Site}
-use Rattle.wh_tasks.specs.declared.task.Task.{Task}
 use Rattle.wh_core.specs.States.{State}
 use Rattle.wh_core.proofs.Motion.{IsOrderly}
 use Rattle.wh_core.proofs.StepKinds.{Moves, stays, adds, takes, parks, ticks}
