@@ -14,7 +14,7 @@ ghost use Rattle.wh_search.specs.Expansions.{IsSearch, IsEffort};
 use crate::errand::{Errand, arrive};
 use crate::frontier::Frontier;
 use crate::guide::{Guide, onward_of};
-use crate::memory::SearchMemory;
+use crate::memory::{SearchMemory, settle};
 use crate::moment::count_once;
 use crate::search::search;
 use std::alloc::{AllocError, Global};
@@ -101,7 +101,8 @@ pub fn deliver_guided<'x>(
     deliver_in(alloc, &mut memory, grid, others, loc, stops, fields)
 }
 
-/// As `deliver_guided`, in memory that is kept from one search to the next.
+/// As `deliver_guided`, in memory that is kept from one search to the next. Where that has become
+/// more than may be kept, all of it is given back.
 pub fn deliver_in<'x>(
     alloc: Global,
     memory: &mut SearchMemory,
@@ -119,16 +120,9 @@ pub fn deliver_in<'x>(
     ensures least { IfOk result (λ p. (q : List Cell) → IsDelivery grid.now others.now loc stops.now q → last_index p ≤ last_index q) }
     ensures none { IfNoPath result ((q : List Cell) → IsDelivery grid.now others.now loc stops.now q → ⊥) }
 {
-    let found = find(
-        alloc,
-        &mut memory.frontier,
-        grid,
-        others,
-        loc,
-        stops,
-        fields,
-    );
-    memory.settle(alloc);
+    let frontier = &mut memory.frontier;
+    let found = find(alloc, frontier, grid, others, loc, stops, fields);
+    settle(alloc, frontier);
     match found {
         Ok(Some(path)) => Ok(path),
         Ok(None) => Err(Fault::NoPath),

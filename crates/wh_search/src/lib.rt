@@ -18,7 +18,7 @@ mod trail;
 
 pub use fresh::deliver;
 pub use guided::{Fault, deliver_guided, deliver_in, guided_steps};
-pub use memory::SearchMemory;
+pub use memory::{MOST_KEPT, SearchMemory};
 pub use parking::{park, park_in};
 
 #[cfg(test)]

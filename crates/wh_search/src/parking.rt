@@ -13,7 +13,7 @@ use crate::errand::Errand;
 use crate::frontier::Frontier;
 use crate::guide::Guide;
 use crate::guided::Fault;
-use crate::memory::SearchMemory;
+use crate::memory::{SearchMemory, settle};
 use crate::search::search;
 use std::alloc::{AllocError, Global};
 use wh_field::NearestField;
@@ -72,7 +72,8 @@ pub fn park<'x>(
     park_in(alloc, &mut memory, grid, others, loc, allowed)
 }
 
-/// As `park`, in memory that is kept from one search to the next.
+/// As `park`, in memory that is kept from one search to the next. Where that has become more than
+/// may be kept, all of it is given back.
 pub fn park_in<'x>(
     alloc: Global,
     memory: &mut SearchMemory,
@@ -86,8 +87,9 @@ pub fn park_in<'x>(
     ensures least { IfOk result (λ p. IsLeastParking grid.now others.now loc allowed.now p) }
     ensures none { IfNoPath result ((q : List Cell) → IsParking grid.now others.now loc allowed.now q → ⊥) }
 {
-    let found = find_parking(alloc, &mut memory.frontier, grid, others, loc, allowed);
-    memory.settle(alloc);
+    let frontier = &mut memory.frontier;
+    let found = find_parking(alloc, frontier, grid, others, loc, allowed);
+    settle(alloc, frontier);
     match found {
         Ok(Some(path)) => Ok(path),
         Ok(None) => Err(Fault::NoPath),

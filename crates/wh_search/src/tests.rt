@@ -110,6 +110,8 @@ fn parks(rt: HostRuntime) -> Result<(), Fail> {
     let mut memory = SearchMemory::empty(rt.alloc());
     let first = park_in(rt.alloc(), &mut memory, &grid, &others, loc, &[at(4)]);
     assert_eq!(&rt; last(&rt, first)?, None);
+    // what so short a search took is kept
+    assert!(&rt; memory.room() >= 1024);
     let again = park_in(rt.alloc(), &mut memory, &grid, &others, loc, &allowed);
     assert_eq!(&rt; last(&rt, again)?, Some(2));
     let plainly = layers::park(rt.alloc(), &grid, &others, loc, &allowed);
