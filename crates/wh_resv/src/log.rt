@@ -39,14 +39,15 @@ pub fn slot_of(size: usize, cell: Cell) -> usize
 }
 
 impl Log {
-    /// A log with no visit, of so many chains.
-    pub fn new(alloc: Global, size: usize) -> Result<Self, AllocError>
+    /// A log with no visit, of so many chains and with room for so many visits.
+    pub fn new(alloc: Global, size: usize, visits: usize) -> Result<Self, AllocError>
         requires { 0 < size }
-        ensures { IfOk result (λ l. IsLog l.heads.items l.visits.items) }
+        ensures log { IfOk result (λ l. IsLog l.heads.items l.visits.items) }
+        ensures size { IfOk result (λ l. length l.heads.items ≡ size) }
     {
         Ok(Log {
             heads: vec![in alloc; 0; size]?,
-            visits: Vec::new(alloc),
+            visits: Vec::with_capacity(alloc, visits)?,
         })
     }
 

@@ -48,7 +48,7 @@ pub fn marks_of(
     size: usize,
 ) -> Result<Vec<bool>, AllocError>
     requires { 0 < size }
-    ensures some { IfOk result (λ m. 0 < length m.items) }
+    ensures size { IfOk result (λ m. length m.items ≡ size) }
     ensures marked { IfOk result (λ m. AreMarked m.items paths.now except (length paths.now)) }
 {
     let mut marks = vec![in alloc; false; size]?;

@@ -61,26 +61,12 @@ fn enter(log: &mut Log, q: &TimedPath, path: usize) -> Result<(), AllocError>
     log.add(q.end(), last, u64::MAX, path)
 }
 
-/// The log of all paths but one, with so many chains.
-fn log_of(alloc: Global, paths: &[TimedPath], except: usize, size: usize) -> Result<Log, AllocError>
-    requires { 0 < size }
-    ensures log { IfOk result (λ l. IsLog l.heads.items l.visits.items) }
-    ensures noted { IfOk result (λ l. AreNoted l.heads.items l.visits.items paths.now except (length paths.now)) }
-{
-    let mut log = Log::new(alloc, size)?;
-    for i in 0..paths.len() {
-        if i != except {
-            enter(&mut log, &paths[i], i)?;
-        }
-    }
-    Ok(log)
-}
-
-/// How many chains and marks there are.
+/// How many chains and marks there are, and for how many visits there is room at first.
 #[derive(Clone, Copy)]
 struct Tables {
     chains: usize,
     marks: usize,
+    visits: usize,
 }
 
 /// Few visits are kept in small tables, which take less time to make. Up to 13,000 visits a fifth of the marks is set at
@@ -89,26 +75,44 @@ fn tables_for(paths: &[TimedPath]) -> Tables
     ensures chains { 0 < result.chains }
     ensures marks { 0 < result.marks }
 {
-    let mut visits = 0u64;
+    let mut visits = 0usize;
     for path in paths {
-        visits = visits.saturating_add(path.remaining()).saturating_add(1);
+        visits = visits
+            .saturating_add(path.remaining() as usize)
+            .saturating_add(1);
     }
-    if visits <= 200 {
-        Tables {
-            chains: 256,
-            marks: 1024,
-        }
+    let (chains, marks) = if visits <= 200 {
+        (256, 1024)
     } else if visits <= 1600 {
-        Tables {
-            chains: 1024,
-            marks: 8192,
-        }
+        (1024, 8192)
     } else {
-        Tables {
-            chains: 8192,
-            marks: 65_536,
+        (8192, 65_536)
+    };
+    Tables {
+        chains,
+        marks,
+        visits,
+    }
+}
+
+/// The log of all paths but one, in such tables.
+fn log_of(
+    alloc: Global,
+    paths: &[TimedPath],
+    except: usize,
+    tables: Tables,
+) -> Result<Log, AllocError>
+    requires { 0 < tables.chains }
+    ensures log { IfOk result (λ l. IsLog l.heads.items l.visits.items) }
+    ensures noted { IfOk result (λ l. AreNoted l.heads.items l.visits.items paths.now except (length paths.now)) }
+{
+    let mut log = Log::new(alloc, tables.chains, tables.visits)?;
+    for i in 0..paths.len() {
+        if i != except {
+            enter(&mut log, &paths[i], i)?;
         }
     }
+    Ok(log)
 }
 
 /// Whether the path of this number is one of the others, and at a cell at time k.
@@ -310,9 +314,9 @@ impl<'a> Reservations<'a> {
         ensures { IfOk result (λ r. r ≡ record { paths = remove paths.now except; nofollow = nofollow }) }
     {
         let except = except as usize;
-        let size = tables_for(paths);
-        let log = log_of(alloc, paths, except, size.chains)?;
-        let marks = marks_of(alloc, paths, except, size.marks)?;
+        let tables = tables_for(paths);
+        let log = log_of(alloc, paths, except, tables)?;
+        let marks = marks_of(alloc, paths, except, tables.marks)?;
         let latest = greatest_end(&paths[..except]).max(greatest_end(&paths[except + 1..]));
         Ok(Reservations {
             paths,

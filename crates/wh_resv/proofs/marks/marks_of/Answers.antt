@@ -1,4 +1,4 @@
-use Rattle.std.proofs.Common.{◌≡◌, ℕ, ◌+◌, ◌<◌, inl, inr, List, Bool, Vec, Global, length, sym, subst, ◌∙◌, [], arith}
+use Rattle.std.proofs.Common.{◌≡◌, ℕ, ◌+◌, inl, inr, List, Bool, Vec, Global, length, sym, subst, ◌∙◌, [], arith}
 use Rattle.std.proofs.lemmas.Bool.{cases_lt}
 use Rattle.std.proofs.lemmas.List.{get_or_read, with_items_is}
 use Rattle.wh_grid.specs.declared.cell.Cell.{Cell}
@@ -11,11 +11,11 @@ use Rattle.wh_resv.proofs.marks.marks_of.Goals.{then-i-except, else-i-except}
 pub loop-i-preserved : goal.loop-i-preserved
 loop-i-preserved c =
     let paths = c.args.paths.now in
-    let P : Vec Bool Global → Type 0 = λ m. (0 < length m.items) × AreMarked m.items paths c.args.except (c.loop-i.i + 1) in
+    let P : Vec Bool Global → Type 0 = λ m. (length m.items ≡ c.args.size) × AreMarked m.items paths c.args.except (c.loop-i.i + 1) in
     elim c.if-i-except.branch [
       | then-i-except w ↦ subst P (sym w.marks-is)
           (let new = w.enter.new.marks in
-          let Q : List Bool → Type 0 = λ ms. (0 < length ms) × AreMarked ms paths c.args.except (c.loop-i.i + 1) in
+          let Q : List Bool → Type 0 = λ ms. (length ms ≡ c.args.size) × AreMarked ms paths c.args.except (c.loop-i.i + 1) in
           let items = with_items_is c.loop-i.marks new (omega (arith, c.loop-i.marks.ok.0)) in
           let kept : KeepsMarks c.loop-i.marks.items new = subst (λ (m : List Bool). KeepsMarks m new) w.deref_mut.ensures.value w.enter.ensures.kept in
           subst Q (sym items) (
