@@ -7,7 +7,7 @@ use Rattle.wh_grid.specs.Grids.{Floor}
 use Rattle.wh_field.specs.Distances.{IsDistance}
 use Rattle.wh_field.proofs.DistanceLaws.{distance_one}
 use Rattle.wh_tasks.specs.declared.task.Task.{Task}
-use Rattle.wh_tasks.specs.Tasks.{IsOpen, IsTask, delivery}
+use Rattle.wh_tasks.specs.Tasks.{IsOpen, IsTask}
 use Rattle.wh_tasks.specs.Choice.{IsEligible, NoneEligible}
 use Rattle.wh_tasks.specs.Sets.{open_from}
 use Rattle.wh_tasks.proofs.Numbers.{open_from-listed, open_from-has, StandsIn}
@@ -83,20 +83,20 @@ listed-open tasks k task lt there =
     let same : listed.n ≡ get_or (open_from 0 tasks) k 0 = (let e = listed.number_is in omega arith) in
     subst IsOpen (same-task tasks (get_or (open_from 0 tasks) k 0) listed.task task (rw same at listed.there) there) listed.is_open
 
--- none of the open tasks with the first i of the numbers is delivered at the cell
-abbrev pub NoneDeliversAt : List Task → Cell → ℕ → Type 0
-NoneDeliversAt tasks cell i = (k : ℕ) (task : Task) → k < i → IsTask tasks (get_or (open_from 0 tasks) k 0) task → delivery task ≡ cell → ⊥
+-- none of the open tasks with the first i of the numbers is such a task
+abbrev pub NoneListed : List Task → (Task → Type 0) → ℕ → Type 0
+NoneListed tasks P i = (k : ℕ) (task : Task) → k < i → IsTask tasks (get_or (open_from 0 tasks) k 0) task → P task → ⊥
 
-pub delivers-more : (tasks : List Task) (cell : Cell) (i : ℕ) (task : Task) → IsTask tasks (get_or (open_from 0 tasks) i 0) task → (delivery task ≡ cell → ⊥) →
-    NoneDeliversAt tasks cell i → NoneDeliversAt tasks cell (i + 1)
-delivers-more tasks cell i task there not none = λ k other lt at e.
+pub none-listed-more : (tasks : List Task) (P : Task → Type 0) (i : ℕ) (task : Task) → IsTask tasks (get_or (open_from 0 tasks) i 0) task → (P task → ⊥) →
+    NoneListed tasks P i → NoneListed tasks P (i + 1)
+none-listed-more tasks P i task there not none = λ k other lt at is.
     elim (cases_lt-suc k i lt) [
-      | inl lower ↦ none k other lower at e
-      | inr same ↦ not (ap delivery (same-task tasks _ task other there (rw same at at)) ∙ e)
+      | inl lower ↦ none k other lower at is
+      | inr same ↦ not (subst P (same-task tasks _ other task (rw same at at) there) is)
     ]
 
-pub delivers-none : (tasks : List Task) (cell : Cell) (i n : ℕ) (task : Task) → length (open_from 0 tasks) ≤ i → NoneDeliversAt tasks cell i → IsTask tasks n task → IsOpen task →
-    delivery task ≡ cell → ⊥
-delivers-none tasks cell i n task all none there is_open e =
+pub none-listed : (tasks : List Task) (P : Task → Type 0) (i n : ℕ) (task : Task) → length (open_from 0 tasks) ≤ i → NoneListed tasks P i → IsTask tasks n task → IsOpen task →
+    P task → ⊥
+none-listed tasks P i n task all none there is_open is =
     let stands : StandsIn (open_from 0 tasks) n = rw (let same : n ≡ 0 + n = omega arith in same) (open_from-has 0 tasks n task there is_open) in
-    none stands.place task (let h = stands.within in omega arith) (rw stands.there there) e
+    none stands.place task (let h = stands.within in omega arith) (rw stands.there there) is
