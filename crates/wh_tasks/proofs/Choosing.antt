@@ -1,13 +1,16 @@
 -- which task is chosen
-use Rattle.std.proofs.Common.{◌≡◌, ℕ, ◌+◌, ◌<◌, ◌≤◌, ◌⊎◌, inl, inr, List, length, get_or, ap, sym, ◌∙◌, arith, refl, subst}
+use Rattle.std.proofs.Common.{◌≡◌, ℕ, ◌+◌, ◌-◌, ◌<◌, ◌≤◌, ◌⊎◌, inl, inr, List, length, get_or, ap, sym, ◌∙◌, arith, refl, subst}
 use Rattle.std.specs.Prelude.{Option, Some, None, All, Contains, is_some, IsTrue, ◌↔◌, Bool, true, false}
-use Rattle.std.proofs.lemmas.Option.{slice_get_within, same_Some, slice_get-get_or}
+use Rattle.std.proofs.lemmas.Option.{slice_get_within, same_Some, slice_get-get_or, get_or_from_slice_get}
+use Rattle.std.proofs.lemmas.List.{get_or_default}
+use Rattle.std.proofs.lemmas.List.Elements.{All-get_or}
 use Rattle.wh_grid.specs.declared.cell.Cell.{Cell}
 use Rattle.wh_grid.specs.Grids.{Floor}
 use Rattle.wh_field.specs.Distances.{IsDistance}
 use Rattle.wh_field.proofs.DistanceLaws.{distance_one}
 use Rattle.wh_tasks.specs.declared.task.Task.{Task}
-use Rattle.wh_tasks.specs.Tasks.{IsOpen, IsTask}
+use Rattle.wh_tasks.specs.Tasks.{IsOpen, IsTask, delivery}
+use Rattle.wh_tasks.specs.Changes.{IsOrderly}
 use Rattle.wh_tasks.specs.Choice.{IsEligible, NoneEligible}
 use Rattle.wh_tasks.specs.Sets.{open_from}
 use Rattle.wh_tasks.proofs.Numbers.{open_from-listed, open_from-has, StandsIn}
@@ -100,3 +103,10 @@ pub none-listed : (tasks : List Task) (P : Task → Type 0) (i n : ℕ) (task : 
 none-listed tasks P i n task all none there is_open is =
     let stands : StandsIn (open_from 0 tasks) n = rw (let same : n ≡ 0 + n = omega arith in same) (open_from-has 0 tasks n task there is_open) in
     none stands.place task (let h = stands.within in omega arith) (rw stands.there there) is
+
+-- where a task is delivered it has a stop
+pub delivery-stop : (tasks : List Task) (n : ℕ) (task : Task) (cell : Cell) → All IsOrderly tasks → IsTask tasks n task → delivery task ≡ cell → Contains task.stops cell
+delivery-stop tasks n task cell all there e =
+    let orderly : IsOrderly task = subst IsOrderly (get_or_from_slice_get tasks n task task there) (All-get_or IsOrderly tasks n task (slice_get_within tasks n task there) all) in
+    let last : length task.stops - 1 < length task.stops = (let two = orderly.two in omega arith) in
+    (length task.stops - 1, last, get_or_default task.stops (length task.stops - 1) cell (record { x = 0; y = 0 }) last ∙ e)

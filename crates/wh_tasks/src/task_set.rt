@@ -124,9 +124,11 @@ impl TaskSet {
         false
     }
 
-    /// Whether an open task has a stop at the cell. It looks at the open tasks alone.
+    /// Whether an open task has a stop at the cell, and so also where one is to be delivered there. It looks at the open
+    /// tasks alone.
     pub fn stops_at(&self, cell: Cell) -> bool
-        ensures { IsTrue result ↔ ((n : ℕ) × (task : Job) × IsTask self.now.tasks n task × IsOpen task × Contains task.stops cell) }
+        ensures stop { IsTrue result ↔ ((n : ℕ) × (task : Job) × IsTask self.now.tasks n task × IsOpen task × Contains task.stops cell) }
+        ensures delivery { ((n : ℕ) × (task : Job) × IsTask self.now.tasks n task × IsOpen task × (delivery task ≡ cell)) → IsTrue result }
     {
         for n in &self.open {
             let task = self.task(*n);
