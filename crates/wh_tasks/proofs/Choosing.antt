@@ -1,13 +1,16 @@
 -- which task is chosen
-use Rattle.std.proofs.Common.{◌≡◌, ℕ, ◌+◌, ◌<◌, ◌≤◌, ◌⊎◌, inl, inr, List, length, get_or, ap, sym, ◌∙◌, arith, refl, subst}
+use Rattle.std.proofs.Common.{◌≡◌, ℕ, ◌+◌, ◌-◌, ◌<◌, ◌≤◌, ◌⊎◌, inl, inr, List, length, get_or, ap, sym, ◌∙◌, arith, refl, subst}
 use Rattle.std.specs.Prelude.{Option, Some, None, All, Contains, is_some, IsTrue, ◌↔◌, Bool, true, false}
-use Rattle.std.proofs.lemmas.Option.{slice_get_within, same_Some, slice_get-get_or}
+use Rattle.std.proofs.lemmas.Option.{slice_get_within, same_Some, slice_get-get_or, get_or_from_slice_get}
+use Rattle.std.proofs.lemmas.List.{get_or_default}
+use Rattle.std.proofs.lemmas.List.Elements.{All-get_or}
 use Rattle.wh_grid.specs.declared.cell.Cell.{Cell}
 use Rattle.wh_grid.specs.Grids.{Floor}
 use Rattle.wh_field.specs.Distances.{IsDistance}
 use Rattle.wh_field.proofs.DistanceLaws.{distance_one}
 use Rattle.wh_tasks.specs.declared.task.Task.{Task}
 use Rattle.wh_tasks.specs.Tasks.{IsOpen, IsTask, delivery}
+use Rattle.wh_tasks.specs.Changes.{IsOrderly}
 use Rattle.wh_tasks.specs.Choice.{IsEligible, NoneEligible}
 use Rattle.wh_tasks.specs.Sets.{open_from}
 use Rattle.wh_tasks.proofs.Numbers.{open_from-listed, open_from-has, StandsIn}
@@ -83,20 +86,27 @@ listed-open tasks k task lt there =
     let same : listed.n ≡ get_or (open_from 0 tasks) k 0 = (let e = listed.number_is in omega arith) in
     subst IsOpen (same-task tasks (get_or (open_from 0 tasks) k 0) listed.task task (rw same at listed.there) there) listed.is_open
 
--- none of the open tasks with the first i of the numbers is delivered at the cell
-abbrev pub NoneDeliversAt : List Task → Cell → ℕ → Type 0
-NoneDeliversAt tasks cell i = (k : ℕ) (task : Task) → k < i → IsTask tasks (get_or (open_from 0 tasks) k 0) task → delivery task ≡ cell → ⊥
+-- none of the open tasks with the first i of the numbers is such a task
+abbrev pub NoneListed : List Task → (Task → Type 0) → ℕ → Type 0
+NoneListed tasks P i = (k : ℕ) (task : Task) → k < i → IsTask tasks (get_or (open_from 0 tasks) k 0) task → P task → ⊥
 
-pub delivers-more : (tasks : List Task) (cell : Cell) (i : ℕ) (task : Task) → IsTask tasks (get_or (open_from 0 tasks) i 0) task → (delivery task ≡ cell → ⊥) →
-    NoneDeliversAt tasks cell i → NoneDeliversAt tasks cell (i + 1)
-delivers-more tasks cell i task there not none = λ k other lt at e.
+pub none-listed-more : (tasks : List Task) (P : Task → Type 0) (i : ℕ) (task : Task) → IsTask tasks (get_or (open_from 0 tasks) i 0) task → (P task → ⊥) →
+    NoneListed tasks P i → NoneListed tasks P (i + 1)
+none-listed-more tasks P i task there not none = λ k other lt at is.
     elim (cases_lt-suc k i lt) [
-      | inl lower ↦ none k other lower at e
-      | inr same ↦ not (ap delivery (same-task tasks _ task other there (rw same at at)) ∙ e)
+      | inl lower ↦ none k other lower at is
+      | inr same ↦ not (subst P (same-task tasks _ other task (rw same at at) there) is)
     ]
 
-pub delivers-none : (tasks : List Task) (cell : Cell) (i n : ℕ) (task : Task) → length (open_from 0 tasks) ≤ i → NoneDeliversAt tasks cell i → IsTask tasks n task → IsOpen task →
-    delivery task ≡ cell → ⊥
-delivers-none tasks cell i n task all none there is_open e =
+pub none-listed : (tasks : List Task) (P : Task → Type 0) (i n : ℕ) (task : Task) → length (open_from 0 tasks) ≤ i → NoneListed tasks P i → IsTask tasks n task → IsOpen task →
+    P task → ⊥
+none-listed tasks P i n task all none there is_open is =
     let stands : StandsIn (open_from 0 tasks) n = rw (let same : n ≡ 0 + n = omega arith in same) (open_from-has 0 tasks n task there is_open) in
-    none stands.place task (let h = stands.within in omega arith) (rw stands.there there) e
+    none stands.place task (let h = stands.within in omega arith) (rw stands.there there) is
+
+-- where a task is delivered it has a stop
+pub delivery-stop : (tasks : List Task) (n : ℕ) (task : Task) (cell : Cell) → All IsOrderly tasks → IsTask tasks n task → delivery task ≡ cell → Contains task.stops cell
+delivery-stop tasks n task cell all there e =
+    let orderly : IsOrderly task = subst IsOrderly (get_or_from_slice_get tasks n task task there) (All-get_or IsOrderly tasks n task (slice_get_within tasks n task there) all) in
+    let last : length task.stops - 1 < length task.stops = (let two = orderly.two in omega arith) in
+    (length task.stops - 1, last, get_or_default task.stops (length task.stops - 1) cell (record { x = 0; y = 0 }) last ∙ e)

@@ -147,7 +147,7 @@ impl<'a> EndSet<'a> {
 }
 
 /// Whether the cell is one of these.
-fn is_among(cells: &[Cell], cell: Cell) -> bool
+pub(crate) fn is_among(cells: &[Cell], cell: Cell) -> bool
     ensures { IsTrue result ↔ Contains cells.now cell }
 {
     for other in cells {

@@ -10,7 +10,7 @@ ghost use Rattle.wh_tasks.specs.Visiting.{IsGoing};
 ghost use Rattle.wh_tasks.specs.declared.task.Task.{Task as Job};
 
 use crate::distances::Distances;
-use crate::ends::EndSet;
+use crate::ends::{EndSet, is_among};
 use crate::task::{Counts, Phase, Places, Task, Visit, Visits};
 use std::alloc::{AllocError, Global};
 use std::marker::Model;
@@ -118,6 +118,21 @@ impl TaskSet {
     {
         for n in &self.open {
             if self.task(*n).delivery().is(cell) {
+                return true;
+            }
+        }
+        false
+    }
+
+    /// Whether an open task has a stop at the cell, and so also where one is to be delivered there. It looks at the open
+    /// tasks alone.
+    pub fn stops_at(&self, cell: Cell) -> bool
+        ensures stop { IsTrue result ↔ ((n : ℕ) × (task : Job) × IsTask self.now.tasks n task × IsOpen task × Contains task.stops cell) }
+        ensures delivery { ((n : ℕ) × (task : Job) × IsTask self.now.tasks n task × IsOpen task × (delivery task ≡ cell)) → IsTrue result }
+    {
+        for n in &self.open {
+            let task = self.task(*n);
+            if is_among(task.stops.as_slice(), cell) {
                 return true;
             }
         }

@@ -1,7 +1,8 @@
--- commands and their events
+-- commands and their events, and the replies that change nothing
 use Rattle.wh_event.specs.declared.event.Spare.{Spare}
 use Rattle.wh_event.specs.declared.event.Event.{Event}
 use Rattle.wh_event.specs.declared.event.Command.{Command}
+use Rattle.wh_event.specs.declared.reply.Reply.{Reply}
 
 -- the event of a command, with what is told of the spare planner
 abbrev pub event_of : Command → Spare → Event
@@ -10,3 +11,9 @@ event_of (Command.Token agent) spare = Event.Request agent
 event_of Command.Tick spare = Event.Tick
 event_of (Command.Replace agent) spare = Event.Replace agent spare
 event_of Command.Close spare = Event.Close
+
+-- the reply leaves the state as it is: the agent rests, or the event is refused
+abbrev pub LeavesState : Reply → Type 0
+LeavesState Reply.Rested = Unit {0}
+LeavesState (Reply.Refused refusal) = Unit {0}
+LeavesState reply = ⊥

@@ -1,8 +1,9 @@
 //! The event that a command is.
 #![tactic(auto)]
 
-ghost use Rattle.std.specs.Prelude.{◌≡◌, IfOk};
+ghost use Rattle.std.specs.Prelude.{◌≡◌, ◌↔◌, IfOk, IsTrue};
 ghost use Rattle.wh_token.specs.Commands as commands;
+ghost use Rattle.wh_token.specs.Commands.{LeavesState};
 ghost use Rattle.wh_token.specs.Fleet.{replaced_agent};
 
 use std::alloc::{AllocError, Global};
@@ -32,4 +33,11 @@ pub(crate) fn replaced(entry: &Entry) -> Option<u32>
         (Event::Replace { agent, .. }, Reply::Replaced { .. }) => Some(*agent),
         _ => None,
     }
+}
+
+/// Whether the reply leaves the state as it is: the agent rests, or the event is refused.
+pub(crate) fn leaves_state(reply: &Reply) -> bool
+    ensures { IsTrue result ↔ LeavesState reply.now }
+{
+    matches!(reply, Reply::Rested | Reply::Refused(_))
 }

@@ -25,7 +25,7 @@ ghost use Rattle.wh_token.specs.Commands.{event_of};
 ghost use Rattle.wh_token.specs.Fleet.{IsTied, AllFit, RefusesToOpen, TellsSpare, TellsFor, Swaps, IsSeated, StaySeated, replaced_agent};
 ghost use Rattle.wh_token.specs.Runs.{Moves, Ran as RanBy, WantsSpare, entries_of};
 
-use crate::command::{event_of, replaced};
+use crate::command::{event_of, leaves_state, replaced};
 use crate::roster::{OpenFault, first_foreign, slots_of};
 use std::alloc::{AllocError, Global};
 use std::marker::Model;
@@ -47,6 +47,9 @@ pub struct Warehouse<P = Box<dyn Planner>> {
     book: Book,
     planners: Vec<P>,
     near: LazyField,
+    /// No open task is clear of all ends, as the last request that looked found. A change of the tasks or the ends takes
+    /// it back.
+    quiet: bool,
 }
 
 impl<P> Model for Warehouse<P> {
@@ -57,7 +60,7 @@ impl<P> Model for Warehouse<P> {
 
     ghost view = { λ w. record { book = w.book; planners = w.planners.items } };
 
-    ghost invariant = { λ w. IsFurnished w.book (length w.planners.items) w.near };
+    ghost invariant = { λ w. IsFurnished w.book (length w.planners.items) w.near w.quiet };
 }
 
 impl<P: Planner> Warehouse<P> {
@@ -117,6 +120,7 @@ impl<P: Planner> Warehouse<P> {
             book,
             planners,
             near,
+            quiet: false,
         })
     }
 
@@ -350,7 +354,8 @@ impl<P: Planner> Warehouse<P> {
         }
     }
 
-    /// The draft of a request by a due agent, while tasks are open.
+    /// The draft of a request by a due agent, while tasks are open. Where none is clear of all ends, it looks for one only if
+    /// the agent stands at a stop of one.
     fn draft_choice(&mut self, alloc: Global, caller: u32, agent: u32) -> Result<Draft, AllocError>
         requires due { IsDue self.old.book.state agent }
         requires room { 1 ≤ self.old.book.entry_room }
@@ -359,10 +364,14 @@ impl<P: Planner> Warehouse<P> {
         ensures tied { IsTied (λ b. P.fits_map b self.old.book.site.grid) (λ b. P.slot_count b) self.old.planners self.old.book.state.slots
             → IsTied (λ b. P.fits_map b self.old.book.site.grid) (λ b. P.slot_count b) self.new.planners self.old.book.state.slots }
     {
+        let here = self.book.paths()[agent as usize].start();
+        if self.quiet && !self.book.tasks().stops_at(here) {
+            return self.book.draft_rested(alloc, caller, agent);
+        }
         if let Some(task) = self.book.next(agent, &mut self.near) {
             return self.draft_delivery(alloc, caller, agent, task);
         }
-        let here = self.book.paths()[agent as usize].start();
+        self.quiet = true;
         if !self.book.tasks().delivers_at(here) {
             return self.book.draft_rested(alloc, caller, agent);
         }
@@ -487,6 +496,7 @@ impl<P: Planner> Warehouse<P> {
             → IsTied (λ b. P.fits_map b self.old.book.site.grid) (λ b. P.slot_count b) self.new.planners self.new.book.state.slots }
     {
         let agent = replaced(&draft.entry);
+        self.quiet = self.quiet && leaves_state(&draft.entry.reply);
         let entry = self.book.commit(draft);
         let back = swap(&mut self.planners, agent, spare);
         Committed { entry, back }

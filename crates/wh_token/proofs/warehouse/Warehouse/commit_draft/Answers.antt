@@ -1,9 +1,12 @@
-use Rattle.std.proofs.Common.{◌≡◌, ap, subst}
+use Rattle.std.proofs.Common.{◌≡◌, ◌∙◌, ap, sym, subst}
 use Rattle.wh_core.specs.Steps.{Step}
 use Rattle.wh_event.specs.declared.entry.Entry.{Entry}
 use Rattle.wh_token.specs.Houses.{House}
+use Rattle.wh_points.specs.Points.{Site}
 use Rattle.wh_token.proofs.Fleet.{tied-step}
+use Rattle.wh_token.proofs.Quiet.{quiet-step}
 use Rattle.wh_token.proofs.warehouse.Warehouse.commit_draft.Goals as goal
+use Rattle.wh_token.proofs.warehouse.Warehouse.commit_draft.Goals.{then-self, else-self}
 
 pub returns-clause-tied : goal.returns-clause-tied
 returns-clause-tied g c =
@@ -17,3 +20,22 @@ returns-clause-tied g c =
     rw (← same_planners, ← same_book) (tied-step _ _ old.book.site old.book.state entry.reply entry.event c.commit-entry.new.self.state
     old.planners.items c.args.spare c.swap-back.new.planners.items c.swap-back.result
     c.self.invariant.seats step (rw same_book c.requires.tells) swaps)
+
+-- it stays quiet only where the step leaves the state as it is
+pub invariant_of-self : goal.invariant_of-self
+invariant_of-self g c =
+    let old = c.self.inside in
+    let new = c.commit-entry.new.self in
+    let entry = c.args.draft.entry in
+    let S : Entry → Type 0 = λ e. Step old.book.site old.book.state e new.state in
+    let step = subst S c.commit-entry.ensures.entry c.commit-entry.ensures.step in
+    record {
+      seats = c.swap-back.ensures.len ∙ c.self.invariant.seats ∙ sym c.commit-entry.ensures.seats;
+      over = c.self.invariant.over ∙ ap (λ (s : Site). s.grid) (sym c.commit-entry.ensures.site);
+      quiet = λ on. elim c.if-self.branch [
+        | then-self w ↦
+            let leaves = w.leaves_state-self-inside.ensures.0 (sym w.self-is ∙ on) in
+            quiet-step old.book.site old.book.state entry.reply entry.event new.state leaves step (c.self.invariant.quiet w.if-self.true)
+        | else-self w ↦ (let off = sym w.self-is ∙ on in cc)
+      ];
+    }
