@@ -2,13 +2,13 @@
 #![tactic(auto)]
 
 ghost use Rattle.std.specs.Prelude.{◌≡◌, ◌≢◌, ℕ, ◌+◌, ◌-◌, ◌<◌, ◌≤◌, ◌↔◌, List, [], ◌∷◌, ◌++◌, true, false, Some, length, slice_get, IfOk, IfNone, IfSome, OnOk, OnErr, IsTrue, Contains};
-ghost use Rattle.wh_path.specs.Paths.{AllFree, place_of};
+ghost use Rattle.wh_path.specs.Paths.{AllFree};
 ghost use Rattle.wh_points.specs.Points.{Site};
 ghost use Rattle.wh_tasks.specs.declared.task.Task.{Task as Job};
 ghost use Rattle.wh_tasks.specs.Tasks.{IsTask};
 ghost use Rattle.wh_planner.specs.Duties.{IsLawful, Delivers, ParksAt};
 ghost use Rattle.wh_core.specs.States.{State, opened};
-ghost use Rattle.wh_core.specs.Steps.{Step, Run, Refuses, IsDue, IsNext, NoneIsNext, IsDeliveryCell, MakesWay, IsAllowed, last_clock};
+ghost use Rattle.wh_core.specs.Steps.{Step, Run, Answers, Refuses, IsDue, IsNext, NoneIsNext, MakesWay, IsAllowed, last_clock};
 ghost use Rattle.wh_core.specs.Laws.{IsOpening};
 ghost use Rattle.wh_event.specs.declared.event.Event.{Event as Asked};
 ghost use Rattle.wh_grid.specs.declared.cell.Cell.{Cell as Place};
@@ -207,6 +207,42 @@ impl Book {
         told
     }
 
+    /// Adds the entry of an event whose answer changes nothing. It takes no memory and always succeeds.
+    pub fn add_answer(&mut self, caller: u32, event: Event, reply: Reply)
+        requires answers { Answers self.old.site self.old.state reply event self.old.state }
+        requires room { 1 ≤ self.old.entry_room }
+        ensures site { self.new.site ≡ self.old.site }
+        ensures opening { self.new.opening ≡ self.old.opening }
+        ensures state { self.new.state ≡ self.old.state }
+        ensures history { self.new.history ≡ self.old.history ++ record { caller = caller; event = event; reply = reply } ∷ [] }
+    {
+        self.history.push_reserved(Entry {
+            caller,
+            event,
+            reply,
+        });
+    }
+
+    /// Answers the event, and changes nothing.
+    pub fn draft_answer(
+        &self,
+        alloc: Global,
+        caller: u32,
+        event: Event,
+        reply: Reply,
+    ) -> Result<Draft, AllocError>
+        requires answers { Answers self.now.site self.now.state reply event self.now.state }
+        requires room { 1 ≤ self.now.entry_room }
+        ensures { IfOk result (Drafts self.now caller event) }
+    {
+        let entry = Entry {
+            caller,
+            event,
+            reply,
+        };
+        Draft::new(alloc, entry, Change::Nothing)
+    }
+
     /// Refuses the event.
     pub fn refuse(
         &self,
@@ -219,12 +255,7 @@ impl Book {
         requires room { 1 ≤ self.now.entry_room }
         ensures { IfOk result (Drafts self.now caller event) }
     {
-        let entry = Entry {
-            caller,
-            event,
-            reply: Reply::Refused(refusal),
-        };
-        Draft::new(alloc, entry, Change::Nothing)
+        self.draft_answer(alloc, caller, event, Reply::Refused(refusal))
     }
 
     /// Accepts a task; or refuses it, where a stop is no station or the tasks are full.
@@ -363,22 +394,6 @@ impl Book {
             },
         };
         Draft::new(alloc, entry, Change::Take { agent, task, path })
-    }
-
-    /// The agent has nothing to do, and is in nobody's way.
-    pub fn draft_rested(&self, alloc: Global, caller: u32, agent: u32) -> Result<Draft, AllocError>
-        requires due { IsDue self.now.state agent }
-        requires none { NoneIsNext self.now.state agent }
-        requires out_of_the_way { ¬ IsDeliveryCell self.now.state (place_of self.now.state.paths agent) }
-        requires room { 1 ≤ self.now.entry_room }
-        ensures { IfOk result (Drafts self.now caller (Asked.Request agent)) }
-    {
-        let entry = Entry {
-            caller,
-            event: Event::Request { agent },
-            reply: Reply::Rested,
-        };
-        Draft::new(alloc, entry, Change::Nothing)
     }
 
     /// The agent makes way by the path.

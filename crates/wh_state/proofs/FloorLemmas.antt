@@ -34,7 +34,7 @@ ends-standing : (starts : List Cell) → starts ≡ ends (map (λ cell. cell ∷
 ends-standing [] = refl
 ends-standing (c ∷ cs) = ap (λ es. c ∷ es) (ends-standing cs) ∙ ap (λ d. d ∷ ends (map (λ cell. cell ∷ []) cs)) (sym (at-one c 0))
 
-ends-advanced : (paths : List (List Cell)) → ends (map advanced paths) ≡ ends paths
+pub ends-advanced : (paths : List (List Cell)) → ends (map advanced paths) ≡ ends paths
 ends-advanced [] = refl
 ends-advanced (p ∷ ps) = ap (λ c. c ∷ ends (map advanced ps)) (end-advanced p) ∙ ap (λ es. end p ∷ es) (ends-advanced ps)
 

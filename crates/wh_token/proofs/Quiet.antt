@@ -1,23 +1,27 @@
 -- no open task is clear of the ends of paths: of all of them, and of those of the others
-use Rattle.std.proofs.Common.{◌≡◌, ◌≢◌, ℕ, ◌<◌, ◌∙◌, inl, inr, List, [], length, ap, sym, subst}
+use Rattle.std.proofs.Common.{◌≡◌, ◌≢◌, ℕ, ◌+◌, ◌<◌, ◌∙◌, inl, inr, List, [], length, map, ap, sym, subst, refl, Option, Some, None}
 use Rattle.std.specs.Prelude.{Bool, true, Contains}
 use Rattle.std.proofs.lemmas.List.{get_or-map, length-map, get_or_default}
 use Rattle.std.proofs.lemmas.Bool.{cases_eq}
 use Rattle.wh_grid.specs.declared.cell.Cell.{Cell}
-use Rattle.wh_path.specs.Paths.{end, path_of, place_of, others, ends}
+use Rattle.wh_path.specs.Paths.{end, path_of, place_of, others, ends, advanced}
 use Rattle.wh_path.proofs.AtLemmas.{at-resting}
 use Rattle.wh_path.proofs.Fleet.{no_end-at, no_end-from}
 use Rattle.wh_tasks.specs.declared.task.Task.{Task}
 use Rattle.wh_tasks.specs.Tasks.{IsTask, IsOpen}
+use Rattle.wh_tasks.specs.Arrivals.{arrived_by, arrived_task, arrived_tasks}
 use Rattle.wh_tasks.specs.Choice.{NoneEligible}
 use Rattle.wh_points.specs.Points.{Site}
 use Rattle.wh_core.specs.States.{State}
+use Rattle.wh_state.proofs.Ties.{mapped-from}
+use Rattle.wh_state.proofs.FloorLemmas.{ends-advanced}
 use Rattle.wh_core.specs.Steps.{Answers, IsDue, NoneIsNext}
 use Rattle.wh_event.specs.declared.event.Event.{Event}
+use Rattle.wh_event.specs.declared.event.Spare.{Spare}
 use Rattle.wh_event.specs.declared.reply.Reply.{Reply}
 use Rattle.wh_field.specs.Fields.{Seeking}
 use Rattle.wh_book.specs.Drafts.{Seen, IsSame}
-use Rattle.wh_token.specs.Commands.{LeavesState}
+use Rattle.wh_token.specs.Commands.{LeavesQuiet}
 use Rattle.wh_token.specs.Houses.{IsFurnished}
 
 -- an open task has a stop at the cell
@@ -79,14 +83,41 @@ furnished-found book planners old new was agent is same none = record {
   quiet = λ _. quiet-found book.state agent none;
 }
 
--- an agent that rests and a refusal leave the state as it is
-pub step-leaves : (site : Site) (old : State) (reply : Reply) (event : Event) (new : State) → LeavesState reply → Answers site old reply event new → new ≡ old
-step-leaves site old (Reply.Refused refusal) event new leaves step = step.1
-step-leaves site old Reply.Rested (Event.Request agent) new leaves step = step.3
-step-leaves site old Reply.Rested event new leaves step = absurd step
-step-leaves site old reply event new leaves step = absurd leaves
+quiet-same : (old new : State) → new ≡ old → NoneEligible old.tasks (ends old.paths) → NoneEligible new.tasks (ends new.paths)
+quiet-same old new same none = subst (λ (t : State). NoneEligible t.tasks (ends t.paths)) (sym same) none
 
-pub quiet-step : (site : Site) (old : State) (reply : Reply) (event : Event) (new : State) → LeavesState reply → Answers site old reply event new →
+-- What arrives has an agent before and after, so the open tasks are those from before.
+open-arrived : (clock : ℕ) (place : ℕ → Cell) (old new : Task) (agent : Option ℕ) → old.agent ≡ agent → new ≡ arrived_by clock place agent old → IsOpen new →
+    new ≡ old
+open-arrived clock place old new None had is is_open = is
+open-arrived clock place old new (Some agent) had is is_open =
+    let has : new.agent ≡ Some agent = ap (λ (t : Task). t.agent) is ∙ had in
+    let none = sym has ∙ is_open in
+    cc
+
+quiet-arrived : (clock : ℕ) (place : ℕ → Cell) (tasks : List Task) (cells : List Cell) → NoneEligible tasks cells → NoneEligible (arrived_tasks clock place tasks) cells
+quiet-arrived clock place tasks cells none n task eligible =
+    let from = mapped-from (arrived_task clock place) tasks n task eligible.there in
+    let same = open-arrived clock place from.from task from.from.agent refl from.is eligible.is_open in
+    none n task (record {
+      there = from.there ∙ ap Some (sym same);
+      is_open = eligible.is_open;
+      clear = eligible.clear;
+    })
+
+-- no task comes or is taken, and no path ends elsewhere
+pub quiet-step : (site : Site) (old : State) (reply : Reply) (event : Event) (new : State) → LeavesQuiet reply → Answers site old reply event new →
     NoneEligible old.tasks (ends old.paths) → NoneEligible new.tasks (ends new.paths)
-quiet-step site old reply event new leaves step none =
-    subst (λ (t : State). NoneEligible t.tasks (ends t.paths)) (sym (step-leaves site old reply event new leaves step)) none
+quiet-step site old (Reply.Refused refusal) event new leaves step none = quiet-same old new step.1 none
+quiet-step site old Reply.Rested (Event.Request agent) new leaves step none = quiet-same old new step.3 none
+quiet-step site old (Reply.Clock now first last) Event.Tick new leaves step none =
+    let later = quiet-arrived (old.clock + 1) (place_of (map advanced old.paths)) old.tasks (ends old.paths) none in
+    subst (λ (t : State). NoneEligible t.tasks (ends t.paths)) (sym step.5)
+        (subst (λ cells. NoneEligible (arrived_tasks (old.clock + 1) (place_of (map advanced old.paths)) old.tasks) cells) (sym (ends-advanced old.paths)) later)
+quiet-step site old (Reply.Replaced slots) (Event.Replace agent (Spare.Fits count)) new leaves step none =
+    subst (λ (t : State). NoneEligible t.tasks (ends t.paths)) (sym step.2) none
+quiet-step site old Reply.Closed Event.Close new leaves step none = subst (λ (t : State). NoneEligible t.tasks (ends t.paths)) (sym step.1) none
+quiet-step site old (Reply.Accepted task) event new leaves step none = absurd leaves
+quiet-step site old (Reply.Took task path) event new leaves step none = absurd leaves
+quiet-step site old (Reply.Parked point path) event new leaves step none = absurd leaves
+quiet-step site old reply event new leaves step none = absurd step

@@ -1,4 +1,4 @@
--- commands and their events, and the replies that change nothing
+-- commands and their events, and the replies that leave the open tasks and the ends as they are
 use Rattle.wh_event.specs.declared.event.Spare.{Spare}
 use Rattle.wh_event.specs.declared.event.Event.{Event}
 use Rattle.wh_event.specs.declared.event.Command.{Command}
@@ -12,8 +12,10 @@ event_of Command.Tick spare = Event.Tick
 event_of (Command.Replace agent) spare = Event.Replace agent spare
 event_of Command.Close spare = Event.Close
 
--- the reply leaves the state as it is: the agent rests, or the event is refused
-abbrev pub LeavesState : Reply → Type 0
-LeavesState Reply.Rested = Unit {0}
-LeavesState (Reply.Refused refusal) = Unit {0}
-LeavesState reply = ⊥
+-- the reply leaves the open tasks and the ends of paths as they are: no task comes or is taken, and no agent gets
+-- another path
+abbrev pub LeavesQuiet : Reply → Type 0
+LeavesQuiet (Reply.Accepted task) = ⊥
+LeavesQuiet (Reply.Took task path) = ⊥
+LeavesQuiet (Reply.Parked point path) = ⊥
+LeavesQuiet reply = Unit {0}

@@ -3,7 +3,7 @@
 
 ghost use Rattle.std.specs.Prelude.{◌≡◌, ◌↔◌, IfOk, IsTrue};
 ghost use Rattle.wh_token.specs.Commands as commands;
-ghost use Rattle.wh_token.specs.Commands.{LeavesState};
+ghost use Rattle.wh_token.specs.Commands.{LeavesQuiet};
 ghost use Rattle.wh_token.specs.Fleet.{replaced_agent};
 
 use std::alloc::{AllocError, Global};
@@ -35,9 +35,17 @@ pub(crate) fn replaced(entry: &Entry) -> Option<u32>
     }
 }
 
-/// Whether the reply leaves the state as it is: the agent rests, or the event is refused.
-pub(crate) fn leaves_state(reply: &Reply) -> bool
-    ensures { IsTrue result ↔ LeavesState reply.now }
+/// Whether the reply leaves the open tasks and the ends of paths as they are: no task comes or is taken, and no agent gets
+/// another path.
+pub(crate) fn leaves_quiet(reply: &Reply) -> bool
+    ensures { IsTrue result ↔ LeavesQuiet reply.now }
 {
-    matches!(reply, Reply::Rested | Reply::Refused(_))
+    match reply {
+        Reply::Rested
+        | Reply::Clock { .. }
+        | Reply::Replaced { .. }
+        | Reply::Closed
+        | Reply::Refused(_) => true,
+        Reply::Accepted { .. } | Reply::Took { .. } | Reply::Parked { .. } => false,
+    }
 }

@@ -1,7 +1,7 @@
 //! The warehouse.
 #![tactic(auto)]
 
-ghost use Rattle.std.specs.Prelude.{◌≡◌, ◌≢◌, ℕ, ◌+◌, ◌-◌, ◌<◌, ◌≤◌, ◌↔◌, List, [], ◌∷◌, ◌++◌, Option, Some, true, false, is_some, length, map, slice_index, slice_set, slice_get, All, Contains, IfOk, IfErr, IfNone, IfSome, IsTrue, MatchResult};
+ghost use Rattle.std.specs.Prelude.{◌≡◌, ◌≢◌, ℕ, ◌+◌, ◌-◌, ◌<◌, ◌≤◌, ◌↔◌, List, [], ◌∷◌, ◌++◌, Option, Some, true, false, is_some, length, map, slice_index, slice_set, slice_get, All, Contains, IfOk, IfErr, IfNone, IfSome, IsTrue, MatchBool, MatchResult};
 ghost use Rattle.wh_grid.specs.declared.cell.Cell.{Cell as Place};
 ghost use Rattle.wh_grid.specs.Grids.{Floor};
 ghost use Rattle.wh_points.specs.Formed.{IsFormed};
@@ -18,21 +18,21 @@ ghost use Rattle.wh_ledger.specs.Ledgers.{rows_of};
 ghost use Rattle.wh_planner.specs.Duties.{IsLawful, HasNoClearWay, Delivers, ParksAt};
 ghost use Rattle.wh_core.specs.States.{State, opened};
 ghost use Rattle.wh_core.specs.Laws.{IsOpening};
-ghost use Rattle.wh_core.specs.Steps.{Step, Run, IsDue, IsNext, NoneIsNext, IsAllowed, MakesWay, other_ends, last_clock};
+ghost use Rattle.wh_core.specs.Steps.{Step, Run, Answers, IsDue, IsNext, NoneIsNext, IsDeliveryCell, IsAllowed, MakesWay, other_ends, last_clock};
 ghost use Rattle.wh_planner.specs.Asked.{IsDuty, Serves, legs};
 ghost use Rattle.wh_book.specs.Drafts.{IsSame, IsReady, Drafts, AllServed};
 ghost use Rattle.wh_token.specs.Commands.{event_of};
 ghost use Rattle.wh_token.specs.Fleet.{IsTied, AllFit, RefusesToOpen, TellsSpare, TellsFor, Swaps, IsSeated, StaySeated, replaced_agent};
 ghost use Rattle.wh_token.specs.Runs.{Moves, Ran as RanBy, WantsSpare, entries_of};
 
-use crate::command::{event_of, leaves_state, replaced};
+use crate::command::{event_of, leaves_quiet, replaced};
 use crate::roster::{OpenFault, first_foreign, slots_of};
 use std::alloc::{AllocError, Global};
 use std::marker::Model;
 use std::mem;
 use std::sync::Arc;
 use wh_book::{Book, Draft, Setting};
-use wh_event::{Command, Entry, Event, Refusal, Spare};
+use wh_event::{Command, Entry, Event, Refusal, Reply, Spare};
 use wh_field::LazyField;
 use wh_grid::{Cell, Grid};
 use wh_ledger::DeliveryLedger;
@@ -354,26 +354,57 @@ impl<P: Planner> Warehouse<P> {
         }
     }
 
-    /// The draft of a request by a due agent, while tasks are open. Where none is clear of all ends, it looks for one only if
-    /// the agent stands at a stop of one.
+    /// Whether it is known without a look at the tasks that the agent, which stands here, has nothing to do and is in
+    /// nobody's way: no task is open, or none is clear of all ends and none has a stop here.
+    fn rests_at(&self, here: Cell) -> bool
+        ensures none { IsTrue result → (agent : ℕ) → IsDue self.now.book.state agent → here ≡ place_of self.now.book.state.paths agent → NoneIsNext self.now.book.state agent }
+        ensures out_of_the_way { IsTrue result → ¬ IsDeliveryCell self.now.book.state here }
+    {
+        let tasks = self.book.tasks();
+        !tasks.has_open() || (self.quiet && !tasks.stops_at(here))
+    }
+
+    /// The reply to a request, where it is known at once and changes nothing. With none the agent is due, while tasks are
+    /// open.
+    fn answer_at_once(&self, agent: u32) -> Option<Reply>
+        ensures answers { IfSome result (λ reply. Answers self.now.book.site self.now.book.state reply (Asked.Request agent) self.now.book.state) }
+        ensures due { IfNone result (IsDue self.now.book.state agent) }
+    {
+        if self.closed() {
+            return Some(Reply::Refused(Refusal::Closed));
+        }
+        let Some(path) = self.book.paths().get(agent as usize) else {
+            return Some(Reply::Refused(Refusal::UnknownAgent(agent)));
+        };
+        let left = path.remaining();
+        if left != 0 {
+            return Some(Reply::Refused(Refusal::Moving(left)));
+        }
+        if self.rests_at(path.start()) {
+            return Some(Reply::Rested);
+        }
+        None
+    }
+
+    /// The draft of a request by a due agent. Where no task is there for it, none is clear of all ends.
     fn draft_choice(&mut self, alloc: Global, caller: u32, agent: u32) -> Result<Draft, AllocError>
         requires due { IsDue self.old.book.state agent }
         requires room { 1 ≤ self.old.book.entry_room }
         ensures book { self.new.book ≡ self.old.book }
         ensures drafts { IfOk result (Drafts self.old.book caller (Asked.Request agent)) }
         ensures tied { IsTied (λ b. P.fits_map b self.old.book.site.grid) (λ b. P.slot_count b) self.old.planners self.old.book.state.slots
-            → IsTied (λ b. P.fits_map b self.old.book.site.grid) (λ b. P.slot_count b) self.new.planners self.old.book.state.slots }
+            → IsTied (λ b. P.fits_map b self.old.book.site.grid) (λ b. P.slot_count b) self.new.planners self.new.book.state.slots }
     {
-        let here = self.book.paths()[agent as usize].start();
-        if self.quiet && !self.book.tasks().stops_at(here) {
-            return self.book.draft_rested(alloc, caller, agent);
-        }
         if let Some(task) = self.book.next(agent, &mut self.near) {
             return self.draft_delivery(alloc, caller, agent, task);
         }
         self.quiet = true;
+        let here = self.book.paths()[agent as usize].start();
         if !self.book.tasks().delivers_at(here) {
-            return self.book.draft_rested(alloc, caller, agent);
+            let event = Event::Request { agent };
+            return self
+                .book
+                .draft_answer(alloc, caller, event, Reply::Rested);
         }
         let allowed = self.book.allowed(alloc, agent)?;
         self.draft_parking(alloc, caller, agent, allowed.as_slice())
@@ -381,29 +412,19 @@ impl<P: Planner> Warehouse<P> {
 
     /// The draft of a request. Where no task is open the agent rests, wherever it is.
     fn draft_request(&mut self, alloc: Global, caller: u32, agent: u32) -> Result<Draft, AllocError>
-        requires not_closed { self.old.book.state.closed ≡ false }
         requires room { 1 ≤ self.old.book.entry_room }
         ensures book { self.new.book ≡ self.old.book }
         ensures drafts { IfOk result (Drafts self.old.book caller (Asked.Request agent)) }
         ensures tied { IsTied (λ b. P.fits_map b self.old.book.site.grid) (λ b. P.slot_count b) self.old.planners self.old.book.state.slots
             → IsTied (λ b. P.fits_map b self.old.book.site.grid) (λ b. P.slot_count b) self.new.planners self.new.book.state.slots }
     {
-        let event = Event::Request { agent };
-        if agent as usize >= self.book.paths().len() {
-            return self
-                .book
-                .refuse(alloc, caller, event, Refusal::UnknownAgent(agent));
+        match self.answer_at_once(agent) {
+            Some(reply) => {
+                let event = Event::Request { agent };
+                self.book.draft_answer(alloc, caller, event, reply)
+            }
+            None => self.draft_choice(alloc, caller, agent),
         }
-        let left = self.book.paths()[agent as usize].remaining();
-        if left != 0 {
-            return self
-                .book
-                .refuse(alloc, caller, event, Refusal::Moving(left));
-        }
-        if !self.book.tasks().has_open() {
-            return self.book.draft_rested(alloc, caller, agent);
-        }
-        self.draft_choice(alloc, caller, agent)
     }
 
     /// The draft of a command. It makes every growth that the commit needs.
@@ -496,7 +517,7 @@ impl<P: Planner> Warehouse<P> {
             → IsTied (λ b. P.fits_map b self.old.book.site.grid) (λ b. P.slot_count b) self.new.planners self.new.book.state.slots }
     {
         let agent = replaced(&draft.entry);
-        self.quiet = self.quiet && leaves_state(&draft.entry.reply);
+        self.quiet = self.quiet && leaves_quiet(&draft.entry.reply);
         let entry = self.book.commit(draft);
         let back = swap(&mut self.planners, agent, spare);
         Committed { entry, back }
@@ -542,24 +563,65 @@ impl<P: Planner> Warehouse<P> {
         }
     }
 
-    /// One command of a list: whether it added an entry. After want of memory the spare goes back to its place.
-    fn run_event(
+    /// Answers a request at once, by a reply that changes nothing: whether there was memory for the entry.
+    fn add_answer(&mut self, caller: u32, agent: u32, reply: Reply) -> bool
+        requires answers { Answers self.old.book.site self.old.book.state reply (Asked.Request agent) self.old.book.state }
+        ensures site { self.new.book.site ≡ self.old.book.site }
+        ensures opening { self.new.book.opening ≡ self.old.book.opening }
+        ensures state { self.new.book.state ≡ self.old.book.state }
+        ensures history { MatchBool result (self.new.book.history ≡ self.old.book.history ++ record { caller = caller; event = Asked.Request agent; reply = reply } ∷ []) (self.new.book.history ≡ self.old.book.history) }
+        ensures planners { self.new.planners ≡ self.old.planners }
+    {
+        if self.book.reserve_entry().is_err() {
+            return false;
+        }
+        self.book
+            .add_answer(caller, Event::Request { agent }, reply);
+        true
+    }
+
+    /// Runs a command, and a Replace of a known agent takes the last spare: whether it added an entry. With none it was
+    /// refused for want of memory, and the spare goes back to its place.
+    pub fn run_event(
         &mut self,
         alloc: Global,
         caller: u32,
-        command: &Command,
+        command: Command,
         spares: &mut Vec<P>,
     ) -> bool
         ensures site { self.new.book.site ≡ self.old.book.site }
         ensures opening { self.new.book.opening ≡ self.old.book.opening }
         ensures moves { ((outcome : Option Line) × (is_some outcome ≡ result) × (self.new.book.history ≡ self.old.book.history ++ entries_of (outcome ∷ []))
-            × Moves (λ b. P.fits_map b self.old.book.site.grid) (λ b. P.slot_count b) self.old.book.site caller command.now outcome self.old.book.state spares.old.items self.new.book.state spares.new.items) }
+            × Moves (λ b. P.fits_map b self.old.book.site.grid) (λ b. P.slot_count b) self.old.book.site caller command outcome self.old.book.state spares.old.items self.new.book.state spares.new.items) }
         ensures tied { IsTied (λ b. P.fits_map b self.old.book.site.grid) (λ b. P.slot_count b) self.old.planners self.old.book.state.slots
             → IsTied (λ b. P.fits_map b self.old.book.site.grid) (λ b. P.slot_count b) self.new.planners self.new.book.state.slots }
     {
-        let wants = self.wants_spare(command);
+        if let Command::Token { agent } = command {
+            if let Some(reply) = self.answer_at_once(agent) {
+                return self.add_answer(caller, agent, reply);
+            }
+        }
+        self.run_step(alloc, caller, command, spares)
+    }
+
+    /// Runs a command by a step.
+    fn run_step(
+        &mut self,
+        alloc: Global,
+        caller: u32,
+        command: Command,
+        spares: &mut Vec<P>,
+    ) -> bool
+        ensures site { self.new.book.site ≡ self.old.book.site }
+        ensures opening { self.new.book.opening ≡ self.old.book.opening }
+        ensures moves { ((outcome : Option Line) × (is_some outcome ≡ result) × (self.new.book.history ≡ self.old.book.history ++ entries_of (outcome ∷ []))
+            × Moves (λ b. P.fits_map b self.old.book.site.grid) (λ b. P.slot_count b) self.old.book.site caller command outcome self.old.book.state spares.old.items self.new.book.state spares.new.items) }
+        ensures tied { IsTied (λ b. P.fits_map b self.old.book.site.grid) (λ b. P.slot_count b) self.old.planners self.old.book.state.slots
+            → IsTied (λ b. P.fits_map b self.old.book.site.grid) (λ b. P.slot_count b) self.new.planners self.new.book.state.slots }
+    {
+        let wants = self.wants_spare(&command);
         let spare = if wants { spares.pop() } else { None };
-        match self.step(alloc, caller, command.copy(), spare) {
+        match self.step(alloc, caller, command, spare) {
             Ok(done) => {
                 drop(done);
                 true
@@ -597,7 +659,7 @@ impl<P: Planner> Warehouse<P> {
         let mut entries = 0u64;
         let mut starved = 0u64;
         for command in commands {
-            let added = self.run_event(alloc, caller, command, spares);
+            let added = self.run_event(alloc, caller, command.copy(), spares);
             if added {
                 entries += 1;
             } else {

@@ -21,7 +21,7 @@ returns-clause-tied g c =
     old.planners.items c.args.spare c.swap-back.new.planners.items c.swap-back.result
     c.self.invariant.seats step (rw same_book c.requires.tells) swaps)
 
--- it stays quiet only where the step leaves the state as it is
+-- it stays quiet only where the step leaves the open tasks and the ends as they are
 pub invariant_of-self : goal.invariant_of-self
 invariant_of-self g c =
     let old = c.self.inside in
@@ -34,7 +34,7 @@ invariant_of-self g c =
       over = c.self.invariant.over ∙ ap (λ (s : Site). s.grid) (sym c.commit-entry.ensures.site);
       quiet = λ on. elim c.if-self.branch [
         | then-self w ↦
-            let leaves = w.leaves_state-self-inside.ensures.0 (sym w.self-is ∙ on) in
+            let leaves = w.leaves_quiet-self-inside.ensures.0 (sym w.self-is ∙ on) in
             quiet-step old.book.site old.book.state entry.reply entry.event new.state leaves step (c.self.invariant.quiet w.if-self.true)
         | else-self w ↦ (let off = sym w.self-is ∙ on in cc)
       ];
