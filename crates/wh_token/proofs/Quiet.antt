@@ -65,14 +65,18 @@ quiet-lasts s agent here due is none away n task eligible = none n task (record 
       away (n, task, eligible.there, eligible.is_open, (k, h, get_or_default task.stops k here d h ∙ sym stop)));
 })
 
--- what a warehouse keeps, where the book tells what it told
+-- what a warehouse keeps, where the book has the same state
+pub furnished-still : (old new : Seen) (planners : ℕ) (near : Seeking) (is_quiet : Bool) → new.state ≡ old.state → new.site ≡ old.site →
+    IsFurnished old planners near is_quiet → IsFurnished new planners near is_quiet
+furnished-still old new planners near is_quiet state site is = record {
+  seats = is.seats ∙ ap (λ (s : State). length s.paths) (sym state);
+  over = is.over ∙ ap (λ (s : Site). s.grid) (sym site);
+  quiet = λ on. subst (λ (s : State). NoneEligible s.tasks (ends s.paths)) (sym state) (is.quiet on);
+}
+
 pub furnished-same : (old new : Seen) (planners : ℕ) (near : Seeking) (is_quiet : Bool) → IsSame old new → IsFurnished old planners near is_quiet →
     IsFurnished new planners near is_quiet
-furnished-same old new planners near is_quiet same is = record {
-  seats = is.seats ∙ ap (λ (s : State). length s.paths) (sym same.state);
-  over = is.over ∙ ap (λ (s : Site). s.grid) (sym same.site);
-  quiet = λ on. subst (λ (s : State). NoneEligible s.tasks (ends s.paths)) (sym same.state) (is.quiet on);
-}
+furnished-same old new planners near is_quiet same is = furnished-still old new planners near is_quiet same.state same.site is
 
 -- what a warehouse keeps, where a request found none
 pub furnished-found : (book : Seen) (planners : ℕ) (old new : Seeking) (was : Bool) (agent : ℕ) → IsFurnished book planners old was →

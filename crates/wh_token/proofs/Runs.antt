@@ -1,13 +1,16 @@
-use Rattle.std.proofs.Common.{◌≡◌, ℕ, ◌+◌, ◌<◌, take, get_or, length-append, List, [], ◌∷◌, ◌++◌, length, ap, sym, subst, arith, refl, ◌∙◌, Bool, true, false, append_assoc}
-use Rattle.std.specs.Prelude.{Option, Some, None, is_some}
+use Rattle.std.proofs.Common.{◌≡◌, ℕ, ◌+◌, ◌<◌, take, get_or, length-append, List, [], ◌∷◌, ◌++◌, length, ap, sym, subst, arith, refl, ◌∙◌, Bool, true, false, append_assoc, append-nil}
+use Rattle.std.specs.Prelude.{Option, Some, None, is_some, MatchBool}
 use Rattle.std.proofs.lemmas.List.{take_more}
 use Rattle.wh_core.specs.States.{State}
 use Rattle.wh_grid.specs.Grids.{Floor}
 use Rattle.wh_points.specs.Points.{Site}
-use Rattle.wh_core.specs.Steps.{Run}
+use Rattle.wh_core.specs.Steps.{Run, Answers}
 use Rattle.wh_token.specs.Runs.{Moves, Ran, entries_of}
 use Rattle.wh_event.specs.declared.event.Command.{Command}
 use Rattle.wh_event.specs.declared.entry.Entry.{Entry}
+use Rattle.wh_event.specs.declared.event.Event.{Event}
+use Rattle.wh_event.specs.declared.event.Spare.{Spare}
+use Rattle.wh_event.specs.declared.reply.Reply.{Reply}
 
 pub ran-more : {X : Type 0} (fits : X → Bool) (count : X → ℕ) (site : Site) (caller : ℕ) (commands : List Command) (outcomes : List (Option Entry))
     (command : Command) (outcome : Option Entry) (s : State) (spares : List X) (mid : State) (left : List X) (new : State) (rest : List X) →
@@ -82,3 +85,15 @@ ran-take-at fits count site here caller commands i command outcomes outcome s sp
     ran-take (fits site.grid) count site caller commands i command outcomes outcome s spares mid left new rest lt ran
     (subst (λ c. Moves (fits site.grid) count site caller c outcome mid left new rest) read
     (subst (λ (t : Site). Moves (fits t.grid) count t caller command outcome mid left new rest) same moves))
+
+-- a request that is answered at once, by a reply that changes nothing, where there was memory for its entry
+pub moved-at-once : {X : Type 0} (fits : X → Bool) (count : X → ℕ) (site : Site) (caller agent : ℕ) (reply : Reply) (s new : State) (spares : List X)
+    (had has : List Entry) (added : Bool) → Answers site s reply (Event.Request agent) s → new ≡ s →
+    MatchBool added (has ≡ had ++ record { caller = caller; event = Event.Request agent; reply = reply } ∷ []) (has ≡ had) →
+    (outcome : Option Entry) × (is_some outcome ≡ added) × (has ≡ had ++ entries_of (outcome ∷ []))
+    × Moves fits count site caller (Command.Token agent) outcome s spares new spares
+moved-at-once fits count site caller agent reply s new spares had has true answers same history =
+    let entry : Entry = record { caller = caller; event = Event.Request agent; reply = reply } in
+    let step = subst (λ t. Answers site s reply (Event.Request agent) t) (sym same) answers in
+    (Some entry, refl, history, (refl, step, (Spare.None, refl), record { last = λ wants. absurd wants; other = λ unwanted. refl; none_told = λ unwanted. tt }))
+moved-at-once fits count site caller agent reply s new spares had has false answers same history = (None, refl, history ∙ sym (append-nil had), (same, refl))

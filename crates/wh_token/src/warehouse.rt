@@ -596,7 +596,8 @@ impl<P: Planner> Warehouse<P> {
         ensures tied { IsTied (λ b. P.fits_map b self.old.book.site.grid) (λ b. P.slot_count b) self.old.planners self.old.book.state.slots
             → IsTied (λ b. P.fits_map b self.old.book.site.grid) (λ b. P.slot_count b) self.new.planners self.new.book.state.slots }
     {
-        if let Command::Token { agent } = command {
+        if let Command::Token { agent } = &command {
+            let agent = *agent;
             if let Some(reply) = self.answer_at_once(agent) {
                 return self.add_answer(caller, agent, reply);
             }

@@ -1,31 +1,8 @@
-use Rattle.std.proofs.Common.{rules, refl, arith, Some}
-use Rattle.std.proofs.lemmas.Grind.{common_steps}
-use Rattle.wh_token.proofs.warehouse.Warehouse.run_event.Goals.{then-wants, else-wants}
+use Rattle.std.proofs.Common.{rules}
+use Rattle.wh_token.proofs.Runs.{moved-at-once}
 use Rattle.wh_token.proofs.warehouse.Warehouse.run_event.Goals as goal
 
-pub returns-in-Ok-clause-moves : goal.returns-in-Ok-clause-moves
-returns-in-Ok-clause-moves g c =
-    let event = rw c.copy.ensures at c.in-Ok.ensures.event in (
-      Some c.in-Ok.done.entry,
-      refl,
-      c.in-Ok.ensures.history,
-      (
-        c.in-Ok.ensures.caller,
-        c.in-Ok.ensures.step,
-        event,
-        record {
-          last = λ wants. elim c.if-wants.branch [
-            | then-wants w ↦ record { spare = c.if-wants.spare; taken = search rules; none_left = grind (arith, common_steps); tells = c.in-Ok.ensures.tells }
-            | else-wants w ↦ absurd (search rules)
-          ];
-          other = λ unwanted. elim c.if-wants.branch [
-            | then-wants w ↦ absurd (search rules)
-            | else-wants w ↦ search rules
-          ];
-          none_told = λ unwanted. elim c.if-wants.branch [
-            | then-wants w ↦ absurd (search rules)
-            | else-wants w ↦ rw w.spare-is at c.in-Ok.ensures.tells
-          ];
-        },
-      ),
-    )
+pub returns-in-Some-clause-moves : goal.returns-in-Some-clause-moves
+returns-in-Some-clause-moves g c =
+    rw c.in-Token.is (moved-at-once (λ b. g.P.Planner.fits_map b c.args.self.now.book.site.grid) (λ b. g.P.Planner.slot_count b) c.args.self.now.book.site c.args.caller _ c.in-Some.reply
+        c.args.self.now.book.state _ c.args.spares.now.items _ _ c.add_answer.result c.in-Some.ensures.answers c.add_answer.ensures.state c.add_answer.ensures.history)
