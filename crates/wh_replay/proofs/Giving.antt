@@ -1,15 +1,16 @@
 -- What commands give, one after another.
 use Rattle.std.proofs.Common.{◌≡◌, ◌≢◌, ◌<◌, ℕ, List, [], ◌∷◌, ◌++◌, length, drop, refl, sym, ap, ◌∙◌, arith, subst, Option, None, Some, Result, Ok, Err, append_assoc, append-nil, Bool, suc}
-use Rattle.std.specs.Prelude.{codes}
-use Rattle.std.proofs.lemmas.List.{append_cancel_left}
+use Rattle.std.specs.Prelude.{codes, is_some, true, false}
 use Rattle.std.proofs.lemmas.List.Elements.{All-nil, All-append}
 use Rattle.wh_grid.specs.Grids.{Floor}
 use Rattle.wh_points.specs.Points.{Site}
 use Rattle.wh_points.specs.Formed.{IsFormed}
 use Rattle.wh_core.specs.States.{State}
 use Rattle.wh_core.specs.Steps.{Run}
+use Rattle.wh_core.specs.Laws.{IsOpening}
 use Rattle.wh_book.specs.Drafts.{Seen, AllServed}
-use Rattle.wh_token.specs.Runs.{Ran, entries_of}
+use Rattle.wh_book.proofs.Kept.{run-served}
+use Rattle.wh_token.specs.Runs.{Moves, Ran, entries_of}
 use Rattle.wh_token.proofs.Runs.{ran-run}
 use Rattle.wh_event.specs.CommandLines.{command_of}
 use Rattle.wh_event.specs.ReplyTexts.{reply_text}
@@ -109,35 +110,31 @@ output_push {X} fits count lines line old spares mid left new rest had more p q 
     }
 
 -- what is told of one command's outcome
-told_one : {X : Type 0} (fits : X → Bool) (count : X → ℕ) (site : Site) (command : Command) (outcomes : List (Option Entry)) (s : State) (spares : List X) (new : State) (rest : List X)
-    (had has : List Entry) (text : List ℕ)
-    → Ran fits count site 0 (command ∷ []) outcomes s spares new rest → has ≡ had ++ entries_of outcomes
-    → (length (entries_of outcomes) ≡ 0 → text ≡ codes "refused E90")
-    → (0 < length (entries_of outcomes) → (front : List Entry) (entry : Entry) → has ≡ front ++ entry ∷ [] → text ≡ reply_text entry.reply)
-    → text ∷ [] ≡ answers (Ok (Some command)) outcomes
-told_one fits count site command [] s spares new rest had has text ran e none some = absurd ran
-told_one fits count site command (None ∷ []) s spares new rest had has text ran e none some = ap (λ t. t ∷ []) (none refl)
-told_one fits count site command (Some entry ∷ []) s spares new rest had has text ran e none some = ap (λ t. t ∷ []) (some (omega arith) had entry e)
-told_one fits count site command (o ∷ p ∷ os) s spares new rest had has text ran e none some = absurd ran.3
+told_one : (command : Command) (outcome : Option Entry) (added : Bool) (had has : List Entry) (text : List ℕ)
+    → is_some outcome ≡ added → has ≡ had ++ entries_of (outcome ∷ [])
+    → (added ≡ false → text ≡ codes "refused E90")
+    → (added ≡ true → (front : List Entry) (entry : Entry) → has ≡ front ++ entry ∷ [] → text ≡ reply_text entry.reply)
+    → text ∷ [] ≡ answers (Ok (Some command)) (outcome ∷ [])
+told_one command None added had has text is e none some = ap (λ t. t ∷ []) (none (sym is))
+told_one command (Some entry) added had has text is e none some = ap (λ t. t ∷ []) (some (sym is) had entry e)
 
-pub gives_one : {X : Type 0} (fits : Floor → X → Bool) (count : X → ℕ) (command : Command) (old : Seen) (spares : List X) (new : Seen) (rest : List X) (added : ℕ) (text : List ℕ)
-    → new.site ≡ old.site → new.opening ≡ old.opening
-    → ((outcomes : List (Option Entry)) × (new.history ≡ old.history ++ entries_of outcomes) × (length (entries_of outcomes) ≡ added)
-    × Ran (fits old.site.grid) count old.site 0 (command ∷ []) outcomes old.state spares new.state rest)
-    → ((entries : List Entry) × (new.history ≡ old.history ++ entries) × (length entries ≡ added) × Run old.site old.state entries new.state × (IsFormed old.site → AllServed entries))
-    → (added ≡ 0 → text ≡ codes "refused E90")
-    → (0 < added → (front : List Entry) (entry : Entry) → new.history ≡ front ++ entry ∷ [] → text ≡ reply_text entry.reply)
+pub gives_one : {X : Type 0} (fits : Floor → X → Bool) (count : X → ℕ) (command : Command) (old : Seen) (spares : List X) (new : Seen) (rest : List X) (added : Bool) (text : List ℕ)
+    → new.site ≡ old.site → new.opening ≡ old.opening → IsOpening old.site old.opening → Run old.site old.opening old.history old.state
+    → ((outcome : Option Entry) × (is_some outcome ≡ added) × (new.history ≡ old.history ++ entries_of (outcome ∷ []))
+    × Moves (fits old.site.grid) count old.site 0 command outcome old.state spares new.state rest)
+    → (added ≡ false → text ≡ codes "refused E90")
+    → (added ≡ true → (front : List Entry) (entry : Entry) → new.history ≡ front ++ entry ∷ [] → text ≡ reply_text entry.reply)
     → Gives fits count (command ∷ []) (answers (Ok (Some command))) old spares new rest (text ∷ [])
-gives_one fits count command old spares new rest added text site opening ran run none some =
-    let same : run.0 ≡ entries_of ran.0 = append_cancel_left old.history run.0 (entries_of ran.0) (sym run.1 ∙ ran.1) in
+gives_one fits count command old spares new rest added text site opening is_opening before moves none some =
+    let ran : Ran (fits old.site.grid) count old.site 0 (command ∷ []) (moves.0 ∷ []) old.state spares new.state rest = (new.state, rest, moves.3, (refl, refl)) in
+    let run = ran-run (fits old.site.grid) count old.site 0 (command ∷ []) (moves.0 ∷ []) old.state spares new.state rest ran in
     record {
-      outcomes = ran.0;
-      replies_are = told_one (fits old.site.grid) count old.site command ran.0 old.state spares new.state rest old.history new.history text ran.3 ran.1
-          (λ h. none (sym ran.2 ∙ h)) (λ h. some (omega (arith, h, ran.2)));
-      ran = ran.3;
-      history = ran.1;
-      run = subst (λ es. Run old.site old.state es new.state) same run.3;
-      served = λ formed. subst AllServed same (run.4 formed);
+      outcomes = moves.0 ∷ [];
+      replies_are = told_one command moves.0 added old.history new.history text moves.1 moves.2 none some;
+      ran = ran;
+      history = moves.2;
+      run = run;
+      served = λ formed. run-served old.site old.opening old.history old.state (entries_of (moves.0 ∷ [])) new.state is_opening before run formed;
       site = site;
       opening = opening;
     }

@@ -49,8 +49,9 @@ fn obey<P: Planner>(
     ensures gives { Gives (λ grid b. P.fits_map b grid) (λ b. P.slot_count b) (command ∷ []) (answers (Ok (Some command))) warehouse.old.book spares.old.items warehouse.new.book spares.new.items (result.items ∷ []) }
     ensures short { length result.items ≤ 53 }
 {
-    let tally = warehouse.run_events(alloc, CALLER, &[command], spares);
-    if tally.entries == 0 {
+    let _before = warehouse.history();
+    let added = warehouse.run_event(alloc, CALLER, command, spares);
+    if !added {
         return written(b"refused E90");
     }
     last_reply(warehouse.history())
