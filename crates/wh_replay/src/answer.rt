@@ -41,12 +41,12 @@ fn last_reply(history: &[Entry]) -> ArrayVec<u8, 64>
 
 /// Runs a command. Its reply is that of the entry that it added; with none it was refused for want of memory.
 fn obey<P: Planner>(
-    command: Command,
+    command: &Command,
     alloc: Global,
     warehouse: &mut Warehouse<P>,
     spares: &mut Vec<P>,
 ) -> ArrayVec<u8, 64>
-    ensures gives { Gives (λ grid b. P.fits_map b grid) (λ b. P.slot_count b) (command ∷ []) (answers (Ok (Some command))) warehouse.old.book spares.old.items warehouse.new.book spares.new.items (result.items ∷ []) }
+    ensures gives { Gives (λ grid b. P.fits_map b grid) (λ b. P.slot_count b) (command.now ∷ []) (answers (Ok (Some command.now))) warehouse.old.book spares.old.items warehouse.new.book spares.new.items (result.items ∷ []) }
     ensures short { length result.items ≤ 53 }
 {
     let _before = warehouse.history();
@@ -69,14 +69,14 @@ pub(crate) fn read_kept(line: &CommandLine) -> Result<Option<Command>, LineFault
 
 /// The reply to a line that says this; none where it is skipped.
 pub(crate) fn answer<P: Planner>(
-    line: Result<Option<Command>, LineFault>,
+    line: &Result<Option<Command>, LineFault>,
     alloc: Global,
     warehouse: &mut Warehouse<P>,
     spares: &mut Vec<P>,
 ) -> Option<ArrayVec<u8, 64>>
     ensures gives { MatchOption result
-        (Gives (λ grid b. P.fits_map b grid) (λ b. P.slot_count b) (asked line) (answers line) warehouse.old.book spares.old.items warehouse.new.book spares.new.items [])
-        (λ reply. Gives (λ grid b. P.fits_map b grid) (λ b. P.slot_count b) (asked line) (answers line) warehouse.old.book spares.old.items warehouse.new.book spares.new.items (reply.items ∷ [])) }
+        (Gives (λ grid b. P.fits_map b grid) (λ b. P.slot_count b) (asked line.now) (answers line.now) warehouse.old.book spares.old.items warehouse.new.book spares.new.items [])
+        (λ reply. Gives (λ grid b. P.fits_map b grid) (λ b. P.slot_count b) (asked line.now) (answers line.now) warehouse.old.book spares.old.items warehouse.new.book spares.new.items (reply.items ∷ [])) }
     ensures short { IfSome result (λ reply. length reply.items ≤ 53) }
 {
     match line {

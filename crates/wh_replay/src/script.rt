@@ -57,7 +57,7 @@ fn serve<W: Write, P: Planner>(
     ensures err { OnErr result (ServesUnwritten (λ grid b. P.fits_map b grid) (λ b. P.slot_count b) (said (short_line line.now)) warehouse.old.book spares.old.items warehouse.new.book spares.new.items (W.contents writer.old) (W.contents writer.new)) }
     ensures fault { IfErr result (λ fault. fault ≡ ReplayFault.Unwritten) }
 {
-    let Some(mut reply) = answer(read_kept(line), alloc, warehouse, spares) else {
+    let Some(mut reply) = answer(&read_kept(line), alloc, warehouse, spares) else {
         return Ok(0);
     };
     put(&mut reply, b"\n");

@@ -586,23 +586,23 @@ impl<P: Planner> Warehouse<P> {
         &mut self,
         alloc: Global,
         caller: u32,
-        command: Command,
+        command: &Command,
         spares: &mut Vec<P>,
     ) -> bool
         ensures site { self.new.book.site ≡ self.old.book.site }
         ensures opening { self.new.book.opening ≡ self.old.book.opening }
         ensures moves { ((outcome : Option Line) × (is_some outcome ≡ result) × (self.new.book.history ≡ self.old.book.history ++ entries_of (outcome ∷ []))
-            × Moves (λ b. P.fits_map b self.old.book.site.grid) (λ b. P.slot_count b) self.old.book.site caller command outcome self.old.book.state spares.old.items self.new.book.state spares.new.items) }
+            × Moves (λ b. P.fits_map b self.old.book.site.grid) (λ b. P.slot_count b) self.old.book.site caller command.now outcome self.old.book.state spares.old.items self.new.book.state spares.new.items) }
         ensures tied { IsTied (λ b. P.fits_map b self.old.book.site.grid) (λ b. P.slot_count b) self.old.planners self.old.book.state.slots
             → IsTied (λ b. P.fits_map b self.old.book.site.grid) (λ b. P.slot_count b) self.new.planners self.new.book.state.slots }
     {
-        if let Command::Token { agent } = &command {
+        if let Command::Token { agent } = command {
             let agent = *agent;
             if let Some(reply) = self.answer_at_once(agent) {
                 return self.add_answer(caller, agent, reply);
             }
         }
-        self.run_step(alloc, caller, command, spares)
+        self.run_step(alloc, caller, command.copy(), spares)
     }
 
     /// Runs a command by a step.
@@ -660,7 +660,7 @@ impl<P: Planner> Warehouse<P> {
         let mut entries = 0u64;
         let mut starved = 0u64;
         for command in commands {
-            let added = self.run_event(alloc, caller, command.copy(), spares);
+            let added = self.run_event(alloc, caller, command, spares);
             if added {
                 entries += 1;
             } else {

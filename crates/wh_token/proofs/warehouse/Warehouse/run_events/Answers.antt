@@ -9,7 +9,7 @@ use Rattle.wh_token.proofs.warehouse.Warehouse.run_events.Goals as goal
 pub loop-command-preserved : goal.loop-command-preserved
 loop-command-preserved g c =
     let before = c.loop-command.invariant in
-    let moves = rw c.copy.ensures at c.run_event-added.ensures.moves in
+    let moves = c.run_event-added.ensures.moves in
     let tied = rw before.site at c.run_event-added.ensures.tied in
     let outcomes = before.ran.0 in
     let outcome = moves.0 in
