@@ -71,6 +71,7 @@ impl Floor {
             loads.push(Load::None)?;
         }
         let ends = PathEnds::of(alloc, grid.width(), grid.height(), starts)?;
+        let tasks = TaskSet::new(alloc, grid.width(), grid.height())?;
         Ok(Floor {
             clock,
             closed: false,
@@ -78,7 +79,7 @@ impl Floor {
             ends,
             loads,
             slots,
-            tasks: TaskSet::new(alloc),
+            tasks,
         })
     }
 

@@ -9,19 +9,21 @@ use Rattle.wh_tasks.specs.declared.task.Phase.{Phase}
 use Rattle.wh_tasks.specs.declared.task.Counts.{Counts}
 use Rattle.wh_tasks.specs.Tasks.{IsOpen, IsTask, visited, phase, phase_of}
 use Rattle.wh_tasks.specs.Changes.{changed_at, fresh, assigned, visited_once, visit_of, counted_submit, counted_assign, counted_visit, CanCount, AreFew, IsUnderway, IsInTime, IsOrderly}
+use Rattle.wh_tasks.specs.CellCounts.{Tally, IsRaised, times}
 use Rattle.wh_tasks.specs.Sets.{IsIndexed, open_from}
 use Rattle.wh_tasks.proofs.Edits.{length-changed_at, All-changed_at, length-snoc}
 use Rattle.wh_tasks.proofs.Numbers.{open_from-push, open_from-kept, open_from-assigned}
 use Rattle.wh_tasks.proofs.Counting.{Moves, count-moved, counts-few, counts-submitted, counts-assigned, counts-visited, passes-visited, underway-left}
+use Rattle.wh_tasks.proofs.Stopping.{stops-submitted, stops-assigned, stops-kept}
 use Rattle.wh_tasks.proofs.Orders.{orderly-fresh, orderly-assigned, orderly-visited}
 
-pub few-counts : (tasks : List Task) (numbers : List ℕ) (counts : Counts) → IsIndexed tasks numbers counts → AreFew counts
-few-counts tasks numbers counts is = rw is.counts_are (counts-few tasks is.few)
+pub few-counts : (tasks : List Task) (numbers : List ℕ) (counts : Counts) (tally : Tally) → IsIndexed tasks numbers counts tally → AreFew counts
+few-counts tasks numbers counts tally is = rw is.counts_are (counts-few tasks is.few)
 
-pub indexed-submitted : (tasks : List Task) (numbers : List ℕ) (counts : Counts) (client : List ℕ) (stops : List Cell) (clock : ℕ) →
-    IsIndexed tasks numbers counts → 2 ≤ length stops → length stops ≤ 8 → length tasks < 1000000 →
-    IsIndexed (tasks ++ fresh client stops clock ∷ []) (numbers ++ length tasks ∷ []) (counted_submit counts)
-indexed-submitted tasks numbers counts client stops clock is two eight few = record {
+pub indexed-submitted : (tasks : List Task) (numbers : List ℕ) (counts : Counts) (old new : Tally) (client : List ℕ) (stops : List Cell) (clock : ℕ) →
+    IsIndexed tasks numbers counts old → IsRaised old new (λ cell. times cell stops) → 2 ≤ length stops → length stops ≤ 8 → length tasks < 1000000 →
+    IsIndexed (tasks ++ fresh client stops clock ∷ []) (numbers ++ length tasks ∷ []) (counted_submit counts) new
+indexed-submitted tasks numbers counts old new client stops clock is raised two eight few = record {
   few = rw (length-snoc tasks (fresh client stops clock)) few;
   orderly = All-push IsOrderly tasks (fresh client stops clock) is.orderly (orderly-fresh client stops clock two eight);
   numbers_are =
@@ -29,6 +31,7 @@ indexed-submitted tasks numbers counts client stops clock is two eight few = rec
       let pushed = rw e at (open_from-push 0 tasks (fresh client stops clock) refl) in
       ap (λ ns. ns ++ length tasks ∷ []) is.numbers_are ∙ sym pushed;
   counts_are = ap counted_submit is.counts_are ∙ sym (counts-submitted tasks (fresh client stops clock) refl);
+  stops_are = stops-submitted old new tasks client stops clock is.stops_are raised;
 }
 
 -- the task of a number is orderly
@@ -44,10 +47,10 @@ moves-assigned tasks n agent task all there is_open =
     let after : phase (assigned agent task) ≡ Phase.Assigned = ap (λ seen. phase_of (Some agent) seen (length task.stops)) (is.unvisited is_open) in
     count-moved tasks n (assigned agent) task Phase.Open Phase.Assigned there before after
 
-pub indexed-assigned : (tasks : List Task) (numbers : List ℕ) (counts : Counts) (n agent place : ℕ) (task : Task) → IsIndexed tasks numbers counts →
-    IsTask tasks n task → IsOpen task → place < length numbers → get_or numbers place 0 ≡ n →
-    (1 ≤ counts.open_tasks) × IsIndexed (changed_at n (assigned agent) tasks) (remove numbers place) (counted_assign counts)
-indexed-assigned tasks numbers counts n agent place task is there is_open within number =
+pub indexed-assigned : (tasks : List Task) (numbers : List ℕ) (counts : Counts) (old new : Tally) (n agent place : ℕ) (task : Task) → IsIndexed tasks numbers counts old →
+    IsTask tasks n task → IsOpen task → IsRaised new old (λ cell. times cell task.stops) → place < length numbers → get_or numbers place 0 ≡ n →
+    (1 ≤ counts.open_tasks) × IsIndexed (changed_at n (assigned agent) tasks) (remove numbers place) (counted_assign counts) new
+indexed-assigned tasks numbers counts old new n agent place task is there is_open lowered within number =
     let counted = counts-assigned tasks (changed_at n (assigned agent) tasks) (moves-assigned tasks n agent task is.orderly there is_open) in
     let within' = rw is.numbers_are at within in
     let number' = rw is.numbers_are at number in
@@ -58,6 +61,7 @@ indexed-assigned tasks numbers counts n agent place task is there is_open within
         orderly = All-changed_at IsOrderly tasks n (assigned agent) task there (orderly-assigned agent task (orderly-at tasks n task is.orderly there)) is.orderly;
         numbers_are = ap (λ ns. remove ns place) is.numbers_are ∙ sym (open_from-assigned 0 tasks n agent task place there is_open within' number'');
         counts_are = ap counted_assign is.counts_are ∙ sym counted.1;
+        stops_are = stops-assigned old new tasks n agent task there is_open is.stops_are lowered;
       },
     )
 
@@ -73,10 +77,10 @@ stop-left tasks n task all under =
     let parts = underway-left task.agent (visited task) (length task.stops) is.two under.is_underway in
     record { agent = parts.0.0; agent_is = parts.0.1; left = parts.1 }
 
-pub indexed-visited : (tasks : List Task) (numbers : List ℕ) (counts : Counts) (n clock : ℕ) (task : Task) → IsIndexed tasks numbers counts →
+pub indexed-visited : (tasks : List Task) (numbers : List ℕ) (counts : Counts) (tally : Tally) (n clock : ℕ) (task : Task) → IsIndexed tasks numbers counts tally →
     IsUnderway tasks n task → IsInTime clock task →
-    CanCount (visit_of task) counts × IsIndexed (changed_at n (visited_once clock) tasks) numbers (counted_visit (visit_of task) counts)
-indexed-visited tasks numbers counts n clock task is under in_time =
+    CanCount (visit_of task) counts × IsIndexed (changed_at n (visited_once clock) tasks) numbers (counted_visit (visit_of task) counts) tally
+indexed-visited tasks numbers counts tally n clock task is under in_time =
     let orderly = orderly-at tasks n task is.orderly under.there in
     let has = stop-left tasks n task is.orderly under in
     let agent_is = has.agent_is in
@@ -95,5 +99,6 @@ indexed-visited tasks numbers counts n clock task is under in_time =
         orderly = All-changed_at IsOrderly tasks n (visited_once clock) task under.there (orderly-visited clock task has.agent agent_is has.left in_time orderly) is.orderly;
         numbers_are = is.numbers_are ∙ sym (open_from-kept 0 tasks n (visited_once clock) (λ t. refl));
         counts_are = ap (counted_visit (visit_of task)) is.counts_are ∙ sym counted.1;
+        stops_are = stops-kept tally tasks n (visited_once clock) task under.there (λ cell. refl) is.stops_are;
       },
     )

@@ -2,39 +2,18 @@
 #![tactic(auto)]
 
 ghost use Rattle.std.specs.Prelude.{◌≡◌, ℕ, ◌+◌, ◌*◌, ◌<◌, ◌≤◌, ◌↔◌, length, IsTrue, IfOk, IfNone, IfSome, Contains, remove, slice_set, slice_index_or};
-ghost use Rattle.wh_tasks.specs.Ends.{IsInside, IsRaised, count_of, times};
+ghost use Rattle.wh_tasks.specs.CellCounts.{times};
 
+use crate::cell_counts::CellCounts;
 use std::alloc::{AllocError, Global};
 use std::marker::Model;
 use wh_grid::Cell;
-
-/// The sides of a grid.
-#[derive(Clone, Copy)]
-struct Sides {
-    width: u16,
-    height: u16,
-}
-
-impl Sides {
-    /// Where the count of a cell stands. A cell outside the sides has none.
-    fn place(self, cell: Cell) -> Option<usize>
-        ensures inside { IfSome result (λ place. IsInside self.width self.height cell × (place ≡ cell.y * self.width + cell.x) × (place < self.width * self.height)) }
-        ensures outside { IfNone result (¬ IsInside self.width self.height cell) }
-    {
-        if cell.x < self.width && cell.y < self.height {
-            Some(cell.y as usize * self.width as usize + cell.x as usize)
-        } else {
-            None
-        }
-    }
-}
 
 /// The cell at which each path ends, and for each cell of the grid, row by row, how many end there. Whether others than
 /// one of them end at a cell takes constant time, and so does a change. It takes memory only when it is made.
 #[derive(Drop)]
 pub struct PathEnds {
-    sides: Sides,
-    counts: Vec<u16>,
+    counts: CellCounts,
     cells: Vec<Cell>,
 }
 
@@ -47,7 +26,7 @@ impl Model for PathEnds {
 
     ghost view = { λ e. e.cells.items };
 
-    ghost invariant = { λ e. IsCounted e.sides.width e.sides.height e.counts.items e.cells.items };
+    ghost invariant = { λ e. IsCounted e.counts e.cells.items };
 }
 
 impl PathEnds {
@@ -61,17 +40,10 @@ impl PathEnds {
         requires few { length cells.now ≤ 65535 }
         ensures { IfOk result (λ ends. ends ≡ cells.now) }
     {
-        let sides = Sides { width, height };
-        let mut counts = vec![in alloc; 0u16; width as usize * height as usize]?;
-        for cell in cells {
-            raise(&mut counts, sides, *cell);
-        }
+        let mut counts = CellCounts::none(alloc, width, height)?;
+        counts.raise_all(cells);
         let cells = Vec::from_slice(alloc, cells)?;
-        Ok(PathEnds {
-            sides,
-            counts,
-            cells,
-        })
+        Ok(PathEnds { counts, cells })
     }
 
     /// The path of an agent ends at this cell from now on.
@@ -80,8 +52,8 @@ impl PathEnds {
         ensures { self.new ≡ slice_set self.old agent cell }
     {
         let before = self.cells[agent as usize];
-        lower(&mut self.counts, self.sides, before);
-        raise(&mut self.counts, self.sides, cell);
+        self.counts.lower(before);
+        self.counts.raise(cell);
         self.cells[agent as usize] = cell;
     }
 
@@ -98,11 +70,10 @@ impl PathEnds {
     }
 
     /// How many paths end at the cell. A cell outside the sides has no count.
-    fn count(&self, cell: Cell) -> Option<u16>
+    fn count(&self, cell: Cell) -> Option<u32>
         ensures { IfSome result (λ count. count ≡ times cell self.now) }
     {
-        let place = self.sides.place(cell)?;
-        Some(self.counts[place])
+        self.counts.count(cell)
     }
 }
 
@@ -131,7 +102,7 @@ impl<'a> EndSet<'a> {
         ensures { IsTrue result ↔ Contains self.now cell }
     {
         match self.all.count(cell) {
-            Some(count) => u16::from(cell.is(self.own)) < count,
+            Some(count) => u32::from(cell.is(self.own)) < count,
             None => self.lists(cell),
         }
     }
@@ -156,26 +127,4 @@ pub(crate) fn is_among(cells: &[Cell], cell: Cell) -> bool
         }
     }
     false
-}
-
-/// One path more ends at the cell.
-fn raise(counts: &mut [u16], sides: Sides, cell: Cell)
-    requires size { length counts.old ≡ sides.width * sides.height }
-    requires fits { IsInside sides.width sides.height cell → count_of sides.width counts.old cell < 65535 }
-    ensures { IsRaised sides.width sides.height counts.old counts.new cell }
-{
-    if let Some(place) = sides.place(cell) {
-        counts[place] += 1;
-    }
-}
-
-/// One path less ends at the cell.
-fn lower(counts: &mut [u16], sides: Sides, cell: Cell)
-    requires size { length counts.old ≡ sides.width * sides.height }
-    requires some { IsInside sides.width sides.height cell → 0 < count_of sides.width counts.old cell }
-    ensures { IsRaised sides.width sides.height counts.new counts.old cell }
-{
-    if let Some(place) = sides.place(cell) {
-        counts[place] -= 1;
-    }
 }

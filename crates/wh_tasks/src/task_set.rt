@@ -1,7 +1,7 @@
 //! The tasks in order of arrival.
 #![tactic(auto)]
 
-ghost use Rattle.std.specs.Prelude.{◌≡◌, ℕ, ◌+◌, ◌-◌, ◌<◌, ◌≤◌, ◌↔◌, ◌≢◌, List, [], ◌∷◌, ◌++◌, length, IsTrue, IfSome, IfNone, OnOk, OnErr, All, Contains, slice_get, slice_index, slice_index_or, Some, remove, slice_set, MatchOption};
+ghost use Rattle.std.specs.Prelude.{◌≡◌, ℕ, ◌+◌, ◌-◌, ◌<◌, ◌≤◌, ◌↔◌, ◌≢◌, List, [], ◌∷◌, ◌++◌, length, IsTrue, IfOk, IfSome, IfNone, OnOk, OnErr, All, Contains, slice_get, slice_index, slice_index_or, Some, remove, slice_set, MatchOption};
 ghost use Rattle.wh_tasks.specs.Tasks.{IsTask, IsOpen, phase, delivery};
 ghost use Rattle.wh_tasks.specs.Choice.{IsEligible, IsNearest, NoneEligible};
 ghost use Rattle.wh_tasks.specs.Firsts.{AreSought, IsFirst, IsFirstWithin, NoneWithin};
@@ -9,6 +9,7 @@ ghost use Rattle.wh_tasks.specs.Changes.{fresh, assigned, visited_once, visit_of
 ghost use Rattle.wh_tasks.specs.Visiting.{IsGoing};
 ghost use Rattle.wh_tasks.specs.declared.task.Task.{Task as Job};
 
+use crate::cell_counts::CellCounts;
 use crate::distances::Distances;
 use crate::ends::{EndSet, is_among};
 use crate::task::{Counts, Phase, Places, Task, Visit, Visits};
@@ -17,12 +18,14 @@ use std::marker::Model;
 use wh_grid::Cell;
 use wh_text::Name;
 
-/// The tasks in order of arrival, with a list of those that are open, and how many are in each phase.
+/// The tasks in order of arrival, with a list of those that are open, how many are in each phase, and for each cell of the
+/// grid how many stops of open tasks are there.
 #[derive(Drop)]
 pub struct TaskSet {
     tasks: Vec<Task>,
     open: Vec<u32>,
     counts: Counts,
+    stops: CellCounts,
 }
 
 impl Model for TaskSet {
@@ -36,19 +39,21 @@ impl Model for TaskSet {
       room = min (vec_capacity s.tasks - vec_len s.tasks) (vec_capacity s.«open» - vec_len s.«open»);
     } };
 
-    ghost invariant = { λ s. IsIndexed s.tasks.items (s.«open»).items s.counts };
+    ghost invariant = { λ s. IsIndexed s.tasks.items (s.«open»).items s.counts s.stops };
 }
 
 impl TaskSet {
-    /// No task.
-    pub fn new(alloc: Global) -> TaskSet
-        ensures { result.tasks ≡ [] }
+    /// No task, on a grid of these sides. The error comes where memory is wanting.
+    pub fn new(alloc: Global, width: u16, height: u16) -> Result<TaskSet, AllocError>
+        ensures { IfOk result (λ set. set.tasks ≡ []) }
     {
-        TaskSet {
+        let stops = CellCounts::none(alloc, width, height)?;
+        Ok(TaskSet {
             tasks: Vec::new(alloc),
             open: Vec::new(alloc),
             counts: Counts::none(),
-        }
+            stops,
+        })
     }
 
     /// Makes room for one task. The error comes where memory is wanting, and only where there was no room.
@@ -112,8 +117,19 @@ impl TaskSet {
         !self.open.is_empty()
     }
 
-    /// Whether an open task is to be delivered at the cell. It looks at the open tasks alone.
+    /// Whether an open task is to be delivered at the cell. It takes constant time where no open task stops there, if the
+    /// cell is inside the grid; else it looks at the open tasks.
     pub fn delivers_at(&self, cell: Cell) -> bool
+        ensures { IsTrue result ↔ ((n : ℕ) × (task : Job) × IsTask self.now.tasks n task × IsOpen task × (delivery task ≡ cell)) }
+    {
+        match self.stops.count(cell) {
+            Some(0) => false,
+            _ => self.lists_delivery(cell),
+        }
+    }
+
+    /// The same, by going over the open tasks.
+    fn lists_delivery(&self, cell: Cell) -> bool
         ensures { IsTrue result ↔ ((n : ℕ) × (task : Job) × IsTask self.now.tasks n task × IsOpen task × (delivery task ≡ cell)) }
     {
         for n in &self.open {
@@ -124,9 +140,20 @@ impl TaskSet {
         false
     }
 
-    /// Whether an open task has a stop at the cell, and so also where one is to be delivered there. It looks at the open
-    /// tasks alone.
+    /// Whether an open task has a stop at the cell, and so also where one is to be delivered there. It takes constant time,
+    /// if the cell is inside the grid; else it looks at the open tasks.
     pub fn stops_at(&self, cell: Cell) -> bool
+        ensures stop { IsTrue result ↔ ((n : ℕ) × (task : Job) × IsTask self.now.tasks n task × IsOpen task × Contains task.stops cell) }
+        ensures delivery { ((n : ℕ) × (task : Job) × IsTask self.now.tasks n task × IsOpen task × (delivery task ≡ cell)) → IsTrue result }
+    {
+        match self.stops.count(cell) {
+            Some(count) => count > 0,
+            None => self.lists_stop(cell),
+        }
+    }
+
+    /// The same, by going over the open tasks.
+    fn lists_stop(&self, cell: Cell) -> bool
         ensures stop { IsTrue result ↔ ((n : ℕ) × (task : Job) × IsTask self.now.tasks n task × IsOpen task × Contains task.stops cell) }
         ensures delivery { ((n : ℕ) × (task : Job) × IsTask self.now.tasks n task × IsOpen task × (delivery task ≡ cell)) → IsTrue result }
     {
@@ -155,7 +182,7 @@ impl TaskSet {
         ensures room { self.new.room + 1 ≡ self.old.room }
     {
         let n = self.tasks.len() as u32;
-        let _stops = stops.as_slice();
+        self.stops.raise_all(stops.as_slice());
         self.tasks.push_reserved(Task {
             client,
             stops,
@@ -244,6 +271,7 @@ impl TaskSet {
         self.open.remove(place);
         let task = &mut self.tasks[n as usize];
         task.agent = Some(agent);
+        self.stops.lower_all(task.stops.as_slice());
         self.counts.assign();
     }
 

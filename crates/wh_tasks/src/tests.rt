@@ -64,7 +64,7 @@ fn nearest_task_first(rt: HostRuntime) -> Result<(), Fail> {
     let grid = Grid::new(5, 3, rows);
     let mut lazy = LazyField::from(rt.alloc(), &grid, LEFT)?;
     let mut all = PathEnds::of(rt.alloc(), 5, 3, &[A, RIGHT])?;
-    let mut set = TaskSet::new(rt.alloc());
+    let mut set = TaskSet::new(rt.alloc(), 5, 3)?;
     assert_eq!(rt; set.nearest(&mut lazy, &all.but(0)), None);
     submit(&rt, &mut set, Places::of(&[D, C]))?;
     submit(&rt, &mut set, Places::of(&[A, B]))?;
@@ -104,7 +104,7 @@ fn far_tasks(rt: HostRuntime) -> Result<(), Fail> {
     let mut lazy = LazyField::from(rt.alloc(), &grid, Cell { x: 0, y: 0 })?;
     let all = PathEnds::of(rt.alloc(), 40, 1, &[Cell { x: 0, y: 0 }])?;
     let ends = all.but(0);
-    let mut set = TaskSet::new(rt.alloc());
+    let mut set = TaskSet::new(rt.alloc(), 40, 1)?;
     for x in [37, 30, 20, 38] {
         submit(
             &rt,
@@ -122,7 +122,7 @@ fn far_tasks(rt: HostRuntime) -> Result<(), Fail> {
 
 #[test]
 fn stops_that_repeat(rt: HostRuntime) -> Result<(), Fail> {
-    let mut set = TaskSet::new(rt.alloc());
+    let mut set = TaskSet::new(rt.alloc(), 5, 3)?;
     assert_eq!(rt; submit(&rt, &mut set, Places::of(&[A, A, B, B]))?, 0);
     assert_eq!(rt; phase(&rt, &set, 0), Phase::Open);
     assert!(rt; set.delivers_at(B) && !set.delivers_at(A));
@@ -148,8 +148,23 @@ fn stops_that_repeat(rt: HostRuntime) -> Result<(), Fail> {
 }
 
 #[test]
+fn stops_of_open_tasks(rt: HostRuntime) -> Result<(), Fail> {
+    let outside = Cell { x: 3, y: 9 };
+    let mut set = TaskSet::new(rt.alloc(), 5, 3)?;
+    submit(&rt, &mut set, Places::of(&[A, outside, A, B]))?;
+    submit(&rt, &mut set, Places::of(&[C, A]))?;
+    assert!(rt; set.stops_at(A) && set.stops_at(B) && set.stops_at(outside) && !set.stops_at(D));
+    assert!(rt; set.delivers_at(A) && set.delivers_at(B) && !set.delivers_at(outside));
+    assign(&rt, &mut set, 0);
+    assert!(rt; set.stops_at(A) && !set.stops_at(B) && !set.stops_at(outside));
+    assign(&rt, &mut set, 1);
+    assert!(rt; !set.stops_at(A) && !set.stops_at(C) && !set.delivers_at(A));
+    Ok(())
+}
+
+#[test]
 fn arrivals(rt: HostRuntime) -> Result<(), Fail> {
-    let mut set = TaskSet::new(rt.alloc());
+    let mut set = TaskSet::new(rt.alloc(), 5, 3)?;
     submit(&rt, &mut set, Places::of(&[A, A, B, B]))?;
     submit(&rt, &mut set, Places::of(&[C, C]))?;
     assign(&rt, &mut set, 0);

@@ -88,9 +88,9 @@ fn client_name(alloc: Global, number: u32) -> io::Result<Name> {
     }
 }
 
-/// So many open tasks at scattered places, or as many as a set may have, that so many clients submit in turn.
+/// So many open tasks at scattered places of a square, or as many as a set may have, that so many clients submit in turn.
 pub fn open_tasks(alloc: Global, side: u16, count: u32, clients: u32) -> io::Result<TaskSet> {
-    let mut tasks = TaskSet::new(alloc);
+    let mut tasks = TaskSet::new(alloc, side, side)?;
     for number in 0..count {
         let client = client_name(alloc, number.checked_rem(clients).unwrap_or(0))?;
         if tasks.len() >= 1_000_000 {

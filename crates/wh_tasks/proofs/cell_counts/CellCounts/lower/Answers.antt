@@ -1,0 +1,14 @@
+use Rattle.std.proofs.Common.{◌≡◌, ◌<◌, ◌-◌, ap, ◌∙◌, arith, get_or}
+use Rattle.std.proofs.lemmas.List.{get_or_default}
+use Rattle.wh_tasks.specs.CellCounts.{Tally, count_of}
+use Rattle.wh_tasks.proofs.Tallies.{lowered-set}
+use Rattle.wh_tasks.proofs.cell_counts.CellCounts.lower.Goals as goal
+
+pub returns-in-Some : goal.returns-in-Some
+returns-in-Some c =
+    let counts = c.self.inside in
+    let old : Tally = record { width = counts.sides.width; height = counts.sides.height; counts = counts.counts.items } in
+    let there = c.in-Some.ensures.inside in
+    let some : 0 < count_of old c.args.cell = rw (← c.self.view_is) at c.requires.some there.0 in
+    let value : c.index_mut.result.now ≡ count_of old c.args.cell = c.index_mut.ensures.value ∙ get_or_default counts.counts.items c.in-Some.place c.index_mut.result.now 0 (rw c.self.invariant there.2) ∙ ap (λ place. get_or counts.counts.items place 0) there.1 in
+    rw (← c.self.view_is, there.1) (lowered-set old c.args.cell (c.index_mut.result.now - 1) there.0 c.self.invariant (omega arith))
