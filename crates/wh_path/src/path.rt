@@ -73,7 +73,8 @@ impl TimedPath {
 
     /// Where it is from now on until it ends, one cell a step.
     pub fn cells(&self) -> &[Cell]
-        ensures { result.now ≡ self.now }
+        ensures value { result.now ≡ self.now }
+        ensures some { 1 ≤ length result.now }
     {
         &self.cells[self.passed..]
     }
