@@ -71,6 +71,14 @@ impl TimedPath {
         self.cells[self.passed + last.min(k as usize)]
     }
 
+    /// Where it is from now on until it ends, one cell a step.
+    pub fn cells(&self) -> &[Cell]
+        ensures value { result.now ≡ self.now }
+        ensures some { 1 ≤ length result.now }
+    {
+        &self.cells[self.passed..]
+    }
+
     /// The last index: how many steps are left.
     pub fn remaining(&self) -> u64
         ensures value { result ≡ last_index self.now }

@@ -1,5 +1,2 @@
-pub mod LinkLemmas
-pub mod Away
-pub mod Notes
-pub mod Walks
+pub mod Staying
 pub mod Marking

@@ -1,10 +1,7 @@
 -- what the calls on reservations ask and tell
-use Rattle.std.specs.Prelude.{◌≡◌, ◌≢◌, ℕ, ◌+◌, ◌<◌, ◌≤◌, ◌^◌, List, length, All}
+use Rattle.std.specs.Prelude.{◌≡◌, ◌≢◌, ℕ, ◌+◌, ◌-◌, ◌<◌, ◌≤◌, ◌⊎◌, List, length, All}
 use Rattle.wh_grid.specs.declared.cell.Cell.{Cell}
-use Rattle.wh_resv.specs.Others.{StaysAway}
-use Rattle.wh_path.specs.Paths.{at, end, path_of}
-use Rattle.wh_resv.specs.Logs.{IsNoted}
-use Rattle.wh_resv.specs.declared.log.Visit.{Visit}
+use Rattle.wh_path.specs.Paths.{at, cell_at, path_of}
 
 -- none of the others is at the cell at time k
 abbrev pub IsVacant : List (List Cell) → Cell → ℕ → Type 0
@@ -20,24 +17,16 @@ pub record IsThere (paths : List (List Cell)) (except i : ℕ) (c : Cell) (k : �
   pub other : i ≢ except
   pub there : at (path_of paths i) k ≡ c
 
--- the path of this number is one of the others, and ends at the cell
-pub record EndsThere (paths : List (List Cell)) (except i : ℕ) (c : Cell) : Type 0 where
-  pub within : i < length paths
-  pub other : i ≢ except
-  pub there : end (path_of paths i) ≡ c
+-- it is one of the others, and goes from the second cell to the first between k and k + 1
+abbrev pub IsExchange : List (List Cell) → ℕ → Cell → Cell → ℕ → ℕ → Type 0
+IsExchange paths except from to k i = IsThere paths except i to k × IsThere paths except i from (k + 1)
 
--- each path but one, of those with a smaller number than n, is noted at all times
-abbrev pub AreNoted : List ℕ → List Visit → List (List Cell) → ℕ → ℕ → Type 0
-AreNoted heads visits paths except n = (i : ℕ) → i < n → i ≢ except → (k : ℕ) → k < 2 ^ 64 → IsNoted heads visits i (at (path_of paths i) k) k
+-- the cell stands in the list at this place or later
+abbrev pub StandsFrom : List Cell → ℕ → Cell → Type 0
+StandsFrom cells first c = (i : ℕ) × (first ≤ i) × (i < length cells) × (cell_at cells i ≡ c)
 
--- the visit tells of one of the others who is at the cell at time k
-abbrev pub IsAt : List (List Cell) → ℕ → Cell → ℕ → Visit → Type 0
-IsAt paths except c k v = (v.since ≤ k) × (k ≤ v.until) × IsThere paths except v.path c k
-
--- of one who goes from the second cell to the first between k and k + 1
-abbrev pub IsExchange : List (List Cell) → ℕ → Cell → Cell → ℕ → Visit → Type 0
-IsExchange paths except from to k v = IsAt paths except to k v × IsThere paths except v.path from (k + 1)
-
--- of one who does not stay away from the cell from time k on
-abbrev pub Comes : List (List Cell) → ℕ → Cell → ℕ → Visit → Type 0
-Comes paths except c k v = (v.cell ≡ c) × (k ≤ v.until) × (v.path < length paths) × (v.path ≢ except) × (StaysAway (path_of paths v.path) c k → ⊥)
+-- n is one more than the last place of the cell in the list, 0 where it has none
+pub record IsPastLast (cells : List Cell) (c : Cell) (n : ℕ) : Type 0 where
+  pub within : n ≤ length cells
+  pub none : (j : ℕ) → n ≤ j → j < length cells → cell_at cells j ≢ c
+  pub there : (n ≡ 0) ⊎ (cell_at cells (n - 1) ≡ c)

@@ -1,7 +1,9 @@
 -- marks of cells at times
-use Rattle.std.specs.Prelude.{◌≡◌, ◌≢◌, ℕ, ◌+◌, ◌-◌, ◌*◌, ◌%◌, ◌<◌, ◌⊎◌, Bool, false, IsTrue, List, length, slice_index_or, bit_and}
+use Rattle.std.specs.Prelude.{◌≡◌, ◌≢◌, ℕ, ◌+◌, ◌-◌, ◌*◌, ◌%◌, ◌<◌, ◌⊎◌, ⊤, List, length, slice_index_or, bit_and}
 use Rattle.wh_grid.specs.declared.cell.Cell.{Cell}
 use Rattle.wh_path.specs.Paths.{at, path_of}
+use Rattle.wh_resv.specs.declared.marks.Mark.{Mark}
+use Rattle.wh_resv.specs.declared.marks.Mark.TheVariants.{Nobody, Only, Anyone}
 
 -- the place of the mark of a cell at a time, among so many marks
 abbrev pub mark : ℕ → Cell → ℕ → ℕ
@@ -11,18 +13,24 @@ mark size c k = bit_and (c.x + c.y * 131 + k % 65536 * 40503) (size - 1)
 abbrev pub rest_mark : ℕ → Cell → ℕ
 rest_mark size c = bit_and (c.x * 3 + c.y * 137 + 1) (size - 1)
 
-abbrev pub IsSet : List Bool → ℕ → Type 0
-IsSet marks i = IsTrue (slice_index_or marks i false)
+-- the path of this number may be where the mark is
+abbrev pub Allows : Mark → ℕ → Type 0
+Allows Nobody i = ⊥
+Allows (Only j) i = i ≡ j
+Allows Anyone i = ⊤
 
--- one of the two marks of a cell at a time is set
-abbrev pub IsMarked : List Bool → Cell → ℕ → Type 0
-IsMarked marks c k = IsSet marks (mark (length marks) c k) ⊎ IsSet marks (rest_mark (length marks) c)
+abbrev pub mark_at : List Mark → ℕ → Mark
+mark_at marks s = slice_index_or marks s Nobody
 
--- what was set stays so
-pub record KeepsMarks (old new : List Bool) : Type 0 where
+-- one of the two marks of a cell at a time allows the path of this number
+abbrev pub IsMarked : List Mark → ℕ → Cell → ℕ → Type 0
+IsMarked marks i c k = Allows (mark_at marks (mark (length marks) c k)) i ⊎ Allows (mark_at marks (rest_mark (length marks) c)) i
+
+-- who was allowed stays so
+pub record KeepsMarks (old new : List Mark) : Type 0 where
   pub size : length new ≡ length old
-  pub set : (i : ℕ) → IsSet old i → IsSet new i
+  pub allowed : (s i : ℕ) → Allows (mark_at old s) i → Allows (mark_at new s) i
 
--- each path but one, of those with a smaller number than n, is marked at all times
-abbrev pub AreMarked : List Bool → List (List Cell) → ℕ → ℕ → Type 0
-AreMarked marks paths except n = (i : ℕ) → i < n → i ≢ except → (k : ℕ) → IsMarked marks (at (path_of paths i) k) k
+-- each path but one, of those with a smaller number than n, is allowed at all times where it is
+abbrev pub AreMarked : List Mark → List (List Cell) → ℕ → ℕ → Type 0
+AreMarked marks paths except n = (i : ℕ) → i < n → i ≢ except → (k : ℕ) → IsMarked marks i (at (path_of paths i) k) k

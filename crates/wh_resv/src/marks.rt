@@ -1,14 +1,22 @@
-//! Which cells are taken at which time, by marks.
+//! Which cells are taken at which time, and by whom, by marks.
 #![tactic(auto)]
 
-ghost use Rattle.std.specs.Prelude.{◌≡◌, ℕ, ◌+◌, ◌-◌, ◌*◌, ◌%◌, ◌<◌, ◌≤◌, ◌^◌, IsTrue, IfOk, List, length};
+ghost use Rattle.std.specs.Prelude.{◌≡◌, ℕ, ◌+◌, ◌-◌, ◌*◌, ◌%◌, ◌<◌, ◌≤◌, ◌^◌, IfOk, List, length};
 ghost use Rattle.wh_grid.specs.declared.cell.Cell.{Cell};
 ghost use Rattle.wh_path.specs.Paths.{at};
-ghost use Rattle.wh_resv.specs.Marked.{mark, rest_mark, IsMarked, KeepsMarks, AreMarked};
+ghost use Rattle.wh_resv.specs.Marked.{mark, rest_mark, mark_at, Allows, IsMarked, KeepsMarks, AreMarked};
 
 use std::alloc::{AllocError, Global};
 use wh_grid::Cell;
 use wh_path::TimedPath;
+
+/// Who may be at a place: nobody, the path of this number alone, or any path.
+#[derive(Clone, Copy)]
+pub enum Mark {
+    Nobody,
+    Only(u16),
+    Anyone,
+}
 
 /// The place of the mark of a cell at a time, among so many marks. It is a good spread where they are a power of two.
 pub fn mark_of(size: usize, cell: Cell, k: u64) -> usize
@@ -28,42 +36,78 @@ pub fn rest_mark_of(size: usize, cell: Cell) -> usize
     (cell.x as usize * 3 + cell.y as usize * 137 + 1) & (size - 1)
 }
 
-/// Marks where a path is, at each time.
-fn enter(marks: &mut [bool], q: &TimedPath)
-    requires { 0 < length marks.old }
-    ensures kept { KeepsMarks marks.old marks.new }
-    ensures marked { (k : ℕ) → IsMarked marks.new (at q.now k) k }
+/// The mark of a place once the path of this number comes there too. A number that no mark holds is anyone.
+fn joined(mark: Mark, path: usize) -> Mark
+    ensures joined { Allows result path }
+    ensures kept { (i : ℕ) → Allows mark i → Allows result i }
 {
-    for k in 0..q.remaining() {
-        marks[mark_of(marks.len(), q.at(k), k)] = true;
+    match mark {
+        Mark::Nobody if path < 65_536 => Mark::Only(path as u16),
+        _ => Mark::Anyone,
     }
-    marks[rest_mark_of(marks.len(), q.end())] = true;
 }
 
-/// The marks of all paths but one, so many of them.
-pub fn marks_of(
-    alloc: Global,
-    paths: &[TimedPath],
-    except: usize,
-    size: usize,
-) -> Result<Vec<bool>, AllocError>
-    requires { 0 < size }
-    ensures size { IfOk result (λ m. length m.items ≡ size) }
+/// Marks where the path of this number is, at each time: at each of its cells but the last once, and where it ends for
+/// ever.
+fn enter(marks: &mut [Mark], cells: &[Cell], path: usize)
+    requires marks { 0 < length marks.old }
+    requires cells { 0 < length cells.now }
+    ensures kept { KeepsMarks marks.old marks.new }
+    ensures marked { (k : ℕ) → IsMarked marks.new path (at cells.now k) k }
+{
+    let last = cells.len() - 1;
+    for k in 0..last {
+        let place = mark_of(marks.len(), cells[k], k as u64);
+        marks[place] = joined(marks[place], path);
+    }
+    let rest = rest_mark_of(marks.len(), cells[last]);
+    marks[rest] = joined(marks[rest], path);
+}
+
+/// How many marks there are. A search that meets few marks of others asks few paths, so there are five to ten marks a
+/// visit; but every search clears them all, so few visits have a small table, and very many have fewer marks each.
+fn marks_for(paths: &[TimedPath]) -> usize
+    ensures { 0 < result }
+{
+    let mut visits = 0usize;
+    for path in paths {
+        visits = visits.saturating_add(path.cells().len());
+    }
+    match visits {
+        0..=200 => 1024,
+        201..=1600 => 8192,
+        1601..=6400 => 32_768,
+        6401..=26_000 => 65_536,
+        _ => 131_072,
+    }
+}
+
+/// The marks of all paths but one.
+pub fn marks_of(alloc: Global, paths: &[TimedPath], except: usize) -> Result<Vec<Mark>, AllocError>
+    ensures some { IfOk result (λ m. 0 < length m.items) }
     ensures marked { IfOk result (λ m. AreMarked m.items paths.now except (length paths.now)) }
 {
-    let mut marks = vec![in alloc; false; size]?;
+    let mut marks = vec![in alloc; Mark::Nobody; marks_for(paths)]?;
     for i in 0..paths.len() {
         if i != except {
-            enter(&mut marks, &paths[i]);
+            enter(&mut marks, paths[i].cells(), i);
         }
     }
     Ok(marks)
 }
 
-/// Whether there is no mark of a cell at a time.
-pub fn is_clear(marks: &[bool], cell: Cell, k: u64) -> bool
+/// Who may pass a cell at a time.
+pub fn passing(marks: &[Mark], cell: Cell, k: u64) -> Mark
     requires { 0 < length marks.now }
-    ensures { IsTrue result → IsMarked marks.now cell k → ⊥ }
+    ensures { result ≡ mark_at marks.now (mark (length marks.now) cell k) }
 {
-    !marks[mark_of(marks.len(), cell, k)] && !marks[rest_mark_of(marks.len(), cell)]
+    marks[mark_of(marks.len(), cell, k)]
+}
+
+/// Who may rest at a cell.
+pub fn resting(marks: &[Mark], cell: Cell) -> Mark
+    requires { 0 < length marks.now }
+    ensures { result ≡ mark_at marks.now (rest_mark (length marks.now) cell) }
+{
+    marks[rest_mark_of(marks.len(), cell)]
 }

@@ -1,31 +1,29 @@
 //! The paths of all agents but one.
 #![tactic(auto)]
 
-ghost use Rattle.std.specs.Prelude.{◌≡◌, ◌≢◌, ℕ, ◌+◌, ◌<◌, ◌≤◌, ◌^◌, ◌↔◌, IsTrue, IfOk, OnOk, IfSome, IfNone, MatchBool, MatchOption, ◌⊎◌, List, length, remove, All};
+ghost use Rattle.std.specs.Prelude.{◌≡◌, ◌≢◌, ℕ, ◌+◌, ◌<◌, ◌≤◌, ◌^◌, ◌↔◌, IsTrue, IfOk, IfSome, IfNone, List, length, remove, All};
 ghost use Rattle.wh_grid.specs.declared.cell.Cell.{Cell};
 ghost use Rattle.wh_resv.specs.Others.{MayStep, MayRest, StaysAway};
 ghost use Rattle.wh_path.specs.Paths.{horizon, at};
-ghost use Rattle.wh_resv.specs.Logs.{IsLog, IsNoted, KeepsNotes};
-ghost use Rattle.wh_resv.specs.Marked.{AreMarked};
-ghost use Rattle.wh_resv.specs.Calls.{IsVacant, NoneExchanges, IsThere, EndsThere, IsAt, IsExchange, Comes, AreNoted};
+ghost use Rattle.wh_resv.specs.Marked.{Allows, AreMarked};
+ghost use Rattle.wh_resv.specs.Calls.{IsVacant, NoneExchanges, IsThere, IsExchange};
 
+use crate::away::{all_away_from, all_stay_away};
 use crate::ends::greatest_end;
-use crate::log::{Log, Visit, slot_of};
-use crate::marks::{is_clear, marks_of};
+use crate::marks::{Mark, marks_of, passing, resting};
 use std::alloc::{AllocError, Global};
 use std::marker::Model;
 use wh_grid::Cell;
 use wh_path::TimedPath;
 
-/// The paths of all agents but one, and whether nobody may follow another. Each visit of a cell
-/// is found by the cell, so that a question costs as much as there are visits there.
+/// The paths of all agents but one, and whether nobody may follow another. Marks tell for each cell at each time which
+/// path may be there, so that mostly a question is answered at once, or costs a look at one path.
 #[derive(Drop)]
 pub struct Reservations<'a> {
     paths: &'a [TimedPath],
     except: usize,
     nofollow: bool,
-    log: Log,
-    marks: Vec<bool>,
+    marks: Vec<Mark>,
     latest: u64,
 }
 
@@ -33,86 +31,15 @@ impl<'a> Model for Reservations<'a> {
     ghost use Rattle.std.specs.Prelude.{◌≡◌, ◌<◌, ◌^◌, List, length, remove};
     ghost use Rattle.wh_resv.specs.Others.{Others};
     ghost use Rattle.wh_path.specs.Paths.{horizon};
-    ghost use Rattle.wh_resv.specs.Logs.{IsLog};
-    ghost use Rattle.wh_resv.specs.Calls.{AreNoted};
     ghost use Rattle.wh_resv.specs.Marked.{AreMarked};
 
     ghost Value = { Others };
 
     ghost view = { λ r. record { paths = remove r.paths.now r.except; nofollow = r.nofollow } };
 
-    ghost invariant = { λ r. (r.except < length r.paths.now) × IsLog r.log.heads.items r.log.visits.items
-        × AreNoted r.log.heads.items r.log.visits.items r.paths.now r.except (length r.paths.now)
+    ghost invariant = { λ r. (r.except < length r.paths.now)
         × (0 < length r.marks.items) × AreMarked r.marks.items r.paths.now r.except (length r.paths.now)
         × (r.latest ≡ horizon (remove r.paths.now r.except)) × (r.latest < 2 ^ 61) };
-}
-
-/// Notes each visit of a path.
-fn enter(log: &mut Log, q: &TimedPath, path: usize) -> Result<(), AllocError>
-    requires { IsLog log.old.heads.items log.old.visits.items }
-    ensures log { IsLog log.new.heads.items log.new.visits.items }
-    ensures kept { KeepsNotes log.old.heads.items log.old.visits.items log.new.heads.items log.new.visits.items }
-    ensures noted { OnOk result ((k : ℕ) → k < 2 ^ 64 → IsNoted log.new.heads.items log.new.visits.items path (at q.now k) k) }
-{
-    let last = q.remaining();
-    for k in 0..last {
-        log.add(q.at(k), k, k, path)?;
-    }
-    log.add(q.end(), last, u64::MAX, path)
-}
-
-/// How many chains and marks there are, and for how many visits there is room at first.
-#[derive(Clone, Copy)]
-struct Tables {
-    chains: usize,
-    marks: usize,
-    visits: usize,
-}
-
-/// Few visits are kept in small tables, which take less time to make. Up to 13,000 visits a fifth of the marks is set at
-/// most.
-fn tables_for(paths: &[TimedPath]) -> Tables
-    ensures chains { 0 < result.chains }
-    ensures marks { 0 < result.marks }
-{
-    let mut visits = 0usize;
-    for path in paths {
-        visits = visits
-            .saturating_add(path.remaining() as usize)
-            .saturating_add(1);
-    }
-    let (chains, marks) = if visits <= 200 {
-        (256, 1024)
-    } else if visits <= 1600 {
-        (1024, 8192)
-    } else {
-        (8192, 65_536)
-    };
-    Tables {
-        chains,
-        marks,
-        visits,
-    }
-}
-
-/// The log of all paths but one, in such tables.
-fn log_of(
-    alloc: Global,
-    paths: &[TimedPath],
-    except: usize,
-    tables: Tables,
-) -> Result<Log, AllocError>
-    requires { 0 < tables.chains }
-    ensures log { IfOk result (λ l. IsLog l.heads.items l.visits.items) }
-    ensures noted { IfOk result (λ l. AreNoted l.heads.items l.visits.items paths.now except (length paths.now)) }
-{
-    let mut log = Log::new(alloc, tables.chains, tables.visits)?;
-    for i in 0..paths.len() {
-        if i != except {
-            enter(&mut log, &paths[i], i)?;
-        }
-    }
-    Ok(log)
 }
 
 /// Whether the path of this number is one of the others, and at a cell at time k.
@@ -122,117 +49,101 @@ fn is_there(paths: &[TimedPath], except: usize, i: usize, cell: Cell, k: u64) ->
     i < paths.len() && i != except && paths[i].at(k).is(cell)
 }
 
-fn is_at(paths: &[TimedPath], except: usize, visit: Visit, cell: Cell, k: u64) -> bool
-    ensures { IsTrue result ↔ IsAt paths.now except cell k visit }
+/// Whether none of the paths is at a cell at time k.
+fn none_there(paths: &[TimedPath], cell: Cell, k: u64) -> bool
+    ensures { IsTrue result ↔ IsVacant paths.now cell k }
 {
-    visit.since <= k && k <= visit.until && is_there(paths, except, visit.path as usize, cell, k)
-}
-
-fn is_exchange(
-    paths: &[TimedPath],
-    except: usize,
-    visit: Visit,
-    from: Cell,
-    to: Cell,
-    k: u64,
-) -> bool
-    requires { k + 1 < 2 ^ 64 }
-    ensures { IsTrue result ↔ IsExchange paths.now except from to k visit }
-{
-    is_at(paths, except, visit, to, k) && is_there(paths, except, visit.path as usize, from, k + 1)
-}
-
-fn bars(paths: &[TimedPath], except: usize, visit: Visit, from: Cell, to: Cell, k: u64) -> bool
-    requires { k + 1 < 2 ^ 64 }
-    ensures { MatchBool result
-        (IsAt paths.now except to (k + 1) visit ⊎ IsExchange paths.now except from to k visit)
-        ((IsAt paths.now except to (k + 1) visit ⊎ IsExchange paths.now except from to k visit) → ⊥) }
-{
-    if is_at(paths, except, visit, to, k + 1) {
-        return true;
-    }
-    is_exchange(paths, except, visit, from, to, k)
-}
-
-fn stays_away(q: &TimedPath, cell: Cell, k: u64) -> bool
-    ensures { IsTrue result ↔ StaysAway q.now cell k }
-{
-    if q.end().is(cell) {
-        return false;
-    }
-    for j in k..q.remaining() {
-        if q.at(j).is(cell) {
+    for q in paths {
+        if q.at(k).is(cell) {
             return false;
         }
     }
     true
 }
 
-fn comes(paths: &[TimedPath], except: usize, visit: Visit, cell: Cell, k: u64) -> bool
-    ensures { IsTrue result ↔ Comes paths.now except cell k visit }
+/// Whether none of the others is at a cell at time k. It asks each.
+fn none_other_there(paths: &[TimedPath], except: usize, cell: Cell, k: u64) -> bool
+    requires { except < length paths.now }
+    ensures { IsTrue result ↔ IsVacant (remove paths.now except) cell k }
 {
-    visit.cell.is(cell)
-        && k <= visit.until
-        && (visit.path as usize) < paths.len()
-        && visit.path as usize != except
-        && !stays_away(&paths[visit.path as usize], cell, k)
+    none_there(&paths[..except], cell, k) && none_there(&paths[except + 1..], cell, k)
+}
+
+/// Whether none of the others that a mark allows is at a cell at time k.
+fn is_free(paths: &[TimedPath], except: usize, mark: Mark, cell: Cell, k: u64) -> bool
+    requires { except < length paths.now }
+    ensures allowed { IsTrue result → (i : ℕ) → Allows mark i → IsThere paths.now except i cell k → ⊥ }
+    ensures vacant { IsVacant (remove paths.now except) cell k → IsTrue result }
+{
+    match mark {
+        Mark::Nobody => true,
+        Mark::Only(i) => !is_there(paths, except, usize::from(i), cell, k),
+        Mark::Anyone => none_other_there(paths, except, cell, k),
+    }
 }
 
 /// Whether nobody is at a cell at time k.
-fn vacant(paths: &[TimedPath], except: usize, log: &Log, cell: Cell, k: u64) -> bool
-    requires except { except < length paths.now }
-    requires log { IsLog log.now.heads.items log.now.visits.items }
-    requires noted { AreNoted log.now.heads.items log.now.visits.items paths.now except (length paths.now) }
-    ensures { IsTrue result ↔ IsVacant (remove paths.now except) cell k }
-{
-    let mut place = log.heads[slot_of(log.heads.len(), cell)] as usize;
-    while place > 0 {
-        let visit = log.visits[place - 1];
-        if is_at(paths, except, visit, cell, k) {
-            return false;
-        }
-        place = visit.next as usize;
-    }
-    true
-}
-
-/// Whether nobody is at a cell at k + 1, nor leaves it for another one between k and k + 1.
-fn unbarred(paths: &[TimedPath], except: usize, log: &Log, from: Cell, to: Cell, k: u64) -> bool
-    requires except { except < length paths.now }
-    requires log { IsLog log.now.heads.items log.now.visits.items }
-    requires noted { AreNoted log.now.heads.items log.now.visits.items paths.now except (length paths.now) }
-    requires time { k + 1 < 2 ^ 64 }
-    ensures { IsTrue result ↔ (IsVacant (remove paths.now except) to (k + 1) × NoneExchanges (remove paths.now except) from to k) }
-{
-    let mut place = log.heads[slot_of(log.heads.len(), to)] as usize;
-    while place > 0 {
-        let visit = log.visits[place - 1];
-        if bars(paths, except, visit, from, to, k) {
-            return false;
-        }
-        place = visit.next as usize;
-    }
-    true
-}
-
-/// Whether the marks alone say that nobody is at a cell at time k.
-fn is_plainly_vacant(paths: &[TimedPath], except: usize, marks: &[bool], cell: Cell, k: u64) -> bool
+fn vacant(paths: &[TimedPath], except: usize, marks: &[Mark], cell: Cell, k: u64) -> bool
     requires except { except < length paths.now }
     requires some { 0 < length marks.now }
     requires marked { AreMarked marks.now paths.now except (length paths.now) }
-    ensures { IsTrue result → IsVacant (remove paths.now except) cell k }
+    ensures { IsTrue result ↔ IsVacant (remove paths.now except) cell k }
 {
-    let _ = paths;
-    let _ = except;
-    is_clear(marks, cell, k)
+    is_free(paths, except, passing(marks, cell, k), cell, k)
+        && is_free(paths, except, resting(marks, cell), cell, k)
 }
 
-/// Whether the marks alone say that nobody is at a cell at k + 1, nor leaves it for another one
-/// between k and k + 1.
-fn is_plainly_unbarred(
+/// Whether the path of this number is one of the others, and leaves a cell for another one between k and k + 1.
+fn exchanges(paths: &[TimedPath], except: usize, i: usize, from: Cell, to: Cell, k: u64) -> bool
+    requires { k + 1 < 2 ^ 64 }
+    ensures { IsTrue result ↔ IsExchange paths.now except from to k i }
+{
+    is_there(paths, except, i, to, k) && is_there(paths, except, i, from, k + 1)
+}
+
+/// Whether none of the paths leaves a cell for another one between k and k + 1.
+fn none_exchanges(paths: &[TimedPath], from: Cell, to: Cell, k: u64) -> bool
+    requires { k + 1 < 2 ^ 64 }
+    ensures { IsTrue result ↔ NoneExchanges paths.now from to k }
+{
+    for q in paths {
+        if q.at(k).is(to) && q.at(k + 1).is(from) {
+            return false;
+        }
+    }
+    true
+}
+
+/// Whether none of the others leaves a cell for another one between k and k + 1. It asks each.
+fn no_other_exchanges(paths: &[TimedPath], except: usize, from: Cell, to: Cell, k: u64) -> bool
+    requires except { except < length paths.now }
+    requires time { k + 1 < 2 ^ 64 }
+    ensures { IsTrue result ↔ NoneExchanges (remove paths.now except) from to k }
+{
+    none_exchanges(&paths[..except], from, to, k)
+        && none_exchanges(&paths[except + 1..], from, to, k)
+}
+
+/// Whether none of the others that a mark allows leaves a cell for another one between k and k + 1.
+fn is_open(paths: &[TimedPath], except: usize, mark: Mark, from: Cell, to: Cell, k: u64) -> bool
+    requires except { except < length paths.now }
+    requires time { k + 1 < 2 ^ 64 }
+    ensures allowed { IsTrue result → (i : ℕ) → Allows mark i → IsExchange paths.now except from to k i → ⊥ }
+    ensures vacant { NoneExchanges (remove paths.now except) from to k → IsTrue result }
+{
+    match mark {
+        Mark::Nobody => true,
+        Mark::Only(i) => !exchanges(paths, except, usize::from(i), from, to, k),
+        Mark::Anyone => no_other_exchanges(paths, except, from, to, k),
+    }
+}
+
+/// Whether nobody is at a cell at k + 1, nor leaves it for another one between k and k + 1: who does is at that other
+/// one at k + 1.
+fn unbarred(
     paths: &[TimedPath],
     except: usize,
-    marks: &[bool],
+    marks: &[Mark],
     from: Cell,
     to: Cell,
     k: u64,
@@ -241,64 +152,30 @@ fn is_plainly_unbarred(
     requires some { 0 < length marks.now }
     requires marked { AreMarked marks.now paths.now except (length paths.now) }
     requires time { k + 1 < 2 ^ 64 }
-    ensures { IsTrue result → (IsVacant (remove paths.now except) to (k + 1) × NoneExchanges (remove paths.now except) from to k) }
+    ensures { IsTrue result ↔ (IsVacant (remove paths.now except) to (k + 1) × NoneExchanges (remove paths.now except) from to k) }
 {
-    let _ = paths;
-    let _ = except;
-    is_clear(marks, to, k + 1) && is_clear(marks, from, k + 1)
+    vacant(paths, except, marks, to, k + 1)
+        && is_open(paths, except, passing(marks, from, k + 1), from, to, k)
+        && is_open(paths, except, resting(marks, from), from, to, k)
 }
 
-/// Whether nobody is at a cell at time k or later.
-fn none_comes(paths: &[TimedPath], except: usize, log: &Log, cell: Cell, k: u64) -> bool
-    requires except { except < length paths.now }
-    requires log { IsLog log.now.heads.items log.now.visits.items }
-    requires noted { AreNoted log.now.heads.items log.now.visits.items paths.now except (length paths.now) }
-    requires short { horizon (remove paths.now except) < 2 ^ 61 }
+/// Whether none of the others is at a cell at time k or later.
+fn none_comes(paths: &[TimedPath], except: usize, cell: Cell, k: u64) -> bool
+    requires { except < length paths.now }
     ensures { IsTrue result ↔ All (λ q. StaysAway q cell k) (remove paths.now except) }
 {
-    let mut place = log.heads[slot_of(log.heads.len(), cell)] as usize;
-    while place > 0 {
-        let visit = log.visits[place - 1];
-        if comes(paths, except, visit, cell, k) {
-            return false;
-        }
-        place = visit.next as usize;
-    }
-    true
+    all_stay_away(&paths[..except], cell, k) && all_stay_away(&paths[except + 1..], cell, k)
 }
 
-/// Whether the path of this number is one of the others, and ends at a cell.
-fn ends_there(paths: &[TimedPath], except: usize, i: usize, cell: Cell) -> bool
-    ensures { IsTrue result → EndsThere paths.now except i cell }
-{
-    i < paths.len() && i != except && paths[i].end().is(cell)
-}
-
-/// A time before which somebody is still to come to a cell; none where somebody rests there.
-fn not_before(paths: &[TimedPath], except: usize, log: &Log, cell: Cell) -> Option<u64>
-    requires except { except < length paths.now }
-    requires log { IsLog log.now.heads.items log.now.visits.items }
-    ensures some { IfSome result (λ t. (k : ℕ) → All (λ q. StaysAway q cell k) (remove paths.now except) → t ≤ k) }
+/// The time from which on none of the others is at a cell; none where one ends there.
+fn not_before(paths: &[TimedPath], except: usize, cell: Cell) -> Option<u64>
+    requires { except < length paths.now }
+    ensures some { IfSome result (λ t. (k : ℕ) → All (λ q. StaysAway q cell k) (remove paths.now except) ↔ t ≤ k) }
     ensures none { IfNone result ((k : ℕ) → All (λ q. StaysAway q cell k) (remove paths.now except) → ⊥) }
 {
-    let mut soonest: u64 = 0;
-    let mut place = log.heads[slot_of(log.heads.len(), cell)] as usize;
-    while place > 0 {
-        let visit = log.visits[place - 1];
-        if visit.cell.is(cell) {
-            if ends_there(paths, except, visit.path as usize, cell) {
-                return None;
-            }
-            if soonest <= visit.until
-                && visit.until < u64::MAX
-                && is_there(paths, except, visit.path as usize, cell, visit.until)
-            {
-                soonest = visit.until + 1;
-            }
-        }
-        place = visit.next as usize;
-    }
-    Some(soonest)
+    let before = all_away_from(&paths[..except], cell)?;
+    let after = all_away_from(&paths[except + 1..], cell)?;
+    Some(before.max(after))
 }
 
 impl<'a> Reservations<'a> {
@@ -314,15 +191,12 @@ impl<'a> Reservations<'a> {
         ensures { IfOk result (λ r. r ≡ record { paths = remove paths.now except; nofollow = nofollow }) }
     {
         let except = except as usize;
-        let tables = tables_for(paths);
-        let log = log_of(alloc, paths, except, tables)?;
-        let marks = marks_of(alloc, paths, except, tables.marks)?;
+        let marks = marks_of(alloc, paths, except)?;
         let latest = greatest_end(&paths[..except]).max(greatest_end(&paths[except + 1..]));
         Ok(Reservations {
             paths,
             except,
             nofollow,
-            log,
             marks,
             latest,
         })
@@ -340,8 +214,7 @@ impl<'a> Reservations<'a> {
     pub fn vacant(&self, cell: Cell, k: u64) -> bool
         ensures { IsTrue result ↔ IsVacant self.now.paths cell k }
     {
-        is_plainly_vacant(self.paths, self.except, &self.marks, cell, k)
-            || vacant(self.paths, self.except, &self.log, cell, k)
+        vacant(self.paths, self.except, &self.marks, cell, k)
     }
 
     /// Whether an agent may go from one cell, where nobody else is at k, to another between k
@@ -351,9 +224,7 @@ impl<'a> Reservations<'a> {
         requires time { k + 1 < 2 ^ 64 }
         ensures { IsTrue result ↔ MayStep self.now from to k }
     {
-        if !is_plainly_unbarred(self.paths, self.except, &self.marks, from, to, k)
-            && !unbarred(self.paths, self.except, &self.log, from, to, k)
-        {
+        if !unbarred(self.paths, self.except, &self.marks, from, to, k) {
             return false;
         }
         if self.nofollow && !from.is(to) {
@@ -377,14 +248,15 @@ impl<'a> Reservations<'a> {
     pub fn may_rest(&self, cell: Cell, k: u64) -> bool
         ensures { IsTrue result ↔ MayRest self.now cell k }
     {
-        none_comes(self.paths, self.except, &self.log, cell, k)
+        none_comes(self.paths, self.except, cell, k)
     }
 
-    /// A time before which nobody may rest at a cell; none where nobody ever may.
+    /// The time from which on an agent may rest at a cell, and before which nobody may; none where nobody ever may.
     pub fn not_before(&self, cell: Cell) -> Option<u64>
         ensures some { IfSome result (λ t. (k : ℕ) → MayRest self.now cell k → t ≤ k) }
+        ensures since { IfSome result (λ t. (k : ℕ) → t ≤ k → MayRest self.now cell k) }
         ensures none { IfNone result ((k : ℕ) → MayRest self.now cell k → ⊥) }
     {
-        not_before(self.paths, self.except, &self.log, cell)
+        not_before(self.paths, self.except, cell)
     }
 }

@@ -4,8 +4,8 @@ use Rattle.std.proofs.lemmas.Bool.{cases_lt, cases_eq}
 use Rattle.std.proofs.lemmas.List.{get_or_append_left, get_or_past, get_or-replicate, length-replicate}
 use Rattle.std.proofs.lemmas.Nat.{mul-le}
 use Rattle.std.proofs.Math.Seq.{get_or-append_seam}
-use Rattle.wh_resv.specs.Links.{LeadsTo}
-use Rattle.wh_resv.proofs.LinkLemmas.{leads_none, leads_first, leads_later, leads_cases, leads_same, leads_below}
+use Rattle.wh_search.specs.Links.{LeadsTo}
+use Rattle.wh_search.proofs.LinkLemmas.{leads_none, leads_first, leads_later, leads_cases, leads_same, leads_below}
 use Rattle.wh_search.specs.declared.queue.Entry.{Entry}
 use Rattle.wh_search.specs.declared.queue.Queue.{Queue}
 use Rattle.wh_search.specs.Queues.{entry_at, link_of, Waiting, level, IsQueue, Pushes, Pops}

@@ -5,6 +5,7 @@ pub mod Reach
 pub mod Bound
 pub mod Visits
 pub mod Paths
+pub mod LinkLemmas
 pub mod Bins
 pub mod Kept
 pub mod Expands

@@ -1,7 +1,7 @@
 -- nodes that wait, in bins by their bounds
 use Rattle.std.specs.Prelude.{◌≡◌, ℕ, ◌+◌, ◌-◌, ◌*◌, ◌<◌, ◌≤◌, ◌⊎◌, List, length, slice_index, slice_index_or}
 use Prim.Native.Nat.{zero, suc}
-use Rattle.wh_resv.specs.Links.{LeadsTo}
+use Rattle.wh_search.specs.Links.{LeadsTo}
 use Rattle.wh_search.specs.declared.queue.Entry.{Entry}
 use Rattle.wh_search.specs.declared.queue.Queue.{Queue}
 

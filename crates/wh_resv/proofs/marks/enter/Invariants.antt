@@ -4,4 +4,7 @@ use Rattle.wh_resv.specs.Marked.{IsMarked, KeepsMarks}
 use Rattle.wh_resv.proofs.marks.enter.Given as goal
 
 abbrev pub invariant-loop-k : goal.invariant-loop-k
-invariant-loop-k l = KeepsMarks l.fn.marks l.marks × ((j : ℕ) → j < l.k → IsMarked l.marks (at l.q j) j)
+invariant-loop-k l = record {
+  kept : KeepsMarks l.fn.marks l.marks;
+  marked : (j : ℕ) → j < l.k → IsMarked l.marks l.path (at l.cells j) j;
+}

@@ -1,30 +1,26 @@
-use Rattle.std.proofs.Common.{◌≡◌, ℕ, ◌-◌, ◌≤◌, ap, sym, subst, remove, All, arith}
-use Rattle.std.proofs.lemmas.List.{get_or_read}
+use Rattle.std.proofs.Common.{ℕ, List, Option, IfNone, All, remove, sym, subst, arith}
+use Rattle.wh_grid.specs.declared.cell.Cell.{Cell}
 use Rattle.wh_resv.specs.Others.{StaysAway}
-use Rattle.wh_resv.specs.declared.log.Visit.{Visit}
-use Rattle.wh_resv.specs.Logs.{visit_at}
-use Rattle.wh_resv.proofs.Walks.{never_away, away_after}
+use Rattle.wh_resv.proofs.Staying.{all_parts, all_of_parts}
 use Rattle.wh_resv.proofs.reservations.not_before.Goals as goal
-use Rattle.wh_resv.proofs.reservations.not_before.Goals.{then-is+else-ends_there+then-soonest-visit+then-visit-lt18446744073709551615+then-is_there, then-is+else-ends_there+else-soonest-visit, else-is}
 
-abbrev none : Visit
-none = record { cell = record { x = 0; y = 0 }; since = 0; until = 0; path = 0; next = 0 }
+pub returns-in_err-before-clause-none : goal.returns-in_err-before-clause-none
+returns-in_err-before-clause-none c =
+    let Never : Option ℕ → Type 0 = λ r. IfNone r ((k : ℕ) → All (λ q. StaysAway q c.args.cell k) (remove c.args.paths.now c.args.except) → ⊥) in
+    subst Never (sym c.from_residual.ensures)
+    (λ k all. c.in_err-before.ensures.none k (all_parts (λ q. StaysAway q c.args.cell k) c.args.paths.now c.args.except c.requires all).0)
 
-pub returns-then-ends_there-clause-none : goal.returns-then-ends_there-clause-none
-returns-then-ends_there-clause-none c = λ k a. never_away c.args.paths.now c.args.except c.index-visit.result.now.path c.args.cell c.requires.except (c.ends_there.ensures c.if-ends_there.true) k a
+pub returns-in_err-after-clause-none : goal.returns-in_err-after-clause-none
+returns-in_err-after-clause-none c =
+    let Never : Option ℕ → Type 0 = λ r. IfNone r ((k : ℕ) → All (λ q. StaysAway q c.args.cell k) (remove c.args.paths.now c.args.except) → ⊥) in
+    subst Never (sym c.from_residual-in_err-after.ensures)
+    (λ k all. c.in_err-after.ensures.none k (all_parts (λ q. StaysAway q c.args.cell k) c.args.paths.now c.args.except c.requires all).1)
 
-pub loop-place-preserved : goal.loop-place-preserved
-loop-place-preserved c =
-    let visits = c.args.log.now.visits.items in
-    let within = c.loop-place.invariant.0 in
-    let here : c.index-visit.result.now ≡ visit_at visits (c.loop-place.place - 1) = get_or_read visits (c.loop-place.place - 1) c.index-visit.result.now (omega arith) c.index-visit.ensures none in
-    let next = ap (λ (v : Visit). v.next) here in
-    let Sooner : ℕ → Type 0 = λ n. (k : ℕ) → All (λ q. StaysAway q c.args.cell k) (remove c.args.paths.now c.args.except) → n ≤ k in (
-      omega (arith, c.requires.log.down (c.loop-place.place - 1) (omega arith)),
-      elim c.if-is.branch [
-        | then-is+else-ends_there+then-soonest-visit+then-visit-lt18446744073709551615+then-is_there w ↦ subst Sooner (sym w.soonest-is)
-            (λ k a. away_after c.args.paths.now c.args.except c.index-visit.result.now.path c.args.cell c.index-visit.result.now.until k c.requires.except (w.is_there.ensures.0 w.if-is_there.true) a)
-        | then-is+else-ends_there+else-soonest-visit w ↦ subst Sooner (sym w.soonest-is) c.loop-place.invariant.1
-        | else-is w ↦ subst Sooner (sym w.soonest-is) c.loop-place.invariant.1
-      ],
+pub returns-clause-some : goal.returns-clause-some
+returns-clause-some c = λ k.
+    let P : List Cell → Type 0 = λ q. StaysAway q c.args.cell k in
+    let before = c.in_ok-before.ensures.some k in
+    let after = c.in_ok-after.ensures.some k in (
+      λ all. (let parts = all_parts P c.args.paths.now c.args.except c.requires all in omega (arith, before.0 parts.0, after.0 parts.1)),
+      λ late. all_of_parts P c.args.paths.now c.args.except c.requires (before.1 (omega arith)) (after.1 (omega arith)),
     )

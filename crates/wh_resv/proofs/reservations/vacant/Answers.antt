@@ -1,35 +1,14 @@
-use Rattle.std.proofs.Common.{◌≡◌, ◌-◌, get_or, length, ap, ◌∙◌, refl, arith}
-use Rattle.std.proofs.lemmas.List.{get_or_read}
-use Rattle.wh_resv.specs.declared.log.Visit.{Visit}
-use Rattle.wh_resv.specs.Logs.{slot}
-use Rattle.wh_resv.specs.Calls.{IsAt}
-use Rattle.wh_resv.proofs.Walks.{walking_first, walking_on, is_vacant, not_vacant}
+use Rattle.std.proofs.Common.{sym, subst}
+use Rattle.wh_resv.specs.declared.marks.Mark.{Mark}
+use Rattle.wh_resv.specs.Marked.{Allows}
+use Rattle.wh_resv.proofs.Marking.{vacant}
 use Rattle.wh_resv.proofs.reservations.vacant.Goals as goal
 
-abbrev none : Visit
-none = record { cell = record { x = 0; y = 0 }; since = 0; until = 0; path = 0; next = 0 }
-
-pub returns-then-is_at : goal.returns-then-is_at
-returns-then-is_at c = (λ e. cc, λ v. absurd (not_vacant c.args.paths.now c.args.except c.index-visit.result.now.path c.args.cell c.args.k c.requires.except (c.is_at.ensures.0 c.if-is_at.true).2 v))
-
-pub loop-place-init : goal.loop-place-init
-loop-place-init c =
-    let heads = c.args.log.now.heads.items in
-    let bound = c.slot_of.ensures.bound in
-    let long : c.len.result ≡ length heads = c.len.ensures ∙ c.args.log.now.heads.ok.0 in
-    walking_first heads c.args.log.now.visits.items (slot (length heads) c.args.cell) c.index.result.now (IsAt c.args.paths.now c.args.except c.args.cell c.args.k) c.requires.log
-    (get_or_read heads c.slot_of.result c.index.result.now (omega arith) c.index.ensures 0 ∙ ap (λ i. get_or heads i 0) (c.slot_of.ensures.value ∙ ap (λ n. slot n c.args.cell) long))
-
-pub loop-place-preserved : goal.loop-place-preserved
-loop-place-preserved c =
-    let heads = c.args.log.now.heads.items in
-    let visits = c.args.log.now.visits.items in
-    let within = c.loop-place.invariant.within in
-    walking_on heads visits (get_or heads (slot (length heads) c.args.cell) 0) c.loop-place.place (IsAt c.args.paths.now c.args.except c.args.cell c.args.k) c.index-visit.result.now c.requires.log c.loop-place-test.true
-    (get_or_read visits (c.loop-place.place - 1) c.index-visit.result.now (omega arith) c.index-visit.ensures none) (λ p. let t = c.is_at.ensures.1 p in cc) c.loop-place.invariant
-
-pub returns : goal.returns
-returns c = (
-  λ e. is_vacant c.args.log.now.heads.items c.args.log.now.visits.items c.args.paths.now c.args.except c.args.cell c.args.k c.loop-place.place c.requires.except c.requires.noted (omega arith) (omega arith) c.loop-place.invariant,
-  λ v. refl,
+pub returns-then-is_free : goal.returns-then-is_free
+returns-then-is_free c = (
+  λ t. vacant c.args.marks.now c.args.paths.now c.args.except c.args.cell c.args.k c.requires.marked (record {
+    passing = λ i a. c.is_free.ensures.allowed c.if-is_free.true i (subst (λ (m : Mark). Allows m i) (sym c.passing.ensures) a);
+    resting = λ i a. c.is_free-then-is_free.ensures.allowed t i (subst (λ (m : Mark). Allows m i) (sym c.resting.ensures) a);
+  }),
+  λ v. c.is_free-then-is_free.ensures.vacant v,
 )

@@ -10,4 +10,4 @@ invariant_of-result c =
     let i = c.args.except in
     let parts = horizon-append (take i xs) (take (length xs - (i + 1)) (drop (i + 1) xs)) in
     let whole : c.max-latest.result ≡ max (horizon (take i xs)) (horizon (take (length xs - (i + 1)) (drop (i + 1) xs))) = omega arith in
-    (c.requires, c.in_ok-log.ensures.log, c.in_ok-log.ensures.noted, (let size = c.in_ok-marks.ensures.size in let some = c.tables_for-tables.ensures.marks in omega arith), c.in_ok-marks.ensures.marked, whole ∙ sym parts ∙ ap horizon (sym (remove-slices xs i c.requires)), omega arith)
+    (c.requires, c.in_ok-marks.ensures.some, c.in_ok-marks.ensures.marked, whole ∙ sym parts ∙ ap horizon (sym (remove-slices xs i c.requires)), omega arith)

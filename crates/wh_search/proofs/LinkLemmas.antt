@@ -1,6 +1,6 @@
 -- chains of links
 use Rattle.std.proofs.Common.{◌≡◌, ℕ, ◌<◌, ◌≤◌, ◌⊎◌, inl, inr, ◌∙◌, refl, ap, suc, zero, arith}
-use Rattle.wh_resv.specs.Links.{after, LeadsTo}
+use Rattle.wh_search.specs.Links.{after, LeadsTo}
 
 after_end : (next : ℕ → ℕ) (n : ℕ) → next 0 ≡ 0 → after next n 0 ≡ 0
 after_end next zero e = refl

@@ -1,0 +1,11 @@
+use Rattle.std.proofs.lemmas.Bool.{not_from_false, false_from_ne_true}
+use Rattle.wh_resv.proofs.Marking.{not_open}
+use Rattle.wh_resv.proofs.reservations.is_open.Goals as goal
+
+pub returns-in-Only-clause-vacant : goal.returns-in-Only-clause-vacant
+returns-in-Only-clause-vacant c = λ v.
+    let r = c.exchanges.result in
+    not_from_false r (false_from_ne_true r (λ t. not_open c.args.paths.now c.args.except c.from.result c.args.from c.args.to c.args.k (c.exchanges.ensures.0 t) v))
+
+pub returns-in-Anyone-clause-allowed : goal.returns-in-Anyone-clause-allowed
+returns-in-Anyone-clause-allowed c = λ t i a there. not_open c.args.paths.now c.args.except i c.args.from c.args.to c.args.k there (c.no_other_exchanges.ensures.0 t)
