@@ -1,3 +1,4 @@
 pub mod CommandLines
+pub mod Asking
 pub mod Grammar
 pub mod ReplyTexts

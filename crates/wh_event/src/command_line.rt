@@ -6,6 +6,7 @@ ghost use Rattle.wh_event.specs.declared.event.Command.{Command};
 ghost use Rattle.wh_event.specs.declared.fault.LineFault.TheVariants as faults;
 ghost use Rattle.wh_event.specs.CommandLines as lines;
 ghost use Rattle.wh_event.specs.CommandLines.{command_of, command_by, named, formed};
+ghost use Rattle.wh_event.specs.Asking.{told};
 ghost use Rattle.wh_event.specs.Grammar.{Asks, IsSkipped};
 
 use crate::event::Command;
@@ -54,48 +55,59 @@ fn agent_of(mut words: Words) -> Option<u32>
     small_number(agent)
 }
 
-fn token_of(words: Words) -> Result<Option<Command>, LineFault>
-    ensures { result ≡ formed (lines.token_of words.entry) }
+/// What the words of a line ask, before the stops of a task are read. A command has room for nine names, and this, which
+/// is handed on, for none.
+enum Asked<'a> {
+    Nothing,
+    Submit(Words<'a>),
+    Token(u32),
+    Tick,
+    Replace(u32),
+    Close,
+}
+
+fn token_of(words: Words) -> Result<Asked, LineFault>
+    ensures { told result ≡ formed (lines.token_of words.entry) }
 {
     match agent_of(words) {
-        Some(agent) => Ok(Some(Command::Token { agent })),
+        Some(agent) => Ok(Asked::Token(agent)),
         None => Err(LineFault::Form),
     }
 }
 
-fn replace_of(words: Words) -> Result<Option<Command>, LineFault>
-    ensures { result ≡ formed (lines.replace_of words.entry) }
+fn replace_of(words: Words) -> Result<Asked, LineFault>
+    ensures { told result ≡ formed (lines.replace_of words.entry) }
 {
     match agent_of(words) {
-        Some(agent) => Ok(Some(Command::Replace { agent })),
+        Some(agent) => Ok(Asked::Replace(agent)),
         None => Err(LineFault::Form),
     }
 }
 
-fn tick_of(mut words: Words) -> Result<Option<Command>, LineFault>
-    ensures { result ≡ formed (lines.tick_of words.entry) }
+fn tick_of(mut words: Words) -> Result<Asked, LineFault>
+    ensures { told result ≡ formed (lines.tick_of words.entry) }
 {
     match words.next_word() {
         Some(_) => Err(LineFault::Form),
-        None => Ok(Some(Command::Tick)),
+        None => Ok(Asked::Tick),
     }
 }
 
-fn close_of(mut words: Words) -> Result<Option<Command>, LineFault>
-    ensures { result ≡ formed (lines.close_of words.entry) }
+fn close_of(mut words: Words) -> Result<Asked, LineFault>
+    ensures { told result ≡ formed (lines.close_of words.entry) }
 {
     match words.next_word() {
         Some(_) => Err(LineFault::Form),
-        None => Ok(Some(Command::Close)),
+        None => Ok(Asked::Close),
     }
 }
 
-/// The command that a line's first word names, handed on as it was made: it has room for nine names.
-fn command_named(name: &[u8], rest: Words) -> Result<Option<Command>, LineFault>
-    ensures { result ≡ formed (named name.now rest.entry) }
+/// What a line asks by its first word.
+fn asked_by_name<'a>(name: &[u8], rest: Words<'a>) -> Result<Asked<'a>, LineFault>
+    ensures { told result ≡ formed (named name.now rest.entry) }
 {
     if name == b"submit".as_slice() {
-        submit_of(rest)
+        Ok(Asked::Submit(rest))
     } else if name == b"token".as_slice() {
         token_of(rest)
     } else if name == b"tick".as_slice() {
@@ -115,16 +127,30 @@ fn begins_comment(word: &[u8]) -> bool
     matches!(word, [b'#', ..])
 }
 
-fn read_words(mut words: Words) -> Result<Option<Command>, LineFault>
-    ensures { result ≡ command_by words.entry }
+fn asked_by(mut words: Words) -> Result<Asked, LineFault>
+    ensures { told result ≡ command_by words.entry }
 {
     let Some(name) = words.next_word() else {
-        return Ok(None);
+        return Ok(Asked::Nothing);
     };
     if begins_comment(name) {
-        return Ok(None);
+        return Ok(Asked::Nothing);
     }
-    command_named(name, words)
+    asked_by_name(name, words)
+}
+
+fn read_words(words: Words) -> Result<Option<Command>, LineFault>
+    ensures { result ≡ command_by words.entry }
+{
+    match asked_by(words) {
+        Ok(Asked::Nothing) => Ok(None),
+        Ok(Asked::Submit(rest)) => submit_of(rest),
+        Ok(Asked::Token(agent)) => Ok(Some(Command::Token { agent })),
+        Ok(Asked::Tick) => Ok(Some(Command::Tick)),
+        Ok(Asked::Replace(agent)) => Ok(Some(Command::Replace { agent })),
+        Ok(Asked::Close) => Ok(Some(Command::Close)),
+        Err(fault) => Err(fault),
+    }
 }
 
 /// What a line of a script asks, without its line's end: a command, or None where it is empty, of blanks, or a
