@@ -3,7 +3,7 @@ use Rattle.std.specs.Prelude.{◌≡◌, ◌≢◌, ℕ, ◌+◌, ◌-◌, ◌*�
 use Rattle.wh_grid.specs.declared.cell.Cell.{Cell}
 use Rattle.wh_path.specs.Paths.{at, path_of}
 use Rattle.wh_resv.specs.declared.marks.Mark.{Mark}
-use Rattle.wh_resv.specs.declared.marks.Mark.TheVariants.{Nobody, Only, Anyone}
+use Rattle.wh_resv.specs.declared.marks.Mark.TheVariants.{Nobody, Only, Either, Anyone}
 
 -- the place of the mark of a cell at a time, among so many marks
 abbrev pub mark : ℕ → Cell → ℕ → ℕ
@@ -17,6 +17,7 @@ rest_mark size c = bit_and (c.x * 3 + c.y * 137 + 1) (size - 1)
 abbrev pub Allows : Mark → ℕ → Type 0
 Allows Nobody i = ⊥
 Allows (Only j) i = i ≡ j
+Allows (Either j l) i = (i ≡ j) ⊎ (i ≡ l)
 Allows Anyone i = ⊤
 
 abbrev pub mark_at : List Mark → ℕ → Mark

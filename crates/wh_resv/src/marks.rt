@@ -10,11 +10,12 @@ use std::alloc::{AllocError, Global};
 use wh_grid::Cell;
 use wh_path::TimedPath;
 
-/// Who may be at a place: nobody, the path of this number alone, or any path.
+/// Who may be at a place: nobody, the path of this number alone, the paths of these two numbers, or any path.
 #[derive(Clone, Copy)]
 pub enum Mark {
     Nobody,
     Only(u16),
+    Either(u16, u16),
     Anyone,
 }
 
@@ -36,14 +37,27 @@ pub fn rest_mark_of(size: usize, cell: Cell) -> usize
     (cell.x as usize * 3 + cell.y as usize * 137 + 1) & (size - 1)
 }
 
-/// The mark of a place once the path of this number comes there too. A number that no mark holds is anyone.
+/// The mark of a place where somebody is already, once the path of this number comes there too. A number that no mark
+/// holds is anyone.
+#[inline(never)]
+fn shared(mark: Mark, path: usize) -> Mark
+    ensures joined { Allows result path }
+    ensures kept { (i : ℕ) → Allows mark i → Allows result i }
+{
+    match mark {
+        Mark::Only(first) if path < 65_536 => Mark::Either(first, path as u16),
+        _ => Mark::Anyone,
+    }
+}
+
+/// The mark of a place once the path of this number comes there too. Mostly nobody was there, and that is quick.
 fn joined(mark: Mark, path: usize) -> Mark
     ensures joined { Allows result path }
     ensures kept { (i : ℕ) → Allows mark i → Allows result i }
 {
     match mark {
         Mark::Nobody if path < 65_536 => Mark::Only(path as u16),
-        _ => Mark::Anyone,
+        taken => shared(taken, path),
     }
 }
 
@@ -64,8 +78,8 @@ fn enter(marks: &mut [Mark], cells: &[Cell], path: usize)
     marks[rest] = joined(marks[rest], path);
 }
 
-/// How many marks there are. A search that meets few marks of others asks few paths, so there are five to ten marks a
-/// visit; but every search clears them all, so few visits have a small table, and very many have fewer marks each.
+/// How many marks there are, a power of two. Where few of them are taken, a question looks at few paths: so there are some
+/// five to ten a visit. But each search clears them all, so there are fewer a visit where there are very many visits.
 fn marks_for(paths: &[TimedPath]) -> usize
     ensures { 0 < result }
 {
@@ -75,8 +89,10 @@ fn marks_for(paths: &[TimedPath]) -> usize
     }
     match visits {
         0..=200 => 1024,
-        201..=1600 => 8192,
-        1601..=6400 => 32_768,
+        201..=800 => 4096,
+        801..=1600 => 8192,
+        1601..=3200 => 16_384,
+        3201..=6400 => 32_768,
         6401..=26_000 => 65_536,
         _ => 131_072,
     }

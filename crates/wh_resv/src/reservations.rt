@@ -43,6 +43,7 @@ impl<'a> Model for Reservations<'a> {
 }
 
 /// Whether the path of this number is one of the others, and at a cell at time k.
+#[inline(never)]
 fn is_there(paths: &[TimedPath], except: usize, i: usize, cell: Cell, k: u64) -> bool
     ensures { IsTrue result ↔ IsThere paths.now except i cell k }
 {
@@ -62,6 +63,7 @@ fn none_there(paths: &[TimedPath], cell: Cell, k: u64) -> bool
 }
 
 /// Whether none of the others is at a cell at time k. It asks each.
+#[inline(never)]
 fn none_other_there(paths: &[TimedPath], except: usize, cell: Cell, k: u64) -> bool
     requires { except < length paths.now }
     ensures { IsTrue result ↔ IsVacant (remove paths.now except) cell k }
@@ -70,6 +72,7 @@ fn none_other_there(paths: &[TimedPath], except: usize, cell: Cell, k: u64) -> b
 }
 
 /// Whether none of the others that a mark allows is at a cell at time k.
+#[inline(always)]
 fn is_free(paths: &[TimedPath], except: usize, mark: Mark, cell: Cell, k: u64) -> bool
     requires { except < length paths.now }
     ensures allowed { IsTrue result → (i : ℕ) → Allows mark i → IsThere paths.now except i cell k → ⊥ }
@@ -78,6 +81,10 @@ fn is_free(paths: &[TimedPath], except: usize, mark: Mark, cell: Cell, k: u64) -
     match mark {
         Mark::Nobody => true,
         Mark::Only(i) => !is_there(paths, except, usize::from(i), cell, k),
+        Mark::Either(i, j) => {
+            !is_there(paths, except, usize::from(i), cell, k)
+                && !is_there(paths, except, usize::from(j), cell, k)
+        }
         Mark::Anyone => none_other_there(paths, except, cell, k),
     }
 }
@@ -94,6 +101,7 @@ fn vacant(paths: &[TimedPath], except: usize, marks: &[Mark], cell: Cell, k: u64
 }
 
 /// Whether the path of this number is one of the others, and leaves a cell for another one between k and k + 1.
+#[inline(never)]
 fn exchanges(paths: &[TimedPath], except: usize, i: usize, from: Cell, to: Cell, k: u64) -> bool
     requires { k + 1 < 2 ^ 64 }
     ensures { IsTrue result ↔ IsExchange paths.now except from to k i }
@@ -115,6 +123,7 @@ fn none_exchanges(paths: &[TimedPath], from: Cell, to: Cell, k: u64) -> bool
 }
 
 /// Whether none of the others leaves a cell for another one between k and k + 1. It asks each.
+#[inline(never)]
 fn no_other_exchanges(paths: &[TimedPath], except: usize, from: Cell, to: Cell, k: u64) -> bool
     requires except { except < length paths.now }
     requires time { k + 1 < 2 ^ 64 }
@@ -125,6 +134,7 @@ fn no_other_exchanges(paths: &[TimedPath], except: usize, from: Cell, to: Cell, 
 }
 
 /// Whether none of the others that a mark allows leaves a cell for another one between k and k + 1.
+#[inline(always)]
 fn is_open(paths: &[TimedPath], except: usize, mark: Mark, from: Cell, to: Cell, k: u64) -> bool
     requires except { except < length paths.now }
     requires time { k + 1 < 2 ^ 64 }
@@ -134,6 +144,10 @@ fn is_open(paths: &[TimedPath], except: usize, mark: Mark, from: Cell, to: Cell,
     match mark {
         Mark::Nobody => true,
         Mark::Only(i) => !exchanges(paths, except, usize::from(i), from, to, k),
+        Mark::Either(i, j) => {
+            !exchanges(paths, except, usize::from(i), from, to, k)
+                && !exchanges(paths, except, usize::from(j), from, to, k)
+        }
         Mark::Anyone => no_other_exchanges(paths, except, from, to, k),
     }
 }
