@@ -1,5 +1,5 @@
 -- What commands give, one after another.
-use Rattle.std.proofs.Common.{◌≡◌, ◌≢◌, ◌<◌, ℕ, List, [], ◌∷◌, ◌++◌, length, drop, refl, sym, ap, ◌∙◌, arith, subst, Option, None, Some, Result, Ok, Err, append_assoc, append-nil, Bool, suc}
+use Rattle.std.proofs.Common.{◌≡◌, ◌≢◌, ℕ, List, [], ◌∷◌, ◌++◌, length, drop, refl, sym, ap, ◌∙◌, arith, subst, Option, None, Some, Result, Ok, Err, append_assoc, append-nil, Bool, suc}
 use Rattle.std.specs.Prelude.{codes, is_some, true, false}
 use Rattle.std.proofs.lemmas.List.Elements.{All-nil, All-append}
 use Rattle.wh_grid.specs.Grids.{Floor}

@@ -117,7 +117,7 @@ quiet-step site old Reply.Rested (Event.Request agent) new leaves step none = qu
 quiet-step site old (Reply.Clock now first last) Event.Tick new leaves step none =
     let later = quiet-arrived (old.clock + 1) (place_of (map advanced old.paths)) old.tasks (ends old.paths) none in
     subst (λ (t : State). NoneEligible t.tasks (ends t.paths)) (sym step.5)
-        (subst (λ cells. NoneEligible (arrived_tasks (old.clock + 1) (place_of (map advanced old.paths)) old.tasks) cells) (sym (ends-advanced old.paths)) later)
+    (subst (λ cells. NoneEligible (arrived_tasks (old.clock + 1) (place_of (map advanced old.paths)) old.tasks) cells) (sym (ends-advanced old.paths)) later)
 quiet-step site old (Reply.Replaced slots) (Event.Replace agent (Spare.Fits count)) new leaves step none =
     subst (λ (t : State). NoneEligible t.tasks (ends t.paths)) (sym step.2) none
 quiet-step site old Reply.Closed Event.Close new leaves step none = subst (λ (t : State). NoneEligible t.tasks (ends t.paths)) (sym step.1) none

@@ -402,9 +402,7 @@ impl<P: Planner> Warehouse<P> {
         let here = self.book.paths()[agent as usize].start();
         if !self.book.tasks().delivers_at(here) {
             let event = Event::Request { agent };
-            return self
-                .book
-                .draft_answer(alloc, caller, event, Reply::Rested);
+            return self.book.draft_answer(alloc, caller, event, Reply::Rested);
         }
         let allowed = self.book.allowed(alloc, agent)?;
         self.draft_parking(alloc, caller, agent, allowed.as_slice())

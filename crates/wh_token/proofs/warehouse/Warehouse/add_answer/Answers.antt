@@ -8,4 +8,4 @@ invariant_of-self g c = furnished-same _ _ _ _ _ c.reserve_entry.ensures.same c.
 pub invariant_of-self-2 : goal.invariant_of-self-2
 invariant_of-self-2 g c =
     furnished-still _ _ _ _ _ (c.add_answer.ensures.state ∙ c.reserve_entry.ensures.same.state) (c.add_answer.ensures.site ∙ c.reserve_entry.ensures.same.site)
-        c.self.invariant
+    c.self.invariant

@@ -1,11 +1,10 @@
-use Rattle.std.proofs.Common.{rules}
 use Rattle.wh_token.proofs.Runs.{moved-at-once}
 use Rattle.wh_token.proofs.warehouse.Warehouse.run_event.Goals as goal
 
 pub returns-in-Some-clause-moves : goal.returns-in-Some-clause-moves
 returns-in-Some-clause-moves g c =
     rw c.in-Token.is (moved-at-once (λ b. g.P.Planner.fits_map b c.args.self.now.book.site.grid) (λ b. g.P.Planner.slot_count b) c.args.self.now.book.site c.args.caller _ c.in-Some.reply
-        c.args.self.now.book.state _ c.args.spares.now.items _ _ c.add_answer.result c.in-Some.ensures.answers c.add_answer.ensures.state c.add_answer.ensures.history)
+    c.args.self.now.book.state _ c.args.spares.now.items _ _ c.add_answer.result c.in-Some.ensures.answers c.add_answer.ensures.state c.add_answer.ensures.history)
 
 pub returns-clause-moves : goal.returns-clause-moves
 returns-clause-moves g c = rw c.copy.ensures at c.run_step.ensures.moves

@@ -5,26 +5,26 @@ use Rattle.wh_token.proofs.warehouse.Warehouse.run_step.Goals as goal
 
 pub returns-in-Ok-clause-moves : goal.returns-in-Ok-clause-moves
 returns-in-Ok-clause-moves g c = (
-      Some c.in-Ok.done.entry,
-      refl,
-      c.in-Ok.ensures.history,
-      (
-        c.in-Ok.ensures.caller,
-        c.in-Ok.ensures.step,
-        c.in-Ok.ensures.event,
-        record {
-          last = λ wants. elim c.if-wants.branch [
-            | then-wants w ↦ record { spare = c.if-wants.spare; taken = search rules; none_left = grind (arith, common_steps); tells = c.in-Ok.ensures.tells }
-            | else-wants w ↦ absurd (search rules)
-          ];
-          other = λ unwanted. elim c.if-wants.branch [
-            | then-wants w ↦ absurd (search rules)
-            | else-wants w ↦ search rules
-          ];
-          none_told = λ unwanted. elim c.if-wants.branch [
-            | then-wants w ↦ absurd (search rules)
-            | else-wants w ↦ rw w.spare-is at c.in-Ok.ensures.tells
-          ];
-        },
-      ),
-    )
+  Some c.in-Ok.done.entry,
+  refl,
+  c.in-Ok.ensures.history,
+  (
+    c.in-Ok.ensures.caller,
+    c.in-Ok.ensures.step,
+    c.in-Ok.ensures.event,
+    record {
+      last = λ wants. elim c.if-wants.branch [
+        | then-wants w ↦ record { spare = c.if-wants.spare; taken = search rules; none_left = grind (arith, common_steps); tells = c.in-Ok.ensures.tells }
+        | else-wants w ↦ absurd (search rules)
+      ];
+      other = λ unwanted. elim c.if-wants.branch [
+        | then-wants w ↦ absurd (search rules)
+        | else-wants w ↦ search rules
+      ];
+      none_told = λ unwanted. elim c.if-wants.branch [
+        | then-wants w ↦ absurd (search rules)
+        | else-wants w ↦ rw w.spare-is at c.in-Ok.ensures.tells
+      ];
+    },
+  ),
+)
