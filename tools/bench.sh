@@ -1,6 +1,7 @@
 #!/usr/bin/env bash
 # Times the parts (crates/wh_times) and whole runs of the program on seeded instances, and prints the figures as Markdown:
-# the machine, its load, then a table of the least of several runs. docs/PERFORMANCE.md keeps what it printed.
+# the machine, its load, then a table of the least of several runs. docs/PERFORMANCE.md keeps what it printed. Where there
+# is a g++, the unproved peer in tools/peer runs the three warehouses too.
 #
 #   tools/bench.sh [all|parts|runs]        RUNS=5 tools/bench.sh parts
 #
@@ -76,6 +77,16 @@ with_log() {
     awk 'is_log { print } /^%%$/ { is_log = 1 }' "$log"
 }
 
+# The three warehouses by the peer, a plain program in C++ with the same rules and methods.
+peers() {
+    command -v g++ > /dev/null || return 0
+    g++ -O2 -march=x86-64-v2 -std=c++17 -o "$folder/peer" "$root/tools/peer/main.cpp"
+    local program=$folder/peer
+    row 'small warehouse, by the peer in C++' "$folder/small" replay
+    row 'large warehouse, by the peer in C++' "$folder/large" replay
+    row 'open map, by the peer in C++' "$folder/open" replay
+}
+
 whole_runs() {
     local make="python3 $root/tools/make_instance.py --seed 7 --every 1"
     if [[ ! -x $program ]]; then
@@ -93,6 +104,7 @@ whole_runs() {
     row 'small warehouse, 21 x 35, 50 agents, 500 tasks' "$folder/small" replay --planner near
     row 'large warehouse, 81 x 81, 250 agents, 1000 tasks' "$folder/large" replay --planner near
     row 'open map, 512 x 512, 100 agents, 200 tasks' "$folder/open" replay --planner near
+    peers
     row '1,000,000 ticks, 21 x 35, 50 agents' "$folder/ticks" replay --planner near
     row '4096 points, 512 x 512' "$folder/open" check
     row '4096 points, 1024 x 1024' "$folder/wide" check

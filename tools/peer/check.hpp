@@ -1,0 +1,116 @@
+// Built with -DCHECK, the peer checks each task that it chooses and each path that it finds by plain means, and aborts
+// at the first that is wrong. Without it nothing of this is built.
+#pragma once
+
+#ifndef CHECK
+#define CHECK_PATH(...)
+#define CHECK_NEAREST(...)
+#else
+#define CHECK_PATH(...) PathCheck{__VA_ARGS__}.check()
+#define CHECK_NEAREST(...) check_nearest(__VA_ARGS__)
+
+#include "fields.hpp"
+#include "reservations.hpp"
+
+inline void demand(bool good, const char* what) {
+    if (good) return;
+    fprintf(stderr, "CHECK: %s\n", what);
+    abort();
+}
+
+struct PathCheck {
+    const Site& site;
+    const std::vector<PathView>& views;
+    uint32_t self;
+    const std::vector<uint32_t>& path;
+    const uint32_t* stops;    // null: a parking is sought, where the field is 0
+    uint32_t count;
+    const uint32_t* field;
+
+    void check() const {
+        uint32_t horizon = uint32_t(path.size());
+        for (const PathView& view : views) horizon = std::max(horizon, view.last);
+        demand(path[0] == views[self].at(0), "the path starts elsewhere");
+        uint32_t leg = 0;
+        for (uint32_t time = 0; time < horizon; ++time) {
+            const uint32_t from = path[std::min<size_t>(time, path.size() - 1)];
+            const uint32_t to = path[std::min<size_t>(time + 1, path.size() - 1)];
+            const uint32_t apart = from < to ? to - from : from - to;
+            demand(apart <= 1 || apart == site.grid.stride, "no walk");
+            demand(site.grid.places[to] == UNSEEN, "the path enters a blocked cell");
+            demand(is_free(from, to, time), "the path meets another");
+            leg = leg_at(leg, from);
+        }
+        demand(leg + 1 == count && is_goal(path.back()), "the path serves not its errand");
+        // more would take minutes
+        if (size_t(site.grid.passable) * views.size() <= 50000)
+            demand(plain_length(horizon) + 1 == path.size(), "the path is not least");
+    }
+
+    bool is_free(uint32_t from, uint32_t to, uint32_t time) const {
+        for (uint32_t agent = 0; agent < views.size(); ++agent) {
+            if (agent == self) continue;
+            const uint32_t before = views[agent].at(time), after = views[agent].at(time + 1);
+            if (after == to || (before == to && after == from)) return false;
+            if (site.nofollow && from != to && (before == to || after == from)) return false;
+        }
+        return true;
+    }
+
+    bool is_goal(uint32_t cell) const {
+        for (uint32_t agent = 0; agent < views.size(); ++agent)
+            if (agent != self && views[agent].end() == cell) return false;
+        return stops ? cell == stops[count - 1] : field[cell] == 0;
+    }
+
+    uint32_t leg_at(uint32_t leg, uint32_t cell) const {
+        while (leg + 1 < count && stops[leg] == cell) ++leg;
+        return leg;
+    }
+
+    bool may_rest(uint32_t cell, uint32_t time, uint32_t horizon) const {
+        for (; time < horizon; ++time)
+            if (!is_free(cell, cell, time)) return false;
+        return true;
+    }
+
+    // The steps of a least path, by all states of each time in turn.
+    uint32_t plain_length(uint32_t horizon) const {
+        const uint32_t start = views[self].at(0), stride = site.grid.stride;
+        std::vector<uint32_t> now{start * MOST_STOPS + leg_at(0, start)}, next;
+        std::vector<uint32_t> met(site.grid.size() * MOST_STOPS, 0);
+        for (uint32_t time = 0; time < path.size(); ++time, now.swap(next), next.clear()) {
+            for (const uint32_t state : now) {
+                const uint32_t cell = state / MOST_STOPS, leg = state % MOST_STOPS;
+                if (leg + 1 == count && is_goal(cell) && may_rest(cell, time, horizon)) return time;
+                for (const uint32_t to : {cell, cell - 1, cell + 1, cell - stride, cell + stride}) {
+                    const uint32_t reached = to * MOST_STOPS + leg_at(leg, to);
+                    if (site.grid.places[to] != UNSEEN || met[reached] == time + 1) continue;
+                    if (!is_free(cell, to, time)) continue;
+                    met[reached] = time + 1;
+                    next.push_back(reached);
+                }
+            }
+        }
+        return NONE - 1;
+    }
+};
+
+template <typename Tasks>
+void check_nearest(const Grid& grid, const Tasks& tasks, const PathEnds& ends, uint32_t self, uint32_t here,
+                   uint32_t found) {
+    std::vector<uint32_t> field = grid.places, queue(grid.size());
+    field[here] = 0;
+    queue[0] = here;
+    fill(field.data(), queue.data(), 1, grid.stride);
+    uint32_t best = NONE, least = NONE;
+    for (uint32_t number = 0; number < tasks.size(); ++number) {
+        const auto& task = tasks[number];
+        bool clear = task.agent == NONE;
+        for (uint32_t stop = 0; stop < task.count; ++stop) clear = clear && !ends.is_others(self, task.stops[stop]);
+        const uint32_t distance = std::min(field[task.stops[0]], BLOCKED);
+        if (clear && distance < least) least = distance, best = number;
+    }
+    demand(best == found, "another task is nearer");
+}
+#endif
