@@ -1,5 +1,5 @@
 -- which cells are sought for the tasks that may be chosen, and how the nearest of them is found
-use Rattle.std.proofs.Common.{◌≡◌, ℕ, ◌+◌, ◌<◌, ◌≤◌, ◌⊎◌, ◌↔◌, inl, inr, List, [], length, get_or, sym, ap, ◌∙◌, arith, subst}
+use Rattle.std.proofs.Common.{◌≡◌, ℕ, ◌+◌, ◌<◌, ◌≤◌, ◌⊎◌, ◌↔◌, inl, inr, List, [], length, get_or, refl, sym, ap, ◌∙◌, arith, subst}
 use Rattle.std.specs.Prelude.{Bool, Option, Some, None, All, Contains, IsTrue, IfSome, IfNone, is_some, true, false}
 use Rattle.std.specs.Option.{option_or}
 use Rattle.std.proofs.lemmas.Bool.{cases_lt}
@@ -7,7 +7,8 @@ use Rattle.wh_grid.specs.declared.cell.Cell.{Cell}
 use Rattle.wh_grid.specs.Grids.{Floor, IsPassable}
 use Rattle.wh_path.specs.Paths.{last_index}
 use Rattle.wh_path.specs.Walks.{IsWalkBetween}
-use Rattle.wh_field.specs.Distances.{IsDistance, IsDistanceToFirst}
+use Rattle.wh_field.specs.Distances.{IsDistance, IsDistanceToFirst, distance}
+use Rattle.wh_field.proofs.DistanceLaws.{distance_is, distance_one}
 use Rattle.wh_field.proofs.Walks.{route_allowed, walk_route}
 use Rattle.wh_tasks.specs.declared.task.Task.{Task}
 use Rattle.wh_tasks.specs.Tasks.{IsTask, pickup}
@@ -83,6 +84,29 @@ first-nearest g tasks ends here sought n task are none one = record {
     later m other None eligible is = one.least m other eligible
     later m other (Some e) eligible is = away m other eligible is.0 is.1.walk
 
+at-most-itself : (o : Option ℕ) (n m : ℕ) → n ≤ m → IsAtMost o n o m
+at-most-itself None n m le = le
+at-most-itself (Some d) n m le = inr (refl, le)
+
+-- where no other may be chosen, the first task is the nearest, however far it is
+pub only-nearest : (g : Floor) (tasks : List Task) (ends : List Cell) (here : Cell) (n last : ℕ) (task : Task) → IsFirst tasks ends n task → ((m : ℕ) (other : Task) → IsEligible tasks ends m other → m ≤ last) →
+    n ≡ last → IsNearest g tasks ends here n task
+only-nearest g tasks ends here n last task one until alone = record {
+  eligible = one.eligible;
+  distance = distance g here (pickup task);
+  is_distance = distance_is g here (pickup task);
+  least = least;
+}
+  where
+    least : (m : ℕ) (other : Task) (far : Option ℕ) → IsEligible tasks ends m other → IsDistance g here (pickup other) far → IsAtMost (distance g here (pickup task)) n far m
+    least m other far eligible is =
+        let low = one.least m other eligible in
+        let high = until m other eligible in
+        let same : m ≡ n = omega arith in
+        let it : other ≡ task = same-task tasks n other task (subst (λ k. IsTask tasks k other) same eligible.there) one.eligible.there in
+        let far_is : far ≡ distance g here (pickup task) = distance_one g here (pickup task) far (subst (λ (t : Task). IsDistance g here (pickup t) far) it is) in
+        subst (λ o. IsAtMost (distance g here (pickup task)) n o m) (sym far_is) (at-most-itself (distance g here (pickup task)) n m low)
+
 -- one of those that may be chosen is as near as the nearest cell that is sought
 pub within-some : (g : Floor) (tasks : List Task) (ends : List Cell) (here : Cell) (sought : Cell → Bool) (limit : ℕ) → AreSought g tasks ends sought → IsDistanceToFirst g here sought (Some limit) →
     NoneWithin g tasks ends here limit → ⊥
@@ -117,10 +141,11 @@ IsFirstSoFar tasks ends numbers i None = NoneAmong tasks ends numbers i
 IsFirstSoFar tasks ends numbers i (Some n) = IsFirstAmong tasks ends numbers i n
 
 -- the pickups of those of the first i tasks that may be chosen are sought
-pub record IsSoughtSoFar (g : Floor) (tasks : List Task) (ends : List Cell) (sought : Cell → Bool) (numbers : List ℕ) (i : ℕ) (first : Option ℕ) : Type 0 where
+pub record IsSoughtSoFar (g : Floor) (tasks : List Task) (ends : List Cell) (sought : Cell → Bool) (numbers : List ℕ) (i : ℕ) (first : Option ℕ) (last : ℕ) : Type 0 where
   pub only : (c : Cell) → IsTrue (sought c) → (n : ℕ) × (task : Task) × IsEligible tasks ends n task × (pickup task ≡ c)
   pub all : (k : ℕ) (other : Task) → k < i → IsEligible tasks ends (get_or numbers k 0) other → IsPassable g (pickup other) → IsTrue (sought (pickup other))
   pub earliest : IsFirstSoFar tasks ends numbers i first
+  pub latest : (k : ℕ) (other : Task) → k < i → IsEligible tasks ends (get_or numbers k 0) other → get_or numbers k 0 ≤ last
 
 first-kept : (tasks : List Task) (ends : List Cell) (numbers : List ℕ) (i n : ℕ) → IsFirstAmong tasks ends numbers i n → IsFirstAmong tasks ends numbers (i + 1) n
 first-kept tasks ends numbers i n f = record {
@@ -133,17 +158,18 @@ first-kept tasks ends numbers i n f = record {
 }
 
 -- at first no cell is sought
-pub sought-begin : (g : Floor) (tasks : List Task) (ends : List Cell) (sought : Cell → Bool) (numbers : List ℕ) → ((c : Cell) → IsTrue (sought c) → ⊥) → IsSoughtSoFar g tasks ends sought numbers 0 None
+pub sought-begin : (g : Floor) (tasks : List Task) (ends : List Cell) (sought : Cell → Bool) (numbers : List ℕ) → ((c : Cell) → IsTrue (sought c) → ⊥) → IsSoughtSoFar g tasks ends sought numbers 0 None 0
 sought-begin g tasks ends sought numbers none = record {
   only = λ c e. absurd (none c e);
   all = λ k other lt. absurd (omega arith);
   earliest = λ k task lt. absurd (omega arith);
+  latest = λ k task lt. absurd (omega arith);
 }
 
 -- the next number is that of a task which may not be chosen
-pub sought-skip : (g : Floor) (tasks : List Task) (ends : List Cell) (sought : Cell → Bool) (i : ℕ) (task : Task) (first : Option ℕ) → IsTask tasks (get_or (open_from 0 tasks) i 0) task →
-    (All (λ stop. ¬ Contains ends stop) task.stops → ⊥) → IsSoughtSoFar g tasks ends sought (open_from 0 tasks) i first → IsSoughtSoFar g tasks ends sought (open_from 0 tasks) (i + 1) first
-sought-skip g tasks ends sought i task first there blocked s =
+pub sought-skip : (g : Floor) (tasks : List Task) (ends : List Cell) (sought : Cell → Bool) (i : ℕ) (task : Task) (first : Option ℕ) (last : ℕ) → IsTask tasks (get_or (open_from 0 tasks) i 0) task →
+    (All (λ stop. ¬ Contains ends stop) task.stops → ⊥) → IsSoughtSoFar g tasks ends sought (open_from 0 tasks) i first last → IsSoughtSoFar g tasks ends sought (open_from 0 tasks) (i + 1) first last
+sought-skip g tasks ends sought i task first last there blocked s =
     let numbers = open_from 0 tasks in
     let one : (other : Task) → IsEligible tasks ends (get_or numbers i 0) other → ⊥ = λ other eligible.
     blocked (subst (λ (t : Task). All (λ stop. ¬ Contains ends stop) t.stops) (same-task tasks (get_or numbers i 0) other task eligible.there there) eligible.clear) in
@@ -154,6 +180,10 @@ sought-skip g tasks ends sought i task first there blocked s =
         | inr same ↦ absurd (one other (subst (λ j. IsEligible tasks ends (get_or numbers j 0) other) same eligible))
       ];
       earliest = skip first s.earliest;
+      latest = λ k other lt eligible. elim (cases_lt-suc k i lt) [
+        | inl lower ↦ s.latest k other lower eligible
+        | inr same ↦ absurd (one other (subst (λ j. IsEligible tasks ends (get_or numbers j 0) other) same eligible))
+      ];
     }
   where
     skip : (o : Option ℕ) → IsFirstSoFar tasks ends (open_from 0 tasks) i o → IsFirstSoFar tasks ends (open_from 0 tasks) (i + 1) o
@@ -161,10 +191,10 @@ sought-skip g tasks ends sought i task first there blocked s =
     skip (Some n) f = first-kept tasks ends (open_from 0 tasks) i n f
 
 -- the next number is that of a task which may be chosen: its pickup is sought from now on
-pub sought-more : (g : Floor) (tasks : List Task) (ends : List Cell) (sought sought' : Cell → Bool) (i n : ℕ) (task : Task) (first : Option ℕ) → n ≡ get_or (open_from 0 tasks) i 0 → IsEligible tasks ends n task →
+pub sought-more : (g : Floor) (tasks : List Task) (ends : List Cell) (sought sought' : Cell → Bool) (i n : ℕ) (task : Task) (first : Option ℕ) (last : ℕ) → i < length (open_from 0 tasks) → n ≡ get_or (open_from 0 tasks) i 0 → IsEligible tasks ends n task →
     ((c : Cell) → IsTrue (sought' c) ↔ (IsTrue (sought c) ⊎ ((c ≡ pickup task) × (c.x < g.width) × (c.y < g.height)))) →
-    IsSoughtSoFar g tasks ends sought (open_from 0 tasks) i first → IsSoughtSoFar g tasks ends sought' (open_from 0 tasks) (i + 1) (option_or first (Some n))
-sought-more g tasks ends sought sought' i n task first n_is eligible now s =
+    IsSoughtSoFar g tasks ends sought (open_from 0 tasks) i first last → IsSoughtSoFar g tasks ends sought' (open_from 0 tasks) (i + 1) (option_or first (Some n)) n
+sought-more g tasks ends sought sought' i n task first last within n_is eligible now s =
     let numbers = open_from 0 tasks in
     record {
       only = λ c e. elim ((now c).0 e) [ inl was ↦ s.only c was | inr new ↦ (n, task, eligible, sym new.0) ];
@@ -175,6 +205,7 @@ sought-more g tasks ends sought sought' i n task first n_is eligible now s =
             (now (pickup other)).1 (inr (ap pickup (same-task tasks n other task here.there eligible.there), passable.in_width, passable.in_height))
       ];
       earliest = more first s.earliest;
+      latest = λ k other lt other_eligible. let le : k ≤ i = omega arith in omega (arith, later-number tasks k i le within);
     }
   where
     more : (o : Option ℕ) → IsFirstSoFar tasks ends (open_from 0 tasks) i o → IsFirstSoFar tasks ends (open_from 0 tasks) (i + 1) (option_or o (Some n))
@@ -182,14 +213,24 @@ sought-more g tasks ends sought sought' i n task first n_is eligible now s =
     more (Some m) f = first-kept tasks ends (open_from 0 tasks) i m f
 
 -- with all numbers looked at
-pub sought-all : (g : Floor) (tasks : List Task) (ends : List Cell) (sought : Cell → Bool) (i : ℕ) (first : Option ℕ) → length (open_from 0 tasks) ≤ i → IsSoughtSoFar g tasks ends sought (open_from 0 tasks) i first →
+pub sought-all : (g : Floor) (tasks : List Task) (ends : List Cell) (sought : Cell → Bool) (i : ℕ) (first : Option ℕ) (last : ℕ) → length (open_from 0 tasks) ≤ i → IsSoughtSoFar g tasks ends sought (open_from 0 tasks) i first last →
     AreSought g tasks ends sought
-sought-all g tasks ends sought i first done s = record {
+sought-all g tasks ends sought i first last done s = record {
   only = s.only;
   all = λ m other eligible.
       let stands = place-in tasks ends m other eligible in
       s.all stands.place other (let h = stands.within in omega arith) (rw stands.there eligible);
 }
+
+-- none that may be chosen has a greater number
+pub seek-last : (g : Floor) (tasks : List Task) (ends : List Cell) (sought : Cell → Bool) (i : ℕ) (first : Option ℕ) (last : ℕ) → length (open_from 0 tasks) ≤ i → IsSoughtSoFar g tasks ends sought (open_from 0 tasks) i first last →
+    (m : ℕ) (other : Task) → IsEligible tasks ends m other → m ≤ last
+seek-last g tasks ends sought i first last done s m other eligible =
+    let stands = place-in tasks ends m other eligible in
+    let inside = stands.within in
+    let number = stands.there in
+    let low = s.latest stands.place other (omega arith) (rw stands.there eligible) in
+    omega arith
 
 first-all : (tasks : List Task) (ends : List Cell) (i n : ℕ) → length (open_from 0 tasks) ≤ i → IsFirstAmong tasks ends (open_from 0 tasks) i n → (task : Task) × IsFirst tasks ends n task
 first-all tasks ends i n done f = (

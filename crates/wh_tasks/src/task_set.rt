@@ -42,6 +42,13 @@ impl Model for TaskSet {
     ghost invariant = { λ s. IsIndexed s.tasks.items (s.«open»).items s.counts s.stops };
 }
 
+/// Between which numbers the tasks are that may be chosen.
+#[derive(Clone, Copy)]
+struct Eligible {
+    first: Option<u32>,
+    last: u32,
+}
+
 impl TaskSet {
     /// No task, on a grid of these sides. The error comes where memory is wanting.
     pub fn new(alloc: Global, width: u16, height: u16) -> Result<TaskSet, AllocError>
@@ -205,43 +212,52 @@ impl TaskSet {
         }
     }
 
-    /// The task that may be chosen whose first stop is nearest; of several the first. It goes twice over the open tasks: the
-    /// first stops of those that may be chosen are sought, and of those as near as the nearest of them the first is taken.
-    /// The field is not asked for what lies farther.
+    /// The task that may be chosen whose first stop is nearest; of several the first. Where just one may be chosen the field
+    /// is not asked. Else it goes twice over the open tasks: the first stops of those that may be chosen are sought, and of
+    /// those as near as the nearest of them the first is taken. The field is not asked for what lies farther.
     pub fn nearest<F: Distances>(&self, field: &mut F, ends: &EndSet) -> Option<u32>
         ensures none { IfNone result (NoneEligible self.now.tasks ends.now) }
         ensures nearest { IfSome result (λ n. (task : Job) × IsNearest (F.grid field.old) self.now.tasks ends.now (F.source field.old) n task) }
         ensures grid { F.grid field.new ≡ F.grid field.old }
         ensures source { F.source field.new ≡ F.source field.old }
     {
-        match self.seek(field, ends) {
-            None => None,
-            Some(first) => match field.first_sought() {
-                None => Some(first),
-                Some(steps) => self.first_within(field, ends, steps),
-            },
+        let found = self.seek(field, ends);
+        let Some(first) = found.first else {
+            return None;
+        };
+        if first == found.last {
+            return Some(first);
+        }
+        match field.first_sought() {
+            None => Some(first),
+            Some(steps) => self.first_within(field, ends, steps),
         }
     }
 
-    /// From now on the field seeks the first stops of the tasks that may be chosen, and no other cell. Answers the first of
-    /// these tasks.
-    fn seek<F: Distances>(&self, field: &mut F, ends: &EndSet) -> Option<u32>
-        ensures none { IfNone result (NoneEligible self.now.tasks ends.now) }
-        ensures first { IfSome result (λ n. (task : Job) × IsFirst self.now.tasks ends.now n task) }
+    /// From now on the field seeks the first stops of the tasks that may be chosen, and no other cell. Answers between which
+    /// numbers these tasks are.
+    fn seek<F: Distances>(&self, field: &mut F, ends: &EndSet) -> Eligible
+        ensures none { IfNone result.first (NoneEligible self.now.tasks ends.now) }
+        ensures first { IfSome result.first (λ n. (task : Job) × IsFirst self.now.tasks ends.now n task) }
+        ensures last { (n : ℕ) → (task : Job) → IsEligible self.now.tasks ends.now n task → n ≤ result.last }
         ensures sought { AreSought (F.grid field.old) self.now.tasks ends.now (F.sought field.new) }
         ensures grid { F.grid field.new ≡ F.grid field.old }
         ensures source { F.source field.new ≡ F.source field.old }
     {
         field.seek_none();
-        let mut first: Option<u32> = None;
+        let mut found = Eligible {
+            first: None,
+            last: 0,
+        };
         for n in &self.open {
             let task = self.task(*n);
             if none_in(task.stops.as_slice(), ends) {
                 field.seek(task.pickup());
-                first = first.or(Some(*n));
+                found.first = found.first.or(Some(*n));
+                found.last = *n;
             }
         }
-        first
+        found
     }
 
     /// The first of the tasks that may be chosen and are at most so far away.

@@ -6,4 +6,4 @@ abbrev pub invariant-loop-n : goal.invariant-loop-n
 invariant-loop-n g l =
     let grid = g.F.Distances.grid l.fn.field in
     KeepsField grid (g.F.Distances.grid l.field) (g.F.Distances.source l.fn.field) (g.F.Distances.source l.field)
-    (IsSoughtSoFar grid l.self.tasks l.ends (g.F.Distances.sought l.field) (open_from 0 l.self.tasks) l.n-index l.first)
+    (IsSoughtSoFar grid l.self.tasks l.ends (g.F.Distances.sought l.field) (open_from 0 l.self.tasks) l.n-index l.found.first l.found.last)
