@@ -190,11 +190,29 @@ fn requester(asked: Result<Asked, LineFault>) -> Option<u32>
     }
 }
 
-/// The agent of a line that asks for the token; none for any other line. Nearly all lines of a script are such, and this
-/// makes no command of them, which has room for nine names.
+/// The agent of a line `token AGENT` with one space between and no other blank, as nearly all lines of a script are.
+fn plain_request(line: &[u8]) -> Option<u32>
+    ensures { IfSome result (λ agent. requester (command_of line.now) ≡ Some agent) }
+{
+    if line.len() < 6 {
+        return None;
+    }
+    let (command, number) = line.split_at(6);
+    if command == b"token ".as_slice() {
+        small_number(number)
+    } else {
+        None
+    }
+}
+
+/// The agent of a line that asks for the token; none for any other line. It makes no command, which has room for nine
+/// names.
 pub fn read_request(line: &[u8]) -> Option<u32>
     ensures { result ≡ requester (command_of line.now) }
 {
+    if let Some(agent) = plain_request(line) {
+        return Some(agent);
+    }
     if line.len() <= 256 {
         requester(asked_by(Words::of(line)))
     } else {
