@@ -1,5 +1,5 @@
 -- Which words ask for which command: the definition by tests says what the grammar says.
-use Rattle.std.proofs.Common.{◌≡◌, ℕ, ◌<◌, ◌≤◌, Bool, true, false, ◌&&◌, cond, List, [], ◌∷◌, length, Option, Some, None, Result, Ok, Err, codes, eqb, refl, sym, ◌∙◌, subst}
+use Rattle.std.proofs.Common.{◌≡◌, ℕ, ◌<◌, ◌≤◌, Bool, true, false, ◌&&◌, cond, List, [], ◌∷◌, ◌++◌, length, Option, Some, None, Result, Ok, Err, codes, eqb, refl, sym, ap, arith, ◌∙◌, subst}
 use Rattle.std.specs.Prelude.{◌↔◌}
 use Rattle.std.proofs.Math.Dec.{leb as nat_le, ltb as nat_lt}
 use Rattle.std.proofs.lemmas.Bool.{leb-true, le-leb, ltb-true, lt-ltb, ltb-false, le-ltb, eqb-true}
@@ -8,12 +8,16 @@ use Rattle.std.specs.List.{AllByRecursion, list_all}
 use Rattle.std.specs.Str.{bytes_eq}
 use Rattle.wh_text.specs.Words.{words_of}
 use Rattle.wh_text.specs.Names.{is_name, name_of}
-use Rattle.wh_text.specs.Numbers.{are_digits, decimal, small_number_of}
+use Rattle.wh_text.specs.Lines.{HasNone}
+use Rattle.wh_text.specs.Words.{is_blank}
+use Rattle.wh_text.proofs.CutLemmas.{words-word, words-last}
+use Rattle.wh_text.specs.Numbers.{is_digit, are_digits, decimal, small_number_of}
 use Rattle.wh_event.specs.declared.event.Command.{Command}
 use Rattle.wh_event.specs.declared.event.Command.TheVariants.{Submit, Token, Tick, Replace, Close}
 use Rattle.wh_event.specs.declared.fault.LineFault.{LineFault}
 use Rattle.wh_event.specs.declared.fault.LineFault.TheVariants.{Form, TooLong}
 use Rattle.wh_event.specs.CommandLines.{stops_of, submit_by, submit_of, token_by, token_of, tick_of, replace_by, replace_of, close_of, named, begins_comment, formed, command_by, command_of}
+use Rattle.wh_event.specs.Asking.{requester}
 use Rattle.wh_event.specs.Grammar.{IsName, Writes, AsksAgent, AsksTask, Asks, IsSkipped}
 
 and_both : (a b : Bool) → (a && b) ≡ true → (a ≡ true) × (b ≡ true)
@@ -213,3 +217,34 @@ too_long_law line r e = (λ is. go (nat_lt 256 (length line)) refl is, λ long. 
     go : (v : Bool) → nat_lt 256 (length line) ≡ v → r ≡ Err TooLong → 256 < length line
     go true p is = ltb-true _ _ p
     go false p is = absurd (not_long (words_of line) (sym (by_length line false p) ∙ sym e ∙ is))
+
+-- a digit is no blank
+digit-no-blank : (b : ℕ) → is_digit b ≡ true → is_blank b ≡ false
+digit-no-blank b e = go (eqb b 32) (eqb b 9) refl refl
+  where
+    go : (x y : Bool) → eqb b 32 ≡ x → eqb b 9 ≡ y → is_blank b ≡ false
+    go true y p q = absurd (let h = and_both (nat_le 48 b) (nat_le b 57) e in let low = leb-true 48 b h.0 in let is = eqb-true b 32 p in omega arith)
+    go false true p q = absurd (let h = and_both (nat_le 48 b) (nat_le b 57) e in let low = leb-true 48 b h.0 in let is = eqb-true b 9 q in omega arith)
+    go false false p q = rw (p, q) refl
+
+digits-no-blank : (number : List ℕ) → list_all is_digit number ≡ true → HasNone is_blank number
+digits-no-blank [] e = tt
+digits-no-blank (b ∷ bs) e = let h = and_both (is_digit b) (list_all is_digit bs) e in (digit-no-blank b h.0, digits-no-blank bs h.1)
+
+command_is : (line : List ℕ) (words : List (List ℕ)) → nat_lt 256 (length line) ≡ false → words_of line ≡ words → command_of line ≡ command_by words
+command_is line words short are = rw (short, are) refl
+
+-- the usual form of a request for the token
+pub plain_law : (number : List ℕ) (agent : ℕ) → small_number_of number ≡ Some agent → requester (command_of (codes "token" ++ 32 ∷ number)) ≡ Some agent
+plain_law [] agent e = absurd cc
+plain_law (b ∷ bs) agent e =
+    let g = guard_some (are_digits (b ∷ bs) && nat_le (length (b ∷ bs)) 9) (decimal (b ∷ bs)) agent e in
+    let both = and_both (are_digits (b ∷ bs)) (nat_le (length (b ∷ bs)) 9) g.0 in
+    let few = leb-true (length (b ∷ bs)) 9 both.1 in
+    let none = digits-no-blank (b ∷ bs) both.0 in
+    let words : words_of (codes "token" ++ 32 ∷ (b ∷ bs)) ≡ codes "token" ∷ (b ∷ bs) ∷ [] =
+    words-word (codes "token") (b ∷ bs) 32 (refl, (refl, (refl, (refl, (refl, tt))))) (omega arith) refl ∙ ap (λ ws. codes "token" ∷ ws) (words-last (b ∷ bs) none (omega arith)) in
+    let short : nat_lt 256 (length (codes "token" ++ 32 ∷ (b ∷ bs))) ≡ false = le-ltb 256 (length (codes "token" ++ 32 ∷ (b ∷ bs))) (omega arith) in
+    let said : command_of (codes "token" ++ 32 ∷ (b ∷ bs)) ≡ formed (token_by (small_number_of (b ∷ bs))) = command_is (codes "token" ++ 32 ∷ (b ∷ bs)) (codes "token" ∷ (b ∷ bs) ∷ []) short words in
+    let asks : requester (formed (token_by (small_number_of (b ∷ bs)))) ≡ Some agent = rw e refl in
+    ap requester said ∙ asks

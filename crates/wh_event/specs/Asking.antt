@@ -1,5 +1,5 @@
 -- what a line asks, before the stops of a task are read
-use Rattle.std.specs.Prelude.{Option, Some, None, Result, Ok, Err}
+use Rattle.std.specs.Prelude.{ℕ, Option, Some, None, Result, Ok, Err}
 use Rattle.wh_event.specs.declared.event.Command.{Command}
 use Rattle.wh_event.specs.declared.fault.LineFault.{LineFault}
 use Rattle.wh_event.specs.declared.command_line.Asked.{Asked}
@@ -18,3 +18,8 @@ command_for Asked.Close = Ok (Some Command.Close)
 abbrev pub told : Result Asked LineFault → Result (Option Command) LineFault
 told (Ok asked) = command_for asked
 told (Err fault) = Err fault
+
+-- the agent of a request for the token
+abbrev pub requester : Result (Option Command) LineFault → Option ℕ
+requester (Ok (Some (Command.Token agent))) = Some agent
+requester _ = None

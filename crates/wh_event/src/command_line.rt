@@ -6,7 +6,7 @@ ghost use Rattle.wh_event.specs.declared.event.Command.{Command};
 ghost use Rattle.wh_event.specs.declared.fault.LineFault.TheVariants as faults;
 ghost use Rattle.wh_event.specs.CommandLines as lines;
 ghost use Rattle.wh_event.specs.CommandLines.{command_of, command_by, named, formed};
-ghost use Rattle.wh_event.specs.Asking.{told};
+ghost use Rattle.wh_event.specs.Asking.{told, requester};
 ghost use Rattle.wh_event.specs.Grammar.{Asks, IsSkipped};
 
 use crate::event::Command;
@@ -57,6 +57,7 @@ fn agent_of(mut words: Words) -> Option<u32>
 
 /// What the words of a line ask, before the stops of a task are read. A command has room for nine names, and this, which
 /// is handed on, for none.
+#[derive(Drop)]
 enum Asked<'a> {
     Nothing,
     Submit(Words<'a>),
@@ -176,4 +177,45 @@ pub fn read_line(line: &[u8]) -> Result<Option<Command>, LineFault>
         return Err(LineFault::TooLong);
     }
     read_words(Words::of(line))
+}
+
+/// The agent of a request for the token.
+fn requester(asked: Result<Asked, LineFault>) -> Option<u32>
+    ensures { result ≡ requester (told asked.entry) }
+{
+    match asked {
+        Ok(Asked::Token(agent)) => Some(agent),
+        Ok(Asked::Submit(_)) => None,
+        Ok(Asked::Nothing | Asked::Tick | Asked::Replace(_) | Asked::Close) | Err(_) => None,
+    }
+}
+
+/// The agent of a line `token AGENT` with one space between and no other blank, as nearly all lines of a script are.
+fn plain_request(line: &[u8]) -> Option<u32>
+    ensures { IfSome result (λ agent. requester (command_of line.now) ≡ Some agent) }
+{
+    if line.len() < 6 {
+        return None;
+    }
+    let (command, number) = line.split_at(6);
+    if command == b"token ".as_slice() {
+        small_number(number)
+    } else {
+        None
+    }
+}
+
+/// The agent of a line that asks for the token; none for any other line. It makes no command, which has room for nine
+/// names.
+pub fn read_request(line: &[u8]) -> Option<u32>
+    ensures { result ≡ requester (command_of line.now) }
+{
+    if let Some(agent) = plain_request(line) {
+        return Some(agent);
+    }
+    if line.len() <= 256 {
+        requester(asked_by(Words::of(line)))
+    } else {
+        None
+    }
 }

@@ -9,12 +9,12 @@ mod reply;
 mod reply_text;
 mod stops;
 
-pub use command_line::read_line;
+pub use command_line::{read_line, read_request};
 pub use entry::Entry;
 pub use event::{Command, Event, Spare};
 pub use fault::LineFault;
 pub use reply::{Refusal, Reply};
-pub use reply_text::{put, put_number, replies_tell, write_reply};
+pub use reply_text::{put, put_number, put_reply, replies_tell, write_reply};
 pub use stops::{KeptStops, Stops};
 
 #[cfg(test)]

@@ -1,6 +1,6 @@
 //! Writes a reply.
 
-ghost use Rattle.std.specs.Prelude.{◌≡◌, ◌+◌, ◌++◌, ◌≤◌, length, decimal};
+ghost use Rattle.std.specs.Prelude.{◌≡◌, ◌+◌, ◌++◌, ◌≤◌, [], length, decimal};
 ghost use Rattle.wh_event.specs.declared.reply.Reply.{Reply};
 ghost use Rattle.wh_event.specs.ReplyTexts.{refusal_text, reply_text, ReplyHolds, TellSame};
 
@@ -74,42 +74,51 @@ fn put_refusal(line: &mut ArrayVec<u8, 64>, refusal: &Refusal)
     }
 }
 
-/// A reply's text, without the line's end: words with one space between, numbers in decimal without leading zeros, and
-/// of a path its last index alone.
-pub fn write_reply(reply: &Reply) -> ArrayVec<u8, 64>
-    ensures text { result.items ≡ reply_text reply.now }
+/// Writes a reply's text, without the line's end: words with one space between, numbers in decimal without leading zeros,
+/// and of a path its last index alone.
+pub fn put_reply(line: &mut ArrayVec<u8, 64>, reply: &Reply)
+    requires empty { line.old.items ≡ [] }
+    ensures text { line.new.items ≡ reply_text reply.now }
     // So a line's end has room behind it.
-    ensures short { length result.items ≤ 53 }
+    ensures short { length line.new.items ≤ 53 }
 {
-    let mut line = ArrayVec::new();
     match reply {
-        Reply::Accepted { task } => put_small(&mut line, b"accepted ", *task),
+        Reply::Accepted { task } => put_small(line, b"accepted ", *task),
         Reply::Took { task, path } => {
-            put_small(&mut line, b"took ", *task);
-            put_number(&mut line, b" end ", path.remaining());
+            put_small(line, b"took ", *task);
+            put_number(line, b" end ", path.remaining());
         }
-        Reply::Rested => put(&mut line, b"rested"),
+        Reply::Rested => put(line, b"rested"),
         Reply::Parked { point, path } => {
-            put(&mut line, b"parked ");
-            put(&mut line, point.as_slice());
-            put_number(&mut line, b" end ", path.remaining());
+            put(line, b"parked ");
+            put(line, point.as_slice());
+            put_number(line, b" end ", path.remaining());
         }
         Reply::Clock {
             now,
             picked,
             dropped,
         } => {
-            put_small(&mut line, b"clock ", *now);
-            put_small(&mut line, b" picked ", *picked);
-            put_small(&mut line, b" dropped ", *dropped);
+            put_small(line, b"clock ", *now);
+            put_small(line, b" picked ", *picked);
+            put_small(line, b" dropped ", *dropped);
         }
-        Reply::Replaced { slots } => put_small(&mut line, b"replaced ", *slots),
-        Reply::Closed => put(&mut line, b"closed"),
+        Reply::Replaced { slots } => put_small(line, b"replaced ", *slots),
+        Reply::Closed => put(line, b"closed"),
         Reply::Refused(refusal) => {
-            put(&mut line, b"refused ");
-            put_refusal(&mut line, refusal);
+            put(line, b"refused ");
+            put_refusal(line, refusal);
         }
     }
+}
+
+/// A reply's text, as `put_reply` writes it.
+pub fn write_reply(reply: &Reply) -> ArrayVec<u8, 64>
+    ensures text { result.items ≡ reply_text reply.now }
+    ensures short { length result.items ≤ 53 }
+{
+    let mut line = ArrayVec::new();
+    put_reply(&mut line, reply);
     line
 }
 

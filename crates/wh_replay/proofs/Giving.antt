@@ -12,6 +12,7 @@ use Rattle.wh_book.specs.Drafts.{Seen, AllServed}
 use Rattle.wh_book.proofs.Kept.{run-served}
 use Rattle.wh_token.specs.Runs.{Moves, Ran, entries_of}
 use Rattle.wh_token.proofs.Runs.{ran-run}
+use Rattle.wh_event.specs.Asking.{requester}
 use Rattle.wh_event.specs.CommandLines.{command_of}
 use Rattle.wh_event.specs.ReplyTexts.{reply_text}
 use Rattle.wh_event.specs.declared.event.Command.{Command}
@@ -138,3 +139,13 @@ gives_one fits count command old spares new rest added text site opening is_open
       site = site;
       opening = opening;
     }
+
+-- whose request it is tells the command
+pub requester_is : (kind : Result (Option Command) LineFault) (agent : ℕ) → requester kind ≡ Some agent → kind ≡ Ok (Some (Command.Token agent))
+requester_is (Ok (Some (Command.Token n))) agent e = ap (λ a. Ok (Some (Command.Token a))) (let same : n ≡ agent = cc in same)
+requester_is (Ok (Some (Command.Submit client stops))) agent e = absurd cc
+requester_is (Ok (Some Command.Tick)) agent e = absurd cc
+requester_is (Ok (Some (Command.Replace n))) agent e = absurd cc
+requester_is (Ok (Some Command.Close)) agent e = absurd cc
+requester_is (Ok None) agent e = absurd cc
+requester_is (Err fault) agent e = absurd cc

@@ -8,8 +8,9 @@ ghost use Rattle.wh_token.specs.Fleet.{IsTied};
 ghost use Rattle.wh_replay.specs.Answers.{said};
 ghost use Rattle.wh_replay.specs.Scripts.{fault_of, Serves, ServesUnwritten, Replays, Outputs, Stops};
 
-use crate::answer::{answer, read_kept};
+use crate::answer::answer;
 use crate::output::write_all;
+use arrayvec::ArrayVec;
 use std::alloc::Global;
 use std::io::{Read, Write};
 use wh_event::put;
@@ -57,9 +58,10 @@ fn serve<W: Write, P: Planner>(
     ensures err { OnErr result (ServesUnwritten (λ grid b. P.fits_map b grid) (λ b. P.slot_count b) (said (short_line line.now)) warehouse.old.book spares.old.items warehouse.new.book spares.new.items (W.contents writer.old) (W.contents writer.new)) }
     ensures fault { IfErr result (λ fault. fault ≡ ReplayFault.Unwritten) }
 {
-    let Some(mut reply) = answer(&read_kept(line), alloc, warehouse, spares) else {
+    let mut reply = ArrayVec::new();
+    if !answer(&mut reply, line, alloc, warehouse, spares) {
         return Ok(0);
-    };
+    }
     put(&mut reply, b"\n");
     match write_all(writer, reply.as_slice()) {
         Ok(()) => Ok(1),

@@ -594,13 +594,45 @@ impl<P: Planner> Warehouse<P> {
         ensures tied { IsTied (λ b. P.fits_map b self.old.book.site.grid) (λ b. P.slot_count b) self.old.planners self.old.book.state.slots
             → IsTied (λ b. P.fits_map b self.old.book.site.grid) (λ b. P.slot_count b) self.new.planners self.new.book.state.slots }
     {
-        if let Command::Token { agent } = command {
-            let agent = *agent;
-            if let Some(reply) = self.answer_at_once(agent) {
-                return self.add_answer(caller, agent, reply);
-            }
+        match command {
+            Command::Token { agent } => self.run_request(alloc, caller, *agent, spares),
+            _ => self.run_step(alloc, caller, command.copy(), spares),
         }
-        self.run_step(alloc, caller, command.copy(), spares)
+    }
+
+    /// Runs a request of an agent for the token, as `run_event` does with that command. Most are answered at once, and no
+    /// command is made for these, which has room for nine names.
+    pub fn run_request(
+        &mut self,
+        alloc: Global,
+        caller: u32,
+        agent: u32,
+        spares: &mut Vec<P>,
+    ) -> bool
+        ensures site { self.new.book.site ≡ self.old.book.site }
+        ensures opening { self.new.book.opening ≡ self.old.book.opening }
+        ensures moves { ((outcome : Option Line) × (is_some outcome ≡ result) × (self.new.book.history ≡ self.old.book.history ++ entries_of (outcome ∷ []))
+            × Moves (λ b. P.fits_map b self.old.book.site.grid) (λ b. P.slot_count b) self.old.book.site caller (Command.Token agent) outcome self.old.book.state spares.old.items self.new.book.state spares.new.items) }
+        ensures tied { IsTied (λ b. P.fits_map b self.old.book.site.grid) (λ b. P.slot_count b) self.old.planners self.old.book.state.slots
+            → IsTied (λ b. P.fits_map b self.old.book.site.grid) (λ b. P.slot_count b) self.new.planners self.new.book.state.slots }
+    {
+        match self.answer_at_once(agent) {
+            Some(reply) => self.add_answer(caller, agent, reply),
+            None => self.choose(alloc, caller, agent, spares),
+        }
+    }
+
+    /// Runs a request that is not answered at once.
+    #[inline(never)]
+    fn choose(&mut self, alloc: Global, caller: u32, agent: u32, spares: &mut Vec<P>) -> bool
+        ensures site { self.new.book.site ≡ self.old.book.site }
+        ensures opening { self.new.book.opening ≡ self.old.book.opening }
+        ensures moves { ((outcome : Option Line) × (is_some outcome ≡ result) × (self.new.book.history ≡ self.old.book.history ++ entries_of (outcome ∷ []))
+            × Moves (λ b. P.fits_map b self.old.book.site.grid) (λ b. P.slot_count b) self.old.book.site caller (Command.Token agent) outcome self.old.book.state spares.old.items self.new.book.state spares.new.items) }
+        ensures tied { IsTied (λ b. P.fits_map b self.old.book.site.grid) (λ b. P.slot_count b) self.old.planners self.old.book.state.slots
+            → IsTied (λ b. P.fits_map b self.old.book.site.grid) (λ b. P.slot_count b) self.new.planners self.new.book.state.slots }
+    {
+        self.run_step(alloc, caller, Command::Token { agent }, spares)
     }
 
     /// Runs a command by a step.

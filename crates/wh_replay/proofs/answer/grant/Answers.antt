@@ -1,0 +1,11 @@
+use Rattle.std.proofs.Common.{◌∙◌}
+use Rattle.wh_event.specs.declared.event.Command.{Command}
+use Rattle.wh_replay.proofs.Giving.{gives_one}
+use Rattle.wh_replay.proofs.answer.grant.Goals as goal
+
+pub returns-clause-gives : goal.returns-clause-gives
+returns-clause-gives g c =
+    gives_one (λ grid b. g.P.Planner.fits_map b grid) (λ b. g.P.Planner.slot_count b) (Command.Token c.args.agent) c.args.warehouse.now.book c.args.spares.now.items _ _
+    c.run_request-added.result c.put_outcome.new.reply.items c.run_request-added.ensures.site c.run_request-added.ensures.opening c.history-before.ensures.opening
+    c.history-before.ensures.run c.run_request-added.ensures.moves c.put_outcome.ensures.starved
+    (λ yes front entry is. c.put_outcome.ensures.text yes front entry (c.history.ensures.value ∙ is))
