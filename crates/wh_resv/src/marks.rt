@@ -14,8 +14,8 @@ use wh_path::TimedPath;
 #[derive(Clone, Copy)]
 pub enum Mark {
     Nobody,
-    Only(u16),
-    Either(u16, u16),
+    Only(u8),
+    Either(u8, u8),
     Anyone,
 }
 
@@ -45,7 +45,7 @@ fn shared(mark: Mark, path: usize) -> Mark
     ensures kept { (i : ℕ) → Allows mark i → Allows result i }
 {
     match mark {
-        Mark::Only(first) if path < 65_536 => Mark::Either(first, path as u16),
+        Mark::Only(first) if path < 256 => Mark::Either(first, path as u8),
         _ => Mark::Anyone,
     }
 }
@@ -56,7 +56,7 @@ fn joined(mark: Mark, path: usize) -> Mark
     ensures kept { (i : ℕ) → Allows mark i → Allows result i }
 {
     match mark {
-        Mark::Nobody if path < 65_536 => Mark::Only(path as u16),
+        Mark::Nobody if path < 256 => Mark::Only(path as u8),
         taken => shared(taken, path),
     }
 }
