@@ -3,7 +3,6 @@
 
 ghost use Rattle.std.specs.Prelude.{◌≡◌, ℕ, ◌+◌, ◌-◌, ◌*◌, ◌%◌, ◌<◌, ◌≤◌, ◌^◌, IfOk, List, length};
 ghost use Rattle.wh_grid.specs.declared.cell.Cell.{Cell};
-ghost use Rattle.wh_path.specs.Paths.{at};
 ghost use Rattle.wh_resv.specs.Marked.{mark, rest_mark, mark_at, Allows, IsMarked, KeepsMarks, AreMarked};
 
 use std::alloc::{AllocError, Global};
@@ -61,20 +60,18 @@ fn joined(mark: Mark, path: usize) -> Mark
     }
 }
 
-/// Marks where the path of this number is, at each time: at each of its cells but the last once, and where it ends for
-/// ever.
+/// Marks where the path of this number is: at each of its cells once, and where it ends for ever.
 fn enter(marks: &mut [Mark], cells: &[Cell], path: usize)
     requires marks { 0 < length marks.old }
     requires cells { 0 < length cells.now }
     ensures kept { KeepsMarks marks.old marks.new }
-    ensures marked { (k : ℕ) → IsMarked marks.new path (at cells.now k) k }
+    ensures marked { IsMarked marks.new path cells.now }
 {
-    let last = cells.len() - 1;
-    for k in 0..last {
+    for k in 0..cells.len() {
         let place = mark_of(marks.len(), cells[k], k as u64);
         marks[place] = joined(marks[place], path);
     }
-    let rest = rest_mark_of(marks.len(), cells[last]);
+    let rest = rest_mark_of(marks.len(), cells[cells.len() - 1]);
     marks[rest] = joined(marks[rest], path);
 }
 

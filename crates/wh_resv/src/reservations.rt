@@ -152,8 +152,8 @@ fn is_open(paths: &[TimedPath], except: usize, mark: Mark, from: Cell, to: Cell,
     }
 }
 
-/// Whether nobody is at a cell at k + 1, nor leaves it for another one between k and k + 1: who does is at that other
-/// one at k + 1.
+/// Whether nobody is at a cell at k + 1, nor leaves it for another one between k and k + 1. Who does comes to that other
+/// one then and has not ended before, so that its mark for passing tells of all; and who stays there bars itself.
 fn unbarred(
     paths: &[TimedPath],
     except: usize,
@@ -168,9 +168,13 @@ fn unbarred(
     requires time { k + 1 < 2 ^ 64 }
     ensures { IsTrue result ↔ (IsVacant (remove paths.now except) to (k + 1) × NoneExchanges (remove paths.now except) from to k) }
 {
-    vacant(paths, except, marks, to, k + 1)
-        && is_open(paths, except, passing(marks, from, k + 1), from, to, k)
-        && is_open(paths, except, resting(marks, from), from, to, k)
+    if !vacant(paths, except, marks, to, k + 1) {
+        return false;
+    }
+    if from.is(to) {
+        return true;
+    }
+    is_open(paths, except, passing(marks, from, k + 1), from, to, k)
 }
 
 /// Whether none of the others is at a cell at time k or later.
