@@ -25,12 +25,12 @@ set_keeps marks s m h more = record {
 pub set_here : (marks : List Mark) (s : ℕ) (m : Mark) (i : ℕ) → s < length marks → Allows m i → Allows (mark_at (set marks s m) s) i
 set_here marks s m i h x = subst (λ (v : Mark). Allows v i) (sym (get_or-set_same marks s m Nobody h)) x
 
--- the mark of a cell at a time, and that of a cell where a path ends
-pub entered : (marks : List Mark) (s i : ℕ) (m : Mark) (c : Cell) (k : ℕ) → s < length marks → s ≡ mark (length marks) c k → Allows m i → AllowsPassing (set marks s m) i c k
-entered marks s i m c k h e x = subst (λ n. Allows (mark_at (set marks s m) n) i) (e ∙ ap (λ n. mark n c k) (sym (length-set marks s m))) (set_here marks s m i h x)
+-- the mark of a cell at a time, and that of a cell where a path ends, once it is noted there
+pub entered : (old new : List Mark) (s i : ℕ) (c : Cell) (k : ℕ) → KeepsMarks old new → s ≡ mark (length old) c k → Allows (mark_at new s) i → AllowsPassing new i c k
+entered old new s i c k keeps e x = subst (λ n. Allows (mark_at new n) i) (e ∙ ap (λ n. mark n c k) (sym keeps.size)) x
 
-pub ended : (marks : List Mark) (s i : ℕ) (m : Mark) (c : Cell) → s < length marks → s ≡ rest_mark (length marks) c → Allows m i → AllowsResting (set marks s m) i c
-ended marks s i m c h e x = subst (λ n. Allows (mark_at (set marks s m) n) i) (e ∙ ap (λ n. rest_mark n c) (sym (length-set marks s m))) (set_here marks s m i h x)
+pub ended : (old new : List Mark) (s i : ℕ) (c : Cell) → KeepsMarks old new → s ≡ rest_mark (length old) c → Allows (mark_at new s) i → AllowsResting new i c
+ended old new s i c keeps e x = subst (λ n. Allows (mark_at new n) i) (e ∙ ap (λ n. rest_mark n c) (sym keeps.size)) x
 
 pub keeps_same : (marks : List Mark) → KeepsMarks marks marks
 keeps_same marks = record { size = refl; allowed = λ s i x. x }

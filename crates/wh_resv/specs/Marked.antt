@@ -1,17 +1,25 @@
 -- marks of cells at times
-use Rattle.std.specs.Prelude.{◌≡◌, ◌≢◌, ℕ, ◌+◌, ◌-◌, ◌*◌, ◌%◌, ◌<◌, ◌⊎◌, ⊤, List, length, slice_index_or, bit_and}
+use Rattle.std.specs.Prelude.{◌≡◌, ◌≢◌, ℕ, ◌+◌, ◌-◌, ◌*◌, ◌/◌, ◌%◌, ◌^◌, ◌<◌, ◌⊎◌, ⊤, List, length, slice_index_or, bit_and}
 use Rattle.wh_grid.specs.declared.cell.Cell.{Cell}
 use Rattle.wh_path.specs.Paths.{cell_at, end, path_of}
 use Rattle.wh_resv.specs.declared.marks.Mark.{Mark}
 use Rattle.wh_resv.specs.declared.marks.Mark.TheVariants.{Nobody, Only, Either, Anyone}
 
+-- a number of the cell that no other cell has
+abbrev pub number_of : Cell → ℕ
+number_of c = c.x + c.y * 65536
+
+-- where the marks of the cell begin; those of its neighbours begin far from there
+unfoldable pub start_of : Cell → ℕ
+start_of c = number_of c * 1540483477 % 2 ^ 32 / 2 ^ 15
+
 -- the place of the mark of a cell at a time, among so many marks
 abbrev pub mark : ℕ → Cell → ℕ → ℕ
-mark size c k = bit_and (c.x + c.y * 131 + k % 65536 * 40503) (size - 1)
+mark size c k = bit_and ((start_of c + k) % 2 ^ 64) (size - 1)
 
 -- the place of the mark of a cell at which a path ends
 abbrev pub rest_mark : ℕ → Cell → ℕ
-rest_mark size c = bit_and (c.x * 3 + c.y * 137 + 1) (size - 1)
+rest_mark size c = bit_and (start_of c + 65535) (size - 1)
 
 -- the path of this number may be where the mark is
 abbrev pub Allows : Mark → ℕ → Type 0

@@ -3,7 +3,7 @@
 
 ghost use Rattle.std.specs.Prelude.{◌≡◌, ℕ, ◌+◌, ◌-◌, ◌*◌, ◌%◌, ◌<◌, ◌≤◌, ◌^◌, IfOk, List, length};
 ghost use Rattle.wh_grid.specs.declared.cell.Cell.{Cell};
-ghost use Rattle.wh_resv.specs.Marked.{mark, rest_mark, mark_at, Allows, IsMarked, KeepsMarks, AreMarked};
+ghost use Rattle.wh_resv.specs.Marked.{number_of, start_of, mark, rest_mark, mark_at, Allows, IsMarked, KeepsMarks, AreMarked};
 
 use std::alloc::{AllocError, Global};
 use wh_grid::Cell;
@@ -18,27 +18,42 @@ pub enum Mark {
     Anyone,
 }
 
+/// A number of the cell that no other cell has.
+fn number_of(cell: Cell) -> u32
+    ensures { result ≡ number_of cell }
+{
+    u32::from(cell.x) + u32::from(cell.y) * 65_536
+}
+
+/// Where the marks of a cell begin: a time is added. Neighbours begin far from one another, by the multiplier of
+/// MurmurHash2 and the upper bits of the product, so that paths side by side share few marks.
+fn start_of(cell: Cell) -> usize
+    ensures value { result ≡ start_of cell }
+    ensures bound { result < 2 ^ 17 }
+{
+    (number_of(cell).wrapping_mul(1_540_483_477) >> 15) as usize
+}
+
 /// The place of the mark of a cell at a time, among so many marks. It is a good spread where they are a power of two.
 pub fn mark_of(size: usize, cell: Cell, k: u64) -> usize
     requires { 0 < size }
     ensures value { result ≡ mark size cell k }
     ensures bound { result < size }
 {
-    (cell.x as usize + cell.y as usize * 131 + (k % 65536) as usize * 40503) & (size - 1)
+    start_of(cell).wrapping_add(k as usize) & (size - 1)
 }
 
-/// The place of the mark of a cell at which a path ends.
+/// The place of the mark of a cell at which a path ends: far from those of the first times, however many marks there are.
 pub fn rest_mark_of(size: usize, cell: Cell) -> usize
     requires { 0 < size }
     ensures value { result ≡ rest_mark size cell }
     ensures bound { result < size }
 {
-    (cell.x as usize * 3 + cell.y as usize * 137 + 1) & (size - 1)
+    (start_of(cell) + 65_535) & (size - 1)
 }
 
 /// The mark of a place where somebody is already, once the path of this number comes there too. A number that no mark
 /// holds is anyone.
-#[inline(never)]
 fn shared(mark: Mark, path: usize) -> Mark
     ensures joined { Allows result path }
     ensures kept { (i : ℕ) → Allows mark i → Allows result i }
@@ -49,18 +64,31 @@ fn shared(mark: Mark, path: usize) -> Mark
     }
 }
 
-/// The mark of a place once the path of this number comes there too. Mostly nobody was there, and that is quick.
-fn joined(mark: Mark, path: usize) -> Mark
-    ensures joined { Allows result path }
-    ensures kept { (i : ℕ) → Allows mark i → Allows result i }
+/// Notes the path of this number at a place where somebody is already. It stands apart, so that `note` is short.
+#[inline(never)]
+fn share(marks: &mut [Mark], place: usize, path: usize)
+    requires { place < length marks.old }
+    ensures kept { KeepsMarks marks.old marks.new }
+    ensures noted { Allows (mark_at marks.new place) path }
 {
-    match mark {
-        Mark::Nobody if path < 256 => Mark::Only(path as u8),
-        taken => shared(taken, path),
+    marks[place] = shared(marks[place], path);
+}
+
+/// Notes the path of this number at a place. Mostly nobody is there yet, and that is quick.
+fn note(marks: &mut [Mark], place: usize, path: usize)
+    requires { place < length marks.old }
+    ensures kept { KeepsMarks marks.old marks.new }
+    ensures noted { Allows (mark_at marks.new place) path }
+{
+    match marks[place] {
+        Mark::Nobody if path < 256 => marks[place] = Mark::Only(path as u8),
+        _ => share(marks, place, path),
     }
 }
 
-/// Marks where the path of this number is: at each of its cells once, and where it ends for ever.
+/// Marks where the path of this number is: at each of its cells once, and where it ends for ever. It stands apart, so that
+/// its loop has the registers to itself.
+#[inline(never)]
 fn enter(marks: &mut [Mark], cells: &[Cell], path: usize)
     requires marks { 0 < length marks.old }
     requires cells { 0 < length cells.now }
@@ -69,10 +97,10 @@ fn enter(marks: &mut [Mark], cells: &[Cell], path: usize)
 {
     for k in 0..cells.len() {
         let place = mark_of(marks.len(), cells[k], k as u64);
-        marks[place] = joined(marks[place], path);
+        note(marks, place, path);
     }
     let rest = rest_mark_of(marks.len(), cells[cells.len() - 1]);
-    marks[rest] = joined(marks[rest], path);
+    note(marks, rest, path);
 }
 
 /// How many marks there are, a power of two. Where few of them are taken, a question looks at few paths: so there are some
