@@ -19,7 +19,7 @@ pub enum Mark {
 }
 
 /// A number of the cell that no other cell has.
-fn number_of(cell: Cell) -> u32
+pub fn number_of(cell: Cell) -> u32
     ensures { result ≡ number_of cell }
 {
     u32::from(cell.x) + u32::from(cell.y) * 65_536
