@@ -3,8 +3,7 @@
 
 ghost use Rattle.std.specs.Prelude.{◌≡◌, ℕ, ◌+◌, ◌-◌, ◌*◌, ◌%◌, ◌<◌, ◌≤◌, ◌^◌, IfOk, List, length};
 ghost use Rattle.wh_grid.specs.declared.cell.Cell.{Cell};
-ghost use Rattle.wh_path.specs.Paths.{at};
-ghost use Rattle.wh_resv.specs.Marked.{mark, rest_mark, mark_at, Allows, IsMarked, KeepsMarks, AreMarked};
+ghost use Rattle.wh_resv.specs.Marked.{number_of, start_of, mark, rest_mark, mark_at, Allows, IsMarked, KeepsMarks, AreMarked};
 
 use std::alloc::{AllocError, Global};
 use wh_grid::Cell;
@@ -14,9 +13,25 @@ use wh_path::TimedPath;
 #[derive(Clone, Copy)]
 pub enum Mark {
     Nobody,
-    Only(u16),
-    Either(u16, u16),
+    Only(u8),
+    Either(u8, u8),
     Anyone,
+}
+
+/// A number of the cell that no other cell has.
+pub fn number_of(cell: Cell) -> u32
+    ensures { result ≡ number_of cell }
+{
+    u32::from(cell.x) + u32::from(cell.y) * 65_536
+}
+
+/// Where the marks of a cell begin: a time is added. Neighbours begin far from one another, by the multiplier of
+/// MurmurHash2 and the upper bits of the product, so that paths side by side share few marks.
+fn start_of(cell: Cell) -> usize
+    ensures value { result ≡ start_of cell }
+    ensures bound { result < 2 ^ 17 }
+{
+    (number_of(cell).wrapping_mul(1_540_483_477) >> 15) as usize
 }
 
 /// The place of the mark of a cell at a time, among so many marks. It is a good spread where they are a power of two.
@@ -25,57 +40,67 @@ pub fn mark_of(size: usize, cell: Cell, k: u64) -> usize
     ensures value { result ≡ mark size cell k }
     ensures bound { result < size }
 {
-    (cell.x as usize + cell.y as usize * 131 + (k % 65536) as usize * 40503) & (size - 1)
+    start_of(cell).wrapping_add(k as usize) & (size - 1)
 }
 
-/// The place of the mark of a cell at which a path ends.
+/// The place of the mark of a cell at which a path ends: far from those of the first times, however many marks there are.
 pub fn rest_mark_of(size: usize, cell: Cell) -> usize
     requires { 0 < size }
     ensures value { result ≡ rest_mark size cell }
     ensures bound { result < size }
 {
-    (cell.x as usize * 3 + cell.y as usize * 137 + 1) & (size - 1)
+    (start_of(cell) + 65_535) & (size - 1)
 }
 
 /// The mark of a place where somebody is already, once the path of this number comes there too. A number that no mark
 /// holds is anyone.
-#[inline(never)]
 fn shared(mark: Mark, path: usize) -> Mark
     ensures joined { Allows result path }
     ensures kept { (i : ℕ) → Allows mark i → Allows result i }
 {
     match mark {
-        Mark::Only(first) if path < 65_536 => Mark::Either(first, path as u16),
+        Mark::Only(first) if path < 256 => Mark::Either(first, path as u8),
         _ => Mark::Anyone,
     }
 }
 
-/// The mark of a place once the path of this number comes there too. Mostly nobody was there, and that is quick.
-fn joined(mark: Mark, path: usize) -> Mark
-    ensures joined { Allows result path }
-    ensures kept { (i : ℕ) → Allows mark i → Allows result i }
+/// Notes the path of this number at a place where somebody is already. It stands apart, so that `note` is short.
+#[inline(never)]
+fn share(marks: &mut [Mark], place: usize, path: usize)
+    requires { place < length marks.old }
+    ensures kept { KeepsMarks marks.old marks.new }
+    ensures noted { Allows (mark_at marks.new place) path }
 {
-    match mark {
-        Mark::Nobody if path < 65_536 => Mark::Only(path as u16),
-        taken => shared(taken, path),
+    marks[place] = shared(marks[place], path);
+}
+
+/// Notes the path of this number at a place. Mostly nobody is there yet, and that is quick.
+fn note(marks: &mut [Mark], place: usize, path: usize)
+    requires { place < length marks.old }
+    ensures kept { KeepsMarks marks.old marks.new }
+    ensures noted { Allows (mark_at marks.new place) path }
+{
+    match marks[place] {
+        Mark::Nobody if path < 256 => marks[place] = Mark::Only(path as u8),
+        _ => share(marks, place, path),
     }
 }
 
-/// Marks where the path of this number is, at each time: at each of its cells but the last once, and where it ends for
-/// ever.
+/// Marks where the path of this number is: at each of its cells once, and where it ends for ever. It stands apart, so that
+/// its loop has the registers to itself.
+#[inline(never)]
 fn enter(marks: &mut [Mark], cells: &[Cell], path: usize)
     requires marks { 0 < length marks.old }
     requires cells { 0 < length cells.now }
     ensures kept { KeepsMarks marks.old marks.new }
-    ensures marked { (k : ℕ) → IsMarked marks.new path (at cells.now k) k }
+    ensures marked { IsMarked marks.new path cells.now }
 {
-    let last = cells.len() - 1;
-    for k in 0..last {
+    for k in 0..cells.len() {
         let place = mark_of(marks.len(), cells[k], k as u64);
-        marks[place] = joined(marks[place], path);
+        note(marks, place, path);
     }
-    let rest = rest_mark_of(marks.len(), cells[last]);
-    marks[rest] = joined(marks[rest], path);
+    let rest = rest_mark_of(marks.len(), cells[cells.len() - 1]);
+    note(marks, rest, path);
 }
 
 /// How many marks there are, a power of two. Where few of them are taken, a question looks at few paths: so there are some
@@ -93,7 +118,7 @@ fn marks_for(paths: &[TimedPath]) -> usize
         801..=1600 => 8192,
         1601..=3200 => 16_384,
         3201..=6400 => 32_768,
-        6401..=26_000 => 65_536,
+        6401..=13_000 => 65_536,
         _ => 131_072,
     }
 }

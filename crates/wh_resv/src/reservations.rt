@@ -71,6 +71,16 @@ fn none_other_there(paths: &[TimedPath], except: usize, cell: Cell, k: u64) -> b
     none_there(&paths[..except], cell, k) && none_there(&paths[except + 1..], cell, k)
 }
 
+/// Whether a mark allows nobody.
+fn is_nobody(mark: Mark) -> bool
+    ensures { IsTrue result → (i : ℕ) → Allows mark i → ⊥ }
+{
+    match mark {
+        Mark::Nobody => true,
+        _ => false,
+    }
+}
+
 /// Whether none of the others that a mark allows is at a cell at time k.
 #[inline(always)]
 fn is_free(paths: &[TimedPath], except: usize, mark: Mark, cell: Cell, k: u64) -> bool
@@ -89,8 +99,9 @@ fn is_free(paths: &[TimedPath], except: usize, mark: Mark, cell: Cell, k: u64) -
     }
 }
 
-/// Whether nobody is at a cell at time k.
-fn vacant(paths: &[TimedPath], except: usize, marks: &[Mark], cell: Cell, k: u64) -> bool
+/// Whether nobody is at a cell at time k. It asks each of those that its marks allow.
+#[inline(never)]
+fn none_marked_there(paths: &[TimedPath], except: usize, marks: &[Mark], cell: Cell, k: u64) -> bool
     requires except { except < length paths.now }
     requires some { 0 < length marks.now }
     requires marked { AreMarked marks.now paths.now except (length paths.now) }
@@ -98,6 +109,19 @@ fn vacant(paths: &[TimedPath], except: usize, marks: &[Mark], cell: Cell, k: u64
 {
     is_free(paths, except, passing(marks, cell, k), cell, k)
         && is_free(paths, except, resting(marks, cell), cell, k)
+}
+
+/// Whether nobody is at a cell at time k. Mostly its marks allow nobody, and that is quick.
+fn vacant(paths: &[TimedPath], except: usize, marks: &[Mark], cell: Cell, k: u64) -> bool
+    requires except { except < length paths.now }
+    requires some { 0 < length marks.now }
+    requires marked { AreMarked marks.now paths.now except (length paths.now) }
+    ensures { IsTrue result ↔ IsVacant (remove paths.now except) cell k }
+{
+    if is_nobody(passing(marks, cell, k)) && is_nobody(resting(marks, cell)) {
+        return true;
+    }
+    none_marked_there(paths, except, marks, cell, k)
 }
 
 /// Whether the path of this number is one of the others, and leaves a cell for another one between k and k + 1.
@@ -152,8 +176,29 @@ fn is_open(paths: &[TimedPath], except: usize, mark: Mark, from: Cell, to: Cell,
     }
 }
 
-/// Whether nobody is at a cell at k + 1, nor leaves it for another one between k and k + 1: who does is at that other
-/// one at k + 1.
+/// Whether none of the others leaves a cell for another one between k and k + 1. Who does comes to that other one then and
+/// has not ended before, so that its mark for passing tells of all. It asks each of those that the mark allows.
+#[inline(never)]
+fn no_marked_exchanges(
+    paths: &[TimedPath],
+    except: usize,
+    marks: &[Mark],
+    from: Cell,
+    to: Cell,
+    k: u64,
+) -> bool
+    requires except { except < length paths.now }
+    requires some { 0 < length marks.now }
+    requires marked { AreMarked marks.now paths.now except (length paths.now) }
+    requires time { k + 1 < 2 ^ 64 }
+    requires apart { from ≢ to }
+    ensures { IsTrue result ↔ NoneExchanges (remove paths.now except) from to k }
+{
+    is_open(paths, except, passing(marks, from, k + 1), from, to, k)
+}
+
+/// Whether nobody is at a cell at k + 1, nor leaves it for another one between k and k + 1. Where both are one cell, who is
+/// there at k + 1 was found already.
 fn unbarred(
     paths: &[TimedPath],
     except: usize,
@@ -168,9 +213,16 @@ fn unbarred(
     requires time { k + 1 < 2 ^ 64 }
     ensures { IsTrue result ↔ (IsVacant (remove paths.now except) to (k + 1) × NoneExchanges (remove paths.now except) from to k) }
 {
-    vacant(paths, except, marks, to, k + 1)
-        && is_open(paths, except, passing(marks, from, k + 1), from, to, k)
-        && is_open(paths, except, resting(marks, from), from, to, k)
+    if !vacant(paths, except, marks, to, k + 1) {
+        return false;
+    }
+    if from.is(to) {
+        return true;
+    }
+    if is_nobody(passing(marks, from, k + 1)) {
+        return true;
+    }
+    no_marked_exchanges(paths, except, marks, from, to, k)
 }
 
 /// Whether none of the others is at a cell at time k or later.

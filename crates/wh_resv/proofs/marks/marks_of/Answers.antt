@@ -2,7 +2,7 @@ use Rattle.std.proofs.Common.{◌≡◌, ℕ, ◌+◌, ◌<◌, inl, inr, List, 
 use Rattle.std.proofs.lemmas.Bool.{cases_lt}
 use Rattle.std.proofs.lemmas.List.{get_or_read, with_items_is}
 use Rattle.wh_grid.specs.declared.cell.Cell.{Cell}
-use Rattle.wh_path.specs.Paths.{at, path_of}
+use Rattle.wh_path.specs.Paths.{path_of}
 use Rattle.wh_resv.specs.declared.marks.Mark.{Mark}
 use Rattle.wh_resv.specs.Marked.{IsMarked, KeepsMarks, AreMarked}
 use Rattle.wh_resv.proofs.Marking.{keeps_marked}
@@ -23,16 +23,16 @@ loop-i-preserved c =
           let same : w.cells.result.now ≡ path_of paths c.loop-i.i = w.cells.ensures.value ∙ get_or_read paths c.loop-i.i w.index-paths-i.result (omega arith) w.index-paths-i.is [] in
           subst R (sym items) (record {
             some = omega arith;
-            marked = λ i b ne k. elim (cases_lt i c.loop-i.i) [
-              | inl x ↦ keeps_marked c.loop-i.marks.items new i (at (path_of paths i) k) k kept (c.loop-i.invariant.marked i x ne k)
+            marked = λ i b ne. elim (cases_lt i c.loop-i.i) [
+              | inl x ↦ keeps_marked c.loop-i.marks.items new i (path_of paths i) kept (c.loop-i.invariant.marked i x ne)
               | inr x ↦ (let e : c.loop-i.i ≡ i = omega arith in
-                  subst (λ (j : ℕ). IsMarked new j (at (path_of paths j) k) k) e (subst (λ (q : List Cell). IsMarked new c.loop-i.i (at q k) k) same (w.enter.ensures.marked k)))
+                  subst (λ (j : ℕ). IsMarked new j (path_of paths j)) e (subst (λ (q : List Cell). IsMarked new c.loop-i.i q) same w.enter.ensures.marked))
             ];
           }))
       | else-i-except w ↦ subst P (sym w.marks-is) (record {
         some = c.loop-i.invariant.some;
-        marked = λ i b ne k. elim (cases_lt i c.loop-i.i) [
-          | inl x ↦ c.loop-i.invariant.marked i x ne k
+        marked = λ i b ne. elim (cases_lt i c.loop-i.i) [
+          | inl x ↦ c.loop-i.invariant.marked i x ne
           | inr x ↦ absurd (ne (let e : i ≡ c.loop-i.i = omega arith in e ∙ w.if-i-except.false))
         ];
       })
