@@ -97,7 +97,8 @@ impl Frontier {
 
     /// Forgets all that it holds, and makes room where there is too little.
     pub fn restart(&mut self, base: u64, stride: usize) -> Result<(), AllocError>
-        requires { 0 < stride }
+        requires wide { 0 < stride }
+        requires narrow { stride ≤ 2 ^ 16 }
         ensures nodes { OnOk result (self.new.nodes.items ≡ []) }
         ensures sound { OnOk result (IsQueue self.new.queue) }
         ensures base { OnOk result (self.new.queue.base ≡ base) }
@@ -182,6 +183,7 @@ impl Frontier {
 
     /// Whether a node is an end of the search.
     pub fn is_end(&self, errand: &Errand, index: usize) -> bool
+        requires errand { IsErrand errand.now }
         requires within { index < vec_len self.now.nodes }
         requires few { (node_at self.now.nodes.items index).leg ≤ length errand.now.via.now }
         ensures { IsTrue result ↔ IsEnd errand.now.others.now errand.now.via.now errand.now.ends.now (node_at self.now.nodes.items index).time (state_of (node_at self.now.nodes.items index)) }
@@ -189,7 +191,7 @@ impl Frontier {
         let node = self.nodes[index];
         node.leg as usize == errand.via.len()
             && holds(errand.ends, node.cell)
-            && errand.others.may_rest(node.cell, node.time as u64)
+            && errand.rests(node.cell, node.time as u64)
     }
 
     /// Notes a node as expanded where this is its first time.

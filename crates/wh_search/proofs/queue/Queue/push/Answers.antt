@@ -7,7 +7,7 @@ use Rattle.wh_search.proofs.queue.Queue.push.Goals as goal
 pub returns : goal.returns
 returns c =
     let q = c.args.self.now in
-    let bin = c.in-Some.bin in
+    let bin = c.bin-bin.result in
     let opened = c.open_bin.new.heads.items in
     let same = c.open_bin.ensures.same in
     let within = c.in_ok-open_bin.ensures.within in
@@ -24,6 +24,6 @@ returns c =
       stride = refl;
       low = omega (arith, c.min-self.ensures);
       low_bin = omega (arith, c.min-self.ensures);
-      from = c.in-Some.ensures.0;
-      to = c.in-Some.ensures.1;
+      from = c.bin-bin.ensures.from;
+      to = c.bin-bin.ensures.to;
     })
