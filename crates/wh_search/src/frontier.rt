@@ -1,7 +1,7 @@
 //! The states that were met, and those of them that are still to be looked at.
 #![tactic(auto)]
 
-ghost use Rattle.std.specs.Prelude.{◌≡◌, ℕ, ◌+◌, ◌*◌, ◌<◌, ◌≤◌, ◌^◌, ◌↔◌, ◌⊎◌, Option, Some, None, [], ◌∷◌, ◌++◌, IsTrue, cond, OnOk, List, Contains, length, vec_len, slice_index_or};
+ghost use Rattle.std.specs.Prelude.{◌≡◌, ℕ, ◌+◌, ◌*◌, ◌<◌, ◌≤◌, ◌^◌, ◌↔◌, ◌⊎◌, Option, Some, None, [], ◌∷◌, ◌++◌, IsTrue, cond, OnOk, IfOk, List, Contains, length, vec_len, slice_index_or};
 ghost use Rattle.wh_grid.specs.declared.cell.Cell.{Cell};
 ghost use Rattle.wh_resv.specs.Calls.{IsVacant};
 ghost use Rattle.wh_search.specs.Queues.{IsQueue, Waiting};
@@ -12,7 +12,7 @@ ghost use Rattle.wh_search.specs.States.{IsEnd, State};
 ghost use Rattle.wh_search.specs.Tours.{IsTour};
 ghost use Rattle.wh_path.specs.Paths.{last_index};
 
-use crate::errand::{Errand, arrive};
+use crate::errand::{Errand, arrive_by, next_stop};
 use crate::moment::Moment;
 use crate::moves::moves_from;
 use crate::queue::Queue;
@@ -31,6 +31,22 @@ pub struct Node {
     pub leg: u32,
     pub cell: Cell,
     pub parent: u32,
+}
+
+/// A node of these numbers, unless one of them is too great.
+#[inline(always)]
+pub fn node_of(time: u64, leg: usize, cell: Cell, parent: usize) -> Result<Node, AllocError>
+    ensures { IfOk result (λ n. n ≡ record { time = time; leg = leg; cell = cell; parent = parent }) }
+{
+    if time > MOST || leg as u64 > MOST || parent as u64 > MOST {
+        return Err(AllocError);
+    }
+    Ok(Node {
+        time: time as u32,
+        leg: leg as u32,
+        cell,
+        parent: parent as u32,
+    })
 }
 
 /// What a look among the met states found: whether there is one that stands for the state, and
@@ -113,23 +129,11 @@ impl Frontier {
         self.expanded.reserve(256)
     }
 
-    /// Looks for a state at a time among those that were met.
-    pub fn look(&self, errand: &Errand, time: u64, leg: usize, cell: Cell) -> Look
-        ensures { IsTrue result.known → HasState (problem errand.now) self.now.nodes.items time (record { leg = leg; cell = cell }) }
+    /// Looks for a node that stands for this one among those that were met.
+    #[inline(always)]
+    fn look(&self, errand: &Errand, node: Node) -> Look
+        ensures { IsTrue result.known → HasState (problem errand.now) self.now.nodes.items node.time (state_of node) }
     {
-        if time > MOST || leg as u64 > MOST {
-            return Look {
-                known: false,
-                place: 0,
-                mark: 0,
-            };
-        }
-        let node = Node {
-            time: time as u32,
-            leg: leg as u32,
-            cell,
-            parent: 0,
-        };
         let mark = spread(errand, node);
         match self.seen.find(errand, &self.nodes, node, mark) {
             // the table is a hint, and the node is looked at
@@ -146,39 +150,36 @@ impl Frontier {
         }
     }
 
-    /// Adds a node with this estimate, unless it is too late. It is noted where the look says.
-    pub fn meet(
-        &mut self,
-        errand: &Errand,
-        time: u64,
-        leg: usize,
-        cell: Cell,
-        parent: usize,
-        left: u64,
-        look: Look,
-    ) -> Result<(), AllocError>
+    /// Adds a node with this estimate. It is noted where the look says.
+    #[inline(always)]
+    fn add(&mut self, errand: &Errand, node: Node, left: u64, look: Look) -> Result<(), AllocError>
         requires limit { errand.now.limit < 2 ^ 62 }
-        requires left { left ≡ guide_estimate errand.now.guide leg cell }
+        requires left { left ≡ guide_estimate errand.now.guide node.leg node.cell }
+        requires in_time { node.time + left ≤ errand.now.limit }
         requires queue { IsQueue self.old.queue }
         ensures expanded { OnOk result (self.new.expanded.items ≡ self.old.expanded.items) }
-        ensures met { OnOk result (Meets (problem errand.now) self.old.nodes.items self.old.queue self.new.nodes.items self.new.queue (record { time = time; leg = leg; cell = cell; parent = parent })) }
+        ensures met { OnOk result (Meets (problem errand.now) self.old.nodes.items self.old.queue self.new.nodes.items self.new.queue node) }
     {
+        let index = self.nodes.len();
+        self.queue.push(u64::from(node.time) + left, left, index)?;
+        self.nodes.push(node)?;
+        self.seen.add(errand, &self.nodes, look.place, look.mark)
+    }
+
+    /// Meets a node with this estimate: it is added, unless it is too late.
+    pub fn meet(&mut self, errand: &Errand, node: Node, left: u64) -> Result<(), AllocError>
+        requires limit { errand.now.limit < 2 ^ 62 }
+        requires left { left ≡ guide_estimate errand.now.guide node.leg node.cell }
+        requires queue { IsQueue self.old.queue }
+        ensures expanded { OnOk result (self.new.expanded.items ≡ self.old.expanded.items) }
+        ensures met { OnOk result (Meets (problem errand.now) self.old.nodes.items self.old.queue self.new.nodes.items self.new.queue node) }
+    {
+        let time = u64::from(node.time);
         if time > errand.limit || left > errand.limit - time {
             return Ok(());
         }
-        if time > MOST || leg as u64 > MOST || parent as u64 > MOST {
-            return Err(AllocError);
-        }
-        let node = Node {
-            time: time as u32,
-            leg: leg as u32,
-            cell,
-            parent: parent as u32,
-        };
-        let index = self.nodes.len();
-        self.queue.push(time + left, left, index)?;
-        self.nodes.push(node)?;
-        self.seen.add(errand, &self.nodes, look.place, look.mark)
+        let look = self.look(errand, node);
+        self.add(errand, node, left, look)
     }
 
     /// Whether a node is an end of the search.
@@ -235,25 +236,30 @@ impl Frontier {
         let behind = from.leg as usize;
         let lefts = errand.guide.around(behind, from.cell);
         let here = lefts[0];
-        let own = time.saturating_add(here);
+        let own = time + here;
         // a node that waited before was noted then
         self.note(from, own == bound)?;
         let upto = errand.upto(own, bound);
-        let mut next = u64::MAX;
+        // one step on, those are met whose estimates are no less than this, and below the room
+        let least = bound.saturating_sub(time + 1);
+        let room = upto - time;
+        let stop = next_stop(errand.via, behind);
+        let mut later = u64::MAX;
         for i in 0..5 {
             let to = moves[i];
-            let leg = arrive(errand.via, behind, to);
+            let leg = arrive_by(errand.via, stop, behind, to);
             let left = errand.estimate_by(lefts[i], behind, leg, to);
-            let total = (time + 1).saturating_add(left);
-            if total > upto {
-                next = next.min(total);
-            } else if total >= bound {
-                let look = self.look(errand, time + 1, leg, to);
+            if left >= room {
+                later = later.min(left);
+            } else if left >= least {
+                let node = node_of(time + 1, leg, to, index)?;
+                let look = self.look(errand, node);
                 if !look.known && errand.allows(from.cell, to, time) {
-                    self.meet(errand, time + 1, leg, to, index, left, look)?;
+                    self.add(errand, node, left, look)?;
                 }
             }
         }
+        let next = (time + 1).saturating_add(later);
         if next <= errand.limit {
             self.queue.push(next, here, index)?;
         }
