@@ -1,7 +1,7 @@
 //! What is searched for.
 #![tactic(auto)]
 
-ghost use Rattle.std.specs.Prelude.{◌≡◌, ℕ, ◌+◌, ◌*◌, ◌<◌, ◌≤◌, ◌^◌, ◌↔◌, IsTrue, IfSome, IfNone, Contains, length};
+ghost use Rattle.std.specs.Prelude.{◌≡◌, ℕ, ◌+◌, ◌*◌, ◌<◌, ◌≤◌, ◌^◌, ◌↔◌, IsTrue, Contains, length};
 ghost use Rattle.wh_grid.specs.declared.cell.Cell.{Cell};
 ghost use Rattle.wh_grid.specs.Grids.{IsPassable};
 ghost use Rattle.wh_path.specs.Paths.{cell_at};
@@ -94,34 +94,27 @@ pub fn arrive(via: &[Cell], leg: usize, cell: Cell) -> usize
     via.len()
 }
 
-/// The next stop of an agent that has so many stops behind it.
-pub fn next_stop(via: &[Cell], leg: usize) -> Option<Cell>
-    ensures some { IfSome result (λ c. c ≡ cell_at via.now leg) }
-    ensures none { IfNone result (length via.now ≤ leg) }
+/// The next stop of an agent that has so many stops behind it; any cell where there is none.
+pub fn next_stop(via: &[Cell], leg: usize) -> Cell
+    ensures { leg < length via.now → result ≡ cell_at via.now leg }
 {
     if leg < via.len() {
-        Some(via[leg])
+        via[leg]
     } else {
-        None
+        Cell { x: 0, y: 0 }
     }
 }
 
 /// As `arrive`, for an agent whose next stop is known. Mostly the cell is another one.
 #[inline(always)]
-pub fn arrive_by(via: &[Cell], next: Option<Cell>, leg: usize, cell: Cell) -> usize
+pub fn arrive_by(via: &[Cell], next: Cell, leg: usize, cell: Cell) -> usize
     requires few { leg ≤ length via.now }
-    requires some { IfSome next (λ c. c ≡ cell_at via.now leg) }
-    requires none { IfNone next (length via.now ≤ leg) }
+    requires next { leg < length via.now → next ≡ cell_at via.now leg }
     ensures { Arrives via.now leg cell result }
 {
-    match next {
-        Some(stop) => {
-            if stop.is(cell) {
-                arrive(via, leg, cell)
-            } else {
-                leg
-            }
-        }
-        None => leg,
+    if next.is(cell) {
+        arrive(via, leg, cell)
+    } else {
+        leg
     }
 }

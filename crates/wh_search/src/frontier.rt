@@ -129,12 +129,11 @@ impl Frontier {
         self.expanded.reserve(256)
     }
 
-    /// Looks for a node that stands for this one among those that were met.
+    /// Looks for a node that stands for this one, of this mark, among those that were met.
     #[inline(always)]
-    fn look(&self, errand: &Errand, node: Node) -> Look
+    fn look(&self, errand: &Errand, node: Node, mark: u64) -> Look
         ensures { IsTrue result.known → HasState (problem errand.now) self.now.nodes.items node.time (state_of node) }
     {
-        let mark = spread(errand, node);
         match self.seen.find(errand, &self.nodes, node, mark) {
             // the table is a hint, and the node is looked at
             Slot::There(index) => Look {
@@ -178,7 +177,7 @@ impl Frontier {
         if time > errand.limit || left > errand.limit - time {
             return Ok(());
         }
-        let look = self.look(errand, node);
+        let look = self.look(errand, node, spread(errand.horizon, node));
         self.add(errand, node, left, look)
     }
 
@@ -244,6 +243,7 @@ impl Frontier {
         let least = bound.saturating_sub(time + 1);
         let room = upto - time;
         let stop = next_stop(errand.via, behind);
+        let horizon = errand.horizon;
         let mut later = u64::MAX;
         for i in 0..5 {
             let to = moves[i];
@@ -253,7 +253,7 @@ impl Frontier {
                 later = later.min(left);
             } else if left >= least {
                 let node = node_of(time + 1, leg, to, index)?;
-                let look = self.look(errand, node);
+                let look = self.look(errand, node, spread(horizon, node));
                 if !look.known && errand.allows(from.cell, to, time) {
                     self.add(errand, node, left, look)?;
                 }
