@@ -112,7 +112,14 @@ fn far_around(field: &Field, further: u64, cell: Cell) -> [u64; 5]
 fn far_around_none(field: &Field, further: u64, cell: Cell) -> [u64; 5]
     ensures { result ≡ map (by_field (Some field.entry) further) (around cell) }
 {
-    far_around(field, further, cell)
+    let beside = moves_from(cell);
+    [
+        far(field.dist(beside[0]), further),
+        far(field.dist(beside[1]), further),
+        far(field.dist(beside[2]), further),
+        far(field.dist(beside[3]), further),
+        far(field.dist(beside[4]), further),
+    ]
 }
 
 /// The estimates at a cell and at those beside it, by a field and what is further on. Mostly the
