@@ -11,6 +11,7 @@ ghost use Rattle.wh_search.specs.Frontiers.{IsErrand};
 ghost use Rattle.wh_search.specs.Guides.{guide_estimate};
 ghost use Rattle.wh_search.specs.States.{Arrives};
 
+use crate::frontier::holds;
 use crate::guide::Guide;
 use wh_grid::{Cell, Grid};
 use wh_resv::Reservations;
@@ -43,6 +44,19 @@ impl<'a> Errand<'a> {
         ensures { IsTrue result ↔ (IsPassable self.now.grid.now to × MayStep self.now.others.now from to k) }
     {
         self.grid.passable(to) && self.others.may_enter(from, to, k)
+    }
+
+    /// Whether a passable cell is one of the ends. There may be many, and they are gone through only
+    /// where the estimate is 0, as it is at each of them.
+    pub fn ends_at(&self, cell: Cell) -> bool
+        requires errand { IsErrand self.now }
+        requires inside { IsPassable self.now.grid.now cell }
+        ensures { IsTrue result ↔ Contains self.now.ends.now cell }
+    {
+        if self.ends.len() > 1 && self.guide.estimate(self.via.len(), cell) > 0 {
+            return false;
+        }
+        holds(self.ends, cell)
     }
 
     /// Whether no other is at an end at time k or later. Where `soonest` is exact, it tells.

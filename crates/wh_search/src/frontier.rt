@@ -3,6 +3,7 @@
 
 ghost use Rattle.std.specs.Prelude.{◌≡◌, ℕ, ◌+◌, ◌*◌, ◌<◌, ◌≤◌, ◌^◌, ◌↔◌, ◌⊎◌, Option, Some, None, [], ◌∷◌, ◌++◌, IsTrue, cond, OnOk, IfOk, List, Contains, length, vec_len, slice_index_or};
 ghost use Rattle.wh_grid.specs.declared.cell.Cell.{Cell};
+ghost use Rattle.wh_grid.specs.Grids.{IsPassable};
 ghost use Rattle.wh_resv.specs.Calls.{IsVacant};
 ghost use Rattle.wh_search.specs.Queues.{IsQueue, Waiting};
 ghost use Rattle.wh_search.specs.Guides.{guide_estimate};
@@ -185,12 +186,13 @@ impl Frontier {
     pub fn is_end(&self, errand: &Errand, index: usize) -> bool
         requires errand { IsErrand errand.now }
         requires within { index < vec_len self.now.nodes }
+        requires inside { IsPassable errand.now.grid.now (node_at self.now.nodes.items index).cell }
         requires few { (node_at self.now.nodes.items index).leg ≤ length errand.now.via.now }
         ensures { IsTrue result ↔ IsEnd errand.now.others.now errand.now.via.now errand.now.ends.now (node_at self.now.nodes.items index).time (state_of (node_at self.now.nodes.items index)) }
     {
         let node = self.nodes[index];
         node.leg as usize == errand.via.len()
-            && holds(errand.ends, node.cell)
+            && errand.ends_at(node.cell)
             && errand.rests(node.cell, node.time as u64)
     }
 

@@ -41,6 +41,11 @@ pub is_end-requires-clause-few : goal.is_end-requires-clause-few
 is_end-requires-clause-few c =
     (popped (problem c.args.errand.now) c.loop.frontier.nodes.items c.loop.frontier.queue c.pop.new.self c.in-Some.bound c.in-Some.index c.loop.invariant.0 c.in-Some.ensures.some).few
 
+pub is_end-requires-clause-inside : goal.is_end-requires-clause-inside
+is_end-requires-clause-inside c =
+    let h = popped (problem c.args.errand.now) c.loop.frontier.nodes.items c.loop.frontier.queue c.pop.new.self c.in-Some.bound c.in-Some.index c.loop.invariant.0 c.in-Some.ensures.some in
+    (c.loop.invariant.0.reached c.in-Some.index h.within).inside
+
 pub walk_back-requires-clause-within : goal.walk_back-requires-clause-within
 walk_back-requires-clause-within c =
     let h = popped (problem c.args.errand.now) c.loop.frontier.nodes.items c.loop.frontier.queue c.pop.new.self c.in-Some.bound c.in-Some.index c.loop.invariant.0 c.in-Some.ensures.some in
