@@ -1,5 +1,5 @@
 -- the queue of bins: adding an entry, and taking one
-use Rattle.std.proofs.Common.{◌≡◌, ◌≢◌, ℕ, ◌+◌, ◌-◌, ◌*◌, ◌<◌, ◌≤◌, ◌⊎◌, inl, inr, ◌∙◌, List, [], ◌∷◌, ◌++◌, suc, zero, length, get_or, refl, sym, ap, subst, length-append, replicate, arith}
+use Rattle.std.proofs.Common.{◌≡◌, ◌≢◌, ℕ, ◌+◌, ◌-◌, ◌*◌, ◌<◌, ◌≤◌, ◌^◌, ◌⊎◌, inl, inr, ◌∙◌, List, [], ◌∷◌, ◌++◌, suc, zero, length, get_or, refl, sym, ap, subst, length-append, replicate, arith}
 use Rattle.std.proofs.lemmas.Bool.{cases_lt, cases_eq}
 use Rattle.std.proofs.lemmas.List.{get_or_append_left, get_or_past, get_or-replicate, length-replicate}
 use Rattle.std.proofs.lemmas.Nat.{mul-le}
@@ -101,9 +101,11 @@ adds_sound q new bin x s a =
     let low = a.low in
     let low_bin = a.low_bin in
     let wide = s.wide in
+    let narrow = s.narrow in
     let stride = a.stride in
     record {
       wide = omega arith;
+      narrow = omega arith;
       heads = λ b. elim (cases_eq b bin) [
         | inr ne ↦ omega (arith, a.other b ne, s.heads b)
         | inl e ↦ omega (arith, ap (λ i. get_or new.heads.items i 0) e, a.here)
@@ -197,6 +199,7 @@ takes_pops q new bin x s t =
     let size : length new.entries.items ≡ length es = ap length same in
     let stride = t.stride in
     let wide = s.wide in
+    let narrow = s.narrow in
     let first : LeadsTo (link_of es) (get_or q.heads.items bin 0) t.place = subst (λ v. LeadsTo (link_of es) v t.place) (sym t.head) (leads_first (link_of es) t.place) in
     let mine = s.sorted bin t.place first within in
     let low = t.low in
@@ -204,6 +207,7 @@ takes_pops q new bin x s t =
     record {
       sound = record {
         wide = omega arith;
+        narrow = omega arith;
         heads = λ b. elim (cases_eq b bin) [
           | inr ne ↦ omega (arith, t.other b ne, s.heads b)
           | inl e ↦ omega (arith, ap (λ i. get_or new.heads.items i 0) e, t.here)
@@ -265,12 +269,13 @@ takes_pops q new bin x s t =
 pub none_waits : (q : Queue) → ((bin : ℕ) → get_or q.heads.items bin 0 ≡ 0) → (bound node : ℕ) → Waiting q bound node → ⊥
 none_waits q h bound node w = leads_none (link_of q.entries.items) w.place refl (subst (λ v. LeadsTo (link_of q.entries.items) v w.place) (h w.bin) w.linked)
 
-pub empty_queue : (q : Queue) → q.heads.items ≡ [] → q.entries.items ≡ [] → q.low ≡ 0 → 0 < q.stride → IsQueue q
-empty_queue q h e l wide =
+pub empty_queue : (q : Queue) → q.heads.items ≡ [] → q.entries.items ≡ [] → q.low ≡ 0 → 0 < q.stride → q.stride ≤ 2 ^ 16 → IsQueue q
+empty_queue q h e l wide narrow =
     let none : (bin : ℕ) → get_or q.heads.items bin 0 ≡ 0 = λ bin. ap (λ (xs : List ℕ). get_or xs bin 0) h in
     let size : length q.entries.items ≡ 0 = ap length e in
     record {
       wide = wide;
+      narrow = narrow;
       heads = λ bin. omega (arith, none bin);
       down = λ j b. absurd (omega arith);
       empty = λ bin b. none bin;

@@ -1,8 +1,8 @@
 -- what a search keeps: the states that it met, and how far each is expanded
-use Rattle.std.specs.Prelude.{◌≡◌, ℕ, ◌+◌, ◌<◌, ◌≤◌, ◌^◌, ◌⊎◌, Option, Some, None, List, [], ◌∷◌, ◌++◌, length, max, slice_index_or, Contains}
+use Rattle.std.specs.Prelude.{◌≡◌, ℕ, ◌+◌, ◌<◌, ◌≤◌, ◌^◌, ◌⊎◌, Option, Some, None, IsTrue, List, [], ◌∷◌, ◌++◌, length, max, slice_index_or, Contains}
 use Rattle.wh_grid.specs.declared.cell.Cell.{Cell}
 use Rattle.wh_grid.specs.Grids.{Floor, IsPassable}
-use Rattle.wh_resv.specs.Others.{Others}
+use Rattle.wh_resv.specs.Others.{Others, MayRest}
 use Rattle.wh_path.specs.Paths.{horizon, last_index}
 use Rattle.wh_search.specs.declared.errand.Errand.{Errand}
 use Rattle.wh_search.specs.declared.frontier.Node.{Node}
@@ -30,7 +30,7 @@ abbrev pub problem : Errand → Problem
 problem e =
     record { grid = e.grid.now; others = e.others.now; via = e.via.now; ends = e.ends.now; start = record { leg = e.first; cell = e.loc }; estimate = guide_estimate e.guide; horizon = e.horizon; limit = e.limit; base = max e.soonest (guide_estimate e.guide e.first e.loc) }
 
--- the numbers of an errand are right, and its guide is an estimate
+-- the numbers of an errand are right, and its guide is an estimate; where its soonest time is exact, one may rest at each end from then on
 pub record IsErrand (e : Errand) : Type 0 where
   pub inside : IsPassable e.grid.now e.loc
   pub arrives : Arrives e.via.now 0 e.loc e.first
@@ -39,6 +39,7 @@ pub record IsErrand (e : Errand) : Type 0 where
   pub small : e.limit < 2 ^ 62
   pub guided : IsEstimate e.grid.now e.via.now e.ends.now (guide_estimate e.guide)
   pub not_sooner : (k : ℕ) (s : State) → IsEnd e.others.now e.via.now e.ends.now k s → e.soonest ≤ k
+  pub exact : IsTrue e.exact → (k : ℕ) (c : Cell) → Contains e.ends.now c → e.soonest ≤ k → MayRest e.others.now c k
 
 abbrev pub state_of : Node → State
 state_of n = record { leg = n.leg; cell = n.cell }

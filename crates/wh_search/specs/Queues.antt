@@ -1,5 +1,5 @@
 -- nodes that wait, in bins by their bounds
-use Rattle.std.specs.Prelude.{◌≡◌, ℕ, ◌+◌, ◌-◌, ◌*◌, ◌<◌, ◌≤◌, ◌⊎◌, List, length, slice_index, slice_index_or}
+use Rattle.std.specs.Prelude.{◌≡◌, ℕ, ◌+◌, ◌-◌, ◌*◌, ◌<◌, ◌≤◌, ◌^◌, ◌⊎◌, List, length, slice_index, slice_index_or}
 use Prim.Native.Nat.{zero, suc}
 use Rattle.wh_search.specs.Links.{LeadsTo}
 use Rattle.wh_search.specs.declared.queue.Entry.{Entry}
@@ -26,9 +26,10 @@ pub record Waiting (q : Queue) (bound node : ℕ) : Type 0 where
 abbrev pub level : Queue → ℕ → ℕ
 level q bound = bound - q.base
 
--- each link leads down, the bins before `low` are empty, and each bin has entries of its level alone
+-- there are some bins a level and not very many, each link leads down, the bins before `low` are empty, and each bin has entries of its level alone
 pub record IsQueue (q : Queue) : Type 0 where
   pub wide : 0 < q.stride
+  pub narrow : q.stride ≤ 2 ^ 16
   pub heads : (bin : ℕ) → slice_index q.heads.items bin ≤ length q.entries.items
   pub down : (j : ℕ) → j < length q.entries.items → (entry_at q.entries.items j).next ≤ j
   pub empty : (bin : ℕ) → bin < q.low → slice_index q.heads.items bin ≡ 0

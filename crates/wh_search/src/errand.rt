@@ -1,21 +1,25 @@
 //! What is searched for.
 #![tactic(auto)]
 
-ghost use Rattle.std.specs.Prelude.{◌≡◌, ℕ, ◌+◌, ◌*◌, ◌<◌, ◌≤◌, ◌^◌, ◌↔◌, IsTrue, length};
+ghost use Rattle.std.specs.Prelude.{◌≡◌, ℕ, ◌+◌, ◌*◌, ◌<◌, ◌≤◌, ◌^◌, ◌↔◌, IsTrue, Contains, length};
 ghost use Rattle.wh_grid.specs.declared.cell.Cell.{Cell};
 ghost use Rattle.wh_grid.specs.Grids.{IsPassable};
+ghost use Rattle.wh_path.specs.Paths.{cell_at};
 ghost use Rattle.wh_resv.specs.Others.{MayStep, MayRest};
 ghost use Rattle.wh_resv.specs.Calls.{IsVacant};
+ghost use Rattle.wh_search.specs.Frontiers.{IsErrand};
 ghost use Rattle.wh_search.specs.Guides.{guide_estimate};
 ghost use Rattle.wh_search.specs.States.{Arrives};
 
+use crate::frontier::holds;
 use crate::guide::Guide;
 use wh_grid::{Cell, Grid};
 use wh_resv::Reservations;
 
 /// What an agent is to do: from where, through which stops in order, and to which ends; how
 /// many stops it has behind it at once, the time from which all others rest, the last time that
-/// is looked at, and a time before which no end can be.
+/// is looked at, and a time before which no end can be; and whether one may rest at each end from
+/// that time on.
 #[derive(Clone, Copy)]
 pub struct Errand<'a> {
     pub grid: &'a Grid,
@@ -28,6 +32,7 @@ pub struct Errand<'a> {
     pub horizon: u64,
     pub limit: u64,
     pub soonest: u64,
+    pub exact: bool,
 }
 
 impl<'a> Errand<'a> {
@@ -39,6 +44,31 @@ impl<'a> Errand<'a> {
         ensures { IsTrue result ↔ (IsPassable self.now.grid.now to × MayStep self.now.others.now from to k) }
     {
         self.grid.passable(to) && self.others.may_enter(from, to, k)
+    }
+
+    /// Whether a passable cell is one of the ends. There may be many, and they are gone through only
+    /// where the estimate is 0, as it is at each of them.
+    pub fn ends_at(&self, cell: Cell) -> bool
+        requires errand { IsErrand self.now }
+        requires inside { IsPassable self.now.grid.now cell }
+        ensures { IsTrue result ↔ Contains self.now.ends.now cell }
+    {
+        if self.ends.len() > 1 && self.guide.estimate(self.via.len(), cell) > 0 {
+            return false;
+        }
+        holds(self.ends, cell)
+    }
+
+    /// Whether no other is at an end at time k or later. Where `soonest` is exact, it tells.
+    pub fn rests(&self, end: Cell, k: u64) -> bool
+        requires errand { IsErrand self.now }
+        requires end { Contains self.now.ends.now end }
+        ensures { IsTrue result ↔ MayRest self.now.others.now end k }
+    {
+        if self.exact {
+            return k >= self.soonest;
+        }
+        self.others.may_rest(end, k)
     }
 
     /// The estimate for an agent at a cell with so many stops behind it, where that for another
@@ -65,6 +95,7 @@ impl<'a> Errand<'a> {
 }
 
 /// How many stops an agent has behind it when it comes to a cell with so many behind it.
+#[inline(never)]
 pub fn arrive(via: &[Cell], leg: usize, cell: Cell) -> usize
     requires { leg ≤ length via.now }
     ensures { Arrives via.now leg cell result }
@@ -75,4 +106,29 @@ pub fn arrive(via: &[Cell], leg: usize, cell: Cell) -> usize
         }
     }
     via.len()
+}
+
+/// The next stop of an agent that has so many stops behind it; any cell where there is none.
+pub fn next_stop(via: &[Cell], leg: usize) -> Cell
+    ensures { leg < length via.now → result ≡ cell_at via.now leg }
+{
+    if leg < via.len() {
+        via[leg]
+    } else {
+        Cell { x: 0, y: 0 }
+    }
+}
+
+/// As `arrive`, for an agent whose next stop is known. Mostly the cell is another one.
+#[inline(always)]
+pub fn arrive_by(via: &[Cell], next: Cell, leg: usize, cell: Cell) -> usize
+    requires few { leg ≤ length via.now }
+    requires next { leg < length via.now → next ≡ cell_at via.now leg }
+    ensures { Arrives via.now leg cell result }
+{
+    if next.is(cell) {
+        arrive(via, leg, cell)
+    } else {
+        leg
+    }
 }

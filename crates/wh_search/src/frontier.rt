@@ -1,8 +1,9 @@
 //! The states that were met, and those of them that are still to be looked at.
 #![tactic(auto)]
 
-ghost use Rattle.std.specs.Prelude.{◌≡◌, ℕ, ◌+◌, ◌*◌, ◌<◌, ◌≤◌, ◌^◌, ◌↔◌, ◌⊎◌, Option, Some, None, [], ◌∷◌, ◌++◌, IsTrue, cond, OnOk, List, Contains, length, vec_len, slice_index_or};
+ghost use Rattle.std.specs.Prelude.{◌≡◌, ℕ, ◌+◌, ◌*◌, ◌<◌, ◌≤◌, ◌^◌, ◌↔◌, ◌⊎◌, Option, Some, None, [], ◌∷◌, ◌++◌, IsTrue, cond, OnOk, IfOk, List, Contains, length, vec_len, slice_index_or};
 ghost use Rattle.wh_grid.specs.declared.cell.Cell.{Cell};
+ghost use Rattle.wh_grid.specs.Grids.{IsPassable};
 ghost use Rattle.wh_resv.specs.Calls.{IsVacant};
 ghost use Rattle.wh_search.specs.Queues.{IsQueue, Waiting};
 ghost use Rattle.wh_search.specs.Guides.{guide_estimate};
@@ -12,7 +13,7 @@ ghost use Rattle.wh_search.specs.States.{IsEnd, State};
 ghost use Rattle.wh_search.specs.Tours.{IsTour};
 ghost use Rattle.wh_path.specs.Paths.{last_index};
 
-use crate::errand::{Errand, arrive};
+use crate::errand::{Errand, arrive_by, next_stop};
 use crate::moment::Moment;
 use crate::moves::moves_from;
 use crate::queue::Queue;
@@ -31,6 +32,22 @@ pub struct Node {
     pub leg: u32,
     pub cell: Cell,
     pub parent: u32,
+}
+
+/// A node of these numbers, unless one of them is too great.
+#[inline(always)]
+pub fn node_of(time: u64, leg: usize, cell: Cell, parent: usize) -> Result<Node, AllocError>
+    ensures { IfOk result (λ n. n ≡ record { time = time; leg = leg; cell = cell; parent = parent }) }
+{
+    if time > MOST || leg as u64 > MOST || parent as u64 > MOST {
+        return Err(AllocError);
+    }
+    Ok(Node {
+        time: time as u32,
+        leg: leg as u32,
+        cell,
+        parent: parent as u32,
+    })
 }
 
 /// What a look among the met states found: whether there is one that stands for the state, and
@@ -97,7 +114,8 @@ impl Frontier {
 
     /// Forgets all that it holds, and makes room where there is too little.
     pub fn restart(&mut self, base: u64, stride: usize) -> Result<(), AllocError>
-        requires { 0 < stride }
+        requires wide { 0 < stride }
+        requires narrow { stride ≤ 2 ^ 16 }
         ensures nodes { OnOk result (self.new.nodes.items ≡ []) }
         ensures sound { OnOk result (IsQueue self.new.queue) }
         ensures base { OnOk result (self.new.queue.base ≡ base) }
@@ -112,24 +130,11 @@ impl Frontier {
         self.expanded.reserve(256)
     }
 
-    /// Looks for a state at a time among those that were met.
-    pub fn look(&self, errand: &Errand, time: u64, leg: usize, cell: Cell) -> Look
-        ensures { IsTrue result.known → HasState (problem errand.now) self.now.nodes.items time (record { leg = leg; cell = cell }) }
+    /// Looks for a node that stands for this one, of this mark, among those that were met.
+    #[inline(always)]
+    fn look(&self, errand: &Errand, node: Node, mark: u64) -> Look
+        ensures { IsTrue result.known → HasState (problem errand.now) self.now.nodes.items node.time (state_of node) }
     {
-        if time > MOST || leg as u64 > MOST {
-            return Look {
-                known: false,
-                place: 0,
-                mark: 0,
-            };
-        }
-        let node = Node {
-            time: time as u32,
-            leg: leg as u32,
-            cell,
-            parent: 0,
-        };
-        let mark = spread(errand, node);
         match self.seen.find(errand, &self.nodes, node, mark) {
             // the table is a hint, and the node is looked at
             Slot::There(index) => Look {
@@ -145,51 +150,50 @@ impl Frontier {
         }
     }
 
-    /// Adds a node with this estimate, unless it is too late. It is noted where the look says.
-    pub fn meet(
-        &mut self,
-        errand: &Errand,
-        time: u64,
-        leg: usize,
-        cell: Cell,
-        parent: usize,
-        left: u64,
-        look: Look,
-    ) -> Result<(), AllocError>
+    /// Adds a node with this estimate. It is noted where the look says.
+    #[inline(always)]
+    fn add(&mut self, errand: &Errand, node: Node, left: u64, look: Look) -> Result<(), AllocError>
         requires limit { errand.now.limit < 2 ^ 62 }
-        requires left { left ≡ guide_estimate errand.now.guide leg cell }
+        requires left { left ≡ guide_estimate errand.now.guide node.leg node.cell }
+        requires in_time { node.time + left ≤ errand.now.limit }
         requires queue { IsQueue self.old.queue }
         ensures expanded { OnOk result (self.new.expanded.items ≡ self.old.expanded.items) }
-        ensures met { OnOk result (Meets (problem errand.now) self.old.nodes.items self.old.queue self.new.nodes.items self.new.queue (record { time = time; leg = leg; cell = cell; parent = parent })) }
+        ensures met { OnOk result (Meets (problem errand.now) self.old.nodes.items self.old.queue self.new.nodes.items self.new.queue node) }
     {
-        if time > errand.limit || left > errand.limit - time {
-            return Ok(());
-        }
-        if time > MOST || leg as u64 > MOST || parent as u64 > MOST {
-            return Err(AllocError);
-        }
-        let node = Node {
-            time: time as u32,
-            leg: leg as u32,
-            cell,
-            parent: parent as u32,
-        };
         let index = self.nodes.len();
-        self.queue.push(time + left, left, index)?;
+        self.queue.push(u64::from(node.time) + left, left, index)?;
         self.nodes.push(node)?;
         self.seen.add(errand, &self.nodes, look.place, look.mark)
     }
 
+    /// Meets a node with this estimate: it is added, unless it is too late.
+    pub fn meet(&mut self, errand: &Errand, node: Node, left: u64) -> Result<(), AllocError>
+        requires limit { errand.now.limit < 2 ^ 62 }
+        requires left { left ≡ guide_estimate errand.now.guide node.leg node.cell }
+        requires queue { IsQueue self.old.queue }
+        ensures expanded { OnOk result (self.new.expanded.items ≡ self.old.expanded.items) }
+        ensures met { OnOk result (Meets (problem errand.now) self.old.nodes.items self.old.queue self.new.nodes.items self.new.queue node) }
+    {
+        let time = u64::from(node.time);
+        if time > errand.limit || left > errand.limit - time {
+            return Ok(());
+        }
+        let look = self.look(errand, node, spread(errand.horizon, node));
+        self.add(errand, node, left, look)
+    }
+
     /// Whether a node is an end of the search.
     pub fn is_end(&self, errand: &Errand, index: usize) -> bool
+        requires errand { IsErrand errand.now }
         requires within { index < vec_len self.now.nodes }
+        requires inside { IsPassable errand.now.grid.now (node_at self.now.nodes.items index).cell }
         requires few { (node_at self.now.nodes.items index).leg ≤ length errand.now.via.now }
         ensures { IsTrue result ↔ IsEnd errand.now.others.now errand.now.via.now errand.now.ends.now (node_at self.now.nodes.items index).time (state_of (node_at self.now.nodes.items index)) }
     {
         let node = self.nodes[index];
         node.leg as usize == errand.via.len()
-            && holds(errand.ends, node.cell)
-            && errand.others.may_rest(node.cell, node.time as u64)
+            && errand.ends_at(node.cell)
+            && errand.rests(node.cell, node.time as u64)
     }
 
     /// Notes a node as expanded where this is its first time.
@@ -233,25 +237,31 @@ impl Frontier {
         let behind = from.leg as usize;
         let lefts = errand.guide.around(behind, from.cell);
         let here = lefts[0];
-        let own = time.saturating_add(here);
+        let own = time + here;
         // a node that waited before was noted then
         self.note(from, own == bound)?;
         let upto = errand.upto(own, bound);
-        let mut next = u64::MAX;
+        // one step on, those are met whose estimates are no less than this, and below the room
+        let least = bound.saturating_sub(time + 1);
+        let room = upto - time;
+        let stop = next_stop(errand.via, behind);
+        let horizon = errand.horizon;
+        let mut later = u64::MAX;
         for i in 0..5 {
             let to = moves[i];
-            let leg = arrive(errand.via, behind, to);
+            let leg = arrive_by(errand.via, stop, behind, to);
             let left = errand.estimate_by(lefts[i], behind, leg, to);
-            let total = (time + 1).saturating_add(left);
-            if total > upto {
-                next = next.min(total);
-            } else if total >= bound {
-                let look = self.look(errand, time + 1, leg, to);
+            if left >= room {
+                later = later.min(left);
+            } else if left >= least {
+                let node = node_of(time + 1, leg, to, index)?;
+                let look = self.look(errand, node, spread(horizon, node));
                 if !look.known && errand.allows(from.cell, to, time) {
-                    self.meet(errand, time + 1, leg, to, index, left, look)?;
+                    self.add(errand, node, left, look)?;
                 }
             }
         }
+        let next = (time + 1).saturating_add(later);
         if next <= errand.limit {
             self.queue.push(next, here, index)?;
         }

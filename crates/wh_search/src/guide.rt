@@ -1,7 +1,7 @@
 //! The estimate that leads the search.
 #![tactic(auto)]
 
-ghost use Rattle.std.specs.Prelude.{◌≡◌, ℕ, ◌+◌, ◌*◌, ◌<◌, ◌≤◌, ◌^◌, Option, IfOk, length, map, slice_index, [], ◌∷◌};
+ghost use Rattle.std.specs.Prelude.{◌≡◌, ℕ, ◌+◌, ◌*◌, ◌<◌, ◌≤◌, ◌^◌, Option, Some, IfOk, length, map, slice_index, [], ◌∷◌};
 ghost use Rattle.wh_grid.specs.declared.cell.Cell.{Cell};
 ghost use Rattle.wh_field.specs.Sides.{around};
 ghost use Rattle.wh_search.specs.Fields.{far};
@@ -92,20 +92,48 @@ pub fn onward_of(
     Ok(onward)
 }
 
-/// The estimates at a cell and at those beside it, by a field and what is further on.
+/// The distances at a cell and at those beside it, and what is further on.
+#[inline(always)]
+fn far_around(field: &Field, further: u64, cell: Cell) -> [u64; 5]
+    ensures { result ≡ map (by_field (Some field.entry) further) (around cell) }
+{
+    let near = field.around(cell);
+    [
+        far(near.here, further),
+        far(near.left, further),
+        far(near.right, further),
+        far(near.above, further),
+        far(near.below, further),
+    ]
+}
+
+/// As `far_around`, for a cell with no distance.
+#[inline(never)]
+fn far_around_none(field: &Field, further: u64, cell: Cell) -> [u64; 5]
+    ensures { result ≡ map (by_field (Some field.entry) further) (around cell) }
+{
+    let beside = moves_from(cell);
+    [
+        far(field.dist(beside[0]), further),
+        far(field.dist(beside[1]), further),
+        far(field.dist(beside[2]), further),
+        far(field.dist(beside[3]), further),
+        far(field.dist(beside[4]), further),
+    ]
+}
+
+/// The estimates at a cell and at those beside it, by a field and what is further on. Mostly the
+/// cell has a distance: then it lies within the map, and the compiler need not ask that again.
 fn by_field_around(field: Option<&Field>, further: u64, cell: Cell) -> [u64; 5]
     ensures { result ≡ map (by_field field.entry further) (around cell) }
 {
     match field {
         Some(field) => {
-            let near = field.around(cell);
-            [
-                far(near.here, further),
-                far(near.left, further),
-                far(near.right, further),
-                far(near.above, further),
-                far(near.below, further),
-            ]
+            if field.dist(cell).is_some() {
+                far_around(field, further, cell)
+            } else {
+                far_around_none(field, further, cell)
+            }
         }
         None => [0, 0, 0, 0, 0],
     }

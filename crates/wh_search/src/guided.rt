@@ -74,6 +74,7 @@ fn find<'x>(
         horizon,
         limit: horizon + stops.len() as u64 * u64::from(grid.cells()),
         soonest,
+        exact: true,
     };
     search(alloc, frontier, &errand)
 }

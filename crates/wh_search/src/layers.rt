@@ -203,6 +203,7 @@ fn find<'x>(
         horizon,
         limit: horizon + stops.len() as u64 * u64::from(grid.cells()),
         soonest: 0,
+        exact: false,
     };
     search(alloc, &errand)
 }
@@ -258,6 +259,7 @@ fn find_parking<'x>(
         horizon,
         limit: horizon + u64::from(grid.cells()),
         soonest: 0,
+        exact: false,
     };
     search(alloc, &errand)
 }

@@ -49,6 +49,7 @@ fn find_parking<'x>(
         horizon,
         limit: horizon + u64::from(grid.cells()),
         soonest: 0,
+        exact: false,
     };
     search(alloc, frontier, &errand)
 }

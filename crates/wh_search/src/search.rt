@@ -11,7 +11,7 @@ ghost use Rattle.wh_search.specs.Guides.{guide_estimate};
 ghost use Rattle.wh_search.specs.Tours.{IsTour, IsLeastTour};
 
 use crate::errand::Errand;
-use crate::frontier::Frontier;
+use crate::frontier::{Frontier, node_of};
 use crate::trail::walk_back;
 use std::alloc::{AllocError, Global};
 use wh_path::TimedPath;
@@ -34,8 +34,8 @@ pub fn search(
     let base = errand.soonest.max(left);
     let stride = (left as usize).min(4096) + 16;
     frontier.restart(base, stride)?;
-    let look = frontier.look(errand, 0, errand.first, errand.loc);
-    frontier.meet(errand, 0, errand.first, errand.loc, 0, left, look)?;
+    let start = node_of(0, errand.first, errand.loc, 0)?;
+    frontier.meet(errand, start, left)?;
     for _ in 0..u64::MAX {
         let Some((bound, index)) = frontier.queue.pop() else {
             return Ok(None);

@@ -39,6 +39,9 @@ search-requires-clause-errand c =
       not_sooner = λ k s e.
           let is : cell_at stops n ≡ s.cell = one_only (cell_at stops n) s.cell (subst (λ (w : List Cell). Contains w s.cell) (last_part stops ∙ last_only stops n (omega arith)) e.delivered) in
           c.in-Some.ensures.some k (subst (λ (d : Cell). MayRest c.args.others.now d k) (sym is) e.rests);
+      exact = λ t k end b since.
+          let is : cell_at stops n ≡ end = one_only (cell_at stops n) end (subst (λ (w : List Cell). Contains w end) (last_part stops ∙ last_only stops n (omega arith)) b) in
+          subst (λ (d : Cell). MayRest c.args.others.now d k) is (c.in-Some.ensures.since k since);
     }
 
 pub returns-clause-found : goal.returns-clause-found

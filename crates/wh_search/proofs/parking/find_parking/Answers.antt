@@ -22,6 +22,7 @@ search-requires-clause-errand c =
       small = omega (arith, c.horizon-horizon.ensures.bound);
       guided = subst (λ (f : Sources). IsEstimate g [] ends (λ l d. nearest_estimate f.grid f.cells d)) (sym c.in_ok-field.ensures) (nearest_estimates g ends);
       not_sooner = λ k s e. omega arith;
+      exact = λ t. cc;
     }
 
 pub returns : goal.returns

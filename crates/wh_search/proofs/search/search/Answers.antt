@@ -1,6 +1,7 @@
-use Rattle.std.proofs.Common.{ℕ, ◌<◌, length, List, [], None, refl, subst, sym, ◌∙◌, arith}
+use Rattle.std.proofs.Common.{ℕ, ◌<◌, length, List, [], None, refl, subst, sym, ap, ◌∙◌, arith}
 use Rattle.wh_search.specs.declared.frontier.Node.{Node}
 use Rattle.wh_search.specs.Frontiers.{problem, node_at, IsReached, IsTrace, IsTold, Meets}
+use Rattle.wh_search.specs.Guides.{guide_estimate}
 use Rattle.wh_search.proofs.Expands.{kept_first}
 use Rattle.wh_search.proofs.Told.{told_none, told_meets, told_pop}
 use Rattle.wh_search.proofs.Searches.{popped, popped_least, trace_size, node_alone, found_tour, found_expanded, none_found, errand_falls}
@@ -15,11 +16,15 @@ loop-init c =
     let nodes = c.meet.new.self.nodes.items in
     let first = c.in_ok-restart.ensures in
     let queue = c.restart.new.self.queue in
-    let m : Meets p [] queue nodes c.meet.new.self.queue n = subst (λ (x : List Node). Meets p x queue nodes c.meet.new.self.queue n) first.nodes c.in_ok-meet.ensures.met in (
+    let met : Meets p [] queue nodes c.meet.new.self.queue c.in_ok-start.start = subst (λ (x : List Node). Meets p x queue nodes c.meet.new.self.queue c.in_ok-start.start) first.nodes c.in_ok-meet.ensures.met in
+    let m : Meets p [] queue nodes c.meet.new.self.queue n = subst (λ (x : Node). Meets p [] queue nodes c.meet.new.self.queue x) c.in_ok-start.ensures met in (
       kept_first p nodes queue c.meet.new.self.queue n refl refl h.arrives.few h.inside (errand_falls e h 0 p.start h.arrives.few h.inside) first.sound (omega (arith, first.base, c.max-base.ensures, c.estimate-left.ensures)) first.none m,
       subst (IsTold p nodes c.meet.new.self.queue None) (sym (c.in_ok-meet.ensures.expanded ∙ first.expanded))
           (told_meets p [] queue nodes c.meet.new.self.queue n [] (told_none p queue first.none) (λ b i w. absurd (first.none b i w)) (λ k b. absurd (omega arith)) m),
     )
+
+pub meet-requires-clause-left : goal.meet-requires-clause-left
+meet-requires-clause-left c = c.estimate-left.ensures ∙ ap (λ (x : Node). guide_estimate c.args.errand.now.guide x.leg x.cell) (sym c.in_ok-start.ensures)
 
 pub returns-in_default-clause-found : goal.returns-in_default-clause-found
 returns-in_default-clause-found c =
@@ -35,6 +40,11 @@ is_end-requires-clause-within c =
 pub is_end-requires-clause-few : goal.is_end-requires-clause-few
 is_end-requires-clause-few c =
     (popped (problem c.args.errand.now) c.loop.frontier.nodes.items c.loop.frontier.queue c.pop.new.self c.in-Some.bound c.in-Some.index c.loop.invariant.0 c.in-Some.ensures.some).few
+
+pub is_end-requires-clause-inside : goal.is_end-requires-clause-inside
+is_end-requires-clause-inside c =
+    let h = popped (problem c.args.errand.now) c.loop.frontier.nodes.items c.loop.frontier.queue c.pop.new.self c.in-Some.bound c.in-Some.index c.loop.invariant.0 c.in-Some.ensures.some in
+    (c.loop.invariant.0.reached c.in-Some.index h.within).inside
 
 pub walk_back-requires-clause-within : goal.walk_back-requires-clause-within
 walk_back-requires-clause-within c =
