@@ -11,7 +11,7 @@ use Rattle.wh_search.specs.Frontiers.{problem, node_at, state_of, moment_of, tot
 use Rattle.wh_field.specs.Sides.{around}
 use Rattle.wh_search.specs.Guides.{guide_estimate}
 use Rattle.wh_search.specs.States.{IsEnd}
-use Rattle.wh_search.proofs.Expands.{IsExpanding, IsMet, estimate_beside, move_at, onward_of, expanding_met, expanding_not, expanding_done, expanded_less}
+use Rattle.wh_search.proofs.Expands.{IsExpanding, IsMet, estimate_beside, move_at, expanding_met, expanding_not, expanding_done, expanded_less}
 use Rattle.wh_search.proofs.Kept.{kept_done, kept_again, met_node}
 use Rattle.wh_search.proofs.Told.{IsNoted, node_reaches, told_note, told_again, noted_meets}
 use Rattle.wh_search.proofs.Searches.{errand_falls}
