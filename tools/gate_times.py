@@ -27,13 +27,22 @@ def told(line: str) -> str | None:
     return f'{found[1]}{" tests" if found[2] else ""} {found[3]}'
 
 
+def open_table(file: str):
+    """The file to write to; none, with a note, where it cannot be had, as the gate must go on."""
+    try:
+        os.makedirs(os.path.dirname(os.path.abspath(file)), exist_ok=True)
+        return open(file, 'w', encoding='utf-8')
+    except OSError as error:
+        print(f'gate_times: {file}: {error.strerror}', file=sys.stderr)
+        return open(os.devnull, 'w', encoding='utf-8')
+
+
 def main() -> int:
     parser = argparse.ArgumentParser(description=__doc__, formatter_class=argparse.RawDescriptionHelpFormatter)
     parser.add_argument('file')
     options = parser.parse_args()
-    os.makedirs(os.path.dirname(os.path.abspath(options.file)), exist_ok=True)
     begin, last = time.monotonic(), ''
-    with open(options.file, 'w', encoding='utf-8') as table:
+    with open_table(options.file) as table:
         def note(what: str) -> None:
             print(f'{(time.monotonic() - begin) / 60:6.1f}  {what}', file=table, flush=True)
         for line in sys.stdin:
