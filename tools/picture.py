@@ -35,8 +35,10 @@ def mark(phase: str, x: float, y: float, inner: str = '') -> str:
     return f'<path class="{phase}" d="{shape}"{">" + inner + "</path>" if inner else "/>"}'
 
 
-def frame(site: runs.Site, body: list[str]) -> str:
+def frame(site: runs.Site, body: list[str], below: list[str]) -> str:
     width, height = max(site.width * CELL, 330), site.height * CELL + BAND
+    shown = 2 if width < 400 else 1    # a small floor is shown larger
+    aside = (width - site.width * CELL) / 2
     blocked = []
     for y, row in enumerate(site.rows):
         x = 0
@@ -58,10 +60,11 @@ def frame(site: runs.Site, body: list[str]) -> str:
         x = 88 + 62 * i
         legend.append(f'<g transform="translate({x},{site.height * CELL + 17}) scale(.4)">{mark(phase, 0, 0)}</g>'
                       f'<text class="t" x="{x + 9}" y="{site.height * CELL + 21}" style="font-size:10px">{phase}</text>')
-    return '\n'.join([f'<svg xmlns="http://www.w3.org/2000/svg" viewBox="0 0 {width} {height}" width="{width}" height="{height}">',
-                      STYLE, f'<rect class="b" width="{width}" height="{height}"/>',
-                      f'<rect class="f" width="{site.width * CELL}" height="{site.height * CELL}"/>',
-                      f'<path class="w" d="{"".join(blocked)}"/>', *points, *body, *legend, '</svg>'])
+    return '\n'.join([f'<svg xmlns="http://www.w3.org/2000/svg" viewBox="0 0 {width} {height}" '
+                      f'width="{shown * width}" height="{shown * height}">', STYLE, f'<rect class="b" width="{width}" height="{height}"/>',
+                      f'<g transform="translate({aside:g})">', f'<rect class="f" width="{site.width * CELL}" height="{site.height * CELL}"/>',
+                      f'<path class="w" d="{"".join(blocked)}"/>', *points, *body, '</g>',
+                      *legend, *below, '</svg>'])
 
 
 def body_of(agent: int, extra: str = '') -> str:
@@ -95,8 +98,7 @@ def still(run: runs.Run, clock: int) -> str:
     for agent in range(len(run.ways)):
         x, y = middle(run.place(agent, clock))
         body.append(f'<g transform="translate({x:g},{y:g})">{body_of(agent, load() if agent in carrying else "")}</g>')
-    body.append(f'<text class="t" x="6" y="{run.site.height * CELL + 21}">clock {clock}</text>')
-    return frame(run.site, body)
+    return frame(run.site, body, [f'<text class="t" x="6" y="{run.site.height * CELL + 21}">clock {clock}</text>'])
 
 
 class Film:
@@ -155,9 +157,9 @@ def animated(run: runs.Run) -> str:
         loads = [load(inner, 0) for task in run.tasks if task.agent == agent and task.visits
                  if (inner := film.shown(task.visits[0], task.done))]
         body.append(f'<g transform="translate({place})">{motion}{body_of(agent, "".join(loads))}</g>')
-    y = run.site.height * CELL + 21
+    y, below = run.site.height * CELL + 21, []
     if run.clock - run.start <= 200:
         for clock in range(run.start, run.clock + 1):
             inner = film.shown(clock, clock + 1 if clock < run.clock else None)
-            body.append(f'<text class="t" x="6" y="{y}" opacity="{int(clock == run.start)}">clock {clock}{inner}</text>')
-    return frame(run.site, body)
+            below.append(f'<text class="t" x="6" y="{y}" opacity="{int(clock == run.start)}">clock {clock}{inner}</text>')
+    return frame(run.site, body, below)
