@@ -27,7 +27,9 @@ def middle(cell: runs.Cell) -> tuple[float, float]:
 
 def mark(phase: str, x: float, y: float, inner: str = '') -> str:
     """The shape of a phase: a ring, a triangle, a frame, a tick."""
-    r = CELL * .4
+    r = CELL * (.4 if phase != 'done' or (x, y) == (0, 0) else .22)
+    if phase == 'done' and (x, y) != (0, 0):    # beside the agent that may stand there
+        x, y = x + CELL * .32, y + CELL * .32
     shape = {'open': f'M{x - r},{y}a{r},{r} 0 1 0 {2 * r},0a{r},{r} 0 1 0 {-2 * r},0',
              'assigned': f'M{x},{y - r}l{r},{2 * r}h{-2 * r}z',
              'carried': f'M{x - r},{y - r}h{2 * r}v{2 * r}h{-2 * r}z',
