@@ -1,0 +1,10 @@
+pub mod Vehicles
+pub mod Opening
+pub mod Keeping
+pub mod Running
+pub mod Going
+pub mod Through
+pub mod Waiting
+pub mod Rings
+pub mod Bounds
+pub mod Making
