@@ -22,6 +22,7 @@ use wh_grid::Grid;
 use wh_path::TimedPath;
 use wh_planner::{Duty, PlanFault, Planner, Scene};
 use wh_planners::Patient;
+use wh_shared::SharedFields;
 use wh_token::Warehouse;
 
 /// That a planner is at work, and that somebody has looked since.
@@ -55,10 +56,16 @@ impl<'a> Planner for Watched<'a> {
         self.inner.slots()
     }
 
-    fn plan(&mut self, alloc: Global, scene: &Scene, duty: Duty) -> Result<TimedPath, PlanFault> {
+    fn plan(
+        &mut self,
+        alloc: Global,
+        fields: &mut SharedFields,
+        scene: &Scene,
+        duty: Duty,
+    ) -> Result<TimedPath, PlanFault> {
         self.flags.inside.store(1, SeqCst);
         hold(&self.flags.looked, 1, &self.flags.limits);
-        self.inner.plan(alloc, scene, duty)
+        self.inner.plan(alloc, fields, scene, duty)
     }
 }
 

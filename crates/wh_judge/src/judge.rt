@@ -134,6 +134,20 @@ impl<'a> Judge<'a> {
         self.instance.agents()
     }
 
+    /// The state.
+    pub fn into_floor(self) -> Floor
+        ensures { result.state ≡ self.entry.state }
+    {
+        let Judge {
+            instance,
+            floor,
+            near,
+        } = self;
+        drop(instance);
+        drop(near);
+        floor
+    }
+
     /// Whether the entry is a step from the state; if so, it is made. The error comes where memory is wanting, for a new
     /// task or to see that a clear way is wanting; then the state stays.
     pub fn step(&mut self, alloc: Global, entry: Entry) -> Result<bool, AllocError>

@@ -6,4 +6,4 @@ mod output;
 mod script;
 
 pub use output::{WriteFault, write_all};
-pub use script::{ReplayFault, Replayed, replay};
+pub use script::{ReplayFault, Replayed, replay, serve};
