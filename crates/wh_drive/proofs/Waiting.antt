@@ -103,14 +103,19 @@ waits-kept old new agent other k still waits =
     let size = k.size in
     let as_told = k.as_told in
     let earlier = before.earlier in
-    let not_over = before.not_over in
-    (step-kept old new agent k step, (time, record {
-      known = omega arith;
-      differ = before.differ;
-      earlier = omega arith;
-      there = k.rows other time (omega arith) ∙ before.there ∙ sym (next-kept old new agent k planned_to);
-      not_over = omega arith;
-    }))
+    let not_over = before.not_over in (
+      step-kept old new agent k step,
+      (
+        time,
+        record {
+          known = omega arith;
+          differ = before.differ;
+          earlier = omega arith;
+          there = k.rows other time (omega arith) ∙ before.there ∙ sym (next-kept old new agent k planned_to);
+          not_over = omega arith;
+        },
+      ),
+    )
 
 may-step : (old : Drive) (event : Event) (new : Drive) (agent : ℕ) → IsSound old → Step old event new → MayStart old agent → IsTold agent (event ∷ []) ⊎ MayStart new agent
 may-step old (Start other) new agent sound step may = elim (cases_eq agent other) [
@@ -191,9 +196,11 @@ refusal-step old (Arrive other number) new agent StartRefusal.FarAhead sound ste
       let k = keeps-arrived old other agent step.0.known in
       let h = r.0 in let g = r.1 in let f = r.2 in let s = k.size in let t = k.as_told in
       let e : reached (arrived other old) agent ≡ reached old agent = ap (λ (v : Vehicle). v.reached) (arrived-other old other agent ne) in
-      inr (subst (λ d. RefusesStart d agent StartRefusal.FarAhead) (sym step.1)
-      ((let l : agent < length (arrived other old).vehicles = omega arith in l), (let m : told (arrived other old) agent < clock (arrived other old) = omega arith in m),
-      (let m : reached (arrived other old) agent + old.ahead ≤ told (arrived other old) agent = omega arith in m)))
+      inr (subst (λ d. RefusesStart d agent StartRefusal.FarAhead) (sym step.1) (
+        (let l : agent < length (arrived other old).vehicles = omega arith in l),
+        (let m : told (arrived other old) agent < clock (arrived other old) = omega arith in m),
+        (let m : reached (arrived other old) agent + old.ahead ≤ told (arrived other old) agent = omega arith in m),
+      ))
 ]
 refusal-step old (Arrive other number) new agent (StartRefusal.WaitsFor whom) sound step r = elim (cases_eq whom other) [
   | inl e ↦ inl (sym e)
