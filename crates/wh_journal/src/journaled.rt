@@ -1,60 +1,25 @@
 //! A script that is served over a journal.
 #![tactic(auto)]
 
-ghost use Rattle.std.specs.Prelude.{◌≡◌, ◌≤◌, IfOk, IfErr, OnOk};
+ghost use Rattle.std.specs.Prelude.{◌≡◌, true, IfErr, OnOk, OnErr};
+ghost use Rattle.std.specs.Io.KnownBytes.{Keeps};
 ghost use Rattle.wh_journal.specs.Journals.{Journaled, ReplaysJournaled};
-ghost use Rattle.wh_journal.specs.Surviving.{IsLogOfBook};
+ghost use Rattle.wh_journal.specs.Surviving.{HoldsLog, StaysLog};
 
+use crate::fault::JournaledFault;
 use crate::journal::Journal;
-use crate::settling::{Unsettled, keep_up, settle};
+use crate::rounds::{Round, serve_round};
 use std::alloc::Global;
 use std::io::{Read, Write};
-use wh_event::Command;
-use wh_lines::{CommandLine, LineFault, Lines, Next, ReadFault};
+use wh_lines::Lines;
 use wh_planner::Planner;
-use wh_replay::{Replayed, serve};
 use wh_token::Warehouse;
 
-/// Why a script was not served to its end.
-#[derive(Clone, Copy, Debug, PartialEq, Eq)]
-pub enum JournaledFault {
-    /// X1: the reader failed, or a fault came before.
-    Broken,
-    /// X2: the reader was asked 100,000,000 times.
-    Endless,
-    /// X3: the writer failed, took no byte, or could not be flushed.
-    Unwritten,
-    /// The journal failed.
-    Unjournaled,
-    /// E90: memory was wanting for replies or lines that wait.
-    NoMemory,
-}
-
-fn read_fault(fault: LineFault) -> JournaledFault {
-    match fault {
-        LineFault::Read(ReadFault::Broken) => JournaledFault::Broken,
-        LineFault::Read(ReadFault::Endless) => JournaledFault::Endless,
-        LineFault::Flush => JournaledFault::Unwritten,
-    }
-}
-
-fn settle_fault(fault: Unsettled) -> JournaledFault {
-    match fault {
-        Unsettled::NoMemory => JournaledFault::NoMemory,
-        Unsettled::Unjournaled => JournaledFault::Unjournaled,
-        Unsettled::Unwritten => JournaledFault::Unwritten,
-    }
-}
-
-/// Whether a whole line stands in the bytes.
-fn has_line(bytes: &[u8]) -> bool {
-    bytes.iter().any(|b| *b == b'\n')
-}
-
-/// Serves the script that is left in the reader, to the reader's end, as `wh_replay::replay` does, and has the journal keep
-/// each entry before its reply is told: before each read that may wait, and at the end, the lines of all new entries are
-/// appended and synced, and then the replies that waited are written. A fault of the journal stops it, and then no reply is
-/// told whose entry does not stand in the journal.
+/// Serves the script that is left in the reader, to the reader's end, as `wh_replay::replay` does, but that what follows the
+/// last line feed is no line: a command that was cut is not served. It has the journal keep each entry before its reply is
+/// told: in rounds, before each read that may wait and at the end, the lines of all new entries are appended and synced, and
+/// then the replies that waited are written. A fault of the journal stops it, and then no reply is told whose entry does not
+/// stand in the journal.
 pub fn replay_journaled<R: Read, W: Write, J: Journal, P: Planner>(
     lines: &mut Lines<R>,
     alloc: Global,
@@ -62,88 +27,28 @@ pub fn replay_journaled<R: Read, W: Write, J: Journal, P: Planner>(
     writer: &mut W,
     warehouse: &mut Warehouse<P>,
     spares: &mut Vec<P>,
-) -> Result<Replayed, JournaledFault>
-    requires { J.synced journal.old ≡ J.contents journal.old }
-    ensures ok { IfOk result (λ r. ReplaysJournaled P.fits_map P.slot_count lines.old lines.new warehouse.old.book spares.old.items warehouse.new.book spares.new.items (W.contents writer.old) (W.contents writer.new) (J.contents journal.old) (J.synced journal.new) (J.contents journal.new) r.replies) }
-    // A journal that is the book's log, but for the end line, stays so.
-    ensures log { OnOk result (IsLogOfBook (J.contents journal.old) warehouse.old.book → IsLogOfBook (J.contents journal.new) warehouse.new.book) }
-    ensures fault { IfErr result (λ _. Journaled P.fits_map P.slot_count lines.old warehouse.old.book spares.old.items warehouse.new.book (W.contents writer.old) (W.contents writer.new) (J.contents journal.old) (J.synced journal.new) (J.contents journal.new)) }
+) -> Result<(), JournaledFault>
+    requires synced { J.synced journal.old ≡ J.contents journal.old }
+    // A journal that tells its bytes is the book's log, but for the end line.
+    requires log { HoldsLog (J.contents journal.old) warehouse.old.book }
+    ensures ok { OnOk result (ReplaysJournaled P.fits_map P.slot_count lines.old lines.new warehouse.old.book spares.old.items warehouse.new.book spares.new.items (W.contents writer.old) (W.contents writer.new) (J.contents journal.old) (J.synced journal.new) (J.contents journal.new)) }
+    // It stays so.
+    ensures log { OnOk result (StaysLog (J.contents journal.old) (J.contents journal.new) warehouse.new.book) }
+    ensures fault { IfErr result (λ fault. Journaled P.fits_map P.slot_count fault lines.old lines.new warehouse.old.book spares.old.items warehouse.new.book spares.new.items (W.contents writer.old) (W.contents writer.new) (J.contents journal.old) (J.failed journal.new) (J.synced journal.new) (J.contents journal.new)) }
+    // After a fault there is nothing more.
+    ensures failed { OnErr result (lines.new.failed ≡ true) }
+    ensures again { lines.old.failed ≡ true → (result ≡ Err JournaledFault.Broken) × (lines.new ≡ lines.old) × (warehouse.new.book ≡ warehouse.old.book) × (spares.new.items ≡ spares.old.items) × (journal.new ≡ journal.old) × Keeps (W.contents writer.old) (W.contents writer.new) }
 {
-    let mut line = CommandLine::new();
-    let mut command = Command::Close;
-    let mut waiting: Vec<u8> = Vec::new(alloc);
-    let mut replies = 0;
-    let mut kept = warehouse.history().len();
+    if lines.has_failed() {
+        return Err(JournaledFault::Broken);
+    }
     for _ in 0..u64::MAX {
-        let is_ready = has_line(lines.waiting());
-        kept = match keep_up(
-            alloc,
-            journal,
-            writer,
-            &mut waiting,
-            warehouse.history(),
-            kept,
-            is_ready,
-        ) {
-            Ok(kept) => kept,
-            Err(fault) => return Err(settle_fault(fault)),
-        };
-        let next = match lines.next_line(writer, &mut line) {
-            Ok(next) => next,
-            Err(fault) => return Err(read_fault(fault)),
-        };
-        match next {
-            Next::End => match settle(
-                alloc,
-                journal,
-                writer,
-                &mut waiting,
-                warehouse.history(),
-                kept,
-            ) {
-                Ok(_) => return Ok(Replayed { replies }),
-                Err(fault) => return Err(settle_fault(fault)),
-            },
-            Next::Last => {
-                let count = match serve(
-                    &line,
-                    &mut command,
-                    alloc,
-                    &mut waiting,
-                    warehouse,
-                    spares,
-                ) {
-                    Ok(count) => count,
-                    Err(_) => return Err(JournaledFault::NoMemory),
-                };
-                match settle(
-                    alloc,
-                    journal,
-                    writer,
-                    &mut waiting,
-                    warehouse.history(),
-                    kept,
-                ) {
-                    Ok(_) => {
-                        return Ok(Replayed {
-                            replies: replies + count,
-                        });
-                    }
-                    Err(fault) => return Err(settle_fault(fault)),
-                }
-            }
-            Next::Whole => match serve(
-                &line,
-                &mut command,
-                alloc,
-                &mut waiting,
-                warehouse,
-                spares,
-            ) {
-                Ok(count) => replies += count,
-                Err(_) => return Err(JournaledFault::NoMemory),
-            },
+        match serve_round(lines, alloc, journal, writer, warehouse, spares) {
+            Ok(Round::Served) => {}
+            Ok(Round::Ended) => return Ok(()),
+            Err(fault) => return Err(fault),
         }
     }
+    lines.fail();
     Err(JournaledFault::Endless)
 }

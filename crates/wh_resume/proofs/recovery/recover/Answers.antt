@@ -3,6 +3,7 @@ use Rattle.wh_log.specs.declared.front_log.Front.{Front}
 use Rattle.wh_log.specs.Torn.{Recovers}
 use Rattle.wh_resume.specs.Keeping.{Opens, Steps}
 use Rattle.wh_resume.proofs.Telling.{can_open, leads_led, led_parts, site_of, tells_bad}
+use Rattle.wh_resume.proofs.Walks.{breaks_off, other_told}
 use Rattle.wh_resume.proofs.recovery.recover.Goals as goal
 
 pub follow_front-requires : goal.follow_front-requires
@@ -19,7 +20,8 @@ returns-in-Bad c =
     let first = c.in_ok-keeper.keeper in
     let is : first.judge.site ≡ setting = c.in_ok-keeper.ensures.site ∙ c.new.ensures ∙ site_of setting c.grid.result.now c.points.result.now c.grid.ensures c.points.ensures in
     let said = subst (λ (f : Front). Recovers Opens Steps c.args.text.now first c.follow_front.new.judge f) c.in-Bad.is c.in_ok-version.ensures in
-    tells_bad setting first c.args.text.now c.in-Bad.line c.agents-agents.ensures.layout is c.in_ok-keeper.ensures.empty said
+    let told = tells_bad setting first c.args.text.now c.in-Bad.line c.agents-agents.ensures.layout is c.in_ok-keeper.ensures.empty said in
+    breaks_off setting c.args.begun.now c.args.text.now c.in-Bad.line c.length_before.result told.0 told.1 c.length_before.ensures
 
 pub resume-book-requires-clause-opening : goal.resume-book-requires-clause-opening
 resume-book-requires-clause-opening c =
@@ -63,3 +65,10 @@ returns c =
         history_is = c.resume-book.ensures.history ∙ parts.history_is;
       },
     )
+
+pub returns-in-Unopened : goal.returns-in-Unopened
+returns-in-Unopened c =
+    let setting = c.args.setting in
+    let first = c.in_ok-keeper.keeper in
+    let unopened = subst (λ (f : Front). Recovers Opens Steps c.args.text.now first c.follow_front.new.judge f) c.in-Unopened.is c.in_ok-version.ensures in
+    other_told setting c.args.begun.now c.args.text.now c.begun_otherwise.result c.begun_otherwise.ensures unopened (c.is_front.ensures.other c.if-is_front.false)
