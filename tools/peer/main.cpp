@@ -55,7 +55,7 @@ static bool run_line(Warehouse& warehouse, Text line) {
     return true;
 }
 
-int main() {
+int main(int count, char** words) {
     static Output output;
     static Input input(output);
     Site site(read_map(input));
@@ -66,6 +66,10 @@ int main() {
             output.line("refused C2");
         else if (UNLIKELY(!run_line(warehouse, line)))
             output.line("refused C1");
+    }
+    if (count == 2 && strcmp(words[1], "log") == 0) {
+        output.line("%%");
+        warehouse.write_log();
     }
     output.flush();
     return 0;
