@@ -1,5 +1,5 @@
-// The history: an entry for each command, with all that a log tells of it. It is kept also where no log is asked for: the
-// product keeps the same, and a yardstick that did not would be faster by that alone.
+// The history: an entry for each command, with all that a log tells of it. It is kept also where no log is asked for:
+// the product keeps the same, and a yardstick that did not would be faster by that alone.
 #pragma once
 
 #include <vector>

@@ -6,8 +6,8 @@
 
 #include "streams.hpp"
 
-// Values of a place in a distance field that are no distance; up to UNSEEN it is passable. A field starts as a copy of the
-// map's places, so a place that is passable must not be taken for one that was reached; a sum of two has room.
+// Values of a place in a distance field that are no distance; up to UNSEEN it is passable. A field starts as a copy of
+// the map's places, so a place that is passable must not be taken for one that was reached; a sum of two has room.
 constexpr uint32_t UNSEEN = 0x3FFFFFFD;
 constexpr uint32_t BLOCKED = 0x3FFFFFFE;
 constexpr uint32_t EDGE = 0x3FFFFFFF;    // blocked, as all of the border

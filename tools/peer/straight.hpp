@@ -1,6 +1,6 @@
 // The straight pass: before anything is searched for, a look for a path of just as many steps as are estimated at its
-// start. On such a path the estimate falls by one with each step, so only such steps are tried, depth first, of the moves
-// the last one first; where they lead nowhere is remembered. As the estimate tells the time, a place and a leg do for that.
+// start. On such a path the estimate falls by one with each step, so only such steps are tried, depth first, of the
+// moves the last one first; where they lead nowhere is remembered, by place and leg, as the estimate tells the time.
 #pragma once
 
 #include "errand.hpp"
