@@ -1,5 +1,6 @@
 #!/usr/bin/env python3
-"""Replays made instances by the built program and by its peer, and compares what they print, byte for byte.
+"""Replays made instances by the built program and by its peer, and compares what they print, byte for byte: the replies,
+and then the log, which has each cell of each path.
 
     tests/peer.py --runs 200 --seed 1
 
@@ -7,7 +8,8 @@ The peer, tools/peer, is built by g++ into a temporary folder; with --check it c
 an instance by tools/make_instance.py from its seed: mostly a small site, with shelves or without. Most lose stations
 and cells, and have agents that start at stations, so that agents stand in each other's way; then some tokens are left
 out, others change their order, and odd lines come in. A run whose outputs differ is printed with its seed and the first
-reply that differs, and its input is kept in a file. Before the last line stands how many replies of each kind came.
+line that differs, and its input is kept in a file. Before the last line stands how many replies of each kind came, and
+how many cells the paths have.
 """
 import argparse
 import collections
@@ -96,7 +98,15 @@ def difference(program, peer):
         return None
     ours, theirs = program.stdout.split(b'\n'), peer.stdout.split(b'\n')
     place = len(os.path.commonprefix([ours, theirs]))
-    return f'reply {place + 1}: {ours[place:place + 1]}; the peer {theirs[place:place + 1]}'
+    return f'line {place + 1}: {ours[place:place + 1]}; the peer {theirs[place:place + 1]}'
+
+
+def counted(output):
+    """How many replies of each kind an output has, and how many cells the paths of its log."""
+    replies, _, log = output.decode().partition('%%\n')
+    counts = collections.Counter(KIND.findall(replies))
+    counts['cells'] = sum(line.count(',') for line in log.split('\n') if ' path ' in line)
+    return counts
 
 
 def main():
@@ -114,8 +124,8 @@ def main():
         for seed in range(options.seed, options.seed + options.runs):
             text = instance(random.Random(seed))
             done = [subprocess.run(words, input=text, capture_output=True, timeout=120)
-                    for words in ([options.program, 'replay'], [peer])]
-            counts.update(KIND.findall(done[0].stdout.decode()))
+                    for words in ([options.program, 'replay', '--tail', 'log'], [peer, 'log'])]
+            counts.update(counted(done[0].stdout))
             wrong = difference(*done)
             if wrong:
                 failed += 1
