@@ -16,7 +16,7 @@ use wh_options::PlannerKind;
 use wh_planner::Planner;
 use wh_planners::Sharing;
 use wh_service::{PlannerParts, claim};
-use wh_token::{Committed, OpenFault, Warehouse};
+use wh_service::{Committed, OpenFault, Warehouse};
 
 /// The tree with one cell more, at (0,0).
 const OTHER_MAP: &str = "type octile\nheight 3\nwidth 5\nmap\n..@.@\n.....\n@.@.@\n";

@@ -10,7 +10,7 @@ use Rattle.wh_log.specs.Torn.{begun_lines, IsUnopened}
 use Rattle.wh_log.proofs.Fronts.{text-append}
 use Rattle.wh_log.proofs.HeadLaws.{head_is_line, start_is_line}
 use Rattle.wh_core.specs.States.{State, opened}
-use Rattle.wh_replay.specs.Scripts.{WritesFront}
+use Rattle.wh_journal.specs.Scripts.{WritesFront}
 use Rattle.wh_resume.specs.declared.recovery.Resumed.{Resumed}
 use Rattle.wh_resume.specs.declared.recovery.Recovery.{Recovery}
 use Rattle.wh_resume.specs.declared.recovery.Recovery.TheVariants as told

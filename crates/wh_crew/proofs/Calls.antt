@@ -7,8 +7,8 @@ use Rattle.wh_event.specs.declared.entry.Entry.{Entry}
 use Rattle.wh_event.specs.declared.event.Event.{Event}
 use Rattle.wh_event.specs.declared.event.Spare.{Spare}
 use Rattle.wh_event.specs.declared.event.Command.{Command}
-use Rattle.wh_token.specs.Fleet.{TellsSpare}
-use Rattle.wh_token.specs.Commands.{event_of}
+use Rattle.wh_desk.specs.Fleet.{TellsSpare}
+use Rattle.wh_desk.specs.Commands.{event_of}
 use Rattle.wh_desk.specs.Lists.{Received}
 use Rattle.wh_desk.proofs.Entries.{AllAt_push}
 use Rattle.wh_crew.specs.Work.{IsSublist, nothing, command_of, keeps, skips, commands_of, told_by, spares_told, LentFromEnd, Worked, Takes, Tried}

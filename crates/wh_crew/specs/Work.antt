@@ -5,8 +5,8 @@ use Rattle.wh_event.specs.declared.entry.Entry.{Entry}
 use Rattle.wh_event.specs.declared.event.Event.{Event}
 use Rattle.wh_event.specs.declared.event.Spare.{Spare}
 use Rattle.wh_event.specs.declared.event.Command.{Command}
-use Rattle.wh_token.specs.Fleet.{TellsSpare}
-use Rattle.wh_token.specs.Runs.{TakesLast}
+use Rattle.wh_desk.specs.Fleet.{TellsSpare}
+use Rattle.wh_desk.specs.Runs.{TakesLast}
 use Rattle.wh_desk.specs.Lists.{AllAt, entries_of, Received}
 use Rattle.wh_edge.specs.declared.work.Work.{Work}
 

@@ -23,7 +23,7 @@ use wh_path::TimedPath;
 use wh_planner::{Duty, PlanFault, Planner, Scene};
 use wh_planners::Patient;
 use wh_shared::SharedFields;
-use wh_token::Warehouse;
+use wh_desk::Warehouse;
 
 /// That a planner is at work, and that somebody has looked since.
 #[derive(Drop)]

@@ -22,7 +22,7 @@ use wh_edge::{Work, agent_work, client_work, clock_work};
 use wh_event::{Entry, Reply};
 use wh_planner::Planner;
 use wh_planners::Patient;
-use wh_token::Warehouse;
+use wh_desk::Warehouse;
 
 /// What a worker is to do.
 #[derive(Clone, Copy)]

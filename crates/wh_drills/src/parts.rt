@@ -17,7 +17,7 @@ use wh_planner::Planner;
 use wh_planners::Patient;
 use wh_points::Points;
 use wh_text::Name;
-use wh_token::Warehouse;
+use wh_desk::Warehouse;
 
 const MAP: &[u8] = b"type octile\nheight 3\nwidth 5\nmap\n@.@.@\n.....\n@.@.@\n";
 

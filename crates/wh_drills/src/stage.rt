@@ -18,7 +18,7 @@ use wh_board::Publisher;
 use wh_desk::{Cells, Desk, DeskName};
 use wh_planner::Planner;
 use wh_planners::Patient;
-use wh_token::Warehouse;
+use wh_desk::Warehouse;
 
 /// What is done at a desk that was just opened.
 #[derive(Clone, Copy)]

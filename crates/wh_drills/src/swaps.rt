@@ -14,7 +14,7 @@ use wh_desk::{Answer, Cells, Desk, DeskFault, DeskName, Receipt};
 use wh_event::Reply;
 use wh_planner::Planner;
 use wh_planners::Sharing;
-use wh_token::Warehouse;
+use wh_desk::Warehouse;
 
 /// What a call told, as far as these tests look.
 #[derive(Clone, Copy, PartialEq, Eq, Debug)]

@@ -12,7 +12,7 @@ use Rattle.wh_grid.specs.Grids.{Floor}
 use Rattle.wh_points.specs.Points.{Site}
 use Rattle.wh_points.specs.Formed.{IsFormed}
 use Rattle.wh_core.specs.States.{State}
-use Rattle.wh_book.specs.Drafts.{Seen, AllServed}
+use Rattle.wh_token.specs.Drafts.{Seen, AllServed}
 use Rattle.wh_token.specs.Runs.{Ran, entries_of}
 use Rattle.wh_token.proofs.Runs.{ran-run}
 use Rattle.wh_event.specs.CommandLines.{command_of}

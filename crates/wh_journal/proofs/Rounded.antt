@@ -7,7 +7,7 @@ use Rattle.wh_text.specs.Lines.{lines_of}
 use Rattle.wh_words.specs.Lines.{text_of as lines_text}
 use Rattle.wh_lines.specs.Input.{Input, left, with_failed, Takes}
 use Rattle.wh_grid.specs.Grids.{Floor}
-use Rattle.wh_book.specs.Drafts.{Seen}
+use Rattle.wh_token.specs.Drafts.{Seen}
 use Rattle.wh_event.specs.declared.entry.Entry.{Entry}
 use Rattle.wh_log.specs.Spelling.{entry_line}
 use Rattle.wh_log.proofs.Fronts.{text-append}

@@ -5,7 +5,7 @@ use Rattle.std.proofs.KnownBytes.{Keeps-refl, Consumes-nil, Consumes-trans, Appe
 use Rattle.wh_text.specs.Lines.{lines_of}
 use Rattle.wh_lines.specs.Input.{Input, left, Takes}
 use Rattle.wh_grid.specs.Grids.{Floor}
-use Rattle.wh_book.specs.Drafts.{Seen}
+use Rattle.wh_token.specs.Drafts.{Seen}
 use Rattle.wh_event.specs.declared.entry.Entry.{Entry}
 use Rattle.wh_replay.specs.Answers.{text_of}
 use Rattle.wh_replay.specs.Scripts.{WritesFront}

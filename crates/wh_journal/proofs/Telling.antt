@@ -4,7 +4,7 @@ use Rattle.std.specs.Io.KnownBytes.{Appends}
 use Rattle.wh_words.specs.Lines.{text_of as lines_text}
 use Rattle.wh_grid.specs.Grids.{Floor}
 use Rattle.wh_core.specs.States.{State}
-use Rattle.wh_book.specs.Drafts.{Seen}
+use Rattle.wh_token.specs.Drafts.{Seen}
 use Rattle.wh_event.specs.declared.entry.Entry.{Entry}
 use Rattle.wh_lines.specs.Input.{Input}
 use Rattle.wh_log.specs.declared.version.Version.TheVariants.{Two}

@@ -10,7 +10,7 @@ use Rattle.wh_lines.specs.declared.next.LineFault.{LineFault}
 use Rattle.wh_lines.specs.declared.next.LineFault.TheVariants.{Read, Flush}
 use Rattle.wh_lines.specs.declared.lines.ReadFault.TheVariants as reads
 use Rattle.wh_grid.specs.Grids.{Floor}
-use Rattle.wh_book.specs.Drafts.{Seen}
+use Rattle.wh_token.specs.Drafts.{Seen}
 use Rattle.wh_event.specs.declared.entry.Entry.{Entry}
 use Rattle.wh_token.specs.Runs.{entries_of}
 use Rattle.wh_replay.specs.Answers.{text_of, said}

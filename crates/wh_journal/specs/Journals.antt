@@ -6,7 +6,7 @@ use Rattle.wh_words.specs.Lines.{text_of as lines_text}
 use Rattle.wh_lines.specs.Text.{EndsLine, IsPlain}
 use Rattle.wh_lines.specs.Input.{Input, left, Takes}
 use Rattle.wh_grid.specs.Grids.{Floor}
-use Rattle.wh_book.specs.Drafts.{Seen}
+use Rattle.wh_token.specs.Drafts.{Seen}
 use Rattle.wh_event.specs.declared.entry.Entry.{Entry}
 use Rattle.wh_log.specs.Spelling.{entry_line}
 use Rattle.wh_replay.specs.Answers.{text_of}

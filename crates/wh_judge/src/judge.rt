@@ -16,7 +16,7 @@ use std::marker::Model;
 use wh_event::{Entry, Event, Reply};
 use wh_field::LazyField;
 use wh_grid::Cell;
-use wh_state::Floor;
+use wh_book::Floor;
 
 /// Whether the event may be answered so; if so, it is done.
 fn answer(

@@ -14,7 +14,7 @@ use std::alloc::{AllocError, Global};
 use wh_book::free_points;
 use wh_field::LazyField;
 use wh_planner::other_ends;
-use wh_state::Floor;
+use wh_book::Floor;
 
 /// Whether the agent has nothing to do, and is in nobody's way.
 pub fn may_rest(instance: &Instance, floor: &Floor, near: &mut LazyField, agent: u32) -> bool

@@ -9,7 +9,7 @@ ghost use Rattle.wh_judge.specs.Judged.{Decides};
 use crate::agents::{is_known, is_stranger};
 use crate::instance::Instance;
 use wh_event::{Refusal, Reply, Spare};
-use wh_state::Floor;
+use wh_book::Floor;
 
 /// Whether the end may be answered so; if so, it is made.
 pub fn close(instance: &Instance, floor: &mut Floor, reply: &Reply) -> bool

@@ -22,7 +22,7 @@ use wh_book::may_end;
 use wh_event::{Refusal, Reply};
 use wh_field::LazyField;
 use wh_path::TimedPath;
-use wh_state::Floor;
+use wh_book::Floor;
 use wh_text::Name;
 
 /// Whether the agent may take the task of this number by this path.

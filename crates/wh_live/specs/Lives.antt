@@ -6,13 +6,13 @@ use Rattle.wh_points.specs.Points.{Site}
 use Rattle.wh_event.specs.declared.entry.Entry.{Entry}
 use Rattle.wh_core.specs.States.{State, opened}
 use Rattle.wh_core.specs.Steps.{Run}
-use Rattle.wh_token.specs.Fleet.{IsTied}
+use Rattle.wh_crew.specs.Fleet.{IsTied}
 use Rattle.wh_log.specs.Logs.{log_lines}
 use Rattle.wh_log.specs.declared.version.Version.TheVariants.{Two}
 use Rattle.wh_edge.specs.declared.work.Work.{Work}
-use Rattle.wh_board.specs.Pasts.{Origin}
-use Rattle.wh_desk.specs.Lists.{Received}
-use Rattle.wh_desk.specs.Calls.{AllEmpty, InOrder}
+use Rattle.wh_crew.specs.Pasts.{Origin}
+use Rattle.wh_crew.specs.Lists.{Received}
+use Rattle.wh_crew.specs.Calls.{AllEmpty, InOrder}
 use Rattle.wh_crew.specs.Work.{AllWorked}
 use Rattle.wh_crew.specs.declared.threads.CrewFault.{CrewFault}
 use Rattle.wh_crew.specs.declared.threads.CrewFault.TheVariants as crew

@@ -3,23 +3,23 @@
 
 ghost use Rattle.std.specs.Prelude.{◌≡◌, ◌<◌, ◌≤◌, ◌^◌, [], IfErr, IfOk, length};
 ghost use Rattle.wh_points.specs.Points.{IsLayout};
-ghost use Rattle.wh_token.specs.Fleet.{AllFit};
-ghost use Rattle.wh_board.specs.Pasts.{origin_of, past_of};
+ghost use Rattle.wh_crew.specs.Fleet.{AllFit};
+ghost use Rattle.wh_crew.specs.Pasts.{origin_of, past_of};
 ghost use Rattle.wh_live.specs.Lives.{IsWhyDead, Lives, WorkedFrom, trouble_of};
 
 use std::alloc::Global;
 use std::marker::Brand;
 use std::sync::{Arc, Wait};
 use std::thread::Threads;
-use wh_board::Publisher;
+use wh_crew::Publisher;
 use wh_crew::{CrewFault, Crewed, Gate, crew};
-use wh_desk::{Cells, Desk, DeskName};
+use wh_crew::{Cells, Desk, DeskName};
 use wh_edge::{Trouble, Work};
 use wh_grid::Grid;
 use wh_log::{NoMemory, log_text};
 use wh_planner::Planner;
 use wh_points::Points;
-use wh_token::{OpenFault, Warehouse};
+use wh_crew::{OpenFault, Warehouse};
 
 /// Lets every call through.
 struct Open;

@@ -1,22 +1,22 @@
 //! The row of a desk: two callers fill a journal of three, while a viewer looks.
 
 ghost use Rattle.std.specs.Prelude.{◌≡◌, ◌+◌, [], IfOk, IfSome, length};
-ghost use Rattle.wh_board.specs.Pasts.{origin_of, past_of};
-ghost use Rattle.wh_desk.specs.Lists.{AllAt};
-ghost use Rattle.wh_desk.specs.Calls.{TellsReceipt};
+ghost use Rattle.wh_service.specs.Pasts.{origin_of, past_of};
+ghost use Rattle.wh_service.specs.Lists.{AllAt};
+ghost use Rattle.wh_service.specs.Calls.{TellsReceipt};
 
 use crate::again::{Halt, TRIES, again, refused, tell};
 use crate::fleet::{bank, open, room};
 use std::alloc::{AllocError, Global};
 use std::marker::Brand;
 use std::sync::Wait;
-use wh_board::{Publisher, Viewer};
-use wh_book::Book;
-use wh_desk::{Cells, Desk, DeskFault, DeskName, Pass, Receipt};
+use wh_service::{Publisher, Viewer};
+use wh_service::Book;
+use wh_service::{Cells, Desk, DeskFault, DeskName, Pass, Receipt};
 use wh_event::{Command, read_line, write_reply};
 use wh_planner::Planner;
 use wh_service::PlannerParts;
-use wh_token::Warehouse;
+use wh_service::Warehouse;
 
 /// How many positions the journal has.
 const POSITIONS: u64 = 3;

@@ -16,7 +16,7 @@ use wh_options::PlannerKind;
 use wh_planner::Planner;
 use wh_points::Points;
 use wh_service::{PlannerParts, claim};
-use wh_token::{OpenFault, Warehouse};
+use wh_service::{OpenFault, Warehouse};
 
 /// A bank of so many slots, and its seat.
 pub fn bank<R: Print>(rt: &R, alloc: Global, slots: u32) -> Result<(Arc<Bank>, BankSeat), Halt>

@@ -3,7 +3,7 @@
 use wh_grid::Cell;
 use wh_planner::Planner;
 use wh_tasks::{Counts, Load};
-use wh_token::Warehouse;
+use wh_service::Warehouse;
 
 /// What a warehouse tells of an agent.
 #[derive(Clone, Copy, PartialEq, Eq)]

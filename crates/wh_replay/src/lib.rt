@@ -7,3 +7,6 @@ mod script;
 
 pub use output::{WriteFault, write_all};
 pub use script::{ReplayFault, Replayed, replay, serve};
+
+// handed on, for callers: what the items below take, return and speak of
+pub use wh_token::{Committed, NoMemory, OpenFault, Warehouse};

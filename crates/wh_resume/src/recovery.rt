@@ -8,7 +8,7 @@ ghost use Rattle.wh_resume.specs.Resuming.{Tells, TellsOther};
 use crate::fronts::{is_front, length_before};
 use crate::keeper::{Keeper, Parts};
 use std::alloc::Global;
-use wh_book::{Book, Setting};
+use wh_judge::{Book, Setting};
 use wh_judge::Instance;
 use wh_log::{Front, NoMemory, Version, follow_front};
 use wh_words::whole_line;

@@ -6,10 +6,10 @@ use Rattle.wh_points.specs.Points.{Site}
 use Rattle.wh_event.specs.declared.entry.Entry.{Entry}
 use Rattle.wh_core.specs.States.{State, opened}
 use Rattle.wh_core.specs.Steps.{Run}
-use Rattle.wh_token.specs.Fleet.{IsTied}
+use Rattle.wh_desk.specs.Fleet.{IsTied}
 use Rattle.wh_log.specs.Logs.{log_lines}
 use Rattle.wh_log.specs.declared.version.Version.TheVariants.{Two}
-use Rattle.wh_board.specs.Pasts.{Origin}
+use Rattle.wh_desk.specs.Pasts.{Origin}
 use Rattle.wh_desk.specs.Lists.{Received}
 use Rattle.wh_desk.specs.Calls.{AllEmpty, InOrder}
 use Rattle.wh_serve.specs.Hosting.{Session, AllServed}

@@ -2,8 +2,8 @@
 
 ghost use Rattle.std.specs.Prelude.{◌≡◌, ◌<◌, ◌≤◌, ◌^◌, [], IfOk, length};
 ghost use Rattle.wh_points.specs.Points.{IsLayout};
-ghost use Rattle.wh_token.specs.Fleet.{AllFit};
-ghost use Rattle.wh_board.specs.Pasts.{origin_of, past_of};
+ghost use Rattle.wh_desk.specs.Fleet.{AllFit};
+ghost use Rattle.wh_desk.specs.Pasts.{origin_of, past_of};
 ghost use Rattle.wh_serve.specs.Texts.{receipt_text};
 ghost use Rattle.wh_serve.specs.Runs.{ServedFrom, Hosts};
 
@@ -15,7 +15,7 @@ use std::io::{Read, Write};
 use std::marker::Brand;
 use std::sync::{Arc, Wait};
 use std::thread::Threads;
-use wh_board::Publisher;
+use wh_desk::Publisher;
 use wh_crew::CrewFault;
 use wh_desk::{Cells, Desk, DeskName};
 use wh_edge::Trouble;
@@ -23,7 +23,7 @@ use wh_grid::Grid;
 use wh_log::{NoMemory, log_text};
 use wh_planner::Planner;
 use wh_points::Points;
-use wh_token::{OpenFault, Warehouse};
+use wh_desk::{OpenFault, Warehouse};
 
 /// What is told of clients that came to no history.
 fn trouble_of(fault: CrewFault) -> Trouble {

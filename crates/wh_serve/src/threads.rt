@@ -2,7 +2,7 @@
 
 ghost use Rattle.std.specs.Prelude.{◌≡◌, ◌<◌, ◌≤◌, [], ℕ, All, IfOk, length, map, vec_len, vec_capacity, Some, slice_get};
 ghost use Rattle.wh_core.specs.Steps.{Run};
-ghost use Rattle.wh_board.specs.Pasts.{origin_of};
+ghost use Rattle.wh_desk.specs.Pasts.{origin_of};
 ghost use Rattle.wh_desk.specs.Lists.{AllAt};
 ghost use Rattle.wh_desk.specs.Calls.{InOrder};
 ghost use Rattle.wh_serve.specs.Texts.{receipt_text};

@@ -20,14 +20,14 @@ use Rattle.wh_event.specs.declared.event.Spare.{Spare}
 use Rattle.wh_event.specs.declared.event.Command.{Command}
 use Rattle.wh_event.specs.declared.fault.LineFault.{LineFault}
 use Rattle.wh_event.proofs.Asking.{command_law}
-use Rattle.wh_token.specs.Fleet.{TellsSpare}
+use Rattle.wh_replay.specs.Fleet.{TellsSpare}
 use Rattle.wh_edge.specs.Script.{IsScript, command_in, commands_in}
 use Rattle.wh_edge.specs.declared.work.Work.{Work}
 use Rattle.wh_log.specs.Ranges.{EventKeeps, SpareKeeps}
-use Rattle.wh_desk.specs.Lists.{Received, entries_from, entries_of}
-use Rattle.wh_crew.specs.Work.{IsSublist, nothing, keeps, skips, Worked, commands_of, spares_told, told_by, LentFromEnd}
-use Rattle.wh_crew.specs.Work as crew
-use Rattle.wh_board.specs.Pasts.{Origin}
+use Rattle.wh_live.specs.Lists.{Received, entries_from, entries_of}
+use Rattle.wh_live.specs.Work.{IsSublist, nothing, keeps, skips, Worked, commands_of, spares_told, told_by, LentFromEnd}
+use Rattle.wh_live.specs.Work as crew
+use Rattle.wh_live.specs.Pasts.{Origin}
 use Rattle.wh_core.specs.States.{State}
 use Rattle.wh_live.specs.Clients.{ReadInTurn}
 use Rattle.wh_live.specs.Lives.{WorkedFrom}

@@ -17,9 +17,9 @@ use Rattle.wh_claims.specs.declared.bank.Bank.{Bank}
 use Rattle.wh_event.specs.declared.entry.Entry.{Entry}
 use Rattle.wh_core.specs.States.{State, opened}
 use Rattle.wh_core.specs.Steps.{Run}
-use Rattle.wh_book.specs.Drafts.{Seen}
-use Rattle.wh_token.specs.Fleet.{IsTied, AllFit}
-use Rattle.wh_token.specs.Runs.{Ran, entries_of}
+use Rattle.wh_verify.specs.Drafts.{Seen}
+use Rattle.wh_replay.specs.Fleet.{IsTied, AllFit}
+use Rattle.wh_replay.specs.Runs.{Ran, entries_of}
 use Rattle.wh_edge.specs.Site.{SiteRead}
 use Rattle.wh_edge.specs.declared.trouble.Trouble.{Trouble}
 use Rattle.wh_options.specs.declared.chosen.Fleet.{Fleet}

@@ -14,9 +14,9 @@ use Rattle.wh_event.specs.declared.event.Spare.{Spare}
 use Rattle.wh_event.specs.declared.event.Command.{Command}
 use Rattle.wh_event.specs.declared.fault.LineFault.{LineFault}
 use Rattle.wh_core.specs.States.{State}
-use Rattle.wh_token.specs.Commands.{event_of}
-use Rattle.wh_token.specs.Fleet.{TellsFor}
-use Rattle.wh_token.specs.Runs.{Takes, entries_of}
+use Rattle.wh_replay.specs.Commands.{event_of}
+use Rattle.wh_replay.specs.Fleet.{TellsFor}
+use Rattle.wh_replay.specs.Runs.{Takes, entries_of}
 use Rattle.wh_log.specs.Logs.{Content, IsLogText}
 use Rattle.wh_log.specs.Ranges.{EventKeeps}
 use Rattle.wh_log.specs.declared.version.Version.TheVariants.{Two}

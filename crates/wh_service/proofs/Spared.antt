@@ -8,8 +8,8 @@ use Rattle.wh_grid.specs.Grids.{Floor}
 use Rattle.wh_points.specs.Points.{Site}
 use Rattle.wh_core.specs.States.{State}
 use Rattle.wh_core.specs.Steps.{IsKnown}
-use Rattle.wh_token.specs.Fleet.{TellsSpare, TellsFor}
-use Rattle.wh_token.specs.Runs.{Ran, TakesLast, Takes, WantsSpare}
+use Rattle.wh_replay.specs.Fleet.{TellsSpare, TellsFor}
+use Rattle.wh_replay.specs.Runs.{Ran, TakesLast, Takes, WantsSpare}
 use Rattle.wh_event.specs.declared.event.Command.{Command}
 use Rattle.wh_event.specs.declared.event.Event.{Event}
 use Rattle.wh_event.specs.declared.event.Spare.{Spare}

@@ -5,8 +5,8 @@ use Rattle.wh_lines.specs.Input.{Input}
 use Rattle.wh_grid.specs.Grids.{Floor}
 use Rattle.wh_points.specs.Points.{Site}
 use Rattle.wh_core.specs.States.{opened}
-use Rattle.wh_book.specs.Drafts.{Seen}
-use Rattle.wh_token.specs.Fleet.{IsTied}
+use Rattle.wh_verify.specs.Drafts.{Seen}
+use Rattle.wh_replay.specs.Fleet.{IsTied}
 use Rattle.wh_edge.specs.declared.trouble.Trouble.{Trouble}
 use Rattle.wh_edge.specs.declared.trouble.Trouble.TheVariants as trouble
 use Rattle.wh_options.specs.declared.chosen.Tail.{Tail}

@@ -10,8 +10,8 @@ use Rattle.wh_event.specs.declared.event.Command.{Command}
 use Rattle.wh_event.specs.declared.entry.Entry.{Entry}
 use Rattle.wh_core.specs.States.{State, opened}
 use Rattle.wh_core.specs.Steps.{Run}
-use Rattle.wh_book.specs.Drafts.{AllServed}
-use Rattle.wh_token.specs.Runs.{Ran, entries_of}
+use Rattle.wh_verify.specs.Drafts.{AllServed}
+use Rattle.wh_replay.specs.Runs.{Ran, entries_of}
 use Rattle.wh_edge.specs.Site.{SiteRead, SiteFault}
 use Rattle.wh_edge.specs.declared.trouble.Trouble.{Trouble}
 use Rattle.wh_edge.specs.declared.trouble.Trouble.TheVariants as trouble

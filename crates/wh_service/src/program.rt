@@ -2,7 +2,7 @@
 
 ghost use Rattle.std.specs.Prelude.{◌≡◌, IfErr, IfOk, length};
 ghost use Rattle.wh_points.specs.Points.{IsLayout};
-ghost use Rattle.wh_token.specs.Fleet.{AllFit};
+ghost use Rattle.wh_replay.specs.Fleet.{AllFit};
 ghost use Rattle.wh_service.specs.Fleets.{IsOfFleet, MakesPlanners};
 ghost use Rattle.wh_service.specs.Plays.{Plays, IsWhyUnplayed, trouble_of};
 ghost use Rattle.wh_service.specs.Serves.{Serves, IsWhyUnserved, ended_by};
@@ -20,7 +20,7 @@ use wh_options::{Refusal, ReplayOptions, Tail};
 use wh_planner::Planner;
 use wh_points::Points;
 use wh_replay::{ReplayFault, Replayed, replay};
-use wh_token::{OpenFault, Warehouse};
+use wh_replay::{OpenFault, Warehouse};
 
 /// What is told of a script that was not served to its end.
 fn trouble_of(fault: ReplayFault) -> Trouble

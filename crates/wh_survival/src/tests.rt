@@ -1,7 +1,7 @@
 use std::alloc::Global;
 use std::sync::Arc;
 use std::test::*;
-use wh_book::Setting;
+use wh_resume::Setting;
 use wh_claims::{Bank, Claim};
 use wh_grid::Grid;
 use wh_journal::{Journal, MemoryJournal, replay_journaled};
@@ -10,7 +10,7 @@ use wh_log::begun_text;
 use wh_planners::Patient;
 use wh_points::Points;
 use wh_resume::{Recovery, recover};
-use wh_token::Warehouse;
+use wh_journal::Warehouse;
 
 const MAP: &[u8] = b"type octile\nheight 3\nwidth 5\nmap\n@.@.@\n.....\n@.@.@\n";
 

@@ -1,6 +1,6 @@
 use Rattle.std.specs.Arc.{arc_value}
 use Rattle.wh_claims.specs.Bank.{Belongs}
-use Rattle.wh_board.specs.Pasts.{origin_of}
+use Rattle.wh_service.specs.Pasts.{origin_of}
 use Rattle.wh_refusals.proofs.desks.desk_receipts.Given as goal
 
 abbrev pub invariant-loop : goal.invariant-loop

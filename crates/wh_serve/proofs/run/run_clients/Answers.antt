@@ -3,7 +3,7 @@ use Rattle.wh_words.specs.Lines.{text_of}
 use Rattle.wh_points.specs.Points.{Site}
 use Rattle.wh_event.specs.declared.entry.Entry.{Entry}
 use Rattle.wh_core.specs.States.{State}
-use Rattle.wh_token.specs.Fleet.{IsTied}
+use Rattle.wh_desk.specs.Fleet.{IsTied}
 use Rattle.wh_log.specs.Logs.{log_lines}
 use Rattle.wh_log.specs.declared.version.Version.TheVariants.{Two}
 use Rattle.wh_serve.specs.Texts.{receipt_text}
