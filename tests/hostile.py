@@ -199,7 +199,7 @@ def one_run(program, seed, kinds, limit):
 
 def main():
     parser = argparse.ArgumentParser(description=__doc__, formatter_class=argparse.RawDescriptionHelpFormatter)
-    parser.add_argument('--program', default=os.path.join(ROOT, 'crates/warehouse/out/warehouse'))
+    parser.add_argument('--program', default=os.environ.get('WAREHOUSE') or os.path.join(ROOT, 'crates/warehouse/out/warehouse'))
     parser.add_argument('--runs', type=int, default=2000)
     parser.add_argument('--seed', type=int, default=1)
     parser.add_argument('--seconds', type=float, default=20, help='the time allowed to a run')

@@ -2,11 +2,14 @@
 # Runs the built program's `live`, whose log differs from run to run, and has `verify` say what each log is.
 #
 #   tests/live.sh [RUNS]      how often each instance runs (20)
+#
+# WAREHOUSE names another program than ./warehouse, which builds it where it has to be built.
 set -u
+warehouse=$(readlink -f -- "${WAREHOUSE:-$(dirname -- "${BASH_SOURCE[0]}")/../warehouse}")
 cd -- "$(dirname -- "${BASH_SOURCE[0]}")" || exit 1
 
 runs=${1:-20}
-../warehouse --help > /dev/null || exit 1    # builds it where it has to be built
+"$warehouse" replay < replay/one_delivery > /dev/null || exit 1    # builds it where it has to be built
 scratch=$(mktemp -d) || exit 1
 trap 'rm -rf -- "$scratch"' EXIT
 passed=0 failed=0
@@ -30,15 +33,15 @@ site() {
 run() {
     local site=$1 scripts=$2
     shift 2
-    cat -- "$site" "$scripts" | ../warehouse live "$@" > "$scratch/log" 2> "$scratch/errors"
+    cat -- "$site" "$scripts" | "$warehouse" live "$@" > "$scratch/log" 2> "$scratch/errors"
     [[ -s $scratch/errors ]] && cat -- "$scratch/errors"
-    echo "$(cat -- "$site" "$scratch/log" | ../warehouse verify) $(grep -c 'refused E6$' "$scratch/log")"
+    echo "$(cat -- "$site" "$scratch/log" | "$warehouse" verify) $(grep -c 'refused E6$' "$scratch/log")"
 }
 
 # What is printed where `live` does not begin: standard output, standard error, status.
 refused() {
     local status
-    ../warehouse live < "$1" > "$scratch/stdout" 2> "$scratch/stderr"
+    "$warehouse" live < "$1" > "$scratch/stdout" 2> "$scratch/stderr"
     status=$?
     echo "$(cat "$scratch/stdout")|$(cat "$scratch/stderr")|$status"
 }
@@ -68,14 +71,14 @@ for ((k = 0; k < runs; k++)); do
 done
 judge 'a separator at the end begins an empty client' "$(run "$scratch/small" /dev/null --turns 8)" 'run 24 0'
 empty_clients 61 > "$scratch/many"
-../warehouse live --turns 1 < "$scratch/many" > "$scratch/log"
-judge '61 clients' "$(cat "$scratch/small" "$scratch/log" | ../warehouse verify)" 'run 3'
+"$warehouse" live --turns 1 < "$scratch/many" > "$scratch/log"
+judge '61 clients' "$(cat "$scratch/small" "$scratch/log" | "$warehouse" verify)" 'run 3'
 empty_clients 62 > "$scratch/too_many"
 judge '62 clients' "$(refused "$scratch/too_many")" '|refused E94|1'
 judge 'a third line that is no command' "$(refused "$scratch/third_line")" '|refused C1 line 3|1'
 sed '$d' "$scratch/small" > "$scratch/no_client"
-../warehouse live < "$scratch/no_client" > "$scratch/log"
-judge 'no client' "$(cat "$scratch/small" "$scratch/log" | ../warehouse verify)" 'run 192'
+"$warehouse" live < "$scratch/no_client" > "$scratch/log"
+judge 'no client' "$(cat "$scratch/small" "$scratch/log" | "$warehouse" verify)" 'run 192'
 python3 ../tools/make_instance.py --columns 60 --rows 40 --agents 64 --tasks 0 --ticks 0 | sed '$d' > "$scratch/crowd"
 judge '64 agents, a clock and no client' "$(refused "$scratch/crowd")" '|refused E94|1'
 echo "$passed passed, $failed failed"

@@ -111,7 +111,7 @@ def counted(output):
 
 def main():
     parser = argparse.ArgumentParser(description=__doc__, formatter_class=argparse.RawDescriptionHelpFormatter)
-    parser.add_argument('--program', default=os.path.join(ROOT, 'crates/warehouse/out/warehouse'))
+    parser.add_argument('--program', default=os.environ.get('WAREHOUSE') or os.path.join(ROOT, 'crates/warehouse/out/warehouse'))
     parser.add_argument('--runs', type=int, default=200)
     parser.add_argument('--seed', type=int, default=1)
     parser.add_argument('--check', action='store_true', help='the peer checks its own paths too, which takes longer')

@@ -1,17 +1,19 @@
 #!/usr/bin/env bash
 # Runs the built program on each case of replay, check, tail and verify: NAME is its input, NAME.args its arguments (one
-# word a line), NAME.stdout what it must write; NAME.stderr (none: nothing) and NAME.status (none: 0) likewise.
+# word a line), NAME.stdout what it must write; NAME.stderr (none: nothing) and NAME.status (none: 0) likewise. WAREHOUSE
+# names another program than ./warehouse, which builds it where it has to be built.
 set -u
+warehouse=$(readlink -f -- "${WAREHOUSE:-$(dirname -- "${BASH_SOURCE[0]}")/../warehouse}")
 cd -- "$(dirname -- "${BASH_SOURCE[0]}")" || exit 1
 
-../warehouse --help > /dev/null || exit 1    # builds it where it has to be built
+"$warehouse" replay < replay/one_delivery > /dev/null || exit 1    # builds it where it has to be built
 scratch=$(mktemp -d) || exit 1
 trap 'rm -rf -- "$scratch"' EXIT
 passed=0 failed=0
 for wanted in replay/*.stdout check/*.stdout tail/*.stdout verify/*.stdout; do
     name=${wanted%.stdout}
     mapfile -t words < "$name.args"
-    ../warehouse "${words[@]}" < "$name" > "$scratch/stdout" 2> "$scratch/stderr"
+    "$warehouse" "${words[@]}" < "$name" > "$scratch/stdout" 2> "$scratch/stderr"
     status=$?
     errors=/dev/null
     [[ -e $name.stderr ]] && errors=$name.stderr

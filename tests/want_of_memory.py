@@ -90,7 +90,7 @@ def live(program, folder, shim, count):
 
 def main():
     parser = argparse.ArgumentParser(description=__doc__, formatter_class=argparse.RawDescriptionHelpFormatter)
-    parser.add_argument('--program', default=os.path.join(ROOT, 'crates/warehouse/out/warehouse'))
+    parser.add_argument('--program', default=os.environ.get('WAREHOUSE') or os.path.join(ROOT, 'crates/warehouse/out/warehouse'))
     parser.add_argument('--case', action='append')
     parser.add_argument('--live', action='store_true')
     options = parser.parse_args()

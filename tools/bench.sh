@@ -90,7 +90,7 @@ peers() {
 whole_runs() {
     local make="python3 $root/tools/make_instance.py --seed 7 --every 1"
     if [[ ! -x $program ]]; then
-        "$root/warehouse" --version > /dev/null    # it is built
+        "$root/warehouse" replay < "$root/examples/deliveries" > /dev/null    # it is built
     fi
     $make --columns 35 --rows 21 --agents 50 --tasks 500 --ticks 1500 > "$folder/small"
     $make --columns 81 --rows 81 --agents 250 --tasks 1000 --ticks 1500 > "$folder/large"

@@ -1,0 +1,267 @@
+#!/usr/bin/env python3
+"""Tests of the scripts that make, join and explain inputs, with expected values worked out by hand.
+
+    tests/tools_field.py            all; what runs the program takes it from WAREHOUSE, else ./warehouse
+    tests/tools_field.py --no-program
+
+The last line is `N passed, M failed`, and the status is 1 where one failed.
+"""
+import os
+import re
+import subprocess
+import sys
+import tempfile
+import traceback
+
+ROOT = os.path.dirname(os.path.dirname(os.path.abspath(__file__)))
+PROGRAM = os.environ.get('WAREHOUSE', os.path.join(ROOT, 'warehouse'))
+ENVIRONMENT = {**os.environ, 'WAREHOUSE': PROGRAM}
+SCRATCH = tempfile.TemporaryDirectory()
+SITE = b'type t\nheight 1\nwidth 4\nmap\n....\n'
+POINTS = b'parking P 0 0\nstation S 3 0\nagent P\n'
+
+
+def file(name: str, text: str | bytes) -> str:
+    path = os.path.join(SCRATCH.name, name)
+    with open(path, 'wb') as made:
+        made.write(text if isinstance(text, bytes) else text.encode())
+    return path
+
+
+def tool(name: str, *words: str) -> tuple[str, str, int]:
+    """Standard output, standard error and status of a script."""
+    done = subprocess.run([sys.executable, os.path.join(ROOT, 'tools', name), *words], capture_output=True, env=ENVIRONMENT)
+    assert b'Traceback' not in done.stderr, done.stderr.decode()
+    return done.stdout.decode(), done.stderr.decode(), done.returncode
+
+
+def warehouse(text: str | bytes, *words: str) -> tuple[str, int]:
+    given = text if isinstance(text, bytes) else text.encode()
+    done = subprocess.run([PROGRAM, *words], input=given, capture_output=True)
+    return (done.stdout + done.stderr).decode(), done.returncode
+
+
+def same(found: object, wanted: object) -> None:
+    assert found == wanted, f'found {found!r}, wanted {wanted!r}'
+
+
+def refused(done: tuple[str, str, int], *parts: str) -> None:
+    """A message with these parts, nothing on standard output, status 2."""
+    same((done[0], done[2]), ('', 2))
+    for part in parts:
+        assert part in done[1], f'{part!r} not in {done[1]!r}'
+
+
+def test_join_adds_the_last_lf() -> None:
+    level, points, script = file('m', SITE[:-1]), file('p', POINTS[:-1]), file('s', b'tick')
+    same(tool('join.py', level, points, script), ((SITE + b'%%\n' + POINTS + b'%%\ntick\n').decode(), '', 0))
+    same(tool('join.py', level, points), ((SITE + b'%%\n' + POINTS).decode(), '', 0))
+    same(tool('join.py', level, points, script, script)[0].count('%%\ntick\n'), 2)
+
+
+def test_join_refuses_a_file_of_two_sections() -> None:
+    refused(tool('join.py', file('m', SITE + b'%%\r\n'), file('p', POINTS)), 'line 6 is `%%`')
+    refused(tool('join.py', os.path.join(SCRATCH.name, 'none'), file('p', POINTS)), 'No such file')
+
+
+def test_log_input() -> None:
+    site = SITE + b'%%\n' + POINTS + b'%%\n'
+    instance, log = file('i', site + b'tick\n'), b'wlog 2\nstart 0 slots 4\n0 tick = clock 1 picked 0 dropped 0\nend 1\n'
+    for output in (log, b'clock 1 picked 0 dropped 0\n%%\n' + log, b'%%\n' + log):
+        same(tool('log_input.py', instance, file('o', output)), ((site + log).decode(), '', 0))
+    refused(tool('log_input.py', instance, file('o', b'clock 1 picked 0 dropped 0\n')), 'no log')
+    refused(tool('log_input.py', instance, file('o', b'closed\n%%\nc submitted 0\n')), '--tail ledger')
+    refused(tool('log_input.py', file('j', SITE), file('o', log)), 'two sections')
+
+
+def test_every_code_of_the_formats_has_a_sentence() -> None:
+    told = dict(line.split(': ', 1) for line in tool('explain.py', '--all')[0].splitlines())
+    named = set()
+    for page in ('FORMATS.md', 'USE.md'):
+        with open(os.path.join(ROOT, 'docs', page), encoding='utf-8') as text:
+            named |= set(re.findall(r'\b[A-Z][0-9]{1,2}\b', text.read())) - {'S1', 'N0', 'N1', 'P0', 'P1'}
+    assert {'M1', 'M7', 'P10', 'C2', 'E10', 'E95', 'B2', 'X4'} <= named, named
+    same(named - set(told), set())
+    for verdict in ('formed', 'few', 'cut', 'bad', 'run'):
+        assert told[verdict].endswith('.')
+    same(len(set(told.values())), len(told))
+
+
+def test_explain_tells_the_place() -> None:
+    site = 'type t\nheight 1\nwidth 4\nmap\n..@.\n%%\n# points\nparking P 0 0\nstation S 2 0\nagent P\n%%\n'
+    instance = file('i', site + 'tick\n%%\ntick\ngo\n')
+    lines = tool('explain.py', 'refused P4 line 3', instance)[0].splitlines()
+    same(lines[1:], ['Line 3 of its section is line 9 of the whole input:', '    station S 2 0', "The map has '@' at x = 2, y = 0."])
+    # line 2 of the first script is missing, so it is the second script's, which begins at line 14
+    same(tool('explain.py', 'refused C1 line 2', instance)[0].splitlines()[1:],
+         ['Line 2 of its section is line 15 of the whole input:', '    go'])
+    same(tool('explain.py', 'refused P7 line 5', instance)[0].splitlines()[1:],
+         ['The section ends before its line 5; in the whole input it would be line 11.'])
+    assert 'is it the one' in tool('explain.py', 'bad 1', file('j', 'type t\n'))[0]
+    refused(tool('explain.py', 'refused Z9'), 'no message of the program is known to me')
+
+
+def test_explain_sees_a_separator_in_a_row() -> None:
+    lines = tool('explain.py', 'refused M3 line 5', file('i', SITE[:-1] + b'%%\n' + POINTS))[0].splitlines()
+    same(lines[2], '    ....%%')
+    assert 'tools/join.py' in lines[3]
+    lines = tool('explain.py', 'refused M4 line 5', file('i', 'type t\nheight 1\nwidth 3\nmap\n.x.\n'))[0].splitlines()
+    same(lines[3], "The byte is 'x', at x = 1.")
+
+
+MAPD_MAP = '3,4\n2\n1\n50\n.e..\nr..@\n..e.\n'
+MAPD_TASK = '2\n7\t1\t0\t0\t0\n3 0 1 0 0\n\n'
+MAPD_INSTANCE = '''type octile
+height 3
+width 4
+map
+....
+...@
+....
+%%
+parking P0 0 1
+station S0 1 0
+station S1 2 2
+agent P0
+%%
+# the files give 50 as the greatest time
+# @3
+submit mapd S0 S1
+# @7
+submit mapd S1 S0
+'''
+
+
+def mapd(level: str, task: str, *words: str) -> tuple[str, str, int]:
+    return tool('import_mapd.py', file('mapd.map', level), file('mapd.task', task), *words)
+
+
+def test_mapd_instance() -> None:
+    same(mapd(MAPD_MAP, MAPD_TASK), (MAPD_INSTANCE, '', 0))
+    same(mapd(MAPD_MAP.replace('\n', '\r\n'), MAPD_TASK), (MAPD_INSTANCE, '', 0))
+    two = MAPD_MAP.replace('\n1\n', '\n2\n').replace('..e.', 'r.e.')
+    same(mapd(two, MAPD_TASK, '--agents', '1'), (MAPD_INSTANCE, '', 0))
+    assert 'parking P1 0 2\n' in mapd(two, MAPD_TASK)[0]
+
+
+def test_mapd_of_another_shape_is_refused_with_its_line() -> None:
+    for old, new, line in (('3,4', '3 4', 1), ('3,4', '3,5', 5), ('3,4', '4,4', 8), ('3,4', '2,4', 7), ('\n2\n', '\n3\n', 2),
+                           ('\n1\n', '\n2\n', 3), ('\n50\n', '\n.\n', 4), ('r..@', 'r..T', 6), ('3,4', '0,4', 1), ('3,4', '3,5000', 1)):
+        refused(mapd(MAPD_MAP.replace(old, new, 1), MAPD_TASK), f'mapd.map: line {line}:')
+    for old, new, line in (('2\n7', '3\n7', 4), ('2\n7', '1\n7', 3), ('3 0 1', '3 0 2', 3), ('1 0 0\n', '1 0 5\n', 3),
+                           ('3 0 1 0 0', '3 0 1 0', 3), ('7', '-7', 2), ('2\n7', '1000001\n7', 1)):
+        refused(mapd(MAPD_MAP, MAPD_TASK.replace(old, new, 1)), f'mapd.task: line {line}:')
+
+
+def test_mapd_of_too_many_is_refused_with_the_count() -> None:
+    level = '1,300\n1\n257\n5\ne' + 'r' * 257 + '.' * 42 + '\n'
+    refused(mapd(level, '0\n'), '257 agents', '--agents N')
+    same(mapd(level, '0\n', '--agents', '256')[2], 0)
+    refused(mapd(level, '0\n', '--agents', '258'), '258 agents wanted, and it has 257')
+    level = '1,4096\n4095\n1\n5\n' + 'e' * 4095 + 'r\n'
+    same(mapd(level, '0\n')[2], 0)
+    level = '2,4096\n4096\n1\n5\n' + 'e' * 4096 + '\nr' + '.' * 4095 + '\n'
+    refused(mapd(level, '0\n'), '4096 task endpoints and 1 agents')
+
+
+SCEN = 'version 1\n0\tm.map\t4\t1\t0\t0\t3\t0\t3.0\n0 m.map 4 1 1 0 0 0 1\n0 m.map 4 1 2 0 1 0 1\n'
+
+
+def scen(text: str, agents: int, level: bytes = SITE) -> tuple[str, str, int]:
+    return tool('import_scen.py', file('m', level), file('s', text), '--agents', str(agents))
+
+
+def test_scenario() -> None:
+    # the second line's goal is the first one's start, so the third is taken for it
+    wanted = (SITE.decode() + '%%\nparking P0 0 0\nstation S0 3 0\nparking P1 2 0\nstation S1 1 0\nagent P0\nagent P1\n%%\n'
+              '# @0\nsubmit scen S0 S0\n# @0\nsubmit scen S1 S1\n')
+    for level in (SITE, SITE[:-1]):
+        same(scen(SCEN, 2, level), (wanted, 'import_scen.py: 1 lines left out, whose start or goal was taken\n', 0))
+    refused(scen(SCEN, 3), '3 agents wanted, and 2 of its lines fit')
+    refused(scen(SCEN, 257), '1 to 256')
+    refused(scen(SCEN.replace('version 1', 'version 9'), 1), 'line 1')
+    refused(scen(SCEN.replace('4\t1', '5\t1'), 1), 'line 2')
+    refused(scen(SCEN.replace('3\t0\t3.0', '4\t0\t3.0'), 1), 'line 2', 'outside')
+    refused(scen(SCEN, 1, SITE.replace(b'....', b'@...')), 'line 2', 'blocked')
+
+
+def test_made_instances_are_told_off_and_not_broken() -> None:
+    refused(tool('make_instance.py', '--agents', '300'), '--agents 300', '1 to 256')
+    refused(tool('make_instance.py', '--columns', '12', '--rows', '6'), '--columns 12', '20 to 4096')
+    refused(tool('make_instance.py', '--rows', '6'), '--rows 6')
+    refused(tool('make_instance.py', '--stops', '9'), '2 to 8')
+    # rows 0, 2, 4 and 6 have six parkings each, and the upper wall every second cell of 6 to 13
+    refused(tool('make_instance.py', '--columns', '20', '--rows', '8', '--agents', '29'), 'has 28 parkings')
+
+
+def test_the_last_block_of_shelves_stands() -> None:
+    row = tool('make_instance.py', '--tasks', '0', '--ticks', '0')[0].splitlines()[7]
+    # five blocks of 8 from column 6 with aisles of 2 end at column 53, six columns before the wall
+    same(row, '......' + '..'.join(['@' * 8] * 5) + '......')
+
+
+def test_made_instances_are_formed() -> None:
+    for words in ('', '--columns 20 --rows 8 --agents 28 --tasks 9', '--columns 13 --rows 5 --open --agents 1', '--columns 13 --rows 8 --shelf 1 --agents 2',
+                  '--columns 35 --rows 21 --agents 50 --seed 3', '--columns 81 --rows 81 --agents 256 --nofollow', '--columns 47 --rows 33 --shelf 3 --seed 11',
+                  '--columns 64 --rows 64 --open --agents 100 --stops 8', '--columns 300 --rows 300 --agents 256 --seed 5'):
+        made, told, status = tool('make_instance.py', *(words + ' --ticks 3').split())
+        same((told, status), ('', 0))
+        same((words, warehouse(made, 'check')), (words, ('formed\n', 0)))
+
+
+def test_a_written_script_asks_only_where_an_agent_is_due() -> None:
+    made, told, status = tool('due_script.py', file('i', MAPD_INSTANCE))
+    same((told, status), ('', 0))
+    replies, status = warehouse(made, 'replay', '--tail', 'ledger')
+    same(status, 0)
+    assert 'refused' not in replies, replies
+    same(re.findall(r'mapd submitted 2 open 0 assigned 0 carried 0 done 2', replies), ['mapd submitted 2 open 0 assigned 0 carried 0 done 2'])
+    # the first task is released at clock 3, so three ticks stand before it
+    script = made.split('%%\n')[2]
+    same(script[:script.index('submit')].split('\n').count('tick'), 3)
+    same(script[:script.index('# @7')].split('\n').count('tick'), 7)
+
+
+def test_examples() -> None:
+    with open(os.path.join(ROOT, 'examples/shelves'), 'rb') as text:
+        shelves = text.read()
+    replies, status = warehouse(shelves, 'replay', '--tail', 'log')
+    same((status, replies.split('%%\n')[0].count('refused'), replies.split('%%\n')[0].count('took ')), (0, 0, 200))
+    joined = tool('log_input.py', os.path.join(ROOT, 'examples/shelves'), file('o', replies))[0]
+    same(warehouse(joined, 'verify')[0][:4], 'run ')
+    for name, wanted in (('verify-run', ('run 5\n', 0)), ('verify-bad', ('bad 6\n', 1))):
+        with open(os.path.join(ROOT, 'examples', name), 'rb') as text:
+            same((name, warehouse(text.read(), 'verify')), (name, wanted))
+    with open(os.path.join(ROOT, 'examples/live-two'), 'rb') as text:
+        live = text.read()
+    log, status = warehouse(live, 'live', '--turns', '8')
+    # 3 commands of two clients, 8 requests of each of two agents, 8 ticks
+    same((status, log.splitlines()[-1]), (0, 'end 27'))
+    joined = tool('log_input.py', os.path.join(ROOT, 'examples/live-two'), file('o', log))[0]
+    same(warehouse(joined, 'verify'), ('run 27\n', 0))
+
+
+NEEDS_PROGRAM = {'test_made_instances_are_formed', 'test_a_written_script_asks_only_where_an_agent_is_due', 'test_examples'}
+
+
+def main() -> None:
+    if sys.argv[1:] not in ([], ['--no-program']):
+        sys.exit(__doc__)
+    passed = failed = 0
+    for name, test in list(globals().items()):
+        if not name.startswith('test_') or (sys.argv[1:] and name in NEEDS_PROGRAM):
+            continue
+        try:
+            test()
+            passed += 1
+        except Exception:
+            failed += 1
+            print(f'{name}:')
+            traceback.print_exc(file=sys.stdout)
+    SCRATCH.cleanup()
+    print(f'{passed} passed, {failed} failed')
+    sys.exit(failed != 0)
+
+
+if __name__ == '__main__':
+    main()
