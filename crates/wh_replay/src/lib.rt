@@ -9,4 +9,4 @@ pub use output::{WriteFault, write_all};
 pub use script::{ReplayFault, Replayed, replay, serve};
 
 // handed on, for callers: what the items below take, return and speak of
-pub use wh_token::{Committed, NoMemory, OpenFault, Warehouse};
+pub use wh_token::{Committed, NoMemory, OpenFault, ResumeFault, Warehouse};
