@@ -128,6 +128,14 @@ def difference(program, peer):
     return f'line {place + 1}: {ours[place:place + 1]}; the peer {theirs[place:place + 1]}'
 
 
+def replayed(words, text, seconds):
+    """How a program ended on an input; where it took too long, as one that failed."""
+    try:
+        return subprocess.run(words, input=text, capture_output=True, timeout=seconds)
+    except subprocess.TimeoutExpired:
+        return subprocess.CompletedProcess(words, -1, b'', b'took too long')
+
+
 def counted(output):
     """How many replies of each kind an output has, and how many cells the paths of its log."""
     replies, _, log = output.decode().partition('%%\n')
@@ -141,6 +149,7 @@ def main():
     parser.add_argument('--program', default=os.environ.get('WAREHOUSE') or os.path.join(ROOT, 'crates/warehouse/out/warehouse'))
     parser.add_argument('--runs', type=int, default=200)
     parser.add_argument('--seed', type=int, default=1)
+    parser.add_argument('--seconds', type=float, default=120, help='for each replay; one that takes longer has failed')
     parser.add_argument('--check', action='store_true', help='the peer checks its own paths too, which takes longer')
     parser.add_argument('--lanes', action='store_true', help='all maps are long lanes, where agents make way far')
     options = parser.parse_args()
@@ -151,7 +160,7 @@ def main():
         subprocess.run(build + ['-o', peer, os.path.join(ROOT, 'tools/peer/main.cpp')], check=True)
         for seed in range(options.seed, options.seed + options.runs):
             text = instance(random.Random(seed), options.lanes)
-            done = [subprocess.run(words, input=text, capture_output=True, timeout=120)
+            done = [replayed(words, text, options.seconds)
                     for words in ([options.program, 'replay', '--tail', 'log'], [peer, 'log'])]
             counts.update(counted(done[0].stdout))
             wrong = difference(*done)
