@@ -1,5 +1,6 @@
 #!/usr/bin/env python3
-"""Replays made instances by the built program and by its peer, and compares what they print, byte for byte.
+"""Replays made instances by the built program and by its peer, and compares what they print, byte for byte: the
+replies, and then the log, which has each cell of each path.
 
     tests/peer.py --runs 200 --seed 1
 
@@ -7,7 +8,8 @@ The peer, tools/peer, is built by g++ into a temporary folder; with --check it c
 an instance by tools/make_instance.py from its seed: mostly a small site, with shelves or without. Most lose stations
 and cells, and have agents that start at stations, so that agents stand in each other's way; then some tokens are left
 out, others change their order, and odd lines come in. A run whose outputs differ is printed with its seed and the first
-reply that differs, and its input is kept in a file. Before the last line stands how many replies of each kind came.
+line that differs, and its input is kept in a file. Before the last line stands how many replies of each kind came, and
+how many cells the paths have.
 """
 import argparse
 import collections
@@ -57,6 +59,31 @@ def crowded(chance, points):
     return kept + [f'agent {name}' for name in chance.sample(names, len(agents))]
 
 
+def in_lanes(chance, level, points):
+    """Long lanes in place of the map, each joined to the next at one end and by few gaps, so that agents must go far
+    out of each other's way; and some points on them, from which few agents start."""
+    width, lanes = chance.randint(24, 48), chance.randint(2, 4)
+    gaps = chance.choice([0, 0.02, 0.05])
+    rows = []
+    for lane in range(lanes):
+        ends = [0, width - 1][lane % 2]
+        rows.append('.' * width)
+        rows.append(''.join('.' if x == ends or chance.random() < gaps else '@' for x in range(width)))
+    rows.pop()
+    cells = [f'{x} {y}' for y, row in enumerate(rows) for x, cell in enumerate(row) if cell == '.']
+    stations = [line.split()[:2] for line in points if line.startswith('station ')][:chance.randint(3, 16)]
+    parkings = [line.split()[:2] for line in points if line.startswith('parking ')][:chance.randint(2, 6)]
+    taken = chance.sample(cells, len(stations + parkings))
+    names = [name for _, name in stations + parkings]
+    agents = chance.sample(names, min(len(names), chance.randint(2, 6)))
+    kept = [' '.join(words + [cell]) for words, cell in zip(stations + parkings, taken)]
+    rules = [line for line in points if line.startswith('rule ')]
+    sides = {'height': len(rows), 'width': width}
+    head = [' '.join([word, str(sides.get(word, rest))]) if word in sides else line
+            for line in level[:4] for word, _, rest in [line.partition(' ')]]
+    return head + rows, kept + rules + [f'agent {name}' for name in agents]
+
+
 def altered(chance, commands, stations):
     """The commands with stops that the points have, some tokens left out or moved, and some odd lines."""
     lines, tokens, eager = [], [], chance.choice([1, 0.9, 0.5])
@@ -76,11 +103,13 @@ def altered(chance, commands, stations):
     return lines
 
 
-def instance(chance):
+def instance(chance, lanes=False):
     make = [sys.executable, os.path.join(ROOT, 'tools/make_instance.py')] + words_of(chance)
     made = subprocess.run(make, stdout=subprocess.PIPE, text=True, check=True).stdout
     level, points, commands = (section.split('\n')[:-1] for section in made.split('%%\n'))
-    if chance.random() < 0.8:
+    if lanes:
+        level, points = in_lanes(chance, level, points)
+    elif chance.random() < 0.8:
         points = crowded(chance, points)
         level = narrowed(chance, level, points)
     stations = [line.split()[1] for line in points if line.startswith('station ')]
@@ -96,7 +125,23 @@ def difference(program, peer):
         return None
     ours, theirs = program.stdout.split(b'\n'), peer.stdout.split(b'\n')
     place = len(os.path.commonprefix([ours, theirs]))
-    return f'reply {place + 1}: {ours[place:place + 1]}; the peer {theirs[place:place + 1]}'
+    return f'line {place + 1}: {ours[place:place + 1]}; the peer {theirs[place:place + 1]}'
+
+
+def replayed(words, text, seconds):
+    """How a program ended on an input; where it took too long, as one that failed."""
+    try:
+        return subprocess.run(words, input=text, capture_output=True, timeout=seconds)
+    except subprocess.TimeoutExpired:
+        return subprocess.CompletedProcess(words, -1, b'', b'took too long')
+
+
+def counted(output):
+    """How many replies of each kind an output has, and how many cells the paths of its log."""
+    replies, _, log = output.decode().partition('%%\n')
+    counts = collections.Counter(KIND.findall(replies))
+    counts['cells'] = sum(line.count(',') for line in log.split('\n') if ' path ' in line)
+    return counts
 
 
 def main():
@@ -104,7 +149,9 @@ def main():
     parser.add_argument('--program', default=os.environ.get('WAREHOUSE') or os.path.join(ROOT, 'crates/warehouse/out/warehouse'))
     parser.add_argument('--runs', type=int, default=200)
     parser.add_argument('--seed', type=int, default=1)
+    parser.add_argument('--seconds', type=float, default=120, help='for each replay; one that takes longer has failed')
     parser.add_argument('--check', action='store_true', help='the peer checks its own paths too, which takes longer')
+    parser.add_argument('--lanes', action='store_true', help='all maps are long lanes, where agents make way far')
     options = parser.parse_args()
     counts, failed = collections.Counter(), 0
     with tempfile.TemporaryDirectory() as scratch:
@@ -112,10 +159,10 @@ def main():
         build = ['g++', '-O2', '-march=x86-64-v2', '-std=c++17', '-Wall', '-Wextra'] + ['-DCHECK'] * options.check
         subprocess.run(build + ['-o', peer, os.path.join(ROOT, 'tools/peer/main.cpp')], check=True)
         for seed in range(options.seed, options.seed + options.runs):
-            text = instance(random.Random(seed))
-            done = [subprocess.run(words, input=text, capture_output=True, timeout=120)
-                    for words in ([options.program, 'replay'], [peer])]
-            counts.update(KIND.findall(done[0].stdout.decode()))
+            text = instance(random.Random(seed), options.lanes)
+            done = [replayed(words, text, options.seconds)
+                    for words in ([options.program, 'replay', '--tail', 'log'], [peer, 'log'])]
+            counts.update(counted(done[0].stdout))
             wrong = difference(*done)
             if wrong:
                 failed += 1

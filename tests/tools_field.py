@@ -11,7 +11,8 @@ import re
 import subprocess
 import sys
 import tempfile
-import traceback
+
+import counting
 
 ROOT = os.path.dirname(os.path.dirname(os.path.abspath(__file__)))
 PROGRAM = os.environ.get('WAREHOUSE', os.path.join(ROOT, 'warehouse'))
@@ -247,20 +248,9 @@ NEEDS_PROGRAM = {'test_made_instances_are_formed', 'test_a_written_script_asks_o
 def main() -> None:
     if sys.argv[1:] not in ([], ['--no-program']):
         sys.exit(__doc__)
-    passed = failed = 0
-    for name, test in list(globals().items()):
-        if not name.startswith('test_') or (sys.argv[1:] and name in NEEDS_PROGRAM):
-            continue
-        try:
-            test()
-            passed += 1
-        except Exception:
-            failed += 1
-            print(f'{name}:')
-            traceback.print_exc(file=sys.stdout)
+    status = counting.run(globals(), NEEDS_PROGRAM if sys.argv[1:] else ())
     SCRATCH.cleanup()
-    print(f'{passed} passed, {failed} failed')
-    sys.exit(failed != 0)
+    sys.exit(status)
 
 
 if __name__ == '__main__':

@@ -18,6 +18,8 @@ import subprocess
 import sys
 import tempfile
 
+import counting
+
 ROOT = os.path.dirname(os.path.dirname(os.path.abspath(__file__)))
 INSTANCE, LOG = os.path.join(ROOT, 'examples/deliveries'), os.path.join(ROOT, 'examples/deliveries.log')
 SHELVES = os.path.join(ROOT, 'examples/shelves')
@@ -206,24 +208,9 @@ def test_shelves_at_random_clocks():
     assert status == 0 and out.splitlines()[-1] == f'counts agree in {max(rows)} ticks'
 
 
-def main() -> None:
-    passed = failed = 0
-    for name, test in list(globals().items()):
-        if not name.startswith('test_'):
-            continue
-        try:
-            test()
-            passed += 1
-        except Exception as error:    # a test that breaks has failed; the others go on
-            failed += 1
-            print(f'{name}: {type(error).__name__} {error}'[:2000])
-    print(f'{passed} passed, {failed} failed')
-    sys.exit(failed != 0)
-
-
 if __name__ == '__main__':
     parser = argparse.ArgumentParser(description=__doc__, formatter_class=argparse.RawDescriptionHelpFormatter)
     parser.add_argument('--shelves', metavar='LOG', help='a log of examples/shelves, in place of running the program')
     parser.add_argument('--program', default=os.environ.get('WAREHOUSE', os.path.join(ROOT, 'warehouse')))
     OPTIONS = parser.parse_args()
-    main()
+    sys.exit(counting.run(globals()))

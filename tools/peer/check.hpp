@@ -108,7 +108,7 @@ void check_nearest(const Grid& grid, const Tasks& tasks, const PathEnds& ends, u
         const auto& task = tasks[number];
         bool clear = task.agent == NONE;
         for (uint32_t stop = 0; stop < task.count; ++stop) clear = clear && !ends.is_others(self, task.stops[stop]);
-        const uint32_t distance = std::min(field[task.stops[0]], BLOCKED);
+        const uint32_t distance = field[task.stops[0]];
         if (clear && distance < least) least = distance, best = number;
     }
     demand(best == found, "another task is nearer");

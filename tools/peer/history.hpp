@@ -1,5 +1,5 @@
-// The history: an entry for each command, with all that a log would tell of it. Nothing reads it; the product keeps the
-// same, and a yardstick that did not would be faster by that alone.
+// The history: an entry for each command, with all that a log tells of it. It is kept also where no log is asked for:
+// the product keeps the same, and a yardstick that did not would be faster by that alone.
 #pragma once
 
 #include <vector>
@@ -29,6 +29,10 @@ class History {
     std::vector<Submission> submissions_;
 
 public:
+    const std::vector<Entry>& entries() const { return entries_; }
+    const Submission& submission(uint32_t number) const { return submissions_[number]; }
+    uint32_t cell(uint32_t index) const { return cells_[index]; }
+
     void note(Event event, uint32_t argument, Reply reply, uint32_t first = 0, uint32_t second = 0,
               uint32_t third = 0) {
         entries_.push_back({0, event, reply, argument, {first, second, third}});

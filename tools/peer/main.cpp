@@ -1,10 +1,32 @@
 // The peer: a plain, unproved program that replays a warehouse script and prints byte for byte what the product's
-// `replay` prints, without its options. It is a yardstick for the product's speed and an oracle for tests/peer.py.
+// `replay` prints, without its options; with the word `log`, what `replay --tail log` prints. It is a yardstick for the
+// product's speed and an oracle for tests/peer.py.
 //
 //   g++ -O2 -march=x86-64-v2 -std=c++17 -Wall -Wextra -o peer tools/peer/main.cpp
 //   ./peer < examples/deliveries
 //
 // It is one unit, so that the compiler sees all of it at once.
+//
+// It is written anew from the rules and methods, but of several least paths it must find the one that the product
+// finds, as later paths go around it. So these are of the method:
+//
+// - Moves come in this order: stay, left, right, up, down. Left of the map and above it is nothing; right of it and
+//   below it is a border of blocked places, which have an estimate as any blocked place has.
+// - The estimate at a place is its distance to the next stop and the distances between the stops behind that. Of each
+//   leg all that is more than 16 steps farther than where the leg starts, or is blocked, counts as 17 steps farther,
+//   however far the field is filled. To park it is the distance to the nearest free point, without such a bound.
+// - No path is sought where more is estimated at the start than any least path has: the horizon, from which on nobody
+//   else moves, and as many steps a leg as there are passable places.
+// - Straight pass: unless nobody may rest at the last stop so soon, a walk of just as many steps as are estimated at
+//   the start is sought depth first, by those moves alone by which the estimate falls, of the moves the last one first.
+// - Best first: of the states that wait, one of the least bound comes first, by time and estimate; all bounds up to the
+//   least that a path may have (from when on one may rest at the last stop, and one more than the straight pass looked
+//   for) are equal. Among equal ones that with the least estimate comes first, where all from 15 more than the start's
+//   (at most 4,111) on are equal, and then the last put in.
+// - A state meets the next ones in the order of moves: when it comes up first those of its own bound, and then it waits
+//   once more, with its estimate, for the least bound of the others (may they be entered or not), to meet all of them.
+// - A state is known from when it is met, with its time; from the horizon on also one of an earlier time stands for it.
+// - The nearest task is the one with the least number among those whose first stop is nearest.
 #include "warehouse.hpp"
 
 constexpr size_t LONGEST_LINE = 256;
@@ -55,7 +77,7 @@ static bool run_line(Warehouse& warehouse, Text line) {
     return true;
 }
 
-int main() {
+int main(int count, char** words) {
     static Output output;
     static Input input(output);
     Site site(read_map(input));
@@ -66,6 +88,10 @@ int main() {
             output.line("refused C2");
         else if (UNLIKELY(!run_line(warehouse, line)))
             output.line("refused C1");
+    }
+    if (count == 2 && strcmp(words[1], "log") == 0) {
+        output.line("%%");
+        warehouse.write_log();
     }
     output.flush();
     return 0;

@@ -6,16 +6,17 @@
 
 #include "streams.hpp"
 
-// Values of a place in a distance field that are no distance. A field starts as a copy of the map's places, so a place
-// that is passable must not be taken for one that was reached; BLOCKED leaves room for a sum of two.
-constexpr uint32_t UNSEEN = 0x3FFFFFFF;
+// Values of a place in a distance field that are no distance; up to UNSEEN it is passable. A field starts as a copy of
+// the map's places, so a place that is passable must not be taken for one that was reached; a sum of two has room.
+constexpr uint32_t UNSEEN = 0x3FFFFFFD;
 constexpr uint32_t BLOCKED = 0x3FFFFFFE;
+constexpr uint32_t EDGE = 0x3FFFFFFF;    // blocked, as all of the border
 
 // A blocked border stands around the rows, so that a neighbour's place needs no test for the map's edge. One column is
 // enough: left of a row's first cell is the border behind the row above.
 struct Grid {
     uint32_t width = 0, height = 0, stride = 0, passable = 0;
-    std::vector<uint32_t> places;    // UNSEEN or BLOCKED
+    std::vector<uint32_t> places;    // UNSEEN, BLOCKED or EDGE
     uint32_t place(uint32_t x, uint32_t y) const { return (y + 1) * stride + x; }
     size_t size() const { return places.size(); }
 };
@@ -73,15 +74,15 @@ inline Grid read_map(Input& input) {
     Grid grid;
     read_head(input, grid);
     grid.stride = grid.width + 1;
-    grid.places.assign(size_t(grid.stride) * (grid.height + 2), BLOCKED);
+    grid.places.assign(size_t(grid.stride) * (grid.height + 2), EDGE);
     Text line;
     for (uint32_t y = 0; y < grid.height; ++y) {
         if (!input.line(line) || line.size() != grid.width) die("map row");
         for (uint32_t x = 0; x < grid.width; ++x) {
             const char byte = line.begin[x];
-            if (byte != '.' && byte != 'G' && byte != 'S') continue;
-            grid.places[grid.place(x, y)] = UNSEEN;
-            ++grid.passable;
+            const bool passable = byte == '.' || byte == 'G' || byte == 'S';
+            grid.places[grid.place(x, y)] = passable ? UNSEEN : BLOCKED;
+            grid.passable += passable;
         }
     }
     while (input.line(line) && !is_mark(line)) {

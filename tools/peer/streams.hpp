@@ -29,10 +29,15 @@ public:
 
     template <typename... Pieces>
     void line(const Pieces&... pieces) {
+        piece(pieces..., "\n");
+    }
+
+    // A part of a line; no longer than a reply may be.
+    template <typename... Pieces>
+    void piece(const Pieces&... pieces) {
         if (UNLIKELY(length_ > sizeof buffer_ - LONGEST_REPLY)) flush();
         char* place = buffer_ + length_;
         ((place = put(place, pieces)), ...);
-        *place++ = '\n';
         length_ = size_t(place - buffer_);
     }
 };

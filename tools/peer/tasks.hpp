@@ -63,9 +63,9 @@ public:
     }
 
     uint32_t find(const Tasks& tasks, const PathEnds& ends, uint32_t self, uint32_t here) {
-        const uint32_t eligible = seek(tasks, ends, self);
-        uint32_t found = eligible;
-        if (eligible != NONE) {
+        uint32_t last = NONE;
+        uint32_t found = seek(tasks, ends, self, last);
+        if (found != last) {    // a sole task need not be looked for
             const uint32_t nearest = seen_[here] == sought_ ? first_[here] : look(here);
             if (nearest != NONE) found = nearest;    // else all are equally far, as no walk leads to any
         }
@@ -74,8 +74,8 @@ public:
     }
 
 private:
-    // Notes where the tasks start at whose stops no other's path ends; answers the first of them.
-    uint32_t seek(const Tasks& tasks, const PathEnds& ends, uint32_t self) {
+    // Notes where the tasks start at whose stops no other's path ends; answers the first of them, and tells the last.
+    uint32_t seek(const Tasks& tasks, const PathEnds& ends, uint32_t self, uint32_t& last) {
         if (sought_ >= 0xFFFFFFF0) {
             for (uint32_t& seen : seen_)
                 if (seen != NONE) seen = 0;
@@ -89,6 +89,7 @@ private:
             for (uint32_t stop = 0; stop < task.count; ++stop) clear = clear && !ends.is_others(self, task.stops[stop]);
             if (!clear) continue;
             if (eligible == NONE) eligible = number;
+            last = number;
             const uint32_t place = task.stops[0];
             if (seen_[place] == sought_) continue;
             seen_[place] = sought_;

@@ -1,7 +1,7 @@
 // The warehouse: agents, tasks and the clock, and what each command does to them and answers.
 #pragma once
 
-#include "history.hpp"
+#include "log.hpp"
 #include "search.hpp"
 #include "tasks.hpp"
 
@@ -120,6 +120,8 @@ public:
         output_.line("closed");
     }
 
+    void write_log() { LogWriter(history_, site_, output_).write(); }
+
 private:
     void refuse_closed(Event event, uint32_t argument) {
         history_.note(event, argument, Reply::E8);
@@ -153,13 +155,12 @@ private:
     void take(uint32_t self, uint32_t number) {
         Agent& agent = agents_[self];
         const Task& task = tasks_[number];
-        const uint32_t* fields[MOST_STOPS] = {};
-        const uint32_t few = std::min<uint32_t>(task.count, Fields::KEPT);
-        for (uint32_t leg = few; leg-- > 0;) fields[leg] = fields_.get(self, task.stops[leg]);
-        for (uint32_t leg = few; leg < task.count; ++leg) fields[leg] = fields_.get_kept(self, task.stops[leg]);
-        const uint32_t* zero = task.count > Fields::KEPT ? fields_.zero() : nullptr;
+        Bounded fields[MOST_STOPS];
+        // the first stops are the last used
+        for (uint32_t leg = task.count; leg-- > 0;)
+            fields[leg] = fields_.get(task.stops[leg], leg == 0 ? agent.here : task.stops[leg - 1]);
         look_round();
-        if (!search_.deliver(self, agent.here, task.stops, task.count, fields, zero)) return refuse_path(self);
+        if (!search_.deliver(self, agent.here, task.stops, task.count, fields)) return refuse_path(self);
         const uint32_t kept = adopt(self);
         tasks_.assign(number, self);
         agent.task = number;

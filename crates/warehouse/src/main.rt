@@ -20,7 +20,7 @@ use wh_edge::{Status, Trouble};
 use wh_lines::Lines;
 use wh_options::{LiveOptions, Options, PlannerKind, Refusal, ReplayOptions, options, refusal_of};
 use wh_planner::Planner;
-use wh_planners::{Near, Patient};
+use wh_planners::{Patient, Sharing};
 use wh_service::{PlannerParts, ended, host, judge, judge_log, serve};
 
 /// How many bytes of output are written at a time.
@@ -82,7 +82,7 @@ fn replay<R: AllocGlobal + Print + Input, P: Planner, F: Fn(PlannerParts) -> Res
 ) -> Result<Status, Trouble>
     requires range { IsOfFleet options.now.fleet }
     requires callable { F.IsAlwaysCallable make }
-    requires makes { MakesPlanners (λ g b. P.fits_map b g) (λ b. P.slot_count b) (F.post make) }
+    requires makes { MakesPlanners P.fits_map P.slot_count (F.post make) }
 {
     let mut lines = Lines::new(rt.reader());
     let Ok(mut output) = BufWriter::with_capacity(rt.alloc(), OUTPUT_BUFFER, io::writer(rt)) else {
@@ -112,7 +112,7 @@ fn live<
 >(rt: &R, options: &LiveOptions, make: F) -> Result<Status, Trouble>
     requires range { IsOfFleet options.now.fleet }
     requires callable { F.IsAlwaysCallable make }
-    requires makes { MakesPlanners (λ g b. P.fits_map b g) (λ b. P.slot_count b) (F.post make) }
+    requires makes { MakesPlanners P.fits_map P.slot_count (F.post make) }
 {
     let mut lines = Lines::new(rt.reader());
     host(
@@ -141,8 +141,8 @@ fn obey<R: AllocGlobal + Print + Eprint + Input + Threads + Wait + Sync>(
         let PlannerParts { kind, grid, claim } = parts;
         match kind {
             PlannerKind::Near => {
-                let near = Near::new(alloc, grid, claim)?;
-                let planner: Box<dyn Planner> = Box::new(alloc, near)?;
+                let sharing = Sharing::new(alloc, grid, claim)?;
+                let planner: Box<dyn Planner> = Box::new(alloc, sharing)?;
                 Ok(planner)
             }
             PlannerKind::Patient => {

@@ -10,7 +10,7 @@ use wh_edge::Trouble;
 use wh_lines::Lines;
 use wh_options::{Fleet, PlannerKind, ReplayOptions, Tail};
 use wh_planner::Planner;
-use wh_planners::{Near, Patient};
+use wh_planners::{Patient, Sharing};
 use wh_service::{PlannerParts, serve};
 
 /// A tree of nine cells: its least walks are unique.
@@ -40,8 +40,8 @@ pub fn served<R: Read + Drop, W: Write>(
         let PlannerParts { kind, grid, claim } = parts;
         match kind {
             PlannerKind::Near => {
-                let near = Near::new(alloc, grid, claim)?;
-                let planner: Box<dyn Planner> = Box::new(alloc, near)?;
+                let sharing = Sharing::new(alloc, grid, claim)?;
+                let planner: Box<dyn Planner> = Box::new(alloc, sharing)?;
                 Ok(planner)
             }
             PlannerKind::Patient => {

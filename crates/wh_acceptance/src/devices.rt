@@ -11,9 +11,7 @@ use wh_edge::{Site, Trouble, read_site};
 use wh_lines::Lines;
 use wh_options::{PlannerKind, Tail};
 use wh_planners::Patient;
-use wh_replay::{ReplayFault, replay};
-use wh_service::claim;
-use wh_token::Warehouse;
+use wh_service::{ReplayFault, Warehouse, claim, replay};
 
 const SCRIPT: &str = "submit x A B\nsubmit x A P1\ntick\nclose\ntick\n";
 

@@ -14,9 +14,8 @@ use wh_grid::Grid;
 use wh_lines::Lines;
 use wh_options::PlannerKind;
 use wh_planner::Planner;
-use wh_planners::Near;
-use wh_service::{PlannerParts, claim};
-use wh_token::{Committed, OpenFault, Warehouse};
+use wh_planners::Sharing;
+use wh_service::{Committed, OpenFault, PlannerParts, Warehouse, claim};
 
 /// The tree with one cell more, at (0,0).
 const OTHER_MAP: &str = "type octile\nheight 3\nwidth 5\nmap\n..@.@\n.....\n@.@.@\n";
@@ -155,8 +154,8 @@ fn run<P: Planner, F: Fn(PlannerParts) -> Result<P, AllocError>>(
 /// The same with boxed planners.
 fn drive(alloc: Global, machine: &Machine, script: &[&str]) -> Result<Told, Fail> {
     let make = |parts: PlannerParts| -> Result<Box<dyn Planner>, AllocError> {
-        let near = Near::new(alloc, parts.grid, parts.claim)?;
-        let planner: Box<dyn Planner> = Box::new(alloc, near)?;
+        let sharing = Sharing::new(alloc, parts.grid, parts.claim)?;
+        let planner: Box<dyn Planner> = Box::new(alloc, sharing)?;
         Ok(planner)
     };
     run(alloc, machine, script, &make)

@@ -1,7 +1,7 @@
 -- what is ready for the book, and what the laws give where it is prepared
 use Rattle.std.proofs.Common.{◌≡◌, ◌≢◌, ℕ, ◌<◌, ◌≤◌, ◌∙◌, List, [], ◌∷◌, ◌++◌, length, sym, subst, refl, ap, arith}
 use Prim.Native.Nat.{suc}
-use Rattle.std.specs.Prelude.{Some, slice_get, All}
+use Rattle.std.specs.Prelude.{Some, slice_get, All, false}
 use Rattle.std.proofs.lemmas.Option.{same_Some, slice_get-get_or}
 use Rattle.wh_grid.specs.declared.cell.Cell.{Cell}
 use Rattle.wh_path.specs.Paths.{AllFree}
@@ -9,8 +9,8 @@ use Rattle.wh_points.specs.Points.{Site, IsLayout}
 use Rattle.wh_tasks.specs.declared.task.Task.{Task}
 use Rattle.wh_tasks.specs.declared.task.Load.{Load}
 use Rattle.wh_planner.specs.Duties.{IsLawful, Delivers}
-use Rattle.wh_core.specs.States.{State, opened, arrived, adopted, assigned}
-use Rattle.wh_core.specs.Steps.{Step, Run, IsDue, IsNext, last_clock}
+use Rattle.wh_core.specs.States.{State, opened, arrived, adopted, assigned, moved}
+use Rattle.wh_core.specs.Steps.{Step, Run, Answers, IsDue, IsNext, last_clock}
 use Rattle.wh_core.specs.Laws.{IsReached, IsOpening}
 use Rattle.wh_event.specs.declared.entry.Entry.{Entry}
 use Rattle.wh_event.specs.declared.event.Event.{Event}
@@ -25,7 +25,7 @@ use Rattle.wh_points.specs.Formed.{IsFormed}
 use Rattle.std.proofs.lemmas.List.Elements.{Contains-push}
 use Rattle.wh_book.specs.declared.draft.Change.{Change}
 use Rattle.wh_book.specs.declared.draft.Draft.{Draft}
-use Rattle.wh_book.specs.Drafts.{Seen, IsKept, Drafts, IsDraftOf, Changes, CanChange, AllServed}
+use Rattle.wh_book.specs.Drafts.{Seen, IsKept, Drafts, IsDraftOf, Changes, CanChange, AllServed, ticked}
 
 -- what a book keeps is what the laws are about
 pub kept-reached : (site : Site) (opening : State) (history : List Entry) (state : State) → IsKept site opening history state → IsReached site history state
@@ -89,6 +89,10 @@ took-drafts book caller agent n path task draft kept due next lawful room is =
         room = room;
       };
     }
+
+-- a tick is a step
+pub step-ticked : (site : Site) (old new : State) → old.closed ≡ false → old.clock < last_clock → new ≡ arrived (moved old) → Answers site old (ticked old) Event.Tick new
+step-ticked site old new not_closed early is = (not_closed, early, refl, refl, refl, is)
 
 -- one step more is kept
 pub kept-more : (site : Site) (opening : State) (history : List Entry) (state : State) (entry : Entry) (new : State) → IsKept site opening history state →

@@ -1,9 +1,9 @@
-use Rattle.std.specs.Prelude.{◌≡◌, ◌≢◌, ℕ, ◌<◌, ◌≤◌, List, Some, length, slice_get, All, Contains}
+use Rattle.std.specs.Prelude.{◌≡◌, ◌≢◌, ℕ, ◌+◌, ◌<◌, ◌≤◌, List, Some, length, slice_get, All, Contains}
 use Rattle.wh_points.specs.Points.{Layout, Site, IsPointCell}
 use Rattle.wh_tasks.specs.declared.task.Task.{Task}
 use Rattle.wh_tasks.specs.declared.task.Load.{Load}
 use Rattle.wh_tasks.specs.Tasks.{IsTask, IsOpen}
-use Rattle.wh_core.specs.States.{State, arrived, submitted, adopted, assigned, moved, reseated, shut}
+use Rattle.wh_core.specs.States.{State, arrived, submitted, adopted, assigned, moved, reseated, shut, picked, dropped}
 use Rattle.wh_core.specs.Steps.{Step, Run, IsDeliveryCell, most_tasks, last_clock}
 use Rattle.wh_grid.specs.declared.cell.Cell.{Cell}
 use Rattle.wh_core.specs.Laws.{IsOpening}
@@ -89,6 +89,10 @@ pub record MayEnd (s : State) (ends : List Cell) (cell : Cell) : Type 0 where
 pub record MayPark (layout : Layout) (s : State) (ends : List Cell) (cell : Cell) : Type 0 where
   pub point : IsPointCell layout cell
   pub may_end : MayEnd s ends cell
+
+-- what a tick is answered
+abbrev pub ticked : State → Reply
+ticked s = Reply.Clock (s.clock + 1) (picked (moved s)) (dropped (moved s))
 
 -- no entry is a refusal for want of a path
 abbrev pub AllServed : List Entry → Type 0

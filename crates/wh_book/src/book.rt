@@ -7,7 +7,7 @@ ghost use Rattle.wh_points.specs.Points.{Site};
 ghost use Rattle.wh_tasks.specs.declared.task.Task.{Task as Job};
 ghost use Rattle.wh_tasks.specs.Tasks.{IsTask};
 ghost use Rattle.wh_planner.specs.Duties.{IsLawful, Delivers, ParksAt};
-ghost use Rattle.wh_core.specs.States.{State, opened};
+ghost use Rattle.wh_core.specs.States.{State, opened, arrived, moved};
 ghost use Rattle.wh_core.specs.Steps.{Step, Run, Answers, Refuses, IsDue, IsNext, NoneIsNext, MakesWay, IsAllowed, last_clock};
 ghost use Rattle.wh_core.specs.Laws.{IsOpening};
 ghost use Rattle.wh_event.specs.declared.event.Event.{Event as Asked};
@@ -16,7 +16,7 @@ ghost use Rattle.wh_event.specs.declared.reply.Reply.{Reply as Answer};
 ghost use Rattle.wh_event.specs.declared.reply.Refusal.{Refusal as Reason};
 ghost use Rattle.wh_points.specs.Formed.{IsFormed};
 ghost use Rattle.wh_book.specs.Settings.{IsStop, faulty};
-ghost use Rattle.wh_book.specs.Drafts.{Seen, IsSame, IsReady, Drafts, Changes, CanChange, AllServed};
+ghost use Rattle.wh_book.specs.Drafts.{Seen, IsSame, IsReady, Drafts, Changes, CanChange, AllServed, ticked};
 
 use crate::choice::nearest;
 use crate::draft::{Change, Draft};
@@ -28,7 +28,7 @@ use wh_event::{Entry, Event, KeptStops, Refusal, Reply, Spare, Stops};
 use wh_field::LazyField;
 use wh_grid::Cell;
 use wh_path::TimedPath;
-use wh_state::Floor;
+use wh_state::{Arrivals, Floor};
 use wh_tasks::{Load, TaskSet};
 use wh_text::Name;
 
@@ -89,6 +89,31 @@ impl Book {
             floor,
             history: Vec::new(alloc),
         })
+    }
+
+    /// The book of a history that was told elsewhere, which is a run from the opening of this clock and these slots to the
+    /// state of the floor. It takes no memory and always succeeds.
+    pub fn resume(
+        setting: Setting,
+        first_clock: u32,
+        first_slots: Vec<u32>,
+        floor: Floor,
+        history: Vec<Entry>,
+    ) -> Book
+        requires opening { IsOpening setting (opened setting.layout first_clock first_slots.items) }
+        requires run { Run setting (opened setting.layout first_clock first_slots.items) history.items floor.state }
+        ensures site { result.site ≡ setting }
+        ensures opening { result.opening ≡ opened setting.layout first_clock first_slots.items }
+        ensures state { result.state ≡ floor.state }
+        ensures history { result.history ≡ history.items }
+    {
+        Book {
+            setting,
+            first_clock,
+            first_slots,
+            floor,
+            history,
+        }
     }
 
     /// The grid and the points.
@@ -221,6 +246,30 @@ impl Book {
             event,
             reply,
         });
+    }
+
+    /// One step of time, with its entry. It takes no memory and always succeeds.
+    pub fn tick(&mut self, caller: u32)
+        requires not_closed { self.old.state.closed ≡ false }
+        requires early { self.old.state.clock < last_clock }
+        requires room { 1 ≤ self.old.entry_room }
+        ensures site { self.new.site ≡ self.old.site }
+        ensures opening { self.new.opening ≡ self.old.opening }
+        ensures state { self.new.state ≡ arrived (moved self.old.state) }
+        ensures history { self.new.history ≡ self.old.history ++ record { caller = caller; event = Asked.Tick; reply = ticked self.old.state } ∷ [] }
+    {
+        let now = self.clock() + 1;
+        let Arrivals { picked, dropped } = self.floor.tick();
+        let told = Entry {
+            caller,
+            event: Event::Tick,
+            reply: Reply::Clock {
+                now,
+                picked,
+                dropped,
+            },
+        };
+        self.history.push_reserved(told);
     }
 
     /// Answers the event, and changes nothing.

@@ -63,6 +63,13 @@ impl Setting {
         &self.grid
     }
 
+    /// The grid, for those who share it.
+    pub fn shared_grid(&self) -> &Arc<Grid>
+        ensures { result.now.value ≡ self.now.grid }
+    {
+        &self.grid
+    }
+
     /// Whether the rule against following stands.
     pub fn nofollow(&self) -> bool
         ensures { result ≡ self.now.layout.nofollow }

@@ -1,5 +1,5 @@
 -- what free paths mean for the cells that the agents are in
-use Rattle.std.proofs.Common.{◌≡◌, ◌≢◌, ℕ, ◌<◌, ◌∙◌, ◌⊎◌, inl, inr, List, [], true, length, sym, ap}
+use Rattle.std.proofs.Common.{◌≡◌, ◌≢◌, ℕ, ◌<◌, ◌∙◌, ◌⊎◌, inl, inr, List, [], true, length, refl, subst, sym, ap}
 use Rattle.std.proofs.Math.ListN.{set}
 use Rattle.std.proofs.lemmas.Bool.{cases_eq}
 use Rattle.std.proofs.lemmas.List.{get_or-set_same, get_or-set_other, get_or-map}
@@ -9,9 +9,13 @@ use Rattle.wh_points.specs.Points.{Site, IsPointCell}
 use Rattle.wh_path.proofs.AtLemmas.{at-advanced}
 use Rattle.wh_path.proofs.Freedom.{free-ends}
 use Rattle.wh_core.specs.States.{State}
-use Rattle.wh_core.specs.Steps.{Step}
+use Rattle.wh_core.specs.Steps.{Step, Answers}
 use Rattle.wh_core.specs.Laws.{IsReached, AreTwo}
+use Rattle.wh_grid.specs.Grids.{IsMove, IsPassable}
 use Rattle.wh_event.specs.declared.entry.Entry.{Entry}
+use Rattle.wh_event.specs.declared.event.Event.{Event}
+use Rattle.wh_event.specs.declared.event.Spare.{Spare}
+use Rattle.wh_event.specs.declared.reply.Reply.{Reply}
 use Rattle.wh_core.proofs.StepKinds.{Moves, stays, adds, takes, parks, ticks, step-moves}
 use Rattle.wh_core.proofs.Opening.{orderly-reached}
 
@@ -64,6 +68,36 @@ none_follow site entries old entry new i j rule r step two same =
       | inl stand ↦ free.apart 0 (sym (stand i two.first) ∙ same)
       | inr go ↦ free.no_follow rule 0 (inl (sym (go i two.first) ∙ same))
     ]
+
+-- an agent goes by its path, which is a walk
+pub each_step_moves : (site : Site) (entries : List Entry) (old : State) (entry : Entry) (new : State) (i : ℕ) →
+    IsReached site entries old → Step site old entry new → i < length old.paths →
+    IsMove (place_of old.paths i) (place_of new.paths i) × IsPassable site.grid (place_of new.paths i)
+each_step_moves site entries old entry new i r step h =
+    let walk = ((orderly-reached site entries old r).course i h).walk in
+    let here = place_of old.paths i in
+    elim (stand-or-go site old new (step-moves site old entry new step)) [
+      | inl stand ↦ subst (λ c. IsMove here c × IsPassable site.grid c) (sym (stand i h)) (inl refl, walk.passable 0)
+      | inr go ↦ subst (λ c. IsMove here c × IsPassable site.grid c) (sym (go i h)) (walk.moves 0, walk.passable 1)
+    ]
+
+-- what is no tick moves nobody
+stand : (site : Site) (old : State) (reply : Reply) (event : Event) (new : State) → Answers site old reply event new → event ≢ Event.Tick → AllStand old new
+stand site old (Reply.Refused refusal) event new step differs i h = ap (λ s. place_of s.paths i) step.1
+stand site old (Reply.Accepted n) (Event.Submit client stops) new step differs i h = ap (λ s. place_of s.paths i) step.5.2
+stand site old (Reply.Took n path) (Event.Request agent) new step differs i h =
+    ap (λ s. place_of s.paths i) step.1.3 ∙ place-set old.paths agent path step.0.known.known step.1.2.starts_here i h
+stand site old Reply.Rested (Event.Request agent) new step differs i h = ap (λ s. place_of s.paths i) step.3
+stand site old (Reply.Parked point path) (Event.Request agent) new step differs i h =
+    ap (λ s. place_of s.paths i) step.4 ∙ place-set old.paths agent path step.0.known.known step.2.starts_here i h
+stand site old (Reply.Clock now first last) Event.Tick new step differs i h = absurd (differs refl)
+stand site old (Reply.Replaced slots) (Event.Replace agent (Spare.Fits count)) new step differs i h = ap (λ s. place_of s.paths i) step.2
+stand site old Reply.Closed Event.Close new step differs i h = ap (λ s. place_of s.paths i) step.1
+stand site old reply event new step differs i h = absurd step
+
+pub only_ticks_move : (site : Site) (old : State) (entry : Entry) (new : State) (i : ℕ) → Step site old entry new → entry.event ≢ Event.Tick →
+    i < length old.paths → place_of new.paths i ≡ place_of old.paths i
+only_ticks_move site old entry new i step differs h = stand site old entry.reply entry.event new step differs i h
 
 pub ends_are_points : (site : Site) (entries : List Entry) (s : State) (i : ℕ) → IsReached site entries s → i < length s.paths →
     IsPointCell site.layout (end (path_of s.paths i))

@@ -1,6 +1,7 @@
 -- the laws of a warehouse, over all its runs
 use Rattle.std.specs.Prelude.{◌≡◌, ◌≢◌, ℕ, ◌<◌, ◌≤◌, ◌↔◌, List, [], ◌∷◌, ◌++◌, true, Option, Some, length, take, drop, slice_index, slice_index_or, All}
 use Rattle.wh_grid.specs.declared.cell.Cell.{Cell}
+use Rattle.wh_grid.specs.Grids.{IsMove, IsPassable}
 use Rattle.wh_path.specs.Paths.{end, cell_at, path_of, place_of, steps_left, AllFree}
 use Rattle.wh_points.specs.Points.{Site, IsLayout, IsPointCell}
 use Rattle.wh_points.specs.Formed.{IsFormed}
@@ -74,6 +75,19 @@ abbrev pub NoneFollow : Type 0
 NoneFollow =
     (site : Site) (entries : List Entry) (old : State) (entry : Entry) (new : State) (i j : ℕ) → site.layout.nofollow ≡ true →
     IsReached site entries old → Step site old entry new → AreTwo old i j → place_of new.paths i ≢ place_of old.paths j
+
+-- In one step an agent goes to a neighbour of its cell or stays there, and where it then is can be walked on.
+abbrev pub EachStepIsAMove : Type 0
+EachStepIsAMove =
+    (site : Site) (entries : List Entry) (old : State) (entry : Entry) (new : State) (i : ℕ) → IsReached site entries old →
+    Step site old entry new → i < length old.paths →
+    IsMove (place_of old.paths i) (place_of new.paths i) × IsPassable site.grid (place_of new.paths i)
+
+-- At an event that is no tick all agents stay where they are.
+abbrev pub OnlyTicksMove : Type 0
+OnlyTicksMove =
+    (site : Site) (old : State) (entry : Entry) (new : State) (i : ℕ) → Step site old entry new → entry.event ≢ Event.Tick →
+    i < length old.paths → place_of new.paths i ≡ place_of old.paths i
 
 -- The cells where the paths end are points.
 abbrev pub EndsArePoints : Type 0

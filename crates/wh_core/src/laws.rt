@@ -1,6 +1,6 @@
 //! Laws over all runs from an opening state. Each function is a law: it does nothing, and its contract is the law.
 
-ghost use Rattle.wh_core.specs.Laws.{PathsAreFree, NoneShareACell, NoneExchangeCells, NoneFollow, EndsArePoints, EndsDiffer};
+ghost use Rattle.wh_core.specs.Laws.{PathsAreFree, NoneShareACell, NoneExchangeCells, NoneFollow, EachStepIsAMove, OnlyTicksMove, EndsArePoints, EndsDiffer};
 ghost use Rattle.wh_core.specs.Laws.{TasksGoForward, EachVisitWasMade, ClocksLieInOrder, DoneIsAllVisited};
 ghost use Rattle.wh_core.specs.Laws.{NoLoadAtRest, LoadsAndTasksAgree, ArrivalsAreDoneAtOnce, NoneIsLeftToArrive};
 ghost use Rattle.wh_core.specs.Laws.{SeatsStay, LimitsHold, HistoryTellsTheState, RepliesAgree, EveryEventIsAnswered, TaskNumbersCountUp, ClockNeverFalls, ClosedForGood};
@@ -24,6 +24,16 @@ pub fn none_exchange_cells()
 /// Under the rule, no agent enters in one step a cell that another leaves or keeps in that step.
 pub fn none_follow()
     ensures { NoneFollow }
+{}
+
+/// In one step an agent goes to a neighbour of its cell or stays there, and where it then is can be walked on.
+pub fn each_step_is_a_move()
+    ensures { EachStepIsAMove }
+{}
+
+/// At an event that is no tick all agents stay where they are.
+pub fn only_ticks_move()
+    ensures { OnlyTicksMove }
 {}
 
 /// The cells where the paths end are points.

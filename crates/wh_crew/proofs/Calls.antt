@@ -2,12 +2,13 @@
 use Rattle.std.proofs.Common.{◌≡◌, ℕ, ◌+◌, Bool, true, false, List, [], ◌∷◌, ◌++◌, length, drop, reverse, Option, Some, None, slice_get, refl, ap, sym, ◌∙◌, subst, arith, append_assoc}
 use Rattle.std.proofs.lemmas.List.{map_push, length_push, append-nil, reverse-append, nil_from_length}
 use Rattle.std.specs.Option.{option_to_list}
+use Rattle.wh_grid.specs.Grids.{Floor}
 use Rattle.wh_event.specs.declared.entry.Entry.{Entry}
 use Rattle.wh_event.specs.declared.event.Event.{Event}
 use Rattle.wh_event.specs.declared.event.Spare.{Spare}
 use Rattle.wh_event.specs.declared.event.Command.{Command}
-use Rattle.wh_token.specs.Fleet.{TellsSpare}
-use Rattle.wh_token.specs.Commands.{event_of}
+use Rattle.wh_desk.specs.Fleet.{TellsSpare}
+use Rattle.wh_desk.specs.Commands.{event_of}
 use Rattle.wh_desk.specs.Lists.{Received}
 use Rattle.wh_desk.proofs.Entries.{AllAt_push}
 use Rattle.wh_crew.specs.Work.{IsSublist, nothing, command_of, keeps, skips, commands_of, told_by, spares_told, LentFromEnd, Worked, Takes, Tried}
@@ -28,41 +29,41 @@ told_push [] x = append-nil (told_by x.1.event)
 told_push (y ∷ xs) x = ap (λ l. told_by y.1.event ++ l) (told_push xs x) ∙ sym (append_assoc (told_by y.1.event) (spares_told xs) (told_by x.1.event))
 
 -- so many planners were lent, and those that are left are the rest
-pub record Lending {X : Type 0} (fits : X → Bool) (count : X → ℕ) (spares : List X) (told : List Spare) (left : List X) : Type 0 where
-  pub lent : LentFromEnd fits count spares told
+pub record Lending {X : Type 0} (fits : X → Floor → Bool) (count : X → ℕ) (grid : Floor) (spares : List X) (told : List Spare) (left : List X) : Type 0 where
+  pub lent : LentFromEnd fits count grid spares told
   pub rest : reverse left ≡ drop (length told) (reverse spares)
 
-one_lent : {X : Type 0} (fits : X → Bool) (count : X → ℕ) (spares : List X) (told : List Spare) (left : List X) (t : Spare) (rest : List X) (spare : Option X)
-    → Lending fits count spares told left → left ≡ rest ++ option_to_list spare → (spare ≡ None → length left ≡ 0) → TellsSpare fits count spare t → Lending fits count spares (told ++ t ∷ []) rest
-one_lent {X} fits count spares told left t rest (Some p) l taken none tells =
+one_lent : {X : Type 0} (fits : X → Floor → Bool) (count : X → ℕ) (grid : Floor) (spares : List X) (told : List Spare) (left : List X) (t : Spare) (rest : List X) (spare : Option X)
+    → Lending fits count grid spares told left → left ≡ rest ++ option_to_list spare → (spare ≡ None → length left ≡ 0) → TellsSpare fits count grid spare t → Lending fits count grid spares (told ++ t ∷ []) rest
+one_lent {X} fits count grid spares told left t rest (Some p) l taken none tells =
     let k = length told in
     let all = reverse spares in
     let head : p ∷ reverse rest ≡ drop k all = sym (ap reverse taken ∙ reverse-append rest (p ∷ [])) ∙ l.rest in
     let at = drop_head all k p (reverse rest) head in
     record {
-      lent = AllAt_push (λ i s. TellsSpare fits count (slice_get all i) s) told t l.lent (subst (λ (o : Option X). TellsSpare fits count o t) (sym at.0) tells);
+      lent = AllAt_push (λ i s. TellsSpare fits count grid (slice_get all i) s) told t l.lent (subst (λ (o : Option X). TellsSpare fits count grid o t) (sym at.0) tells);
       rest = at.1 ∙ ap (λ n. drop n all) (sym (length_push told t));
     }
-one_lent {X} fits count spares told left t rest None l taken none tells =
+one_lent {X} fits count grid spares told left t rest None l taken none tells =
     let k = length told in
     let all = reverse spares in
     let empty : left ≡ [] = nil_from_length left (none refl) in
     let rest_empty : rest ≡ [] = sym (append-nil rest) ∙ sym taken ∙ empty in
     let at = drop_none all k (sym (ap reverse empty) ∙ l.rest) in
     record {
-      lent = AllAt_push (λ i s. TellsSpare fits count (slice_get all i) s) told t l.lent (subst (λ (o : Option X). TellsSpare fits count o t) (sym at.0) tells);
+      lent = AllAt_push (λ i s. TellsSpare fits count grid (slice_get all i) s) told t l.lent (subst (λ (o : Option X). TellsSpare fits count grid o t) (sym at.0) tells);
       rest = ap reverse rest_empty ∙ at.1 ∙ ap (λ n. drop n all) (sym (length_push told t));
     }
 
-none_lent : {X : Type 0} (fits : X → Bool) (count : X → ℕ) (spares : List X) (told : List Spare) (left rest : List X) → Lending fits count spares told left → rest ≡ left → Lending fits count spares (told ++ []) rest
-none_lent fits count spares told left rest l same = subst (λ (s : List Spare). Lending fits count spares s rest) (sym (append-nil told)) (subst (λ r. Lending fits count spares told r) (sym same) l)
+none_lent : {X : Type 0} (fits : X → Floor → Bool) (count : X → ℕ) (grid : Floor) (spares : List X) (told : List Spare) (left rest : List X) → Lending fits count grid spares told left → rest ≡ left → Lending fits count grid spares (told ++ []) rest
+none_lent fits count grid spares told left rest l same = subst (λ (s : List Spare). Lending fits count grid spares s rest) (sym (append-nil told)) (subst (λ r. Lending fits count grid spares told r) (sym same) l)
 
-lends_more : {X : Type 0} (fits : X → Bool) (count : X → ℕ) (spares : List X) (told : List Spare) (left : List X) (e : Event) (rest : List X) → Lending fits count spares told left → Takes fits count e left rest → Lending fits count spares (told ++ told_by e) rest
-lends_more fits count spares told left (Event.Replace agent t) rest l takes = one_lent fits count spares told left t rest takes.spare l takes.taken takes.none_left takes.tells
-lends_more fits count spares told left (Event.Submit client stops) rest l takes = none_lent fits count spares told left rest l takes
-lends_more fits count spares told left (Event.Request agent) rest l takes = none_lent fits count spares told left rest l takes
-lends_more fits count spares told left Event.Tick rest l takes = none_lent fits count spares told left rest l takes
-lends_more fits count spares told left Event.Close rest l takes = none_lent fits count spares told left rest l takes
+lends_more : {X : Type 0} (fits : X → Floor → Bool) (count : X → ℕ) (grid : Floor) (spares : List X) (told : List Spare) (left : List X) (e : Event) (rest : List X) → Lending fits count grid spares told left → Takes fits count grid e left rest → Lending fits count grid spares (told ++ told_by e) rest
+lends_more fits count grid spares told left (Event.Replace agent t) rest l takes = one_lent fits count grid spares told left t rest takes.spare l takes.taken takes.none_left takes.tells
+lends_more fits count grid spares told left (Event.Submit client stops) rest l takes = none_lent fits count grid spares told left rest l takes
+lends_more fits count grid spares told left (Event.Request agent) rest l takes = none_lent fits count grid spares told left rest l takes
+lends_more fits count grid spares told left Event.Tick rest l takes = none_lent fits count grid spares told left rest l takes
+lends_more fits count grid spares told left Event.Close rest l takes = none_lent fits count grid spares told left rest l takes
 
 -- the command of what was asked by a command
 pub command_back : (command : Command) (told : Spare) → command_of (event_of command told) ≡ command
@@ -73,27 +74,27 @@ command_back (Command.Replace agent) told = refl
 command_back Command.Close told = refl
 
 -- what holds between two calls of a worker
-pub record Working {X : Type 0} (fits : X → Bool) (count : X → ℕ) (commands : List Command) (spares : List X) (had has : Received) (missed : ℕ) (left : List X) : Type 0 where
-  pub worked : Worked fits count commands spares had has missed
+pub record Working {X : Type 0} (fits : X → Floor → Bool) (count : X → ℕ) (grid : Floor) (commands : List Command) (spares : List X) (had has : Received) (missed : ℕ) (left : List X) : Type 0 where
+  pub worked : Worked fits count grid commands spares had has missed
   pub rest : reverse left ≡ drop (length (spares_told worked.received)) (reverse spares)
 
 -- a worker that has done nothing
-pub working_nothing : {X : Type 0} (fits : X → Bool) (count : X → ℕ) (spares : List X) (p : Received) → Working fits count [] spares p p 0 spares
-working_nothing fits count spares p = record {
+pub working_nothing : {X : Type 0} (fits : X → Floor → Bool) (count : X → ℕ) (grid : Floor) (spares : List X) (p : Received) → Working fits count grid [] spares p p 0 spares
+working_nothing fits count grid spares p = record {
   worked = record { caller_is = refl; received = []; goes_on = sym (append-nil p.list); in_order = nothing; counted = refl; lent = λ i t at. absurd (cc) };
   rest = refl;
 }
 
 -- one more call
-pub working_more : {X : Type 0} (fits : X → Bool) (count : X → ℕ) (spares : List X) (commands : List Command) (had has : Received) (missed : ℕ) (left : List X) (command : Command) (answered : Bool) (now : Received) (rest : List X)
-    → Working fits count commands spares had has missed left → Tried fits count command has left answered now rest
+pub working_more : {X : Type 0} (fits : X → Floor → Bool) (count : X → ℕ) (grid : Floor) (spares : List X) (commands : List Command) (had has : Received) (missed : ℕ) (left : List X) (command : Command) (answered : Bool) (now : Received) (rest : List X)
+    → Working fits count grid commands spares had has missed left → Tried fits count grid command has left answered now rest
     → (missed' : ℕ) → (answered ≡ true → missed' ≡ missed) → (answered ≡ false → missed' ≡ missed + 1)
-    → Working fits count (commands ++ command ∷ []) spares had now missed' rest
-working_more fits count spares commands had has missed left command true now rest w t missed' same more =
+    → Working fits count grid (commands ++ command ∷ []) spares had now missed' rest
+working_more fits count grid spares commands had has missed left command true now rest w t missed' same more =
     let x = t.0 in
     let before = w.worked.received in
     let asked : commands_of (before ++ x ∷ []) ≡ commands_of before ++ command ∷ [] = map_push (λ (y : ℕ × Entry). command_of y.1.event) before x ∙ ap (λ (e : Command). commands_of before ++ e ∷ []) t.1 in
-    let lending = lends_more fits count spares (spares_told before) left x.1.event rest (record { lent = w.worked.lent; rest = w.rest }) t.4 in
+    let lending = lends_more fits count grid spares (spares_told before) left x.1.event rest (record { lent = w.worked.lent; rest = w.rest }) t.4 in
     let told = told_push before x in
     record {
       worked = record {
@@ -102,11 +103,11 @@ working_more fits count spares commands had has missed left command true now res
         goes_on = t.3 ∙ ap (λ l. l ++ x ∷ []) w.worked.goes_on ∙ append_assoc had.list before (x ∷ []);
         in_order = subst (λ (l : List Command). IsSublist l (commands ++ command ∷ [])) (sym asked) (keeps_push command (commands_of before) commands w.worked.in_order);
         counted = omega (arith, length_push before x, length_push commands command, w.worked.counted, same refl);
-        lent = subst (λ (l : List Spare). LentFromEnd fits count spares l) (sym told) lending.lent;
+        lent = subst (λ (l : List Spare). LentFromEnd fits count grid spares l) (sym told) lending.lent;
       };
       rest = lending.rest ∙ ap (λ (l : List Spare). drop (length l) (reverse spares)) (sym told);
     }
-working_more fits count spares commands had has missed left command false now rest w t missed' same more =
+working_more fits count grid spares commands had has missed left command false now rest w t missed' same more =
     record {
       worked = record {
         caller_is = ap (λ (p : Received). p.caller) t.0 ∙ w.worked.caller_is;

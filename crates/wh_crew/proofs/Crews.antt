@@ -4,6 +4,7 @@ use Rattle.std.specs.List.{All}
 use Rattle.std.proofs.lemmas.List.{length-map}
 use Rattle.std.proofs.lemmas.List.Elements.{All-head, All-tail}
 use Rattle.std.proofs.lemmas.Option.{same_Some, slice_get_within}
+use Rattle.wh_grid.specs.Grids.{Floor}
 use Rattle.wh_event.specs.declared.entry.Entry.{Entry}
 use Rattle.wh_desk.specs.Lists.{AllAt, entries_of, Received}
 use Rattle.wh_desk.specs.Calls.{InOrder}
@@ -32,20 +33,20 @@ all_at P (y ∷ xs) all zero x at = subst P (same_Some _ _ at) (All-head P y xs 
 all_at P (y ∷ xs) all (suc k) x at = all_at P xs (All-tail P y xs all) k x at
 
 -- each report keeps the promise at its place, so it answers the work there
-pub reported : {X H R : Type 0} (fits : X → Bool) (slots : X → ℕ) (had : H → Received) (asked : H → Work X) (pass : R → Received) (missed : R → ℕ) (works : List (Work X)) (passes : List Received) (hs : List H) (rs : List R)
+pub reported : {X H R : Type 0} (fits : X → Floor → Bool) (slots : X → ℕ) (grid : Floor) (had : H → Received) (asked : H → Work X) (pass : R → Received) (missed : R → ℕ) (works : List (Work X)) (passes : List Received) (hs : List H) (rs : List R)
     → length rs ≡ length hs → AllAt (λ i h. IsDue works passes i (had h) (asked h)) hs
-    → AllAt (λ i r. (h : H) → slice_get hs i ≡ Some h → Worked fits slots (asked h).commands.items (asked h).spares.items (had h) (pass r) (missed r)) rs
-    → AllAt (λ i r. ReportAt fits slots works passes i (pass r) (missed r)) rs
-reported {X} fits slots had asked pass missed works passes hs rs count due kept i r at work before work_at pass_at =
+    → AllAt (λ i r. (h : H) → slice_get hs i ≡ Some h → Worked fits slots grid (asked h).commands.items (asked h).spares.items (had h) (pass r) (missed r)) rs
+    → AllAt (λ i r. ReportAt fits slots grid works passes i (pass r) (missed r)) rs
+reported {X} fits slots grid had asked pass missed works passes hs rs count due kept i r at work before work_at pass_at =
     let h = get_some hs i (omega (arith, count, slice_get_within rs i r at)) in
     let is = due i h.0 h.1 in
-    subst (λ (w : Work X). Worked fits slots w.commands.items w.spares.items before (pass r) (missed r)) (same_Some _ _ (sym is.work_is ∙ work_at))
-    (subst (λ p. Worked fits slots (asked h.0).commands.items (asked h.0).spares.items p (pass r) (missed r)) (same_Some _ _ (sym is.had_is ∙ pass_at)) (kept i r at h.0 h.1))
+    subst (λ (w : Work X). Worked fits slots grid w.commands.items w.spares.items before (pass r) (missed r)) (same_Some _ _ (sym is.work_is ∙ work_at))
+    (subst (λ p. Worked fits slots grid (asked h.0).commands.items (asked h.0).spares.items p (pass r) (missed r)) (same_Some _ _ (sym is.had_is ∙ pass_at)) (kept i r at h.0 h.1))
 
-pub ended_order : {X R : Type 0} (fits : X → Bool) (slots : X → ℕ) (pass : R → Received) (missed : R → ℕ) (works : List (Work X)) (passes : List Received) (rs : List R) (callers : ℕ)
+pub ended_order : {X R : Type 0} (fits : X → Floor → Bool) (slots : X → ℕ) (grid : Floor) (pass : R → Received) (missed : R → ℕ) (works : List (Work X)) (passes : List Received) (rs : List R) (callers : ℕ)
     → InOrder callers passes → length works ≡ length passes → length rs ≡ length passes
-    → AllAt (λ i r. ReportAt fits slots works passes i (pass r) (missed r)) rs → InOrder callers (map pass rs)
-ended_order fits slots pass missed works passes rs callers order same count reports = record {
+    → AllAt (λ i r. ReportAt fits slots grid works passes i (pass r) (missed r)) rs → InOrder callers (map pass rs)
+ended_order fits slots grid pass missed works passes rs callers order same count reports = record {
   count = length-map rs pass ∙ count ∙ order.count;
   each = λ k p at.
       let r = map_at pass rs k p at in
@@ -55,12 +56,12 @@ ended_order fits slots pass missed works passes rs callers order same count repo
       ap (λ (q : Received). q.caller) (sym r.2) ∙ (reports k r.0 r.1 work.0 before.0 work.1 before.1).caller_is ∙ order.each k before.0 before.1;
 }
 
-pub all_worked : {X R : Type 0} (fits : X → Bool) (slots : X → ℕ) (pass : R → Received) (missed : R → ℕ) (works : List (Work X)) (passes : List Received) (rs : List R) (callers : ℕ) (history : List Entry)
+pub all_worked : {X R : Type 0} (fits : X → Floor → Bool) (slots : X → ℕ) (grid : Floor) (pass : R → Received) (missed : R → ℕ) (works : List (Work X)) (passes : List Received) (rs : List R) (callers : ℕ) (history : List Entry)
     → InOrder callers passes → length works ≡ length passes → length rs ≡ length passes
-    → AllAt (λ i r. ReportAt fits slots works passes i (pass r) (missed r)) rs
+    → AllAt (λ i r. ReportAt fits slots grid works passes i (pass r) (missed r)) rs
     → All (λ p. p.list ≡ entries_of history p.caller) (map pass rs)
-    → AllWorked fits slots works passes history (map missed rs)
-all_worked fits slots pass missed works passes rs callers history order same count reports lists = record {
+    → AllWorked fits slots grid works passes history (map missed rs)
+all_worked fits slots grid pass missed works passes rs callers history order same count reports lists = record {
   one_each = length-map rs missed ∙ count ∙ sym same;
   each = λ i work had n work_at pass_at missed_at.
       let r = map_at missed rs i n missed_at in

@@ -1,11 +1,12 @@
 -- what workers did
 use Rattle.std.specs.Prelude.{◌≡◌, ℕ, ◌+◌, Bool, true, false, List, [], ◌∷◌, ◌++◌, length, map, reverse, Some, slice_get}
+use Rattle.wh_grid.specs.Grids.{Floor}
 use Rattle.wh_event.specs.declared.entry.Entry.{Entry}
 use Rattle.wh_event.specs.declared.event.Event.{Event}
 use Rattle.wh_event.specs.declared.event.Spare.{Spare}
 use Rattle.wh_event.specs.declared.event.Command.{Command}
-use Rattle.wh_token.specs.Fleet.{TellsSpare}
-use Rattle.wh_token.specs.Runs.{TakesLast}
+use Rattle.wh_desk.specs.Fleet.{TellsSpare}
+use Rattle.wh_desk.specs.Runs.{TakesLast}
 use Rattle.wh_desk.specs.Lists.{AllAt, entries_of, Received}
 use Rattle.wh_edge.specs.declared.work.Work.{Work}
 
@@ -38,32 +39,32 @@ spares_told [] = []
 spares_told (x ∷ xs) = told_by x.1.event ++ spares_told xs
 
 -- The planners were lent from the end of the list, each once, and these were told; once there was none left, none is told.
-abbrev pub LentFromEnd : {X : Type 0} → (X → Bool) → (X → ℕ) → List X → List Spare → Type 0
-LentFromEnd fits count spares told = AllAt (λ i t. TellsSpare fits count (slice_get (reverse spares) i) t) told
+abbrev pub LentFromEnd : {X : Type 0} → (X → Floor → Bool) → (X → ℕ) → Floor → List X → List Spare → Type 0
+LentFromEnd fits count grid spares told = AllAt (λ i t. TellsSpare fits count grid (slice_get (reverse spares) i) t) told
 
 -- A worker's pass had one list and has another: it went on by entries that answer the commands, in order, without as many
 -- as were missed; and their Replaces lent the spares from the end. Fits and count say what a planner answers.
-pub record Worked {X : Type 0} (fits : X → Bool) (count : X → ℕ) (commands : List Command) (spares : List X)
+pub record Worked {X : Type 0} (fits : X → Floor → Bool) (count : X → ℕ) (grid : Floor) (commands : List Command) (spares : List X)
     (had has : Received) (missed : ℕ) : Type 0 where
   pub caller_is : has.caller ≡ had.caller
   pub received : List (ℕ × Entry)
   pub goes_on : has.list ≡ had.list ++ received
   pub in_order : IsSublist (commands_of received) commands
   pub counted : length received + missed ≡ length commands
-  pub lent : LentFromEnd fits count spares (spares_told received)
+  pub lent : LentFromEnd fits count grid spares (spares_told received)
 
 -- a Replace takes the last spare, and no other event takes one
-abbrev pub Takes : {X : Type 0} → (X → Bool) → (X → ℕ) → Event → List X → List X → Type 0
-Takes fits count (Event.Replace agent told) spares left = TakesLast fits count (Event.Replace agent told) spares left
-Takes fits count event spares left = left ≡ spares
+abbrev pub Takes : {X : Type 0} → (X → Floor → Bool) → (X → ℕ) → Floor → Event → List X → List X → Type 0
+Takes fits count grid (Event.Replace agent told) spares left = TakesLast fits count grid (Event.Replace agent told) spares left
+Takes fits count grid event spares left = left ≡ spares
 
 -- One call for a command: the pass has one more entry, which answers it and takes the spare that it tells, or all is as it
 -- was.
-abbrev pub Tried : {X : Type 0} → (X → Bool) → (X → ℕ) → Command → Received → List X → Bool → Received → List X → Type 0
-Tried fits count command had spares true has left =
+abbrev pub Tried : {X : Type 0} → (X → Floor → Bool) → (X → ℕ) → Floor → Command → Received → List X → Bool → Received → List X → Type 0
+Tried fits count grid command had spares true has left =
     (x : ℕ × Entry) × (command_of x.1.event ≡ command) × (has.caller ≡ had.caller) × (has.list ≡ had.list ++ x ∷ [])
-    × Takes fits count x.1.event spares left
-Tried fits count command had spares false has left = (has ≡ had) × (left ≡ spares)
+    × Takes fits count grid x.1.event spares left
+Tried fits count grid command had spares false has left = (has ≡ had) × (left ≡ spares)
 
 -- the pass and the work are those at place i
 pub record IsDue {X : Type 0} (works : List (Work X)) (passes : List Received) (i : ℕ) (had : Received) (work : Work X) : Type 0 where
@@ -71,16 +72,16 @@ pub record IsDue {X : Type 0} (works : List (Work X)) (passes : List Received) (
   pub work_is : slice_get works i ≡ Some work
 
 -- the worker at place i ended with this pass, and missed so many calls
-abbrev pub ReportAt : {X : Type 0} → (X → Bool) → (X → ℕ) → List (Work X) → List Received → ℕ → Received → ℕ → Type 0
-ReportAt {X} fits count works passes i has missed =
+abbrev pub ReportAt : {X : Type 0} → (X → Floor → Bool) → (X → ℕ) → Floor → List (Work X) → List Received → ℕ → Received → ℕ → Type 0
+ReportAt {X} fits count grid works passes i has missed =
     (work : Work X) (had : Received) → slice_get works i ≡ Some work → slice_get passes i ≡ Some had →
-    Worked fits count work.commands.items work.spares.items had has missed
+    Worked fits count grid work.commands.items work.spares.items had has missed
 
 -- For each worker: what its caller has in the history are the entries that its pass held before, and then its commands, in
 -- order, without as many as it missed.
-pub record AllWorked {X : Type 0} (fits : X → Bool) (count : X → ℕ) (works : List (Work X)) (passes : List Received)
+pub record AllWorked {X : Type 0} (fits : X → Floor → Bool) (count : X → ℕ) (grid : Floor) (works : List (Work X)) (passes : List Received)
     (history : List Entry) (missed : List ℕ) : Type 0 where
   pub one_each : length missed ≡ length works
   pub each : (i : ℕ) (work : Work X) (had : Received) (n : ℕ) →
       slice_get works i ≡ Some work → slice_get passes i ≡ Some had → slice_get missed i ≡ Some n →
-      Worked fits count work.commands.items work.spares.items had (record { caller = i; list = entries_of history i }) n
+      Worked fits count grid work.commands.items work.spares.items had (record { caller = i; list = entries_of history i }) n

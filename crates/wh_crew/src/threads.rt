@@ -3,7 +3,7 @@
 
 ghost use Rattle.std.specs.Prelude.{◌≡◌, ◌<◌, ◌≤◌, [], ℕ, All, IfOk, length, map, vec_len, vec_capacity, Some, slice_get};
 ghost use Rattle.wh_core.specs.Steps.{Run};
-ghost use Rattle.wh_board.specs.Pasts.{origin_of};
+ghost use Rattle.wh_desk.specs.Pasts.{origin_of};
 ghost use Rattle.wh_desk.specs.Lists.{AllAt};
 ghost use Rattle.wh_desk.specs.Calls.{InOrder};
 ghost use Rattle.wh_crew.specs.Work.{Worked, IsDue, ReportAt, AllWorked};
@@ -40,7 +40,7 @@ pub struct Due<N: DeskName, P> {
 impl<N: DeskName, P: Planner> Promise<Report<N>> for Due<N, P> {
     ghost use Rattle.wh_crew.specs.Work.{Worked};
 
-    ghost kept_by = { λ due r. Worked (λ b. P.fits_map b N.origin.site.grid) (λ b. P.slot_count b) due.work.value.commands.items due.work.value.spares.items due.had.value r.pass r.missed };
+    ghost kept_by = { λ due r. Worked P.fits_map P.slot_count N.origin.site.grid due.work.value.commands.items due.work.value.spares.items due.had.value r.pass r.missed };
 }
 
 /// One worker's whole work, with its pass moved in and out.
@@ -53,7 +53,7 @@ fn report<N: DeskName, H: Wait + Drop, P: Planner, R: Wait, G: Gate>(
     gate: &G,
     worker: u32,
 ) -> Report<N>
-    ensures { Worked (λ b. P.fits_map b N.origin.site.grid) (λ b. P.slot_count b) work.commands.items work.spares.items pass result.pass result.missed }
+    ensures { Worked P.fits_map P.slot_count N.origin.site.grid work.commands.items work.spares.items pass result.pass result.missed }
 {
     let missed = work_through(rt, alloc, desk, &mut pass, work, gate, worker);
     Report { pass, missed }
@@ -87,7 +87,7 @@ fn start_one<
     let started = scope.spawn_with(
         due,
         move || -> Report<N>
-            ensures { Worked (λ b. P.fits_map b N.origin.site.grid) (λ b. P.slot_count b) work.commands.items work.spares.items pass result.pass result.missed }
+            ensures { Worked P.fits_map P.slot_count N.origin.site.grid work.commands.items work.spares.items pass result.pass result.missed }
         { report(rt, alloc, desk, pass, work, gate, worker) },
     );
     match started {
@@ -158,7 +158,7 @@ fn join_all<N: DeskName, P: Planner, R: Threads>(
     requires empty { reports.items ≡ [] }
     requires room { length handles.items ≤ vec_capacity reports }
     ensures count { length result.items ≡ length handles.items }
-    ensures kept { AllAt (λ i r. (h : _) → slice_get handles.items i ≡ Some h → Worked (λ b. P.fits_map b N.origin.site.grid) (λ b. P.slot_count b) h.promise.work.value.commands.items h.promise.work.value.spares.items h.promise.had.value r.pass r.missed) result.items }
+    ensures kept { AllAt (λ i r. (h : _) → slice_get handles.items i ≡ Some h → Worked P.fits_map P.slot_count N.origin.site.grid h.promise.work.value.commands.items h.promise.work.value.spares.items h.promise.had.value r.pass r.missed) result.items }
 {
     for handle in handles {
         reports.push_reserved(handle.join(rt));
@@ -208,14 +208,14 @@ fn run_all<
     requires empty { reports.items ≡ [] }
     requires room { length passes.items ≤ vec_capacity reports }
     ensures count { IfOk result (λ rs. length rs.items ≡ length passes.items) }
-    ensures reported { IfOk result (λ rs. AllAt (λ i r. ReportAt (λ b. P.fits_map b N.origin.site.grid) (λ b. P.slot_count b) works.items passes.items i r.pass r.missed) rs.items) }
+    ensures reported { IfOk result (λ rs. AllAt (λ i r. ReportAt P.fits_map P.slot_count N.origin.site.grid works.items passes.items i r.pass r.missed) rs.items) }
 {
     thread::scope(
         thread::scope_env(),
         rt,
         |scope| -> Result<Vec<Report<N>>, CrewFault>
             requires { (length works.items ≡ length passes.items) × (reports.items ≡ []) × (length passes.items ≤ vec_capacity reports) }
-            ensures { IfOk result (λ rs. (length rs.items ≡ length passes.items) × AllAt (λ i r. ReportAt (λ b. P.fits_map b N.origin.site.grid) (λ b. P.slot_count b) works.items passes.items i r.pass r.missed) rs.items) }
+            ensures { IfOk result (λ rs. (length rs.items ≡ length passes.items) × AllAt (λ i r. ReportAt P.fits_map P.slot_count N.origin.site.grid works.items passes.items i r.pass r.missed) rs.items) }
         {
             let handles = start_all(scope, rt, alloc, desk, passes, works, gate)?;
             Ok(join_all(rt, handles, reports))
@@ -225,7 +225,7 @@ fn run_all<
 
 /// The history that a crew left, and how many calls of each worker the desk refused.
 #[derive(Drop)]
-pub struct Crewed<P = Box<dyn Planner>> {
+pub struct Crewed<P: Planner = Box<dyn Planner>> {
     pub history: History<P>,
     pub missed: Vec<u64>,
 }
@@ -253,7 +253,7 @@ pub fn crew<
     ensures run { IfOk result (λ c. Run N.origin.site N.origin.opening c.history.warehouse.book.history c.history.warehouse.book.state) }
     ensures callers { IfOk result (λ c. All (λ entry. entry.caller < N.callers) c.history.warehouse.book.history) }
     ensures within { IfOk result (λ c. length c.history.warehouse.book.history ≤ length N.cells) }
-    ensures workers { IfOk result (λ c. AllWorked (λ b. P.fits_map b N.origin.site.grid) (λ b. P.slot_count b) works.items passes.items c.history.warehouse.book.history c.missed.items) }
+    ensures workers { IfOk result (λ c. AllWorked P.fits_map P.slot_count N.origin.site.grid works.items passes.items c.history.warehouse.book.history c.missed.items) }
 {
     let Ok(room) = make_room(alloc, passes.len()) else {
         return Err(CrewFault::NoMemory);

@@ -30,7 +30,7 @@ pub fn work_through<N: DeskName, H: Wait + Drop, P: Planner, R: Wait, G: Gate>(
     gate: &G,
     worker: u32,
 ) -> u64
-    ensures { Worked (λ b. P.fits_map b N.origin.site.grid) (λ b. P.slot_count b) work.commands.items work.spares.items pass.old pass.new result }
+    ensures { Worked P.fits_map P.slot_count N.origin.site.grid work.commands.items work.spares.items pass.old pass.new result }
 {
     let Work {
         commands,
@@ -58,7 +58,7 @@ fn try_one<N: DeskName, H: Wait + Drop, P: Planner, R: Wait>(
     command: Command,
     spares: &mut Vec<P>,
 ) -> bool
-    ensures { Tried (λ b. P.fits_map b N.origin.site.grid) (λ b. P.slot_count b) command pass.old spares.old.items result pass.new spares.new.items }
+    ensures { Tried P.fits_map P.slot_count N.origin.site.grid command pass.old spares.old.items result pass.new spares.new.items }
 {
     match command {
         Command::Submit { client, stops } => { desk.submit(rt, alloc, pass, client, stops).is_ok() }
@@ -78,7 +78,7 @@ fn lend<N: DeskName, H: Wait + Drop, P: Planner, R: Wait>(
     agent: u32,
     spares: &mut Vec<P>,
 ) -> bool
-    ensures { Tried (λ b. P.fits_map b N.origin.site.grid) (λ b. P.slot_count b) (Asked.Replace agent) pass.old spares.old.items result pass.new spares.new.items }
+    ensures { Tried P.fits_map P.slot_count N.origin.site.grid (Asked.Replace agent) pass.old spares.old.items result pass.new spares.new.items }
 {
     let Answer { outcome, back } = desk.replace(rt, alloc, pass, agent, spares.pop());
     match outcome {

@@ -1,7 +1,8 @@
 -- what comes back of a planner that was handed in
 use Rattle.std.proofs.Common.{◌≡◌, ℕ, ◌<◌, List, ◌∷◌, [], length, refl, ap, subst, sym, ◌∙◌, arith}
 use Prim.Native.Nat.{zero, suc}
-use Rattle.std.specs.Prelude.{Option, Some, None, IsSome, slice_get, slice_set}
+use Rattle.std.specs.Prelude.{Option, Some, None, Bool, slice_get, slice_set}
+use Rattle.wh_grid.specs.Grids.{Floor}
 use Rattle.std.proofs.lemmas.Option.{same_Some, none-some}
 use Rattle.wh_points.specs.Points.{Site}
 use Rattle.wh_event.specs.declared.event.Spare.{Spare}
@@ -12,7 +13,7 @@ use Rattle.wh_core.specs.States.{State}
 use Rattle.wh_core.specs.Steps.{Answers}
 use Rattle.wh_event.specs.declared.entry.Entry.{Entry}
 use Rattle.wh_token.specs.Commands.{event_of}
-use Rattle.wh_token.specs.Fleet.{StaySeated, Swaps, replaced_agent, replaced_by}
+use Rattle.wh_token.specs.Fleet.{AllFit, StaySeated, Swaps, replaced_agent, replaced_by}
 use Rattle.wh_desk.specs.Calls.{HandsBack, IsAskedBy, Reseats}
 
 -- the agent whose planner is replaced is there
@@ -24,17 +25,19 @@ seated site old (Reply.Replaced slots) (Event.Replace a Spare.None) new agent st
 seated site old (Reply.Replaced slots) (Event.Replace a Spare.Foreign) new agent step is = absurd step
 seated site old reply event new agent step is = absurd (none-some agent is)
 
-some_get : {X : Type 0} (xs : List X) (k : ℕ) → k < length xs → IsSome (slice_get xs k)
+some_get : {X : Type 0} (xs : List X) (k : ℕ) → k < length xs → (x : X) × (slice_get xs k ≡ Some x)
 some_get [] k h = absurd (omega arith)
-some_get (x ∷ xs) zero h = refl
+some_get (x ∷ xs) zero h = (x, refl)
 some_get (x ∷ xs) (suc k) h = some_get xs k (omega arith)
 
--- what is swapped comes back
-pub handed_back : {X : Type 0} (seat : Option ℕ) (planners : List X) (handed : Option X) (after : List X) (back : Option X) →
-    ((agent : ℕ) → seat ≡ Some agent → agent < length planners) → Swaps seat planners handed after back → HandsBack seat handed back
-handed_back (Some agent) planners (Some planner) after back there swaps = subst IsSome (sym swaps.1) (some_get planners agent (there agent refl))
-handed_back (Some agent) planners None after back there swaps = swaps.1
-handed_back None planners handed after back there swaps = swaps.1
+-- what is swapped comes back, and planned on the map in its seat
+pub handed_back : {X : Type 0} (fits : X → Floor → Bool) (grid : Floor) (seat : Option ℕ) (planners : List X) (handed : Option X) (after : List X) (back : Option X) →
+    ((agent : ℕ) → seat ≡ Some agent → agent < length planners) → AllFit fits grid planners → Swaps seat planners handed after back → HandsBack fits grid seat handed back
+handed_back fits grid (Some agent) planners (Some planner) after back there fit swaps =
+    let seated = some_get planners agent (there agent refl) in
+    (seated.0, swaps.1 ∙ seated.1, fit agent seated.0 seated.1)
+handed_back fits grid (Some agent) planners None after back there fit swaps = swaps.1
+handed_back fits grid None planners handed after back there fit swaps = swaps.1
 
 -- what is swapped had its seat before the call, since a Replace asks no planner
 reseats_by : {X : Type 0} (reply : Reply) (command : Command) (told : Spare) (old mid : List X) (handed : Option X) (new : List X) (back : Option X)

@@ -1,7 +1,8 @@
 -- A desk may be shared by threads, and a pass may cross to one, where what they are generic in may. The search does not find
 -- this whole, since the types are large: so here it goes part by part.
 use denote.RattleType.{RattleType}
-use denote.Param.Send.{IsSend, IsSync, sendable}
+use denote.Param.Send.{IsSend, IsSync, view_send, sendable}
+use denote.Param.SendFields.{declared_send}
 use Rattle.std.proofs.Crossing.{crosses}
 use Rattle.logbook.proofs.word.Word.TheSendSync as word
 use Rattle.logbook.proofs.tokens.Seen.TheSendSync as seen
@@ -20,6 +21,7 @@ use Rattle.wh_event.specs.contracts.entry.Entry as entry
 use Rattle.wh_board.specs.contracts.front.Front as front
 use Rattle.wh_board.specs.contracts.page.Page as page
 use Rattle.wh_board.specs.contracts.publisher.Publisher as publisher
+use Rattle.wh_planner.specs.declared.planner.Planner.{Ghosts as Planning}
 use Rattle.wh_desk.specs.declared.naming.DeskName.{Ghosts}
 use Rattle.wh_desk.specs.contracts.cells.Cells as cells
 use Rattle.wh_desk.specs.contracts.desk.Desk as desk
@@ -27,8 +29,10 @@ use Rattle.wh_desk.specs.contracts.journal.Journal as journal
 use Rattle.wh_desk.specs.contracts.pass.Pass as pass
 use Rattle.wh_desk.specs.contracts.pass.Held as held
 use Rattle.wh_token.specs.contracts.warehouse.Warehouse as warehouse
+use Rattle.wh_token.specs.contracts.warehouse.Warehouse.TheInside as Inside
 use Rattle.wh_book.specs.contracts.book.Book as book
 use Rattle.wh_field.specs.contracts.lazy.LazyField as near
+use Rattle.wh_shared.proofs.Crossing.{fields_send}
 
 book_send : IsSend book.the_row
 book_send = search (sendable, crosses) depth 60 fits 20000
@@ -36,8 +40,9 @@ book_send = search (sendable, crosses) depth 60 fits 20000
 near_send : IsSend near.the_row
 near_send = search (sendable, crosses) depth 60 fits 20000
 
-pub warehouse_send : (P : RattleType) → IsSend P → IsSend (warehouse.the_row P)
-warehouse_send P s = search (sendable, crosses, book_send, near_send) depth 60 fits 20000
+pub warehouse_send : (P : RattleType) (q : Planning P.Denot) → IsSend P → IsSend (warehouse.the_row P q)
+warehouse_send P q s =
+    view_send (Inside.the_row P q) _ _ _ _ (declared_send (Inside.the_type P q) (book_send, (search (sendable, crosses) depth 60 fits 20000, (near_send, (fields_send, (search sendable depth 20, tt))))))
 
 pub entry_send : IsSend entry.the_row
 entry_send = search (sendable, crosses) depth 60 fits 20000
@@ -69,8 +74,8 @@ publisher_send H s y = search (sendable, crosses, front_send, page_send, page_sy
 pub cells_sync : IsSync cells.the_row
 cells_sync = search (sendable, crosses, once.the_sync, entry_send, entry_sync) depth 60 fits 20000
 
-pub journal_send : (N H P : RattleType) (g : Ghosts N.Denot) → IsSend N → IsSync N → IsSend H → IsSync H → IsSend P → IsSend (journal.the_row N H P g)
-journal_send N H P g s y h k p = search (sendable, crosses, warehouse_send, publisher_send, note.the_send) depth 60 fits 20000
+pub journal_send : (N H P : RattleType) (g : Ghosts N.Denot) (q : Planning P.Denot) → IsSend N → IsSync N → IsSend H → IsSync H → IsSend P → IsSend (journal.the_row N H P g q)
+journal_send N H P g q s y h k p = search (sendable, crosses, warehouse_send, publisher_send, note.the_send) depth 60 fits 20000
 
-pub desk_sync : (N H P : RattleType) (g : Ghosts N.Denot) → IsSend N → IsSync N → IsSend H → IsSync H → IsSend P → IsSync (desk.the_row N H P g)
-desk_sync N H P g s y h k p = search (sendable, crosses, journal_send, cells_sync) depth 60 fits 20000
+pub desk_sync : (N H P : RattleType) (g : Ghosts N.Denot) (q : Planning P.Denot) → IsSend N → IsSync N → IsSend H → IsSync H → IsSend P → IsSync (desk.the_row N H P g q)
+desk_sync N H P g q s y h k p = search (sendable, crosses, journal_send, cells_sync) depth 60 fits 20000

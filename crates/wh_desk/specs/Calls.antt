@@ -1,5 +1,6 @@
 -- what the calls of a desk tell
-use Rattle.std.specs.Prelude.{◌≡◌, ℕ, ◌<◌, List, [], ◌∷◌, ◌++◌, length, Option, Some, IsSome, slice_get, slice_set, All}
+use Rattle.std.specs.Prelude.{◌≡◌, ℕ, ◌<◌, Bool, true, List, [], ◌∷◌, ◌++◌, length, Option, Some, slice_get, slice_set, All}
+use Rattle.wh_grid.specs.Grids.{Floor}
 use Rattle.once_cell.specs.declared.race.note.Note.{Note}
 use Rattle.logbook.specs.Pages.{Book}
 use Rattle.wh_event.specs.declared.entry.Entry.{Entry}
@@ -50,10 +51,11 @@ pub record TellsReceipt (book : Book) (origin : Origin) (position : ℕ) (entry 
   pub origin_is : told.past.origin ≡ origin
   pub stands : slice_get told.past.history position ≡ Some entry
 
--- What comes back: where an agent's planner was replaced by the one handed in, a planner; else what was handed in.
-abbrev pub HandsBack : {X : Type 0} → Option ℕ → Option X → Option X → Type 0
-HandsBack (Some agent) (Some handed) back = IsSome back
-HandsBack agent handed back = back ≡ handed
+-- What comes back: where an agent's planner was replaced by the one handed in, a planner that plans on the map; else what
+-- was handed in.
+abbrev pub HandsBack : {X : Type 0} → (X → Floor → Bool) → Floor → Option ℕ → Option X → Option X → Type 0
+HandsBack {X} fits grid (Some agent) (Some handed) back = (planner : X) × (back ≡ Some planner) × (fits planner grid ≡ true)
+HandsBack fits grid agent handed back = back ≡ handed
 
 -- Where an agent's planner was replaced, the one handed in has its seat and the one that had it comes back; else what was
 -- handed in comes back.

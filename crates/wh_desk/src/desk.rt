@@ -28,7 +28,7 @@ use wh_token::Warehouse;
 
 /// The journal under its lock, with the receipts' cells beside it. `H` is the handle that the publisher keeps for its end.
 #[derive(Drop)]
-pub struct Desk<N: DeskName, H: Wait + Drop, P = Box<dyn Planner>> {
+pub struct Desk<N: DeskName, H: Wait + Drop, P: Planner = Box<dyn Planner>> {
     journal: Mutex<Journal<N, H, P>>,
     cells: Cells,
     ghost named: { cells ≡ N.cells },
@@ -36,7 +36,7 @@ pub struct Desk<N: DeskName, H: Wait + Drop, P = Box<dyn Planner>> {
 
 /// What a desk leaves: the warehouse, with all that was done.
 #[derive(Drop)]
-pub struct History<P = Box<dyn Planner>> {
+pub struct History<P: Planner = Box<dyn Planner>> {
     pub warehouse: Warehouse<P>,
 }
 
@@ -83,9 +83,9 @@ impl<N: DeskName, H: Wait + Drop, P: Planner> Desk<N, H, P> {
         ensures shown { IfOk result.outcome (λ r. IsTrue r.shown ↔ IsSome r.told) }
         ensures told { IfOk result.outcome (λ r. IfSome r.told (λ t. TellsReceipt N.book N.origin r.position r.entry t)) }
         ensures served { IfOk result.outcome (λ r. IsFormed N.origin.site → r.entry.reply ≢ Answered.Refused Reason.NoPath) }
-        ensures tells { IfOk result.outcome (λ r. TellsFor (λ b. P.fits_map b N.origin.site.grid) (λ b. P.slot_count b) spare r.entry.event) }
+        ensures tells { IfOk result.outcome (λ r. TellsFor P.fits_map P.slot_count N.origin.site.grid spare r.entry.event) }
         ensures err { OnErr result.outcome (pass.new ≡ pass.old) }
-        ensures back { MatchResult result.outcome (λ r. HandsBack (replaced_agent r.entry) spare result.back) (λ _. result.back ≡ spare) }
+        ensures back { MatchResult result.outcome (λ r. HandsBack P.fits_map N.origin.site.grid (replaced_agent r.entry) spare result.back) (λ _. result.back ≡ spare) }
     {
         let mut journal = self.journal.lock(rt);
         let answer = journal.enter(alloc, &self.cells, pass, command, spare);
@@ -179,9 +179,9 @@ impl<N: DeskName, H: Wait + Drop, P: Planner> Desk<N, H, P> {
         ensures shown { IfOk result.outcome (λ r. IsTrue r.shown ↔ IsSome r.told) }
         ensures told { IfOk result.outcome (λ r. IfSome r.told (λ t. TellsReceipt N.book N.origin r.position r.entry t)) }
         ensures served { IfOk result.outcome (λ r. IsFormed N.origin.site → r.entry.reply ≢ Answered.Refused Reason.NoPath) }
-        ensures tells { IfOk result.outcome (λ r. TellsFor (λ b. P.fits_map b N.origin.site.grid) (λ b. P.slot_count b) spare r.entry.event) }
+        ensures tells { IfOk result.outcome (λ r. TellsFor P.fits_map P.slot_count N.origin.site.grid spare r.entry.event) }
         ensures err { OnErr result.outcome (pass.new ≡ pass.old) }
-        ensures back { MatchResult result.outcome (λ r. HandsBack (replaced_agent r.entry) spare result.back) (λ _. result.back ≡ spare) }
+        ensures back { MatchResult result.outcome (λ r. HandsBack P.fits_map N.origin.site.grid (replaced_agent r.entry) spare result.back) (λ _. result.back ≡ spare) }
     {
         self.call(rt, alloc, pass, Command::Replace { agent }, spare)
     }

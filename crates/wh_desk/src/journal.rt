@@ -6,7 +6,7 @@ ghost use Rattle.wh_points.specs.Formed.{IsFormed};
 ghost use Rattle.wh_event.specs.declared.reply.Reply.{Reply as Answered};
 ghost use Rattle.wh_event.specs.declared.reply.Refusal.{Refusal as Reason};
 ghost use Rattle.wh_core.specs.Steps.{Run};
-ghost use Rattle.wh_token.specs.Fleet.{StaySeated, TellsFor, replaced_agent};
+ghost use Rattle.wh_token.specs.Fleet.{IsTied, StaySeated, TellsFor, replaced_agent};
 ghost use Rattle.wh_board.specs.Pasts.{origin_of, past_of};
 ghost use Rattle.wh_desk.specs.Lists.{AllAt, TellsTheSame, entries_of, is_current};
 ghost use Rattle.wh_desk.specs.Kept.{RowOf};
@@ -29,7 +29,7 @@ use wh_token::{Committed, Warehouse};
 /// What lies under the lock. Contracts see it as its history, its state, its capacity, what was published last, and the
 /// agents' planners.
 #[derive(Drop)]
-pub struct Journal<N: DeskName, H: Wait + Drop, P = Box<dyn Planner>> {
+pub struct Journal<N: DeskName, H: Wait + Drop, P: Planner = Box<dyn Planner>> {
     warehouse: Warehouse<P>,
     capacity: u64,
     rows: Vec<Row>,
@@ -38,7 +38,7 @@ pub struct Journal<N: DeskName, H: Wait + Drop, P = Box<dyn Planner>> {
     name: PhantomData<N>,
 }
 
-impl<N: DeskName, H: Wait + Drop, P> Model for Journal<N, H, P> {
+impl<N: DeskName, H: Wait + Drop, P: Planner> Model for Journal<N, H, P> {
     ghost use Rattle.wh_desk.specs.Lists.{Ledger};
     ghost use Rattle.wh_desk.specs.Kept.{JournalKeeps};
     ghost use Rattle.wh_board.specs.Pasts.{past_of};
@@ -142,6 +142,15 @@ impl<N: DeskName, H: Wait + Drop, P: Planner> Journal<N, H, P> {
         let _run = self.warehouse.history();
     }
 
+    /// The agents' planners, in the agents' order. Each plans on the grid, and has the slots that the state tells.
+    pub fn planners(&self) -> &[P]
+        ensures value { result.now ≡ self.now.planners }
+        ensures tied { IsTied P.fits_map P.slot_count N.origin.site.grid self.now.planners self.now.state.slots }
+    {
+        let _run = self.warehouse.history();
+        self.warehouse.planners()
+    }
+
     /// How many entries the history has.
     pub fn len(&self) -> u64
         ensures { result ≡ length self.now.history }
@@ -208,7 +217,7 @@ impl<N: DeskName, H: Wait + Drop, P: Planner> Journal<N, H, P> {
         requires { cells.now ≡ N.cells }
         ensures ok { IfOk result.outcome (λ r. Entered N.origin self.old pass.old command self.new pass.new r.position r.entry) }
         ensures served { IfOk result.outcome (λ r. IsFormed N.origin.site → r.entry.reply ≢ Answered.Refused Reason.NoPath) }
-        ensures tells { IfOk result.outcome (λ r. TellsFor (λ b. P.fits_map b N.origin.site.grid) (λ b. P.slot_count b) spare r.entry.event) }
+        ensures tells { IfOk result.outcome (λ r. TellsFor P.fits_map P.slot_count N.origin.site.grid spare r.entry.event) }
         ensures shown { IfOk result.outcome (λ r. IsTrue r.shown ↔ IsSome r.told) }
         ensures told { IfOk result.outcome (λ r. IfSome r.told (λ t. (t.book ≡ N.book) × (t.past ≡ record { origin = N.origin; history = self.new.history }) × (self.new.shown ≡ self.new.history))) }
         ensures lags { IfOk result.outcome (λ r. IfNone r.told (self.new.shown ≡ self.old.shown)) }
@@ -216,7 +225,7 @@ impl<N: DeskName, H: Wait + Drop, P: Planner> Journal<N, H, P> {
         ensures still { OnErr result.outcome (StaySeated command self.old.planners self.new.planners) }
         ensures stale { (result.outcome ≡ Err DeskFault.Stale) ↔ (is_current self.old.history pass.old ≡ false) }
         ensures full { (result.outcome ≡ Err DeskFault.Full) ↔ ((is_current self.old.history pass.old ≡ true) × (self.old.capacity ≤ length self.old.history)) }
-        ensures back { MatchResult result.outcome (λ r. HandsBack (replaced_agent r.entry) spare result.back) (λ _. result.back ≡ spare) }
+        ensures back { MatchResult result.outcome (λ r. HandsBack P.fits_map N.origin.site.grid (replaced_agent r.entry) spare result.back) (λ _. result.back ≡ spare) }
         ensures reseats { IfOk result.outcome (λ r. Reseats (replaced_agent r.entry) self.old.planners spare self.new.planners result.back) }
     {
         if !self.knows(pass) {
@@ -242,14 +251,14 @@ impl<N: DeskName, H: Wait + Drop, P: Planner> Journal<N, H, P> {
         requires whole { pass.old.list ≡ entries_of self.old.history pass.old.caller }
         ensures ok { IfOk result.outcome (λ r. Entered N.origin self.old pass.old command self.new pass.new r.position r.entry) }
         ensures served { IfOk result.outcome (λ r. IsFormed N.origin.site → r.entry.reply ≢ Answered.Refused Reason.NoPath) }
-        ensures tells { IfOk result.outcome (λ r. TellsFor (λ b. P.fits_map b N.origin.site.grid) (λ b. P.slot_count b) spare r.entry.event) }
+        ensures tells { IfOk result.outcome (λ r. TellsFor P.fits_map P.slot_count N.origin.site.grid spare r.entry.event) }
         ensures shown { IfOk result.outcome (λ r. IsTrue r.shown ↔ IsSome r.told) }
         ensures told { IfOk result.outcome (λ r. IfSome r.told (λ t. (t.book ≡ N.book) × (t.past ≡ record { origin = N.origin; history = self.new.history }) × (self.new.shown ≡ self.new.history))) }
         ensures lags { IfOk result.outcome (λ r. IfNone r.told (self.new.shown ≡ self.old.shown)) }
         ensures err { OnErr result.outcome (TellsTheSame self.old self.new × (pass.new ≡ pass.old)) }
         ensures still { OnErr result.outcome (StaySeated command self.old.planners self.new.planners) }
         ensures fault { IfErr result.outcome (λ fault. (fault ≢ DeskFault.Stale) × (fault ≢ DeskFault.Full)) }
-        ensures back { MatchResult result.outcome (λ r. HandsBack (replaced_agent r.entry) spare result.back) (λ _. result.back ≡ spare) }
+        ensures back { MatchResult result.outcome (λ r. HandsBack P.fits_map N.origin.site.grid (replaced_agent r.entry) spare result.back) (λ _. result.back ≡ spare) }
         ensures reseats { IfOk result.outcome (λ r. Reseats (replaced_agent r.entry) self.old.planners spare self.new.planners result.back) }
     {
         let position = self.warehouse.history().len() as u64;
@@ -285,6 +294,7 @@ impl<N: DeskName, H: Wait + Drop, P: Planner> Journal<N, H, P> {
             count: pass.held.len() as u64,
             last: position,
         };
+        let _seated = self.warehouse.planners();
         let Committed { entry, back } = self.warehouse.commit(ready);
         let told = self.publisher.publish(self.warehouse.book());
         Answer {

@@ -16,3 +16,7 @@ pub use desk::{Desk, History};
 pub use journal::Journal;
 pub use naming::DeskName;
 pub use pass::{Held, Pass, Row};
+
+// handed on, for callers: what the items below take, return and speak of
+pub use wh_board::{Publisher, Viewer, ViewerFault};
+pub use wh_token::{OpenFault, Warehouse};

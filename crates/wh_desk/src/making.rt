@@ -39,7 +39,7 @@ pub(crate) fn make_ready<P: Planner>(
     ensures ready { IfOk result (λ made. IsReady warehouse.new.book made.ready.draft) }
     ensures caller { IfOk result (λ made. made.ready.draft.entry.caller ≡ caller) }
     ensures event { IfOk result (λ made. IsAskedBy command made.ready.draft.entry.event) }
-    ensures tells { IfOk result (λ made. TellsFor (λ b. P.fits_map b warehouse.old.book.site.grid) (λ b. P.slot_count b) spare made.ready.draft.entry.event) }
+    ensures tells { IfOk result (λ made. TellsFor P.fits_map P.slot_count warehouse.old.book.site.grid spare made.ready.draft.entry.event) }
     ensures entry { IfOk result (λ made. made.entry ≡ made.ready.draft.entry) }
     ensures boxed { IfOk result (λ made. made.boxed.value ≡ made.ready.draft.entry) }
     ensures spare { MatchResult result (λ made. made.ready.spare ≡ spare) (λ back. back ≡ spare) }

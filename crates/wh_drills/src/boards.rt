@@ -16,13 +16,13 @@ use std::sync::atomic::Ordering::SeqCst;
 use std::test::*;
 use std::thread::{Threads, join};
 use wh_board::{Publisher, Viewer, ViewerFault};
-use wh_desk::{Cells, Desk, DeskFault, DeskName, Pass};
+use wh_desk::{Cells, Desk, DeskFault, DeskName, Pass, Warehouse};
 use wh_event::Reply;
 use wh_grid::Grid;
 use wh_path::TimedPath;
 use wh_planner::{Duty, PlanFault, Planner, Scene};
 use wh_planners::Patient;
-use wh_token::Warehouse;
+use wh_shared::SharedFields;
 
 /// That a planner is at work, and that somebody has looked since.
 #[derive(Drop)]
@@ -55,10 +55,16 @@ impl<'a> Planner for Watched<'a> {
         self.inner.slots()
     }
 
-    fn plan(&mut self, alloc: Global, scene: &Scene, duty: Duty) -> Result<TimedPath, PlanFault> {
+    fn plan(
+        &mut self,
+        alloc: Global,
+        fields: &mut SharedFields,
+        scene: &Scene,
+        duty: Duty,
+    ) -> Result<TimedPath, PlanFault> {
         self.flags.inside.store(1, SeqCst);
         hold(&self.flags.looked, 1, &self.flags.limits);
-        self.inner.plan(alloc, scene, duty)
+        self.inner.plan(alloc, fields, scene, duty)
     }
 }
 

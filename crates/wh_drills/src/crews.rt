@@ -17,12 +17,11 @@ use std::test::*;
 use std::thread::{Threads, join, yield_now};
 use wh_board::{Publisher, Viewer};
 use wh_crew::{CrewFault, Crewed, Gate, crew};
-use wh_desk::{Cells, Desk, DeskName};
+use wh_desk::{Cells, Desk, DeskName, Warehouse};
 use wh_edge::{Work, agent_work, client_work, clock_work};
 use wh_event::{Entry, Reply};
 use wh_planner::Planner;
 use wh_planners::Patient;
-use wh_token::Warehouse;
 
 /// What a worker is to do.
 #[derive(Clone, Copy)]

@@ -10,14 +10,13 @@ use std::alloc::{AllocError, Global};
 use std::sync::{Arc, Wait};
 use std::test::*;
 use wh_claims::{Bank, Claim};
-use wh_desk::{Desk, DeskName, History, Pass};
+use wh_desk::{Desk, DeskName, History, Pass, Warehouse};
 use wh_event::{Command, Stops, read_line};
 use wh_grid::Grid;
 use wh_planner::Planner;
 use wh_planners::Patient;
 use wh_points::Points;
 use wh_text::Name;
-use wh_token::Warehouse;
 
 const MAP: &[u8] = b"type octile\nheight 3\nwidth 5\nmap\n@.@.@\n.....\n@.@.@\n";
 

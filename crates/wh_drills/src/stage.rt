@@ -15,10 +15,9 @@ use std::sync::Wait;
 use std::test::*;
 use std::thread::Threads;
 use wh_board::Publisher;
-use wh_desk::{Cells, Desk, DeskName};
+use wh_desk::{Cells, Desk, DeskName, Warehouse};
 use wh_planner::Planner;
 use wh_planners::Patient;
-use wh_token::Warehouse;
 
 /// What is done at a desk that was just opened.
 #[derive(Clone, Copy)]

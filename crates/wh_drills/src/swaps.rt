@@ -10,11 +10,10 @@ use std::marker::Brand;
 use std::sync::Wait;
 use std::test::*;
 use wh_board::Publisher;
-use wh_desk::{Answer, Cells, Desk, DeskFault, DeskName, Receipt};
+use wh_desk::{Answer, Cells, Desk, DeskFault, DeskName, Receipt, Warehouse};
 use wh_event::Reply;
 use wh_planner::Planner;
-use wh_planners::Near;
-use wh_token::Warehouse;
+use wh_planners::Sharing;
 
 /// What a call told, as far as these tests look.
 #[derive(Clone, Copy, PartialEq, Eq, Debug)]
@@ -107,8 +106,8 @@ fn swap_made<P: Planner, F: Fn(Parts) -> Result<P, AllocError>, R: Wait>(
 /// The same with boxed planners that search.
 fn boxed_swap<R: Wait>(rt: &R, alloc: Global, capacity: u64) -> Result<Swaps, Fail> {
     let make = |parts: Parts| -> Result<Box<dyn Planner>, AllocError> {
-        let near = Near::new(alloc, parts.grid, parts.claim)?;
-        let planner: Box<dyn Planner> = Box::new(alloc, near)?;
+        let sharing = Sharing::new(alloc, parts.grid, parts.claim)?;
+        let planner: Box<dyn Planner> = Box::new(alloc, sharing)?;
         Ok(planner)
     };
     swap_made(rt, alloc, capacity, &make)

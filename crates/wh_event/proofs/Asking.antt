@@ -17,7 +17,6 @@ use Rattle.wh_event.specs.declared.event.Command.TheVariants.{Submit, Token, Tic
 use Rattle.wh_event.specs.declared.fault.LineFault.{LineFault}
 use Rattle.wh_event.specs.declared.fault.LineFault.TheVariants.{Form, TooLong}
 use Rattle.wh_event.specs.CommandLines.{stops_of, submit_by, submit_of, token_by, token_of, tick_of, replace_by, replace_of, close_of, named, begins_comment, formed, command_by, command_of}
-use Rattle.wh_event.specs.Asking.{requester}
 use Rattle.wh_event.specs.Grammar.{IsName, Writes, AsksAgent, AsksTask, Asks, IsSkipped}
 
 and_both : (a b : Bool) → (a && b) ≡ true → (a ≡ true) × (b ≡ true)
@@ -235,7 +234,7 @@ command_is : (line : List ℕ) (words : List (List ℕ)) → nat_lt 256 (length 
 command_is line words short are = rw (short, are) refl
 
 -- the usual form of a request for the token
-pub plain_law : (number : List ℕ) (agent : ℕ) → small_number_of number ≡ Some agent → requester (command_of (codes "token" ++ 32 ∷ number)) ≡ Some agent
+pub plain_law : (number : List ℕ) (agent : ℕ) → small_number_of number ≡ Some agent → command_of (codes "token" ++ 32 ∷ number) ≡ Ok (Some (Token agent))
 plain_law [] agent e = absurd cc
 plain_law (b ∷ bs) agent e =
     let g = guard_some (are_digits (b ∷ bs) && nat_le (length (b ∷ bs)) 9) (decimal (b ∷ bs)) agent e in
@@ -246,5 +245,5 @@ plain_law (b ∷ bs) agent e =
     words-word (codes "token") (b ∷ bs) 32 (refl, (refl, (refl, (refl, (refl, tt))))) (omega arith) refl ∙ ap (λ ws. codes "token" ∷ ws) (words-last (b ∷ bs) none (omega arith)) in
     let short : nat_lt 256 (length (codes "token" ++ 32 ∷ (b ∷ bs))) ≡ false = le-ltb 256 (length (codes "token" ++ 32 ∷ (b ∷ bs))) (omega arith) in
     let said : command_of (codes "token" ++ 32 ∷ (b ∷ bs)) ≡ formed (token_by (small_number_of (b ∷ bs))) = command_is (codes "token" ++ 32 ∷ (b ∷ bs)) (codes "token" ∷ (b ∷ bs) ∷ []) short words in
-    let asks : requester (formed (token_by (small_number_of (b ∷ bs)))) ≡ Some agent = rw e refl in
-    ap requester said ∙ asks
+    let asks : formed (token_by (small_number_of (b ∷ bs))) ≡ Ok (Some (Token agent)) = rw e refl in
+    said ∙ asks

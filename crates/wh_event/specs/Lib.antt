@@ -1,4 +1,4 @@
 pub mod CommandLines
-pub mod Asking
+pub mod Reading
 pub mod Grammar
 pub mod ReplyTexts

@@ -1,12 +1,13 @@
 //! Reads one line of a script.
 
-ghost use Rattle.std.specs.Prelude.{◌≡◌, ◌<◌, ◌≤◌, ◌↔◌, length, Some, None, Ok, Err, IfOk, IfSome};
+ghost use Rattle.std.specs.Prelude.{◌≡◌, ◌<◌, ◌≤◌, ◌↔◌, length, codes, Some, None, Ok, Err, IfOk, IfSome, IsTrue};
+ghost use Rattle.std.specs.Str.{bytes_eq};
 ghost use Rattle.wh_text.specs.Words.{words_of};
 ghost use Rattle.wh_event.specs.declared.event.Command.{Command};
 ghost use Rattle.wh_event.specs.declared.fault.LineFault.TheVariants as faults;
 ghost use Rattle.wh_event.specs.CommandLines as lines;
 ghost use Rattle.wh_event.specs.CommandLines.{command_of, command_by, named, formed};
-ghost use Rattle.wh_event.specs.Asking.{told, requester};
+ghost use Rattle.wh_event.specs.Reading.{Reads};
 ghost use Rattle.wh_event.specs.Grammar.{Asks, IsSkipped};
 
 use crate::event::Command;
@@ -32,8 +33,8 @@ fn stops_of(mut words: Words) -> Option<Stops>
     Some(Stops::of(names))
 }
 
-fn submit_of(mut words: Words) -> Result<Option<Command>, LineFault>
-    ensures { result ≡ formed (lines.submit_of words.entry) }
+fn submit_into(mut words: Words, command: &mut Command) -> Result<bool, LineFault>
+    ensures { Reads result command.old command.new (formed (lines.submit_of words.entry)) }
 {
     let Some(client) = words.next_word().and_then(Name::read) else {
         return Err(LineFault::Form);
@@ -41,7 +42,8 @@ fn submit_of(mut words: Words) -> Result<Option<Command>, LineFault>
     let Some(stops) = stops_of(words) else {
         return Err(LineFault::Form);
     };
-    Ok(Some(Command::Submit { client, stops }))
+    *command = Command::Submit { client, stops };
+    Ok(true)
 }
 
 /// The agent that the one word which is left names.
@@ -55,68 +57,67 @@ fn agent_of(mut words: Words) -> Option<u32>
     small_number(agent)
 }
 
-/// What the words of a line ask, before the stops of a task are read. A command has room for nine names, and this, which
-/// is handed on, for none.
-#[derive(Drop)]
-enum Asked<'a> {
-    Nothing,
-    Submit(Words<'a>),
-    Token(u32),
-    Tick,
-    Replace(u32),
-    Close,
+fn token_into(words: Words, command: &mut Command) -> Result<bool, LineFault>
+    ensures { Reads result command.old command.new (formed (lines.token_of words.entry)) }
+{
+    let Some(agent) = agent_of(words) else {
+        return Err(LineFault::Form);
+    };
+    *command = Command::Token { agent };
+    Ok(true)
 }
 
-fn token_of(words: Words) -> Result<Asked, LineFault>
-    ensures { told result ≡ formed (lines.token_of words.entry) }
+fn replace_into(words: Words, command: &mut Command) -> Result<bool, LineFault>
+    ensures { Reads result command.old command.new (formed (lines.replace_of words.entry)) }
 {
-    match agent_of(words) {
-        Some(agent) => Ok(Asked::Token(agent)),
-        None => Err(LineFault::Form),
-    }
+    let Some(agent) = agent_of(words) else {
+        return Err(LineFault::Form);
+    };
+    *command = Command::Replace { agent };
+    Ok(true)
 }
 
-fn replace_of(words: Words) -> Result<Asked, LineFault>
-    ensures { told result ≡ formed (lines.replace_of words.entry) }
+fn tick_into(mut words: Words, command: &mut Command) -> Result<bool, LineFault>
+    ensures { Reads result command.old command.new (formed (lines.tick_of words.entry)) }
 {
-    match agent_of(words) {
-        Some(agent) => Ok(Asked::Replace(agent)),
-        None => Err(LineFault::Form),
+    if words.next_word().is_some() {
+        return Err(LineFault::Form);
     }
+    *command = Command::Tick;
+    Ok(true)
 }
 
-fn tick_of(mut words: Words) -> Result<Asked, LineFault>
-    ensures { told result ≡ formed (lines.tick_of words.entry) }
+fn close_into(mut words: Words, command: &mut Command) -> Result<bool, LineFault>
+    ensures { Reads result command.old command.new (formed (lines.close_of words.entry)) }
 {
-    match words.next_word() {
-        Some(_) => Err(LineFault::Form),
-        None => Ok(Asked::Tick),
+    if words.next_word().is_some() {
+        return Err(LineFault::Form);
     }
+    *command = Command::Close;
+    Ok(true)
 }
 
-fn close_of(mut words: Words) -> Result<Asked, LineFault>
-    ensures { told result ≡ formed (lines.close_of words.entry) }
+/// Whether a word is `tick`. A match tells by a test or two what a comparison of slices takes a loop for.
+fn is_tick(word: &[u8]) -> bool
+    ensures { result ≡ bytes_eq word.now (codes "tick") }
 {
-    match words.next_word() {
-        Some(_) => Err(LineFault::Form),
-        None => Ok(Asked::Close),
-    }
+    matches!(word, b"tick")
 }
 
 /// What a line asks by its first word.
-fn asked_by_name<'a>(name: &[u8], rest: Words<'a>) -> Result<Asked<'a>, LineFault>
-    ensures { told result ≡ formed (named name.now rest.entry) }
+fn read_by_name(name: &[u8], rest: Words, command: &mut Command) -> Result<bool, LineFault>
+    ensures { Reads result command.old command.new (formed (named name.now rest.entry)) }
 {
     if name == b"submit".as_slice() {
-        Ok(Asked::Submit(rest))
+        submit_into(rest, command)
     } else if name == b"token".as_slice() {
-        token_of(rest)
-    } else if name == b"tick".as_slice() {
-        tick_of(rest)
+        token_into(rest, command)
+    } else if is_tick(name) {
+        tick_into(rest, command)
     } else if name == b"replace".as_slice() {
-        replace_of(rest)
+        replace_into(rest, command)
     } else if name == b"close".as_slice() {
-        close_of(rest)
+        close_into(rest, command)
     } else {
         Err(LineFault::Form)
     }
@@ -128,30 +129,53 @@ fn begins_comment(word: &[u8]) -> bool
     matches!(word, [b'#', ..])
 }
 
-fn asked_by(mut words: Words) -> Result<Asked, LineFault>
-    ensures { told result ≡ command_by words.entry }
+fn read_words(mut words: Words, command: &mut Command) -> Result<bool, LineFault>
+    ensures { Reads result command.old command.new (command_by words.entry) }
 {
     let Some(name) = words.next_word() else {
-        return Ok(Asked::Nothing);
+        return Ok(false);
     };
     if begins_comment(name) {
-        return Ok(Asked::Nothing);
+        return Ok(false);
     }
-    asked_by_name(name, words)
+    read_by_name(name, words, command)
 }
 
-fn read_words(words: Words) -> Result<Option<Command>, LineFault>
-    ensures { result ≡ command_by words.entry }
+/// Whether a line's first six bytes ask for the token.
+fn begins_request(front: &[u8]) -> bool
+    ensures { IsTrue result → front.now ≡ codes "token " }
 {
-    match asked_by(words) {
-        Ok(Asked::Nothing) => Ok(None),
-        Ok(Asked::Submit(rest)) => submit_of(rest),
-        Ok(Asked::Token(agent)) => Ok(Some(Command::Token { agent })),
-        Ok(Asked::Tick) => Ok(Some(Command::Tick)),
-        Ok(Asked::Replace(agent)) => Ok(Some(Command::Replace { agent })),
-        Ok(Asked::Close) => Ok(Some(Command::Close)),
-        Err(fault) => Err(fault),
+    matches!(front, b"token ")
+}
+
+/// The agent of a line `token AGENT` with one space between and no other blank, as nearly all lines of a script are.
+fn plain_request(line: &[u8]) -> Option<u32>
+    ensures { IfSome result (λ agent. command_of line.now ≡ Ok (Some (Command.Token agent))) }
+{
+    if line.len() < 6 {
+        return None;
     }
+    let (front, number) = line.split_at(6);
+    if begins_request(front) {
+        small_number(number)
+    } else {
+        None
+    }
+}
+
+/// Reads a line as `read_line` does, into a room that the caller keeps, since a command has room for nine names: whether
+/// the line asks for a command, which then stands there. Else the room is as it was.
+pub fn read_line_into(line: &[u8], command: &mut Command) -> Result<bool, LineFault>
+    ensures { Reads result command.old command.new (command_of line.now) }
+{
+    if let Some(agent) = plain_request(line) {
+        *command = Command::Token { agent };
+        return Ok(true);
+    }
+    if line.len() > 256 {
+        return Err(LineFault::TooLong);
+    }
+    read_words(Words::of(line), command)
 }
 
 /// What a line of a script asks, without its line's end: a command, or None where it is empty, of blanks, or a
@@ -173,49 +197,10 @@ pub fn read_line(line: &[u8]) -> Result<Option<Command>, LineFault>
     ensures form { (result ≡ Err faults.Form) ↔ ((length line.now ≤ 256) × ¬ IsSkipped (words_of line.now) × ((command : Command) → ¬ Asks command (words_of line.now))) }
     ensures too_long { (result ≡ Err faults.TooLong) ↔ (256 < length line.now) }
 {
-    if line.len() > 256 {
-        return Err(LineFault::TooLong);
-    }
-    read_words(Words::of(line))
-}
-
-/// The agent of a request for the token.
-fn requester(asked: Result<Asked, LineFault>) -> Option<u32>
-    ensures { result ≡ requester (told asked.entry) }
-{
-    match asked {
-        Ok(Asked::Token(agent)) => Some(agent),
-        Ok(Asked::Submit(_)) => None,
-        Ok(Asked::Nothing | Asked::Tick | Asked::Replace(_) | Asked::Close) | Err(_) => None,
-    }
-}
-
-/// The agent of a line `token AGENT` with one space between and no other blank, as nearly all lines of a script are.
-fn plain_request(line: &[u8]) -> Option<u32>
-    ensures { IfSome result (λ agent. requester (command_of line.now) ≡ Some agent) }
-{
-    if line.len() < 6 {
-        return None;
-    }
-    let (command, number) = line.split_at(6);
-    if command == b"token ".as_slice() {
-        small_number(number)
-    } else {
-        None
-    }
-}
-
-/// The agent of a line that asks for the token; none for any other line. It makes no command, which has room for nine
-/// names.
-pub fn read_request(line: &[u8]) -> Option<u32>
-    ensures { result ≡ requester (command_of line.now) }
-{
-    if let Some(agent) = plain_request(line) {
-        return Some(agent);
-    }
-    if line.len() <= 256 {
-        requester(asked_by(Words::of(line)))
-    } else {
-        None
+    let mut command = Command::Close;
+    match read_line_into(line, &mut command) {
+        Ok(true) => Ok(Some(command)),
+        Ok(false) => Ok(None),
+        Err(fault) => Err(fault),
     }
 }

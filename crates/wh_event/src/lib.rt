@@ -9,7 +9,7 @@ mod reply;
 mod reply_text;
 mod stops;
 
-pub use command_line::{read_line, read_request};
+pub use command_line::{read_line, read_line_into};
 pub use entry::Entry;
 pub use event::{Command, Event, Spare};
 pub use fault::LineFault;

@@ -11,3 +11,4 @@ pub mod Sides
 pub mod Limits
 pub mod Marked
 pub mod Sought
+pub mod Levels

@@ -1,5 +1,6 @@
 pub mod Distances
 pub mod Fields
+pub mod Growing
 pub mod Lazy
 pub mod Places
 pub mod Tables

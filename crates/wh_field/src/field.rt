@@ -125,7 +125,7 @@ impl Field {
     }
 }
 
-fn to_the_left(cell: Cell) -> Cell
+pub(crate) fn to_the_left(cell: Cell) -> Cell
     ensures { result ≡ left_of cell }
 {
     Cell {
@@ -134,7 +134,7 @@ fn to_the_left(cell: Cell) -> Cell
     }
 }
 
-fn to_the_right(cell: Cell) -> Cell
+pub(crate) fn to_the_right(cell: Cell) -> Cell
     ensures { result ≡ right_of cell }
 {
     Cell {
@@ -143,7 +143,7 @@ fn to_the_right(cell: Cell) -> Cell
     }
 }
 
-fn cell_above(cell: Cell) -> Cell
+pub(crate) fn cell_above(cell: Cell) -> Cell
     ensures { result ≡ above cell }
 {
     Cell {
@@ -152,7 +152,7 @@ fn cell_above(cell: Cell) -> Cell
     }
 }
 
-fn cell_below(cell: Cell) -> Cell
+pub(crate) fn cell_below(cell: Cell) -> Cell
     ensures { result ≡ below cell }
 {
     Cell {

@@ -91,9 +91,43 @@ pub fn fill_until(
     ensures room { HasRoom (vec_capacity queue.new) table.new queue.new.items }
     ensures listed { IsListed table.new queue.new.items }
     ensures met { value table.new place ≡ unseen → IsLevelled stride table.new }
+    ensures farther { front.distance ≤ result.distance }
+    ensures done { length queue.old.items ≤ front.head → length queue.new.items ≤ result.head }
 {
     let mut front = front;
     while front.head < queue.len() && table[place] == UNSEEN {
+        let end = queue.len();
+        next_layer(table, queue, front.head, stride, front.distance);
+        front = Front {
+            head: end,
+            distance: front.distance + 1,
+        };
+    }
+    front
+}
+
+/// Fills a table layer by layer up to a distance, or until no layer is left.
+pub fn fill_level(
+    table: &mut [u32],
+    queue: &mut Vec<u32>,
+    stride: usize,
+    front: Front,
+    level: u32,
+) -> Front
+    requires walled { IsWalled stride table.old }
+    requires spreading { IsSpreading stride front.distance table.old [] (drop front.head queue.old.items) }
+    requires head { front.head ≤ length queue.old.items }
+    requires room { HasRoom (vec_capacity queue.old) table.old queue.old.items }
+    requires listed { IsListed table.old queue.old.items }
+    ensures ground { IsSameGround table.old table.new }
+    ensures spreading { IsSpreading stride result.distance table.new [] (drop result.head queue.new.items) }
+    ensures head { result.head ≤ length queue.new.items }
+    ensures room { HasRoom (vec_capacity queue.new) table.new queue.new.items }
+    ensures listed { IsListed table.new queue.new.items }
+    ensures full { (level ≤ result.distance) ⊎ (length queue.new.items ≤ result.head) }
+{
+    let mut front = front;
+    while front.head < queue.len() && front.distance < level {
         let end = queue.len();
         next_layer(table, queue, front.head, stride, front.distance);
         front = Front {

@@ -5,8 +5,8 @@ ghost use Rattle.std.specs.Prelude.{◌≡◌, ◌≢◌, ◌<◌, ◌≤◌, �
 ghost use Rattle.wh_path.specs.Paths.{place_of, steps_left};
 ghost use Rattle.wh_core.specs.Steps.{IsKnown, IsDue, IsDeliveryCell};
 
+use wh_book::Floor;
 use wh_grid::Cell;
-use wh_state::Floor;
 
 /// Whether the warehouse is open and has an agent of this number.
 pub fn is_known(floor: &Floor, agent: u32) -> bool

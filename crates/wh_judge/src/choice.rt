@@ -7,9 +7,8 @@ ghost use Rattle.wh_core.specs.Steps.{IsNext, NoneIsNext};
 ghost use Rattle.wh_judge.specs.Judged.{IsChoice};
 
 use crate::instance::Instance;
-use wh_book::nearest;
+use wh_book::{Floor, nearest};
 use wh_field::LazyField;
-use wh_state::Floor;
 
 /// The task that the agent takes, if there is one. The field is filled no further than to the nearest task.
 pub fn next(instance: &Instance, floor: &Floor, near: &mut LazyField, agent: u32) -> Option<u32>

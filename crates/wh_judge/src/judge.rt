@@ -13,10 +13,10 @@ use crate::requests::request;
 use crate::submitting::submit;
 use std::alloc::{AllocError, Global};
 use std::marker::Model;
+use wh_book::Floor;
 use wh_event::{Entry, Event, Reply};
 use wh_field::LazyField;
 use wh_grid::Cell;
-use wh_state::Floor;
 
 /// Whether the event may be answered so; if so, it is done.
 fn answer(
@@ -132,6 +132,20 @@ impl<'a> Judge<'a> {
     {
         let _grid = self.instance.grid();
         self.instance.agents()
+    }
+
+    /// The state.
+    pub fn into_floor(self) -> Floor
+        ensures { result.state ≡ self.entry.state }
+    {
+        let Judge {
+            instance,
+            floor,
+            near,
+        } = self;
+        drop(instance);
+        drop(near);
+        floor
     }
 
     /// Whether the entry is a step from the state; if so, it is made. The error comes where memory is wanting, for a new

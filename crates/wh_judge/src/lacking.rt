@@ -11,10 +11,9 @@ use crate::choice::{next, none_is_next};
 use crate::instance::Instance;
 use crate::routes::{has_route_to_any, has_routes};
 use std::alloc::{AllocError, Global};
-use wh_book::free_points;
+use wh_book::{Floor, free_points};
 use wh_field::LazyField;
 use wh_planner::other_ends;
-use wh_state::Floor;
 
 /// Whether the agent has nothing to do, and is in nobody's way.
 pub fn may_rest(instance: &Instance, floor: &Floor, near: &mut LazyField, agent: u32) -> bool

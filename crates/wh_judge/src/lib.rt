@@ -15,3 +15,6 @@ mod submitting;
 
 pub use instance::Instance;
 pub use judge::Judge;
+
+// handed on, for callers: what the items below take, return and speak of
+pub use wh_book::{Book, Floor, Setting};

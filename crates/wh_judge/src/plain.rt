@@ -8,8 +8,8 @@ ghost use Rattle.wh_judge.specs.Judged.{Decides};
 
 use crate::agents::{is_known, is_stranger};
 use crate::instance::Instance;
+use wh_book::Floor;
 use wh_event::{Refusal, Reply, Spare};
-use wh_state::Floor;
 
 /// Whether the end may be answered so; if so, it is made.
 pub fn close(instance: &Instance, floor: &mut Floor, reply: &Reply) -> bool

@@ -18,11 +18,10 @@ use crate::course::{is_course, may_deliver};
 use crate::instance::Instance;
 use crate::lacking::{lacks_way, makes_way, may_rest};
 use std::alloc::{AllocError, Global};
-use wh_book::may_end;
+use wh_book::{Floor, may_end};
 use wh_event::{Refusal, Reply};
 use wh_field::LazyField;
 use wh_path::TimedPath;
-use wh_state::Floor;
 use wh_text::Name;
 
 /// Whether the agent may take the task of this number by this path.

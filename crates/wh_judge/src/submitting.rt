@@ -9,9 +9,8 @@ ghost use Rattle.wh_judge.specs.Judged.{Decides};
 
 use crate::instance::Instance;
 use std::alloc::{AllocError, Global};
-use wh_book::{Fault, places_of};
+use wh_book::{Fault, Floor, places_of};
 use wh_event::{Refusal, Reply, Stops};
-use wh_state::Floor;
 use wh_text::Name;
 
 /// Whether the first stop that is no station has this name, which no point has.

@@ -1,3 +1,8 @@
 pub mod Clients
 pub mod Works
 pub mod Lives
+-- handed on, for the crates above
+pub use Rattle.wh_crew.specs.Calls
+pub use Rattle.wh_crew.specs.Lists
+pub use Rattle.wh_crew.specs.Pasts
+pub use Rattle.wh_crew.specs.Work

@@ -1,17 +1,18 @@
 -- What a crew did from the opening of a warehouse, and the log of it.
 use Rattle.std.specs.Prelude.{◌≡◌, ℕ, ◌<◌, ◌≤◌, Bool, List, length, All}
 use Rattle.wh_words.specs.Lines.{text_of}
+use Rattle.wh_grid.specs.Grids.{Floor}
 use Rattle.wh_points.specs.Points.{Site}
 use Rattle.wh_event.specs.declared.entry.Entry.{Entry}
 use Rattle.wh_core.specs.States.{State, opened}
 use Rattle.wh_core.specs.Steps.{Run}
-use Rattle.wh_token.specs.Fleet.{IsTied}
+use Rattle.wh_crew.specs.Fleet.{IsTied}
 use Rattle.wh_log.specs.Logs.{log_lines}
 use Rattle.wh_log.specs.declared.version.Version.TheVariants.{Two}
 use Rattle.wh_edge.specs.declared.work.Work.{Work}
-use Rattle.wh_board.specs.Pasts.{Origin}
-use Rattle.wh_desk.specs.Lists.{Received}
-use Rattle.wh_desk.specs.Calls.{AllEmpty, InOrder}
+use Rattle.wh_crew.specs.Pasts.{Origin}
+use Rattle.wh_crew.specs.Lists.{Received}
+use Rattle.wh_crew.specs.Calls.{AllEmpty, InOrder}
 use Rattle.wh_crew.specs.Work.{AllWorked}
 use Rattle.wh_crew.specs.declared.threads.CrewFault.{CrewFault}
 use Rattle.wh_crew.specs.declared.threads.CrewFault.TheVariants as crew
@@ -20,7 +21,7 @@ use Rattle.wh_edge.specs.declared.trouble.Trouble.TheVariants as trouble
 
 -- The history is one run from there, by these workers alone, and has no more entries than the journal has positions. Each
 -- worker had nothing before, and what it did are its commands, in order, without as many as it missed.
-pub record WorkedFrom {X : Type 0} (fits : X → Bool) (count : X → ℕ) (origin : Origin) (works : List (Work X)) (journal : ℕ)
+pub record WorkedFrom {X : Type 0} (fits : X → Floor → Bool) (count : X → ℕ) (origin : Origin) (works : List (Work X)) (journal : ℕ)
     (history : List Entry) (state : State) : Type 0 where
   pub run : Run origin.site origin.opening history state
   pub within : length history ≤ journal
@@ -29,14 +30,14 @@ pub record WorkedFrom {X : Type 0} (fits : X → Bool) (count : X → ℕ) (orig
   pub in_order : InOrder (length works) passes
   pub empty : AllEmpty passes
   pub missed : List ℕ
-  pub worked : AllWorked fits count works passes history missed
+  pub worked : AllWorked fits count origin.site.grid works passes history missed
 
 -- The warehouse was opened at clock 0 with these planners, the workers did their works over a journal of so many positions,
 -- and the text is the log of it.
-pub record Lives {X : Type 0} (fits : X → Bool) (count : X → ℕ) (site : Site) (planners : List X) (works : List (Work X))
+pub record Lives {X : Type 0} (fits : X → Floor → Bool) (count : X → ℕ) (site : Site) (planners : List X) (works : List (Work X))
     (journal : ℕ) (text : List ℕ) : Type 0 where
   pub slots : List ℕ
-  pub tied : IsTied fits count planners slots
+  pub tied : IsTied fits count site.grid planners slots
   pub history : List Entry
   pub state : State
   pub worked : WorkedFrom fits count (record { site = site; opening = opened site.layout 0 slots }) works journal history state

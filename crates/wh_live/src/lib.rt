@@ -8,3 +8,6 @@ mod works;
 pub use clients::{MAX_WORKERS, SCRIPT_LIMIT, read_clients};
 pub use run::run_crew;
 pub use works::works_of;
+
+// handed on, for callers: what the items below take, return and speak of
+pub use wh_crew::{Cells, Desk, DeskFault, DeskName, Pass, Publisher, Receipt, Viewer};

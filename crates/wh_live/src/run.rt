@@ -3,23 +3,22 @@
 
 ghost use Rattle.std.specs.Prelude.{◌≡◌, ◌<◌, ◌≤◌, ◌^◌, [], IfErr, IfOk, length};
 ghost use Rattle.wh_points.specs.Points.{IsLayout};
-ghost use Rattle.wh_token.specs.Fleet.{AllFit};
-ghost use Rattle.wh_board.specs.Pasts.{origin_of, past_of};
+ghost use Rattle.wh_crew.specs.Fleet.{AllFit};
+ghost use Rattle.wh_crew.specs.Pasts.{origin_of, past_of};
 ghost use Rattle.wh_live.specs.Lives.{IsWhyDead, Lives, WorkedFrom, trouble_of};
 
 use std::alloc::Global;
 use std::marker::Brand;
 use std::sync::{Arc, Wait};
 use std::thread::Threads;
-use wh_board::Publisher;
-use wh_crew::{CrewFault, Crewed, Gate, crew};
-use wh_desk::{Cells, Desk, DeskName};
+use wh_crew::{
+    Cells, CrewFault, Crewed, Desk, DeskName, Gate, OpenFault, Publisher, Warehouse, crew,
+};
 use wh_edge::{Trouble, Work};
 use wh_grid::Grid;
 use wh_log::{NoMemory, log_text};
 use wh_planner::Planner;
 use wh_points::Points;
-use wh_token::{OpenFault, Warehouse};
 
 /// Lets every call through.
 struct Open;
@@ -64,7 +63,7 @@ fn over_desk<
     requires shown { publisher.shown ≡ past_of warehouse.book }
     requires callers { length works.items ≡ N.callers }
     requires few { length works.items ≤ 64 }
-    ensures ok { IfOk result (λ c. WorkedFrom (λ b. P.fits_map b N.origin.site.grid) (λ b. P.slot_count b) N.origin works.items (length N.cells)
+    ensures ok { IfOk result (λ c. WorkedFrom P.fits_map P.slot_count N.origin works.items (length N.cells)
         c.history.warehouse.book.history c.history.warehouse.book.state) }
     ensures fault { IfErr result IsWhyDead }
 {
@@ -90,9 +89,9 @@ pub fn run_crew<P: Planner, T: Threads + Wait + Sync>(
 ) -> Result<Vec<u8>, Trouble>
     requires layout { IsLayout grid.value points }
     requires count { length planners.items ≡ length points.agents }
-    requires fit { AllFit (λ b. P.fits_map b grid.value) planners.items }
+    requires fit { AllFit P.fits_map grid.value planners.items }
     requires few { length works.items ≤ 64 }
-    ensures ok { IfOk result (λ text. Lives (λ b. P.fits_map b grid.value) (λ b. P.slot_count b) (record { grid = grid.value; layout = points })
+    ensures ok { IfOk result (λ text. Lives P.fits_map P.slot_count (record { grid = grid.value; layout = points })
         planners.items works.items journal text.items) }
     ensures fault { IfErr result IsWhyDead }
 {

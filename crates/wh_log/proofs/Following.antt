@@ -39,7 +39,7 @@ two_lines a b rest = simp append_assoc
 one_front : (line rest : List ℕ) → line ++ 10 ∷ rest ≡ text_of (line ∷ []) ++ rest
 one_front line rest = simp append_assoc
 
-one_more : (lines : List (List ℕ)) (line rest : List ℕ) → text_of lines ++ (line ++ 10 ∷ rest) ≡ text_of (lines ++ line ∷ []) ++ rest
+pub one_more : (lines : List (List ℕ)) (line rest : List ℕ) → text_of lines ++ (line ++ 10 ∷ rest) ≡ text_of (lines ++ line ∷ []) ++ rest
 one_more lines line rest =
     let cut : text_of (lines ++ line ∷ []) ≡ text_of lines ++ text_of (line ∷ []) = text-append lines (line ∷ []) in
     rw cut (simp append_assoc)
@@ -107,7 +107,7 @@ front_begins opens steps old text version count now rest b =
       whole = record { content = content_of b.clock b.slots b.entries; is = subst (IsLogText (content_of b.clock b.slots b.entries)) apart log; holds = accepted opens steps old text version count now rest b };
     }
 
-front_length : (version : Version) (clock : ℕ) (slots : List ℕ) (entries : List Entry) (count : ℕ) → length entries ≡ count → count + 3 ≡ length (front_lines version clock slots entries) + 1
+pub front_length : (version : Version) (clock : ℕ) (slots : List ℕ) (entries : List Entry) (count : ℕ) → length entries ≡ count → count + 3 ≡ length (front_lines version clock slots entries) + 1
 front_length version clock slots entries count is =
     let n : length (map entry_line entries) ≡ length entries = lengths entries in
     omega (arith, n, is)

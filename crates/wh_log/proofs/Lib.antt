@@ -14,4 +14,5 @@ pub mod Continuing
 pub mod Runs
 pub mod Following
 pub mod LogLaws
+pub mod Tearing
 pub mod Collected

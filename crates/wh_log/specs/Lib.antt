@@ -4,6 +4,7 @@ pub mod Spaced
 pub mod Logs
 pub mod FirstBad
 pub mod Judges
+pub mod Torn
 pub mod Collecting
 pub mod Reading
 pub mod ReadEvents

@@ -4,6 +4,7 @@ ghost use Rattle.std.specs.Prelude.{◌≡◌, ℕ, List};
 ghost use Rattle.wh_log.specs.Logs.{Content, IsLogText};
 ghost use Rattle.wh_log.specs.Collecting.{Any};
 ghost use Rattle.wh_log.specs.FirstBad.{IsFirstBad, IsLogOf};
+ghost use Rattle.wh_log.specs.Torn.{CutsAreFound, CutsBegin};
 
 /// What logs and their first bad lines are. No function calls this.
 pub fn logs_are()
@@ -13,4 +14,12 @@ pub fn logs_are()
     ensures line { (text : List ℕ) (m n : ℕ) → IsFirstBad Any text m → IsFirstBad Any text n → m ≡ n }
     // No log has one.
     ensures none { (text : List ℕ) (n : ℕ) → IsFirstBad Any text n → IsLogOf Any text → ⊥ }
+{}
+
+/// What is found of a log that was cut. No function calls this.
+pub fn cuts_are_found()
+    // The entries that stand whole.
+    ensures found { CutsAreFound }
+    // It begins a log, so it is never bad.
+    ensures begin { CutsBegin }
 {}

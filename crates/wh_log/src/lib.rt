@@ -5,6 +5,7 @@ mod entry_fault;
 mod entry_lines;
 mod fault;
 mod follow_log;
+mod front_log;
 mod head;
 mod heads;
 mod judge;
@@ -24,12 +25,13 @@ mod writer;
 pub use entry_lines::entries_are;
 pub use fault::NoMemory;
 pub use follow_log::{Followed, follow};
+pub use front_log::{Front, follow_front};
 pub use judge::Judge;
-pub use laws::logs_are;
+pub use laws::{cuts_are_found, logs_are};
 pub use log::Log;
 pub use reader::{LogFault, read_log};
 pub use version::Version;
-pub use writer::{log_text, written_again};
+pub use writer::{begun_text, entries_text, log_text, written_again};
 
 #[cfg(test)]
 mod tests;

@@ -53,6 +53,25 @@ fn push_end(out: &mut Vec<u8>, count: u64) -> Result<(), AllocError>
     Ok(())
 }
 
+/// The first two lines of a log, in version 2. Error: `NoMemory` (E90).
+pub fn begun_text(alloc: Global, clock: u32, slots: &[u32]) -> Result<Vec<u8>, NoMemory>
+    ensures { IfOk result (λ text. text.items ≡ text_of (logs.head_line Two ∷ logs.start_line clock slots.now ∷ [])) }
+{
+    let mut out = Vec::new(alloc);
+    out.extend_from_slice(b"wlog 2\n")?;
+    push_start(&mut out, clock, slots)?;
+    Ok(out)
+}
+
+/// The lines of these entries. Error: `NoMemory` (E90).
+pub fn entries_text(alloc: Global, entries: &[Entry]) -> Result<Vec<u8>, NoMemory>
+    ensures { IfOk result (λ text. text.items ≡ text_of (map entry_line entries.now)) }
+{
+    let mut out = Vec::new(alloc);
+    push_entries(&mut out, entries)?;
+    Ok(out)
+}
+
 /// The log of this content, in version 2: the opening clock in ticks, the opening slots of each agent by number, and the
 /// entries in their order. It is written whatever the content; where that keeps the format's ranges, the text is a log.
 ///

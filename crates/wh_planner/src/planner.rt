@@ -6,11 +6,13 @@ ghost use Rattle.wh_grid.specs.Grids.{Floor};
 ghost use Rattle.wh_path.specs.Paths.{AllFree, steps_left};
 ghost use Rattle.wh_planner.specs.Duties.{IsLawful, HasNoClearWay};
 ghost use Rattle.wh_planner.specs.Asked.{IsDuty, Serves, legs};
+ghost use Rattle.wh_shared.specs.Shares.{stored_grid, room};
 
 use crate::duty::Duty;
 use std::alloc::Global;
 use wh_grid::Grid;
 use wh_path::TimedPath;
+use wh_shared::SharedFields;
 
 /// What a planner sees of the warehouse.
 #[derive(Clone, Copy)]
@@ -34,32 +36,43 @@ pub enum PlanFault {
     NoMemory,
 }
 
-/// Plans for one agent at a time, on one grid, and may keep some distance fields between the plans.
+/// Plans for one agent at a time, on one grid, by distance fields that are lent to it for the call, and may count some
+/// of them as kept between the plans.
 pub trait Planner: Send + Drop {
     // the grids that it plans on
     ghost fits_map: { Self → Floor → Bool };
 
-    // how many distance fields it may keep
+    // how many distance fields it may count as kept
     ghost slot_count: { Self → ℕ };
 
     /// Whether it plans on this grid.
     fn fits(&self, grid: &Grid) -> bool
         ensures { result ≡ fits_map self.now grid.now };
 
-    /// How many distance fields it may keep.
+    /// How many distance fields it may count as kept.
     fn slots(&self) -> u32
         ensures { result ≡ slot_count self.now };
 
     /// A lawful path for the duty of an agent that has no steps left. `NoPath` comes only where there is no clear way, and
-    /// `NoMemory` where memory is wanting: the planner then fits the same grids and has the same slots.
-    fn plan(&mut self, alloc: Global, scene: &Scene, duty: Duty) -> Result<TimedPath, PlanFault>
+    /// `NoMemory` where memory is wanting: the planner then fits the same grids and has the same slots. The fields are
+    /// over the same grid as before, and there is room for as many.
+    fn plan(
+        &mut self,
+        alloc: Global,
+        fields: &mut SharedFields,
+        scene: &Scene,
+        duty: Duty,
+    ) -> Result<TimedPath, PlanFault>
         requires fits { fits_map self.old scene.now.grid.now ≡ true }
+        requires stored { stored_grid fields.old ≡ scene.now.grid.now }
         requires agent { scene.now.agent < length scene.now.paths.now }
         requires resting { steps_left scene.now.paths.now scene.now.agent ≡ 0 }
         requires free { AllFree scene.now.nofollow scene.now.paths.now }
         requires duty { IsDuty duty }
         ensures fits_stays { (g : Floor) → fits_map self.new g ≡ fits_map self.old g }
         ensures slots_stay { slot_count self.new ≡ slot_count self.old }
+        ensures room_stays { room fields.new ≡ room fields.old }
+        ensures stored_stays { stored_grid fields.new ≡ stored_grid fields.old }
         ensures lawful { IfOk result (IsLawful scene.now.grid.now scene.now.nofollow scene.now.paths.now scene.now.agent (legs duty.entry) (Serves duty.entry)) }
         ensures no_path { IfErr result (λ fault. fault ≡ PlanFault.NoPath → HasNoClearWay scene.now.grid.now scene.now.paths.now scene.now.agent (Serves duty.entry)) };
 }
@@ -78,7 +91,13 @@ impl Planner for Box<dyn Planner> {
         (**self).slots()
     }
 
-    fn plan(&mut self, alloc: Global, scene: &Scene, duty: Duty) -> Result<TimedPath, PlanFault> {
-        (**self).plan(alloc, scene, duty)
+    fn plan(
+        &mut self,
+        alloc: Global,
+        fields: &mut SharedFields,
+        scene: &Scene,
+        duty: Duty,
+    ) -> Result<TimedPath, PlanFault> {
+        (**self).plan(alloc, fields, scene, duty)
     }
 }

@@ -3,9 +3,12 @@ ghost use Rattle.std.specs.Prelude.{true};
 
 use super::*;
 use std::alloc::Global;
+use std::num::NonZeroUsize;
+use std::sync::Arc;
 use std::test::Fail;
 use wh_grid::{Cell, Grid};
 use wh_path::TimedPath;
+use wh_shared::SharedFields;
 
 /// Plans on every grid, and never has memory.
 #[derive(Drop)]
@@ -26,14 +29,27 @@ impl Planner for Forgetful {
         self.slots
     }
 
-    fn plan(&mut self, alloc: Global, scene: &Scene, duty: Duty) -> Result<TimedPath, PlanFault> {
+    fn plan(
+        &mut self,
+        alloc: Global,
+        fields: &mut SharedFields,
+        scene: &Scene,
+        duty: Duty,
+    ) -> Result<TimedPath, PlanFault> {
         Err(PlanFault::NoMemory)
     }
 }
 
 #[test]
 fn a_box_plans_as_the_planner_in_it(rt: HostRuntime) -> Result<(), Fail> {
-    let grid = Grid::new(2, 1, vec![in rt.alloc(); true, true]?);
+    let grid = Arc::new(
+        rt.alloc(),
+        Grid::new(2, 1, vec![in rt.alloc(); true, true]?),
+    )?;
+    let Some(most) = NonZeroUsize::new(1) else {
+        return Err("one is more than none")?;
+    };
+    let mut fields = SharedFields::new(rt.alloc(), Arc::try_clone(&grid)?, most)?;
     let here = Cell { x: 0, y: 0 };
     let paths = [TimedPath::one(rt.alloc(), here)?];
     let scene = Scene {
@@ -49,7 +65,7 @@ fn a_box_plans_as_the_planner_in_it(rt: HostRuntime) -> Result<(), Fail> {
     }
     let allowed = [here];
     let duty = Duty::Park { allowed: &allowed };
-    let found = planner.plan(rt.alloc(), &scene, duty);
+    let found = planner.plan(rt.alloc(), &mut fields, &scene, duty);
     assert!(rt; matches!(found, Err(PlanFault::NoMemory)));
     Ok(())
 }

@@ -1,5 +1,3 @@
 pub mod Patience
-pub mod Fields
-pub mod Kept
-pub mod Near
 pub mod Services
+pub mod Sharing

@@ -1,9 +1,14 @@
-//! The planners. The patient one waits until all others rest, and then goes around them.
+//! The planners. The patient one waits until all others rest, and then goes around them; the sharing one searches for a
+//! least path, by distance fields that the warehouse lends to all of them.
 #![tactic(auto)]
 
-mod cache;
-mod near;
+mod deliver;
 mod patient;
+mod searches;
+mod sharing;
 
-pub use near::Near;
 pub use patient::{Patient, patient_path};
+pub use sharing::Sharing;
+
+#[cfg(test)]
+mod tests;

@@ -10,6 +10,7 @@ ghost use Rattle.wh_planner.specs.Duties.{Delivers, ParksAt, IsLawful, IsClearWa
 ghost use Rattle.wh_planner.specs.Asked.{IsDuty, Serves, legs};
 ghost use Rattle.wh_planners.specs.Patience.{IsPatient, GoesPatiently, ParksPatiently, IsPatientPath};
 ghost use Rattle.wh_claims.specs.Claim.{claim_amount};
+ghost use Rattle.wh_shared.specs.Shares.{stored_grid, room};
 
 use std::alloc::{AllocError, Global};
 use std::marker::Model;
@@ -19,6 +20,7 @@ use wh_field::{route, route_to_nearest};
 use wh_grid::{Cell, Grid};
 use wh_path::TimedPath;
 use wh_planner::{Duty, PlanFault, Planner, Scene, last_to_rest, other_ends};
+use wh_shared::SharedFields;
 
 /// The path that stays at a cell until a time.
 fn waiting(alloc: Global, here: Cell, wait: u64) -> Result<TimedPath, AllocError>
@@ -166,15 +168,24 @@ impl Planner for Patient {
         self.claim.amount()
     }
 
-    fn plan(&mut self, alloc: Global, scene: &Scene, duty: Duty) -> Result<TimedPath, PlanFault>
+    fn plan(
+        &mut self,
+        alloc: Global,
+        fields: &mut SharedFields,
+        scene: &Scene,
+        duty: Duty,
+    ) -> Result<TimedPath, PlanFault>
         requires fits { same_floor self.old.grid scene.now.grid.now ≡ true }
         requires agent { scene.now.agent < length scene.now.paths.now }
         requires resting { steps_left scene.now.paths.now scene.now.agent ≡ 0 }
         requires free { AllFree scene.now.nofollow scene.now.paths.now }
         requires duty { IsDuty duty }
         ensures same { self.new ≡ self.old }
+        ensures fields_stay { fields.new ≡ fields.old }
         ensures fits_stays { (g : Floor) → same_floor self.new.grid g ≡ same_floor self.old.grid g }
         ensures slots_stay { claim_amount self.new.claim ≡ claim_amount self.old.claim }
+        ensures room_stays { room fields.new ≡ room fields.old }
+        ensures stored_stays { stored_grid fields.new ≡ stored_grid fields.old }
         ensures patient { IfOk result (IsPatientPath scene.now.grid.now scene.now.paths.now scene.now.agent duty.entry) }
         ensures lawful { IfOk result (IsLawful scene.now.grid.now scene.now.nofollow scene.now.paths.now scene.now.agent (legs duty.entry) (Serves duty.entry)) }
         ensures no_path { IfErr result (λ fault. fault ≡ PlanFault.NoPath → HasNoClearWay scene.now.grid.now scene.now.paths.now scene.now.agent (Serves duty.entry)) }

@@ -1,22 +1,24 @@
 //! The row of a desk: two callers fill a journal of three, while a viewer looks.
 
 ghost use Rattle.std.specs.Prelude.{◌≡◌, ◌+◌, [], IfOk, IfSome, length};
-ghost use Rattle.wh_board.specs.Pasts.{origin_of, past_of};
-ghost use Rattle.wh_desk.specs.Lists.{AllAt};
-ghost use Rattle.wh_desk.specs.Calls.{TellsReceipt};
+ghost use Rattle.std.specs.Arc.{arc_value};
+ghost use Rattle.wh_claims.specs.Bank.{Belongs};
+ghost use Rattle.wh_service.specs.Pasts.{origin_of, past_of};
+ghost use Rattle.wh_service.specs.Lists.{AllAt};
+ghost use Rattle.wh_service.specs.Calls.{TellsReceipt};
 
 use crate::again::{Halt, TRIES, again, refused, tell};
 use crate::fleet::{bank, open, room};
 use std::alloc::{AllocError, Global};
 use std::marker::Brand;
-use std::sync::Wait;
-use wh_board::{Publisher, Viewer};
-use wh_book::Book;
-use wh_desk::{Cells, Desk, DeskFault, DeskName, Pass, Receipt};
-use wh_event::{Command, read_line, write_reply};
+use std::sync::{Arc, Wait};
+use wh_claims::{Bank, BankSeat};
+use wh_event::{Command, Entry, read_line, write_reply};
 use wh_planner::Planner;
-use wh_service::PlannerParts;
-use wh_token::Warehouse;
+use wh_service::{
+    Book, Cells, Desk, DeskFault, DeskName, Pass, PlannerParts, Publisher, Receipt, Viewer,
+    Warehouse,
+};
 
 /// How many positions the journal has.
 const POSITIONS: u64 = 3;
@@ -156,7 +158,36 @@ fn put_back<N: DeskName>(passes: &mut Vec<Pass<N>>, pass: Pass<N>) -> Result<(),
     Ok(())
 }
 
-/// Ends the desk, and tells its history: for each entry its caller and the reply.
+/// The passes of the two callers, in the callers' order.
+fn both<N: DeskName, R: Print>(
+    rt: &R,
+    alloc: Global,
+    zero: Pass<N>,
+    one: Pass<N>,
+) -> Result<Vec<Pass<N>>, Halt>
+    ensures count { IfOk result (λ passes. length passes.items ≡ 2) }
+    ensures order { IfOk result (λ passes. AllAt (λ k p. p.caller ≡ k) passes.items) }
+{
+    if zero.caller() != 0 || one.caller() != 1 {
+        return Err(Halt::Odd);
+    }
+    let mut passes = room(rt, alloc)?;
+    put_back(&mut passes, zero)?;
+    put_back(&mut passes, one)?;
+    Ok(passes)
+}
+
+/// Tells of each entry its caller and the reply.
+fn tell_entries<R: Print>(rt: &R, entries: &[Entry]) -> Result<(), Halt> {
+    for entry in entries {
+        let caller = entry.caller;
+        print!(rt; "caller {caller} ")?;
+        tell(rt, write_reply(&entry.reply).as_slice())?;
+    }
+    Ok(())
+}
+
+/// Ends the desk, and tells its history.
 fn end<N: DeskName, H: Wait + Drop, P: Planner, R: Print>(
     rt: &R,
     alloc: Global,
@@ -166,21 +197,11 @@ fn end<N: DeskName, H: Wait + Drop, P: Planner, R: Print>(
 ) -> Result<(), Halt>
     requires { N.callers ≡ 2 }
 {
-    if zero.caller() != 0 || one.caller() != 1 {
-        return Err(Halt::Odd);
+    let passes = both(rt, alloc, zero, one)?;
+    match desk.finish(passes) {
+        Ok(history) => tell_entries(rt, history.warehouse.history()),
+        Err(_) => Err(Halt::Odd),
     }
-    let mut passes = room(rt, alloc)?;
-    put_back(&mut passes, zero)?;
-    put_back(&mut passes, one)?;
-    let Ok(history) = desk.finish(passes) else {
-        return Err(Halt::Odd);
-    };
-    for entry in history.warehouse.history() {
-        let caller = entry.caller;
-        print!(rt; "caller {caller} ")?;
-        tell(rt, write_reply(&entry.reply).as_slice())?;
-    }
-    Ok(())
 }
 
 /// Opens a desk and goes through the row. False: the desk could not be opened, and what was handed in was dropped.
@@ -231,6 +252,25 @@ fn publisher<'a, R: Print + Wait>(
     again!(rt, Publisher::new(alloc, rt, book))
 }
 
+/// Makes a warehouse and a desk round it, and goes through the row there. False: the desk could not be opened, and what was
+/// made was dropped.
+fn at_new_desk<R: Print + Wait, P: Planner, F: Fn(PlannerParts) -> Result<P, AllocError>>(
+    rt: &R,
+    alloc: Global,
+    bank: &Arc<Bank>,
+    seat: &mut BankSeat,
+    make: &F,
+) -> Result<bool, Halt>
+    requires callable { F.IsAlwaysCallable make.now }
+    requires seat { Belongs seat.old (arc_value bank.now) }
+    ensures seat { Belongs seat.new (arc_value bank.now) }
+{
+    let warehouse = open(rt, alloc, bank, seat, make)?;
+    let cells = cells(rt, alloc)?;
+    let publisher = publisher(rt, alloc, warehouse.book())?;
+    at_desk::<Brand, _, _, _>(rt, alloc, warehouse, cells, publisher)
+}
+
 /// Two callers fill a journal of three, while a viewer looks. Where the desk could not be opened, it is opened with another
 /// warehouse, since the old one was dropped.
 pub fn desk_receipts<R: Print + Wait, P: Planner, F: Fn(PlannerParts) -> Result<P, AllocError>>(
@@ -242,10 +282,7 @@ pub fn desk_receipts<R: Print + Wait, P: Planner, F: Fn(PlannerParts) -> Result<
 {
     let (bank, mut seat) = bank(rt, alloc, 1024)?;
     for _ in 0..TRIES {
-        let warehouse = open(rt, alloc, &bank, &mut seat, make)?;
-        let cells = cells(rt, alloc)?;
-        let publisher = publisher(rt, alloc, warehouse.book())?;
-        if at_desk::<Brand, _, _, _>(rt, alloc, warehouse, cells, publisher)? {
+        if at_new_desk(rt, alloc, &bank, &mut seat, make)? {
             return Ok(());
         }
         refused(rt, bank.free(&mut seat) == 1024)?;

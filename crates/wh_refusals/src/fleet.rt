@@ -15,8 +15,7 @@ use wh_grid::Grid;
 use wh_options::PlannerKind;
 use wh_planner::Planner;
 use wh_points::Points;
-use wh_service::{PlannerParts, claim};
-use wh_token::{OpenFault, Warehouse};
+use wh_service::{OpenFault, PlannerParts, Warehouse, claim};
 
 /// A bank of so many slots, and its seat.
 pub fn bank<R: Print>(rt: &R, alloc: Global, slots: u32) -> Result<(Arc<Bank>, BankSeat), Halt>

@@ -12,10 +12,7 @@ use wh_edge::Site;
 use wh_lines::Lines;
 use wh_log::log_text;
 use wh_planner::Planner;
-use wh_replay::replay;
-use wh_service::PlannerParts;
-use wh_token::Warehouse;
-use wh_verify::{Verified, verify};
+use wh_service::{PlannerParts, Verified, Warehouse, replay, verify};
 
 const SCRIPT: &[u8] = b"submit x A B\ntoken 0\ntick\n";
 

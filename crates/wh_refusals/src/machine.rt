@@ -12,8 +12,7 @@ use wh_claims::{Bank, BankSeat};
 use wh_event::{Reply, read_line, write_reply};
 use wh_ledger::{DeliveryLedger, ledger_text};
 use wh_planner::Planner;
-use wh_service::PlannerParts;
-use wh_token::{Committed, NoMemory, Warehouse};
+use wh_service::{Committed, NoMemory, PlannerParts, Warehouse};
 
 /// The caller of each event.
 const CALLER: u32 = 0;

@@ -22,7 +22,7 @@ use std::sync::Wait;
 use std::thread::Threads;
 use std::{env, io};
 use wh_planner::Planner;
-use wh_planners::Near;
+use wh_planners::Sharing;
 use wh_service::PlannerParts;
 
 /// The rows, in the order in which they are gone through.
@@ -96,8 +96,8 @@ fn wanted_row<R: env::Env + AllocGlobal>(rt: &R) -> io::Result<Option<String>> {
 fn obey<R: AllocGlobal + Print + env::Env + Threads + Wait + Sync>(rt: &R) -> Result<(), Halt> {
     let alloc = rt.alloc();
     let make = |parts: PlannerParts| -> Result<Box<dyn Planner>, AllocError> {
-        let near = Near::new(alloc, parts.grid, parts.claim)?;
-        let planner: Box<dyn Planner> = Box::new(alloc, near)?;
+        let sharing = Sharing::new(alloc, parts.grid, parts.claim)?;
+        let planner: Box<dyn Planner> = Box::new(alloc, sharing)?;
         Ok(planner)
     };
     match wanted_row(rt) {

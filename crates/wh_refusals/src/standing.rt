@@ -2,8 +2,8 @@
 
 use wh_grid::Cell;
 use wh_planner::Planner;
+use wh_service::Warehouse;
 use wh_tasks::{Counts, Load};
-use wh_token::Warehouse;
 
 /// What a warehouse tells of an agent.
 #[derive(Clone, Copy, PartialEq, Eq)]

@@ -10,9 +10,8 @@ use Rattle.wh_core.specs.Steps.{Run}
 use Rattle.wh_core.specs.Laws.{IsOpening}
 use Rattle.wh_book.specs.Drafts.{Seen, AllServed}
 use Rattle.wh_book.proofs.Kept.{run-served}
-use Rattle.wh_token.specs.Runs.{Moves, Ran, entries_of}
+use Rattle.wh_token.specs.Runs.{Ran, RunsOne, entries_of}
 use Rattle.wh_token.proofs.Runs.{ran-run}
-use Rattle.wh_event.specs.Asking.{requester}
 use Rattle.wh_event.specs.CommandLines.{command_of}
 use Rattle.wh_event.specs.ReplyTexts.{reply_text}
 use Rattle.wh_event.specs.declared.event.Command.{Command}
@@ -26,7 +25,7 @@ use Rattle.wh_replay.specs.Scripts.{Gives, IsOutputOf}
 
 -- ---- runs
 
-ran_append : {X : Type 0} (fits : X → Bool) (count : X → ℕ) (site : Site) (caller : ℕ) (cs : List Command) (os : List (Option Entry)) (ds : List Command) (ps : List (Option Entry))
+ran_append : {X : Type 0} (fits : X → Floor → Bool) (count : X → ℕ) (site : Site) (caller : ℕ) (cs : List Command) (os : List (Option Entry)) (ds : List Command) (ps : List (Option Entry))
     (s : State) (spares : List X) (mid : State) (left : List X) (new : State) (rest : List X)
     → Ran fits count site caller cs os s spares mid left → Ran fits count site caller ds ps mid left new rest → Ran fits count site caller (cs ++ ds) (os ++ ps) s spares new rest
 ran_append {X} fits count site caller [] [] ds ps s spares mid left new rest p q =
@@ -37,7 +36,7 @@ ran_append fits count site caller [] (o ∷ os) ds ps s spares mid left new rest
 ran_append fits count site caller (c ∷ cs) [] ds ps s spares mid left new rest p q = absurd p
 
 -- each command has its outcome
-pub ran_length : {X : Type 0} (fits : X → Bool) (count : X → ℕ) (site : Site) (caller : ℕ) (cs : List Command) (os : List (Option Entry))
+pub ran_length : {X : Type 0} (fits : X → Floor → Bool) (count : X → ℕ) (site : Site) (caller : ℕ) (cs : List Command) (os : List (Option Entry))
     (s : State) (spares : List X) (new : State) (rest : List X) → Ran fits count site caller cs os s spares new rest → length os ≡ length cs
 ran_length fits count site caller [] [] s spares new rest p = refl
 ran_length fits count site caller (c ∷ cs) (o ∷ os) s spares new rest p = ap suc (ran_length fits count site caller cs os p.0 p.1 new rest p.3)
@@ -74,7 +73,7 @@ replies_push (l ∷ lines) line os ps e = replies_by (command_of l) lines line o
 
 -- ---- what is given
 
-pub gives_nothing : {X : Type 0} (fits : Floor → X → Bool) (count : X → ℕ) (told : List (Option Entry) → List (List ℕ)) (old : Seen) (spares : List X)
+pub gives_nothing : {X : Type 0} (fits : X → Floor → Bool) (count : X → ℕ) (told : List (Option Entry) → List (List ℕ)) (old : Seen) (spares : List X)
     → Gives fits count [] told old spares old spares (told [])
 gives_nothing fits count told old spares = record {
   outcomes = [];
@@ -88,22 +87,22 @@ gives_nothing fits count told old spares = record {
 }
 
 -- what comes after at the same site
-pub output_push : {X : Type 0} (fits : Floor → X → Bool) (count : X → ℕ) (lines : List (List ℕ)) (line : List ℕ) (old : Seen) (spares : List X) (mid : Seen) (left : List X) (new : Seen) (rest : List X)
+pub output_push : {X : Type 0} (fits : X → Floor → Bool) (count : X → ℕ) (lines : List (List ℕ)) (line : List ℕ) (old : Seen) (spares : List X) (mid : Seen) (left : List X) (new : Seen) (rest : List X)
     (had more : List (List ℕ)) → IsOutputOf fits count lines old spares mid left had → Gives fits count (asked (command_of line)) (answers (command_of line)) mid left new rest more
     → IsOutputOf fits count (lines ++ line ∷ []) old spares new rest (had ++ more)
 output_push {X} fits count lines line old spares mid left new rest had more p q =
-    let here : Ran (fits old.site.grid) count old.site 0 (asked (command_of line)) q.outcomes mid.state left new.state rest =
-    subst (λ (t : Site). Ran (fits t.grid) count t 0 (asked (command_of line)) q.outcomes mid.state left new.state rest) p.site q.ran in
-    let ran : Ran (fits old.site.grid) count old.site 0 (commands_of (lines ++ line ∷ [])) (p.outcomes ++ q.outcomes) old.state spares new.state rest =
-    subst (λ cs. Ran (fits old.site.grid) count old.site 0 cs (p.outcomes ++ q.outcomes) old.state spares new.state rest) (sym (commands_push lines line))
-    (ran_append (fits old.site.grid) count old.site 0 (commands_of lines) p.outcomes (asked (command_of line)) q.outcomes old.state spares mid.state left new.state rest p.ran here) in
-    let long = ran_length (fits old.site.grid) count old.site 0 (commands_of lines) p.outcomes old.state spares mid.state left p.ran in
+    let here : Ran fits count old.site 0 (asked (command_of line)) q.outcomes mid.state left new.state rest =
+    subst (λ (t : Site). Ran fits count t 0 (asked (command_of line)) q.outcomes mid.state left new.state rest) p.site q.ran in
+    let ran : Ran fits count old.site 0 (commands_of (lines ++ line ∷ [])) (p.outcomes ++ q.outcomes) old.state spares new.state rest =
+    subst (λ cs. Ran fits count old.site 0 cs (p.outcomes ++ q.outcomes) old.state spares new.state rest) (sym (commands_push lines line))
+    (ran_append fits count old.site 0 (commands_of lines) p.outcomes (asked (command_of line)) q.outcomes old.state spares mid.state left new.state rest p.ran here) in
+    let long = ran_length fits count old.site 0 (commands_of lines) p.outcomes old.state spares mid.state left p.ran in
     record {
       outcomes = p.outcomes ++ q.outcomes;
       replies_are = ap (λ rs. rs ++ more) p.replies_are ∙ ap (λ rs. replies_to lines p.outcomes ++ rs) q.replies_are ∙ sym (replies_push lines line p.outcomes q.outcomes long);
       ran = ran;
       history = q.history ∙ ap (λ es. es ++ entries_of q.outcomes) p.history ∙ append_assoc old.history (entries_of p.outcomes) (entries_of q.outcomes) ∙ ap (λ es. old.history ++ es) (sym (entries_append p.outcomes q.outcomes));
-      run = ran-run (fits old.site.grid) count old.site 0 (commands_of (lines ++ line ∷ [])) (p.outcomes ++ q.outcomes) old.state spares new.state rest ran;
+      run = ran-run fits count old.site 0 (commands_of (lines ++ line ∷ [])) (p.outcomes ++ q.outcomes) old.state spares new.state rest ran;
       served = λ formed. subst AllServed (sym (entries_append p.outcomes q.outcomes))
           (All-append (λ entry. entry.reply ≢ Reply.Refused Refusal.NoPath) (entries_of p.outcomes) (entries_of q.outcomes) (p.served formed) (q.served (subst (λ (t : Site). IsFormed t) (sym p.site) formed)));
       site = q.site ∙ p.site;
@@ -119,33 +118,22 @@ told_one : (command : Command) (outcome : Option Entry) (added : Bool) (had has 
 told_one command None added had has text is e none some = ap (λ t. t ∷ []) (none (sym is))
 told_one command (Some entry) added had has text is e none some = ap (λ t. t ∷ []) (some (sym is) had entry e)
 
-pub gives_one : {X : Type 0} (fits : Floor → X → Bool) (count : X → ℕ) (command : Command) (old : Seen) (spares : List X) (new : Seen) (rest : List X) (added : Bool) (text : List ℕ)
-    → new.site ≡ old.site → new.opening ≡ old.opening → IsOpening old.site old.opening → Run old.site old.opening old.history old.state
-    → ((outcome : Option Entry) × (is_some outcome ≡ added) × (new.history ≡ old.history ++ entries_of (outcome ∷ []))
-    × Moves (fits old.site.grid) count old.site 0 command outcome old.state spares new.state rest)
+pub gives_one : {X : Type 0} (fits : X → Floor → Bool) (count : X → ℕ) (command : Command) (old : Seen) (spares : List X) (new : Seen) (rest : List X) (added : Bool) (text : List ℕ)
+    → IsOpening old.site old.opening → Run old.site old.opening old.history old.state
+    → RunsOne fits count 0 command added old spares new rest
     → (added ≡ false → text ≡ codes "refused E90")
     → (added ≡ true → (front : List Entry) (entry : Entry) → new.history ≡ front ++ entry ∷ [] → text ≡ reply_text entry.reply)
     → Gives fits count (command ∷ []) (answers (Ok (Some command))) old spares new rest (text ∷ [])
-gives_one fits count command old spares new rest added text site opening is_opening before moves none some =
-    let ran : Ran (fits old.site.grid) count old.site 0 (command ∷ []) (moves.0 ∷ []) old.state spares new.state rest = (new.state, rest, moves.3, (refl, refl)) in
-    let run = ran-run (fits old.site.grid) count old.site 0 (command ∷ []) (moves.0 ∷ []) old.state spares new.state rest ran in
+gives_one fits count command old spares new rest added text is_opening before one none some =
+    let ran : Ran fits count old.site 0 (command ∷ []) (one.outcome ∷ []) old.state spares new.state rest = (new.state, rest, one.moves, (refl, refl)) in
+    let run = ran-run fits count old.site 0 (command ∷ []) (one.outcome ∷ []) old.state spares new.state rest ran in
     record {
-      outcomes = moves.0 ∷ [];
-      replies_are = told_one command moves.0 added old.history new.history text moves.1 moves.2 none some;
+      outcomes = one.outcome ∷ [];
+      replies_are = told_one command one.outcome added old.history new.history text one.added_is one.history none some;
       ran = ran;
-      history = moves.2;
+      history = one.history;
       run = run;
-      served = λ formed. run-served old.site old.opening old.history old.state (entries_of (moves.0 ∷ [])) new.state is_opening before run formed;
-      site = site;
-      opening = opening;
+      served = λ formed. run-served old.site old.opening old.history old.state (entries_of (one.outcome ∷ [])) new.state is_opening before run formed;
+      site = one.stays.site;
+      opening = one.stays.opening;
     }
-
--- whose request it is tells the command
-pub requester_is : (kind : Result (Option Command) LineFault) (agent : ℕ) → requester kind ≡ Some agent → kind ≡ Ok (Some (Command.Token agent))
-requester_is (Ok (Some (Command.Token n))) agent e = ap (λ a. Ok (Some (Command.Token a))) (let same : n ≡ agent = cc in same)
-requester_is (Ok (Some (Command.Submit client stops))) agent e = absurd cc
-requester_is (Ok (Some Command.Tick)) agent e = absurd cc
-requester_is (Ok (Some (Command.Replace n))) agent e = absurd cc
-requester_is (Ok (Some Command.Close)) agent e = absurd cc
-requester_is (Ok None) agent e = absurd cc
-requester_is (Err fault) agent e = absurd cc

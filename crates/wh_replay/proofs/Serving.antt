@@ -9,6 +9,7 @@ use Rattle.wh_text.proofs.CutLemmas.{lines-feed, lines-last}
 use Rattle.wh_lines.specs.Text.{short_line}
 use Rattle.wh_lines.proofs.Cuts.{whole_next}
 use Rattle.wh_lines.specs.Input.{Input, left, Takes, Gathered, Taken}
+use Rattle.wh_lines.specs.declared.lines.Next.{Next}
 use Rattle.wh_lines.specs.declared.lines.Next.TheVariants.{Whole, Last, End}
 use Rattle.wh_grid.specs.Grids.{Floor}
 use Rattle.wh_book.specs.Drafts.{Seen}
@@ -33,7 +34,7 @@ texts_more a b c d xs ys p k q = subst (Appends a d) (sym (text_append xs ys)) (
 texts_front : (a b c d : Option (List ℕ)) (xs ys : List (List ℕ)) → Appends a b (text_of xs) → Keeps b c → WritesFront c d (text_of ys) → WritesFront a d (text_of (xs ++ ys))
 texts_front a b c d xs ys p k q = subst (WritesFront a d) (sym (text_append xs ys)) (front_after a c d (text_of xs) (text_of ys) (Appends-kept a b c (text_of xs) p k) q)
 
-module _ {X : Type 0} (fits : Floor → X → Bool) (count : X → ℕ) where
+module _ {X : Type 0} (fits : X → Floor → Bool) (count : X → ℕ) where
   pub follows_start : (i : Input) (old : Seen) (spares : List X) (had : Option (List ℕ)) → Follows fits count i i old spares old spares had had 0
   follows_start i old spares had = record {
     read = [];
@@ -124,6 +125,20 @@ module _ {X : Type 0} (fits : Floor → X → Bool) (count : X → ℕ) where
           writes = front_all a e (text_of r.replies) r.appends;
         }
 
+    -- a line whose reply was not written to the end, be it the last one or not
+    pub stops_served : (next : Next) → ¬ (next ≡ End) → Gathered next j k kept → ServesUnwritten fits count (said (short_line kept)) mid held new rest c d
+        → Stops fits count Unwritten i k old spares new rest a d
+    stops_served Whole some g s = stops_line g s
+    stops_served Last some g s = stops_last g s
+    stops_served End some g s = absurd (some refl)
+
+    -- a line that was served, and is not the last one
+    pub follows_served : (next : Next) → ¬ (next ≡ End) → ¬ (next ≡ Last) → (written m : ℕ) → Gathered next j k kept
+        → Serves fits count (said (short_line kept)) mid held new rest c d written → m ≡ n + written → Follows fits count i k old spares new rest a d m
+    follows_served Whole some more written m g s e = follows_line written m g s e
+    follows_served Last some more written m g s e = absurd (more refl)
+    follows_served End some more written m g s e = absurd (some refl)
+
   module _ (i j k : Input) (old : Seen) (spares : List X) (mid : Seen) (held : List X) (a b c : Option (List ℕ)) (n : ℕ)
       (f : Follows fits count i j old spares mid held a b n) (flushed : Keeps b c) where
     pub replays_end : (kept : List ℕ) → Gathered End j k kept → Replays fits count i k old spares mid held a c n
@@ -167,7 +182,7 @@ module _ {X : Type 0} (fits : Floor → X → Bool) (count : X → ℕ) where
 
 -- ---- one line
 
-pub serves_none : {X : Type 0} (fits : Floor → X → Bool) (count : X → ℕ) (line kind : Result (Option Command) LineFault) (old : Seen) (spares : List X) (new : Seen) (rest : List X) (had : Option (List ℕ))
+pub serves_none : {X : Type 0} (fits : X → Floor → Bool) (count : X → ℕ) (line kind : Result (Option Command) LineFault) (old : Seen) (spares : List X) (new : Seen) (rest : List X) (had : Option (List ℕ))
     → line ≡ kind → Gives fits count (asked line) (answers line) old spares new rest [] → Serves fits count kind old spares new rest had had 0
 serves_none fits count line kind old spares new rest had e gives = record {
   replies = [];
@@ -176,7 +191,7 @@ serves_none fits count line kind old spares new rest had e gives = record {
   written_is = refl;
 }
 
-module _ {X : Type 0} (fits : Floor → X → Bool) (count : X → ℕ) (line kind : Result (Option Command) LineFault) (old : Seen) (spares : List X) (new : Seen) (rest : List X) (had has : Option (List ℕ))
+module _ {X : Type 0} (fits : X → Floor → Bool) (count : X → ℕ) (line kind : Result (Option Command) LineFault) (old : Seen) (spares : List X) (new : Seen) (rest : List X) (had has : Option (List ℕ))
     (reply bytes : List ℕ) (said_so : line ≡ kind) (gives : Gives fits count (asked line) (answers line) old spares new rest (reply ∷ [])) (is_line : bytes ≡ reply ++ 10 ∷ []) where
   gives_kind : Gives fits count (asked kind) (answers kind) old spares new rest (reply ∷ [])
   gives_kind = subst (λ (k : Result (Option Command) LineFault). Gives fits count (asked k) (answers k) old spares new rest (reply ∷ [])) said_so gives

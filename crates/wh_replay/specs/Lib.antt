@@ -1,2 +1,7 @@
 pub mod Answers
 pub mod Scripts
+-- handed on, for the crates above
+pub use Rattle.wh_book.specs.Drafts
+pub use Rattle.wh_token.specs.Commands
+pub use Rattle.wh_token.specs.Fleet
+pub use Rattle.wh_token.specs.Runs

@@ -21,11 +21,11 @@ use Rattle.wh_replay.specs.Answers.{asked, commands_of, answers, replies_to, tex
 
 -- The commands, all of caller 0, have run one after another and had these outcomes, which tell the replies. The history
 -- has grown by the entries, and by nothing else. Fits and count say what a planner answers.
-pub record Gives {X : Type 0} (fits : Floor → X → Bool) (count : X → ℕ) (commands : List Command) (told : List (Option Entry) → List (List ℕ))
+pub record Gives {X : Type 0} (fits : X → Floor → Bool) (count : X → ℕ) (commands : List Command) (told : List (Option Entry) → List (List ℕ))
     (old : Seen) (spares : List X) (new : Seen) (rest : List X) (replies : List (List ℕ)) : Type 0 where
   pub outcomes : List (Option Entry)
   pub replies_are : replies ≡ told outcomes
-  pub ran : Ran (fits old.site.grid) count old.site 0 commands outcomes old.state spares new.state rest
+  pub ran : Ran fits count old.site 0 commands outcomes old.state spares new.state rest
   pub history : new.history ≡ old.history ++ entries_of outcomes
   pub run : Run old.site old.state (entries_of outcomes) new.state
   -- where the instance is well-formed, no request is refused for want of a path
@@ -35,7 +35,7 @@ pub record Gives {X : Type 0} (fits : Floor → X → Bool) (count : X → ℕ) 
 
 -- The output of lines: in their order nothing for a line that is skipped, `refused C1` or `refused C2` for one that is no
 -- command, `refused E90` for some commands, and for the others the replies of one run.
-abbrev pub IsOutputOf : {X : Type 0} → (Floor → X → Bool) → (X → ℕ) → List (List ℕ) → Seen → List X → Seen → List X → List (List ℕ) → Type 0
+abbrev pub IsOutputOf : {X : Type 0} → (X → Floor → Bool) → (X → ℕ) → List (List ℕ) → Seen → List X → Seen → List X → List (List ℕ) → Type 0
 IsOutputOf fits count lines old spares new rest replies = Gives fits count (commands_of lines) (replies_to lines) old spares new rest replies
 
 -- a front of the bytes was written
@@ -44,7 +44,7 @@ pub record WritesFront (had has : Option (List ℕ)) (bytes : List ℕ) : Type 0
   pub appends : Appends had has (take count bytes)
 
 -- one line was served: what it is answered was written
-pub record Serves {X : Type 0} (fits : Floor → X → Bool) (count : X → ℕ) (line : Result (Option Command) LineFault) (old : Seen) (spares : List X) (new : Seen) (rest : List X)
+pub record Serves {X : Type 0} (fits : X → Floor → Bool) (count : X → ℕ) (line : Result (Option Command) LineFault) (old : Seen) (spares : List X) (new : Seen) (rest : List X)
     (had has : Option (List ℕ)) (written : ℕ) : Type 0 where
   pub replies : List (List ℕ)
   pub gives : Gives fits count (asked line) (answers line) old spares new rest replies
@@ -52,14 +52,14 @@ pub record Serves {X : Type 0} (fits : Floor → X → Bool) (count : X → ℕ)
   pub written_is : written ≡ length replies
 
 -- one line was served, and its reply was not written to the end
-pub record ServesUnwritten {X : Type 0} (fits : Floor → X → Bool) (count : X → ℕ) (line : Result (Option Command) LineFault) (old : Seen) (spares : List X) (new : Seen) (rest : List X)
+pub record ServesUnwritten {X : Type 0} (fits : X → Floor → Bool) (count : X → ℕ) (line : Result (Option Command) LineFault) (old : Seen) (spares : List X) (new : Seen) (rest : List X)
     (had has : Option (List ℕ)) : Type 0 where
   pub replies : List (List ℕ)
   pub gives : Gives fits count (asked line) (answers line) old spares new rest replies
   pub writes : WritesFront had has (text_of replies)
 
 -- whole lines were read and served
-pub record Follows {X : Type 0} (fits : Floor → X → Bool) (count : X → ℕ) (before after : Input) (old : Seen) (spares : List X) (new : Seen) (rest : List X)
+pub record Follows {X : Type 0} (fits : X → Floor → Bool) (count : X → ℕ) (before after : Input) (old : Seen) (spares : List X) (new : Seen) (rest : List X)
     (had has : Option (List ℕ)) (written : ℕ) : Type 0 where
   pub read : List ℕ
   pub takes : Takes before after read
@@ -70,7 +70,7 @@ pub record Follows {X : Type 0} (fits : Floor → X → Bool) (count : X → ℕ
   pub written_is : written ≡ length replies
 
 -- All was read to the end, and what was written is the output of what was read, in so many lines.
-pub record Replays {X : Type 0} (fits : Floor → X → Bool) (count : X → ℕ) (before after : Input) (old : Seen) (spares : List X) (new : Seen) (rest : List X)
+pub record Replays {X : Type 0} (fits : X → Floor → Bool) (count : X → ℕ) (before after : Input) (old : Seen) (spares : List X) (new : Seen) (rest : List X)
     (had has : Option (List ℕ)) (written : ℕ) : Type 0 where
   pub read : List ℕ
   pub takes : Takes before after read
@@ -81,7 +81,7 @@ pub record Replays {X : Type 0} (fits : Floor → X → Bool) (count : X → ℕ
   pub written_is : written ≡ length replies
 
 -- these bytes were served, all of them
-pub record Outputs {X : Type 0} (fits : Floor → X → Bool) (count : X → ℕ) (script : List ℕ) (old : Seen) (spares : List X) (new : Seen) (rest : List X)
+pub record Outputs {X : Type 0} (fits : X → Floor → Bool) (count : X → ℕ) (script : List ℕ) (old : Seen) (spares : List X) (new : Seen) (rest : List X)
     (had has : Option (List ℕ)) (written : ℕ) : Type 0 where
   pub replies : List (List ℕ)
   pub output : IsOutputOf fits count (lines_of script) old spares new rest replies
@@ -96,7 +96,7 @@ WritesUntil Endless had has bytes = Appends had has bytes
 
 -- A beginning of the script was served: the events of its commands stand, also one whose reply was not written to the
 -- end. What follows it in the bytes that were taken is part of a line that was not served.
-pub record Stops {X : Type 0} (fits : Floor → X → Bool) (count : X → ℕ) (fault : ReplayFault) (before after : Input) (old : Seen) (spares : List X) (new : Seen) (rest : List X)
+pub record Stops {X : Type 0} (fits : X → Floor → Bool) (count : X → ℕ) (fault : ReplayFault) (before after : Input) (old : Seen) (spares : List X) (new : Seen) (rest : List X)
     (had has : Option (List ℕ)) : Type 0 where
   pub read : List ℕ
   pub begun : List ℕ

@@ -2,16 +2,15 @@
 
 ghost use Rattle.std.specs.Prelude.{◌≡◌, ◌<◌, ◌≤◌, ℕ, List, [], ◌∷◌, ◌++◌, length, codes, true, false, Ok, Some, MatchBool};
 ghost use Rattle.wh_lines.specs.Text.{short_line};
-ghost use Rattle.wh_event.specs.Asking.{requester};
+ghost use Rattle.wh_event.specs.Reading.{Reads};
 ghost use Rattle.wh_event.specs.ReplyTexts.{reply_text};
 ghost use Rattle.wh_event.specs.declared.entry.Entry.{Entry as Line};
-ghost use Rattle.wh_event.specs.declared.event.Command.{Command as Asked};
 ghost use Rattle.wh_replay.specs.Answers.{asked, answers, said};
 ghost use Rattle.wh_replay.specs.Scripts.{Gives};
 
 use arrayvec::ArrayVec;
 use std::alloc::Global;
-use wh_event::{Command, Entry, LineFault, put, put_reply, read_line, read_request};
+use wh_event::{Command, Entry, LineFault, put, put_reply, read_line_into};
 use wh_lines::CommandLine;
 use wh_planner::Planner;
 use wh_token::Warehouse;
@@ -54,7 +53,7 @@ fn obey<P: Planner>(
     spares: &mut Vec<P>,
 )
     requires empty { reply.old.items ≡ [] }
-    ensures gives { Gives (λ grid b. P.fits_map b grid) (λ b. P.slot_count b) (command.now ∷ []) (answers (Ok (Some command.now))) warehouse.old.book spares.old.items warehouse.new.book spares.new.items (reply.new.items ∷ []) }
+    ensures gives { Gives P.fits_map P.slot_count (command.now ∷ []) (answers (Ok (Some command.now))) warehouse.old.book spares.old.items warehouse.new.book spares.new.items (reply.new.items ∷ []) }
     ensures short { length reply.new.items ≤ 53 }
 {
     let _before = warehouse.history();
@@ -62,104 +61,45 @@ fn obey<P: Planner>(
     put_outcome(reply, added, warehouse.history());
 }
 
-/// Runs a request of an agent for the token, and writes its reply.
-fn grant<P: Planner>(
-    reply: &mut ArrayVec<u8, 64>,
-    agent: u32,
-    alloc: Global,
-    warehouse: &mut Warehouse<P>,
-    spares: &mut Vec<P>,
-)
-    requires empty { reply.old.items ≡ [] }
-    ensures gives { Gives (λ grid b. P.fits_map b grid) (λ b. P.slot_count b) (Asked.Token agent ∷ []) (answers (Ok (Some (Asked.Token agent)))) warehouse.old.book spares.old.items warehouse.new.book spares.new.items (reply.new.items ∷ []) }
-    ensures short { length reply.new.items ≤ 53 }
-{
-    let _before = warehouse.history();
-    let added = warehouse.run_request(alloc, CALLER, agent, spares);
-    put_outcome(reply, added, warehouse.history());
-}
-
-/// What a line says, of which a front is kept.
-fn read_kept(line: &CommandLine) -> Result<Option<Command>, LineFault>
-    ensures { result ≡ said (short_line line.now) }
+/// Reads a line, of which a front is kept, into a room: whether it asks for a command, which then stands there.
+fn read_kept(line: &CommandLine, command: &mut Command) -> Result<bool, LineFault>
+    ensures { Reads result command.old command.new (said (short_line line.now)) }
 {
     match line.text() {
-        Some(text) => read_line(text),
+        Some(text) => read_line_into(text, command),
         None => Err(LineFault::TooLong),
     }
 }
 
-/// Writes the reply to a line that says this: whether it has one. A line that is skipped has none.
-fn answer_said<P: Planner>(
-    reply: &mut ArrayVec<u8, 64>,
-    line: &Result<Option<Command>, LineFault>,
-    alloc: Global,
-    warehouse: &mut Warehouse<P>,
-    spares: &mut Vec<P>,
-) -> bool
-    requires empty { reply.old.items ≡ [] }
-    ensures gives { MatchBool result
-        (Gives (λ grid b. P.fits_map b grid) (λ b. P.slot_count b) (asked line.now) (answers line.now) warehouse.old.book spares.old.items warehouse.new.book spares.new.items (reply.new.items ∷ []))
-        (Gives (λ grid b. P.fits_map b grid) (λ b. P.slot_count b) (asked line.now) (answers line.now) warehouse.old.book spares.old.items warehouse.new.book spares.new.items []) }
-    ensures short { length reply.new.items ≤ 53 }
-{
-    match line {
-        Ok(None) => return false,
-        Ok(Some(command)) => obey(reply, command, alloc, warehouse, spares),
-        Err(LineFault::Form) => put(reply, b"refused C1"),
-        Err(LineFault::TooLong) => put(reply, b"refused C2"),
-    }
-    true
-}
-
-/// Writes the reply to a line of any kind. It stays a function of its own, since a command has room for nine names, and
-/// where that is not needed it is not even cleared.
-#[inline(never)]
-fn answer_any<P: Planner>(
-    reply: &mut ArrayVec<u8, 64>,
-    line: &CommandLine,
-    alloc: Global,
-    warehouse: &mut Warehouse<P>,
-    spares: &mut Vec<P>,
-) -> bool
-    requires empty { reply.old.items ≡ [] }
-    ensures gives { MatchBool result
-        (Gives (λ grid b. P.fits_map b grid) (λ b. P.slot_count b) (asked (said (short_line line.now))) (answers (said (short_line line.now))) warehouse.old.book spares.old.items warehouse.new.book spares.new.items (reply.new.items ∷ []))
-        (Gives (λ grid b. P.fits_map b grid) (λ b. P.slot_count b) (asked (said (short_line line.now))) (answers (said (short_line line.now))) warehouse.old.book spares.old.items warehouse.new.book spares.new.items []) }
-    ensures short { length reply.new.items ≤ 53 }
-{
-    answer_said(reply, &read_kept(line), alloc, warehouse, spares)
-}
-
-/// The agent of a line that asks for the token.
-fn requested(line: &CommandLine) -> Option<u32>
-    ensures { result ≡ requester (said (short_line line.now)) }
-{
-    match line.text() {
-        Some(text) => read_request(text),
-        None => None,
-    }
-}
-
-/// Writes the reply to a line, of which a front is kept: whether it has one. Nearly all lines ask for the token.
+/// Writes the reply to a line, of which a front is kept: whether it has one. A line that is skipped has none. The command
+/// is a room for what the line asks.
 pub(crate) fn answer<P: Planner>(
     reply: &mut ArrayVec<u8, 64>,
     line: &CommandLine,
+    command: &mut Command,
     alloc: Global,
     warehouse: &mut Warehouse<P>,
     spares: &mut Vec<P>,
 ) -> bool
     requires empty { reply.old.items ≡ [] }
     ensures gives { MatchBool result
-        (Gives (λ grid b. P.fits_map b grid) (λ b. P.slot_count b) (asked (said (short_line line.now))) (answers (said (short_line line.now))) warehouse.old.book spares.old.items warehouse.new.book spares.new.items (reply.new.items ∷ []))
-        (Gives (λ grid b. P.fits_map b grid) (λ b. P.slot_count b) (asked (said (short_line line.now))) (answers (said (short_line line.now))) warehouse.old.book spares.old.items warehouse.new.book spares.new.items []) }
+        (Gives P.fits_map P.slot_count (asked (said (short_line line.now))) (answers (said (short_line line.now))) warehouse.old.book spares.old.items warehouse.new.book spares.new.items (reply.new.items ∷ []))
+        (Gives P.fits_map P.slot_count (asked (said (short_line line.now))) (answers (said (short_line line.now))) warehouse.old.book spares.old.items warehouse.new.book spares.new.items []) }
     ensures short { length reply.new.items ≤ 53 }
 {
-    match requested(line) {
-        Some(agent) => {
-            grant(reply, agent, alloc, warehouse, spares);
+    match read_kept(line, command) {
+        Ok(true) => {
+            obey(reply, command, alloc, warehouse, spares);
             true
         }
-        None => answer_any(reply, line, alloc, warehouse, spares),
+        Ok(false) => false,
+        Err(LineFault::Form) => {
+            put(reply, b"refused C1");
+            true
+        }
+        Err(LineFault::TooLong) => {
+            put(reply, b"refused C2");
+            true
+        }
     }
 }

@@ -6,4 +6,7 @@ mod output;
 mod script;
 
 pub use output::{WriteFault, write_all};
-pub use script::{ReplayFault, Replayed, replay};
+pub use script::{ReplayFault, Replayed, replay, serve};
+
+// handed on, for callers: what the items below take, return and speak of
+pub use wh_token::{Committed, NoMemory, OpenFault, ResumeFault, Warehouse};

@@ -29,7 +29,11 @@ pub fn write_all<W: Write>(writer: &mut W, bytes: &[u8]) -> Result<(), WriteFaul
     ensures ok { OnOk result (Appends (W.contents writer.old) (W.contents writer.new) bytes.now) }
     ensures err { OnErr result (WritesFront (W.contents writer.old) (W.contents writer.new) bytes.now) }
 {
-    let mut done = 0;
+    if bytes.is_empty() {
+        return Ok(());
+    }
+    let first = write_front(writer, bytes)?;
+    let mut done = first;
     for _ in 0..u64::MAX {
         if done >= bytes.len() {
             return Ok(());

@@ -4,7 +4,6 @@ ghost use Rattle.std.specs.Prelude.{◌≡◌, ◌≤◌, IfOk, IfSome, IfErr, O
 ghost use Rattle.std.specs.Io.KnownBytes.{Keeps};
 ghost use Rattle.wh_lines.specs.Text.{short_line};
 ghost use Rattle.wh_lines.specs.Input.{left};
-ghost use Rattle.wh_token.specs.Fleet.{IsTied};
 ghost use Rattle.wh_replay.specs.Answers.{said};
 ghost use Rattle.wh_replay.specs.Scripts.{fault_of, Serves, ServesUnwritten, Replays, Outputs, Stops};
 
@@ -13,7 +12,7 @@ use crate::output::write_all;
 use arrayvec::ArrayVec;
 use std::alloc::Global;
 use std::io::{Read, Write};
-use wh_event::put;
+use wh_event::{Command, put};
 use wh_lines::{CommandLine, LineFault, Lines, Next, ReadFault};
 use wh_planner::Planner;
 use wh_token::Warehouse;
@@ -45,21 +44,22 @@ fn fault_of(fault: LineFault) -> ReplayFault
     }
 }
 
-/// Serves a line, of which a front is kept. How many replies it got: one or none.
-fn serve<W: Write, P: Planner>(
+/// Serves a line, of which a front is kept. How many replies it got: one or none. The command is a room for what it asks.
+pub fn serve<W: Write, P: Planner>(
     line: &CommandLine,
+    command: &mut Command,
     alloc: Global,
     writer: &mut W,
     warehouse: &mut Warehouse<P>,
     spares: &mut Vec<P>,
 ) -> Result<u64, ReplayFault>
-    ensures ok { IfOk result (λ count. Serves (λ grid b. P.fits_map b grid) (λ b. P.slot_count b) (said (short_line line.now)) warehouse.old.book spares.old.items warehouse.new.book spares.new.items (W.contents writer.old) (W.contents writer.new) count) }
+    ensures ok { IfOk result (λ count. Serves P.fits_map P.slot_count (said (short_line line.now)) warehouse.old.book spares.old.items warehouse.new.book spares.new.items (W.contents writer.old) (W.contents writer.new) count) }
     ensures few { IfOk result (λ count. count ≤ 1) }
-    ensures err { OnErr result (ServesUnwritten (λ grid b. P.fits_map b grid) (λ b. P.slot_count b) (said (short_line line.now)) warehouse.old.book spares.old.items warehouse.new.book spares.new.items (W.contents writer.old) (W.contents writer.new)) }
+    ensures err { OnErr result (ServesUnwritten P.fits_map P.slot_count (said (short_line line.now)) warehouse.old.book spares.old.items warehouse.new.book spares.new.items (W.contents writer.old) (W.contents writer.new)) }
     ensures fault { IfErr result (λ fault. fault ≡ ReplayFault.Unwritten) }
 {
     let mut reply = ArrayVec::new();
-    if !answer(&mut reply, line, alloc, warehouse, spares) {
+    if !answer(&mut reply, line, command, alloc, warehouse, spares) {
         return Ok(0);
     }
     put(&mut reply, b"\n");
@@ -76,34 +76,29 @@ fn serve_all<R: Read, W: Write, P: Planner>(
     warehouse: &mut Warehouse<P>,
     spares: &mut Vec<P>,
 ) -> Result<Replayed, ReplayFault>
-    ensures ok { IfOk result (λ r. Replays (λ grid b. P.fits_map b grid) (λ b. P.slot_count b) lines.old lines.new warehouse.old.book spares.old.items warehouse.new.book spares.new.items (W.contents writer.old) (W.contents writer.new) r.replies) }
-    ensures fault { IfErr result (λ fault. Stops (λ grid b. P.fits_map b grid) (λ b. P.slot_count b) fault lines.old lines.new warehouse.old.book spares.old.items warehouse.new.book spares.new.items (W.contents writer.old) (W.contents writer.new)) }
+    ensures ok { IfOk result (λ r. Replays P.fits_map P.slot_count lines.old lines.new warehouse.old.book spares.old.items warehouse.new.book spares.new.items (W.contents writer.old) (W.contents writer.new) r.replies) }
+    ensures fault { IfErr result (λ fault. Stops P.fits_map P.slot_count fault lines.old lines.new warehouse.old.book spares.old.items warehouse.new.book spares.new.items (W.contents writer.old) (W.contents writer.new)) }
 {
     let mut line = CommandLine::new();
+    let mut command = Command::Close;
     let mut replies = 0;
     for _ in 0..u64::MAX {
         let next = match lines.next_line(writer, &mut line) {
             Ok(next) => next,
             Err(fault) => return Err(fault_of(fault)),
         };
-        match next {
-            Next::End => return Ok(Replayed { replies }),
-            Next::Last => {
-                let count = match serve(&line, alloc, writer, warehouse, spares) {
-                    Ok(count) => count,
-                    Err(fault) => return Err(fault),
-                };
-                if writer.flush().is_err() {
-                    return Err(ReplayFault::Unwritten);
-                }
-                return Ok(Replayed {
-                    replies: replies + count,
-                });
+        if let Next::End = next {
+            return Ok(Replayed { replies });
+        }
+        match serve(&line, &mut command, alloc, writer, warehouse, spares) {
+            Ok(count) => replies += count,
+            Err(fault) => return Err(fault),
+        }
+        if let Next::Last = next {
+            if writer.flush().is_err() {
+                return Err(ReplayFault::Unwritten);
             }
-            Next::Whole => match serve(&line, alloc, writer, warehouse, spares) {
-                Ok(count) => replies += count,
-                Err(fault) => return Err(fault),
-            },
+            return Ok(Replayed { replies });
         }
     }
     Err(ReplayFault::Endless)
@@ -123,11 +118,11 @@ pub fn replay<R: Read, W: Write, P: Planner>(
     spares: &mut Vec<P>,
 ) -> Result<Replayed, ReplayFault>
     // What was written is the output of what was read, and the history has grown by its run.
-    ensures ok { IfOk result (λ r. Replays (λ grid b. P.fits_map b grid) (λ b. P.slot_count b) lines.old lines.new warehouse.old.book spares.old.items warehouse.new.book spares.new.items (W.contents writer.old) (W.contents writer.new) r.replies) }
+    ensures ok { IfOk result (λ r. Replays P.fits_map P.slot_count lines.old lines.new warehouse.old.book spares.old.items warehouse.new.book spares.new.items (W.contents writer.old) (W.contents writer.new) r.replies) }
     // Where the reader tells its bytes, these are the script.
-    ensures output { IfOk result (λ r. IfSome (left lines.old) (λ script. Outputs (λ grid b. P.fits_map b grid) (λ b. P.slot_count b) script warehouse.old.book spares.old.items warehouse.new.book spares.new.items (W.contents writer.old) (W.contents writer.new) r.replies)) }
+    ensures output { IfOk result (λ r. IfSome (left lines.old) (λ script. Outputs P.fits_map P.slot_count script warehouse.old.book spares.old.items warehouse.new.book spares.new.items (W.contents writer.old) (W.contents writer.new) r.replies)) }
     // On a fault this holds of a beginning of the script, and of a front of what was to be written.
-    ensures fault { IfErr result (λ fault. Stops (λ grid b. P.fits_map b grid) (λ b. P.slot_count b) fault lines.old lines.new warehouse.old.book spares.old.items warehouse.new.book spares.new.items (W.contents writer.old) (W.contents writer.new)) }
+    ensures fault { IfErr result (λ fault. Stops P.fits_map P.slot_count fault lines.old lines.new warehouse.old.book spares.old.items warehouse.new.book spares.new.items (W.contents writer.old) (W.contents writer.new)) }
     // After a fault there is nothing more.
     ensures failed { OnErr result (lines.new.failed ≡ true) }
     ensures again { lines.old.failed ≡ true → (result ≡ Err ReplayFault.Broken) × (lines.new ≡ lines.old) × (warehouse.new.book ≡ warehouse.old.book) × (spares.new.items ≡ spares.old.items) × Keeps (W.contents writer.old) (W.contents writer.new) }

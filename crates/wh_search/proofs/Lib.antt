@@ -13,7 +13,9 @@ pub mod Told
 pub mod Searches
 pub mod Layered
 pub mod Trails
+pub mod Ways
 pub mod Stops
 pub mod Efforts
 pub mod Parks
 pub mod Nearest
+pub mod SightedStops

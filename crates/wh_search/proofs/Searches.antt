@@ -71,7 +71,7 @@ is_frontier p nodes queue kept =
 plain_space : (e : Errand) → IsErrand e → IsSpace (steps_of (problem e)) (ends_of (problem e)) (problem e).start (horizon e.others.now.paths) (guess_of (problem e))
 plain_space e h = is_space e.grid.now e.others.now e.via.now e.ends.now (guide_estimate e.guide) (problem e).start h.guided h.inside h.arrives.few
 
-errand_space : (e : Errand) → IsErrand e → IsSpace (steps_of (problem e)) (ends_of (problem e)) (problem e).start (problem e).horizon (guess_of (problem e))
+pub errand_space : (e : Errand) → IsErrand e → IsSpace (steps_of (problem e)) (ends_of (problem e)) (problem e).start (problem e).horizon (guess_of (problem e))
 errand_space e h = subst (λ (n : ℕ). IsSpace (steps_of (problem e)) (ends_of (problem e)) (problem e).start n (guess_of (problem e))) (sym h.horizon_is) (plain_space e h)
 
 -- the estimate falls from each state that was met
@@ -118,7 +118,7 @@ popped_least e nodes queue rest bound index h kept pop q tour =
     let m = last_index q in
     let space = errand_space e h in
     let base = kept.base in
-    let low : queue.base ≤ m = omega (arith, h.not_sooner m there.0 there.2, start_before (steps_of p) (ends_of p) p.start p.horizon (guess_of p) space m there.0 there.1, space.at_goal m there.0 there.1 there.2) in
+    let low : queue.base ≤ m = omega (arith, h.none_before q tour, start_before (steps_of p) (ends_of p) p.start p.horizon (guess_of p) space m there.0 there.1, space.at_goal m there.0 there.1 there.2) in
     elim (cases_lt m n) [
       | inr b ↦ b
       | inl b ↦ absurd (no_goal_by (steps_of p) (ends_of p) p.start p.horizon p.limit (guess_of p) (IsThere nodes) (BoundWaits queue) space (is_frontier p nodes queue kept) m (omega arith)
@@ -136,7 +136,7 @@ alike_by h w i j k same time (inr p) = inr (omega (arith, p.0), omega (arith, p.
 
 -- what was expanded when an end is taken that a tour leads to
 pub found_expanded : (e : Errand) (nodes : List Node) (queue rest : Queue) (bound index : ℕ) (path : List Cell) (x : List Moment) → IsErrand e → IsKept (problem e) nodes queue None → Pops queue rest bound index → IsTold (problem e) nodes queue None x
-    → IsTour e.grid.now e.others.now e.loc e.via.now e.ends.now path → last_index path ≡ (node_at nodes index).time → AreExpanded e.grid.now e.others.now e.via.now e.loc (guide_estimate e.guide) e.soonest (last_index path) x
+    → IsTour e.grid.now e.others.now e.loc e.via.now e.ends.now path → last_index path ≡ (node_at nodes index).time → AreExpanded e.grid.now e.others.now e.via.now e.loc (guide_estimate e.guide) e.least (last_index path) x
 found_expanded e nodes queue rest bound index path x h kept pop told tour size =
     let p = problem e in
     let mine = kept.queued bound index pop.was in

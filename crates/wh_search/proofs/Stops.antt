@@ -56,7 +56,7 @@ field_there g goal k (Some f) h p =
     subst F (sym h) (omega arith)
 
 -- the stops on the way are the first ones
-via_stop : (stops : List Cell) (n i : ℕ) → i < n → cell_at (take n stops) i ≡ cell_at stops i
+pub via_stop : (stops : List Cell) (n i : ℕ) → i < n → cell_at (take n stops) i ≡ cell_at stops i
 via_stop [] zero i h = absurd (omega arith)
 via_stop [] (suc n) i h = refl
 via_stop (s ∷ stops) zero i h = absurd (omega arith)

@@ -28,9 +28,10 @@ pub record Problem : Type 0 where
 
 abbrev pub problem : Errand → Problem
 problem e =
-    record { grid = e.grid.now; others = e.others.now; via = e.via.now; ends = e.ends.now; start = record { leg = e.first; cell = e.loc }; estimate = guide_estimate e.guide; horizon = e.horizon; limit = e.limit; base = max e.soonest (guide_estimate e.guide e.first e.loc) }
+    record { grid = e.grid.now; others = e.others.now; via = e.via.now; ends = e.ends.now; start = record { leg = e.first; cell = e.loc }; estimate = guide_estimate e.guide; horizon = e.horizon; limit = e.limit; base = max e.least (guide_estimate e.guide e.first e.loc) }
 
--- the numbers of an errand are right, and its guide is an estimate; where its soonest time is exact, one may rest at each end from then on
+-- the numbers of an errand are right, and its guide is an estimate; where its soonest time is exact, one may rest at each end from then on;
+-- and no tour ends before its least time
 pub record IsErrand (e : Errand) : Type 0 where
   pub inside : IsPassable e.grid.now e.loc
   pub arrives : Arrives e.via.now 0 e.loc e.first
@@ -40,6 +41,7 @@ pub record IsErrand (e : Errand) : Type 0 where
   pub guided : IsEstimate e.grid.now e.via.now e.ends.now (guide_estimate e.guide)
   pub not_sooner : (k : ℕ) (s : State) → IsEnd e.others.now e.via.now e.ends.now k s → e.soonest ≤ k
   pub exact : IsTrue e.exact → (k : ℕ) (c : Cell) → Contains e.ends.now c → e.soonest ≤ k → MayRest e.others.now c k
+  pub none_before : (q : List Cell) → IsTour e.grid.now e.others.now e.loc e.via.now e.ends.now q → e.least ≤ last_index q
 
 abbrev pub state_of : Node → State
 state_of n = record { leg = n.leg; cell = n.cell }

@@ -9,7 +9,7 @@ ghost use Rattle.wh_resv.specs.Others.{MayStep, MayRest};
 ghost use Rattle.wh_resv.specs.Calls.{IsVacant};
 ghost use Rattle.wh_search.specs.Frontiers.{IsErrand};
 ghost use Rattle.wh_search.specs.Guides.{guide_estimate};
-ghost use Rattle.wh_search.specs.States.{Arrives};
+ghost use Rattle.wh_search.specs.States.{Arrives, IsEnd};
 
 use crate::frontier::holds;
 use crate::guide::Guide;
@@ -18,8 +18,8 @@ use wh_resv::Reservations;
 
 /// What an agent is to do: from where, through which stops in order, and to which ends; how
 /// many stops it has behind it at once, the time from which all others rest, the last time that
-/// is looked at, and a time before which no end can be; and whether one may rest at each end from
-/// that time on.
+/// is looked at, and a time before which nobody may rest at an end; whether one may rest at each end
+/// from that time on; and a time before which no tour ends.
 #[derive(Clone, Copy)]
 pub struct Errand<'a> {
     pub grid: &'a Grid,
@@ -33,6 +33,7 @@ pub struct Errand<'a> {
     pub limit: u64,
     pub soonest: u64,
     pub exact: bool,
+    pub least: u64,
 }
 
 impl<'a> Errand<'a> {
@@ -69,6 +70,15 @@ impl<'a> Errand<'a> {
             return k >= self.soonest;
         }
         self.others.may_rest(end, k)
+    }
+
+    /// Whether an agent at a passable cell with so many stops behind it at k is at an end.
+    pub fn ends(&self, leg: usize, cell: Cell, k: u64) -> bool
+        requires errand { IsErrand self.now }
+        requires inside { IsPassable self.now.grid.now cell }
+        ensures { IsTrue result ↔ IsEnd self.now.others.now self.now.via.now self.now.ends.now k (record { leg = leg; cell = cell }) }
+    {
+        leg == self.via.len() && self.ends_at(cell) && self.rests(cell, k)
     }
 
     /// The estimate for an agent at a cell with so many stops behind it, where that for another

@@ -132,7 +132,7 @@ impl Frontier {
 
     /// Looks for a node that stands for this one, of this mark, among those that were met.
     #[inline(always)]
-    fn look(&self, errand: &Errand, node: Node, mark: u64) -> Look
+    pub fn look(&self, errand: &Errand, node: Node, mark: u64) -> Look
         ensures { IsTrue result.known → HasState (problem errand.now) self.now.nodes.items node.time (state_of node) }
     {
         match self.seen.find(errand, &self.nodes, node, mark) {

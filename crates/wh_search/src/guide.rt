@@ -6,10 +6,11 @@ ghost use Rattle.wh_grid.specs.declared.cell.Cell.{Cell};
 ghost use Rattle.wh_field.specs.Sides.{around};
 ghost use Rattle.wh_search.specs.Fields.{far};
 ghost use Rattle.wh_search.specs.Guides.{by_field, guide_estimate, nearest_estimate, IsOnward};
+ghost use Rattle.wh_search.specs.Sights.{by_sight, IsOnwardBySights};
 
 use crate::moves::moves_from;
 use std::alloc::{AllocError, Global};
-use wh_field::{Field, NearestField};
+use wh_field::{Field, NearestField, Sight};
 use wh_grid::Cell;
 
 /// By what the steps left are estimated.
@@ -22,6 +23,11 @@ pub enum Guide<'a> {
     /// The field of each stop, where it is there, and the estimate from each stop on.
     Stops {
         fields: &'a [Option<&'a Field>],
+        onward: &'a [u64],
+    },
+    /// As `Stops`, by fields that are looked at up to a level.
+    Sights {
+        sights: &'a [Option<Sight<'a>>],
         onward: &'a [u64],
     },
 }
@@ -92,6 +98,53 @@ pub fn onward_of(
     Ok(onward)
 }
 
+/// The distance as far as the level, and what is further on; 0 where there is no sight.
+pub fn by_sight(sight: Option<Sight>, further: u64, cell: Cell) -> u64
+    ensures { result ≡ by_sight sight.entry further cell }
+{
+    match sight {
+        Some(sight) => further.saturating_add(u64::from(sight.estimate(cell))),
+        None => 0,
+    }
+}
+
+/// The same at a cell and at those beside it.
+fn by_sight_around(sight: Option<Sight>, further: u64, cell: Cell) -> [u64; 5]
+    ensures { result ≡ map (by_sight sight.entry further) (around cell) }
+{
+    match sight {
+        Some(sight) => {
+            let near = sight.estimates(cell);
+            [
+                further.saturating_add(u64::from(near[0])),
+                further.saturating_add(u64::from(near[1])),
+                further.saturating_add(u64::from(near[2])),
+                further.saturating_add(u64::from(near[3])),
+                further.saturating_add(u64::from(near[4])),
+            ]
+        }
+        None => [0, 0, 0, 0, 0],
+    }
+}
+
+/// From the last stop back: the estimate from each stop on, by sights.
+pub fn onward_by_sights(
+    alloc: Global,
+    stops: &[Cell],
+    sights: &[Option<Sight>],
+) -> Result<Vec<u64>, AllocError>
+    requires stops { 2 ≤ length stops.now }
+    requires sights { length sights.now ≡ length stops.now }
+    ensures { IfOk result (λ onward. IsOnwardBySights sights.now stops.now onward.items) }
+{
+    let mut onward = vec![in alloc; 0; stops.len()]?;
+    for done in 1..stops.len() {
+        let leg = stops.len() - 1 - done;
+        onward[leg] = by_sight(sights[leg + 1], onward[leg + 1], stops[leg]);
+    }
+    Ok(onward)
+}
+
 /// The distances at a cell and at those beside it, and what is further on.
 #[inline(always)]
 fn far_around(field: &Field, further: u64, cell: Cell) -> [u64; 5]
@@ -153,6 +206,13 @@ impl<'a> Guide<'a> {
                     [0, 0, 0, 0, 0]
                 }
             }
+            Guide::Sights { sights, onward } => {
+                if leg < sights.len() {
+                    by_sight_around(sights[leg], number_at(onward, leg), cell)
+                } else {
+                    [0, 0, 0, 0, 0]
+                }
+            }
         }
     }
 
@@ -165,6 +225,13 @@ impl<'a> Guide<'a> {
             Guide::Stops { fields, onward } => {
                 if leg < fields.len() {
                     by_field(fields[leg], number_at(onward, leg), cell)
+                } else {
+                    0
+                }
+            }
+            Guide::Sights { sights, onward } => {
+                if leg < sights.len() {
+                    by_sight(sights[leg], number_at(onward, leg), cell)
                 } else {
                     0
                 }

@@ -1,7 +1,7 @@
 //! The calls for a task of two to eight stops.
 #![tactic(auto)]
 
-ghost use Rattle.std.specs.Prelude.{◌≡◌, ℕ, ◌+◌, ◌-◌, ◌*◌, ◌<◌, ◌≤◌, ◌^◌, List, IfOk, IfSome, MatchOption, length};
+ghost use Rattle.std.specs.Prelude.{false, ◌≡◌, ℕ, ◌+◌, ◌-◌, ◌*◌, ◌<◌, ◌≤◌, ◌^◌, List, IfOk, IfSome, MatchOption, length};
 ghost use Rattle.wh_grid.specs.declared.cell.Cell.{Cell};
 ghost use Rattle.wh_grid.specs.Grids.{IsPassable};
 ghost use Rattle.wh_resv.specs.Others.{MayRest};
@@ -17,6 +17,7 @@ use crate::guide::{Guide, onward_of};
 use crate::memory::{SearchMemory, settle};
 use crate::moment::count_once;
 use crate::search::search;
+use crate::straight::search_straight;
 use std::alloc::{AllocError, Global};
 use wh_field::Field;
 use wh_grid::{Cell, Grid};
@@ -32,11 +33,12 @@ pub enum Fault {
     NoMemory,
 }
 
-/// A least path, or none where there is no delivery. The frontier has the states that were
-/// expanded.
+/// A least path, or none where there is no delivery. It looks for a straight one first, if it may;
+/// else the frontier has the states that were expanded.
 fn find<'x>(
     alloc: Global,
     frontier: &mut Frontier,
+    straight: bool,
     grid: &'x Grid,
     others: &'x Reservations<'x>,
     loc: Cell,
@@ -47,7 +49,7 @@ fn find<'x>(
     requires clear { MayRest others.now loc 0 }
     requires stops { AreStops stops.now }
     requires fields { AreFieldsOf grid.now stops.now fields.now }
-    ensures expanded { IfOk result (λ found. IfSome found (λ p. IsSearch grid.now others.now loc stops.now fields.now (last_index p) frontier.new.expanded.items)) }
+    ensures expanded { straight ≡ false → IfOk result (λ found. IfSome found (λ p. IsSearch grid.now others.now loc stops.now fields.now (last_index p) frontier.new.expanded.items)) }
     ensures found { IfOk result (λ found. MatchOption found
         ((q : List Cell) → IsDelivery grid.now others.now loc stops.now q → ⊥)
         (λ p. IsLeast grid.now others.now loc stops.now p)) }
@@ -75,8 +77,13 @@ fn find<'x>(
         limit: horizon + stops.len() as u64 * u64::from(grid.cells()),
         soonest,
         exact: true,
+        least: soonest,
     };
-    search(alloc, frontier, &errand)
+    if straight {
+        search_straight(alloc, frontier, &errand)
+    } else {
+        search(alloc, frontier, &errand)
+    }
 }
 
 /// A lawful path from loc through the stops, with the least last index of all. The fields that are
@@ -122,7 +129,7 @@ pub fn deliver_in<'x>(
     ensures none { IfNoPath result ((q : List Cell) → IsDelivery grid.now others.now loc stops.now q → ⊥) }
 {
     let frontier = &mut memory.frontier;
-    let found = find(alloc, frontier, grid, others, loc, stops, fields);
+    let found = find(alloc, frontier, true, grid, others, loc, stops, fields);
     settle(alloc, frontier);
     match found {
         Ok(Some(path)) => Ok(path),
@@ -132,7 +139,8 @@ pub fn deliver_in<'x>(
 }
 
 /// How many states, each of a cell, a time and a number of stops behind, have their successors
-/// made by `deliver_guided` on these arguments; or its fault. They are those of a best-first
+/// made by the search of `deliver_guided` on these arguments, where it looks for no straight path
+/// before; or its fault. They are those of a best-first
 /// search: each can be reached and may, by the fields, lead to a least path, and all that may lead
 /// to a shorter one are among them.
 pub fn guided_steps<'x>(
@@ -152,7 +160,16 @@ pub fn guided_steps<'x>(
     ensures none { IfNoPath result ((q : List Cell) → IsDelivery grid.now others.now loc stops.now q → ⊥) }
 {
     let mut frontier = Frontier::empty(alloc);
-    match find(alloc, &mut frontier, grid, others, loc, stops, fields) {
+    match find(
+        alloc,
+        &mut frontier,
+        false,
+        grid,
+        others,
+        loc,
+        stops,
+        fields,
+    ) {
         Ok(Some(_path)) => match count_once(alloc, &frontier.expanded) {
             Ok(states) => Ok(states),
             Err(_) => Err(Fault::NoMemory),

@@ -204,6 +204,7 @@ fn find<'x>(
         limit: horizon + stops.len() as u64 * u64::from(grid.cells()),
         soonest: 0,
         exact: false,
+        least: 0,
     };
     search(alloc, &errand)
 }
@@ -260,6 +261,7 @@ fn find_parking<'x>(
         limit: horizon + u64::from(grid.cells()),
         soonest: 0,
         exact: false,
+        least: 0,
     };
     search(alloc, &errand)
 }

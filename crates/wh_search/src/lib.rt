@@ -1,25 +1,28 @@
 //! A search in space and time, guided by distances, for a least lawful path.
 #![tactic(auto)]
 
-mod errand;
+pub mod errand;
 mod fresh;
-mod frontier;
-mod guide;
+pub mod frontier;
+pub mod guide;
 mod guided;
 pub mod layers;
 mod memory;
 mod moment;
-mod moves;
+pub mod moves;
 mod parking;
-mod queue;
+pub mod queue;
 mod search;
 mod seen;
+mod sighted;
+mod straight;
 mod trail;
 
 pub use fresh::deliver;
 pub use guided::{Fault, deliver_guided, deliver_in, guided_steps};
 pub use memory::{MOST_KEPT, SearchMemory};
 pub use parking::{park, park_in};
+pub use sighted::deliver_sighted;
 
 #[cfg(test)]
 mod tests;

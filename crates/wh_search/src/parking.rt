@@ -14,7 +14,7 @@ use crate::frontier::Frontier;
 use crate::guide::Guide;
 use crate::guided::Fault;
 use crate::memory::{SearchMemory, settle};
-use crate::search::search;
+use crate::straight::search_straight;
 use std::alloc::{AllocError, Global};
 use wh_field::NearestField;
 use wh_grid::{Cell, Grid};
@@ -50,8 +50,9 @@ fn find_parking<'x>(
         limit: horizon + u64::from(grid.cells()),
         soonest: 0,
         exact: false,
+        least: 0,
     };
-    search(alloc, frontier, &errand)
+    search_straight(alloc, frontier, &errand)
 }
 
 /// A lawful path from loc to one of the allowed cells, with the least last index of all; it makes

@@ -25,13 +25,13 @@ pub fn search(
 ) -> Result<Option<TimedPath>, AllocError>
     requires errand { IsErrand errand.now }
     requires clear { MayRest errand.now.others.now errand.now.loc 0 }
-    ensures expanded { IfOk result (λ found. IfSome found (λ p. AreExpanded errand.now.grid.now errand.now.others.now errand.now.via.now errand.now.loc (guide_estimate errand.now.guide) errand.now.soonest (last_index p) frontier.new.expanded.items)) }
+    ensures expanded { IfOk result (λ found. IfSome found (λ p. AreExpanded errand.now.grid.now errand.now.others.now errand.now.via.now errand.now.loc (guide_estimate errand.now.guide) errand.now.least (last_index p) frontier.new.expanded.items)) }
     ensures found { IfOk result (λ found. MatchOption found
         ((q : List Cell) → IsTour errand.now.grid.now errand.now.others.now errand.now.loc errand.now.via.now errand.now.ends.now q → ⊥)
         (λ p. IsLeastTour errand.now.grid.now errand.now.others.now errand.now.loc errand.now.via.now errand.now.ends.now p)) }
 {
     let left = errand.guide.estimate(errand.first, errand.loc);
-    let base = errand.soonest.max(left);
+    let base = errand.least.max(left);
     let stride = (left as usize).min(4096) + 16;
     frontier.restart(base, stride)?;
     let start = node_of(0, errand.first, errand.loc, 0)?;

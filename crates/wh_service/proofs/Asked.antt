@@ -6,6 +6,7 @@ use Rattle.std.proofs.lemmas.List.{length-reverse, get_or-reverse}
 use Rattle.std.proofs.lemmas.List.Elements.{All-from_recursion}
 use Rattle.std.proofs.lemmas.Option.{get_or_from_slice_get, slice_get-get_or, slice_get_within}
 use Rattle.std.proofs.lemmas.Bool.Decides.{nat_tests}
+use Rattle.wh_grid.specs.Grids.{Floor}
 use Rattle.wh_text.specs.Lines.{lines_of}
 use Rattle.wh_text.specs.Numbers.{decimal, is_digit}
 use Rattle.wh_text.specs.Words.{has_bytes, words_of}
@@ -19,14 +20,14 @@ use Rattle.wh_event.specs.declared.event.Spare.{Spare}
 use Rattle.wh_event.specs.declared.event.Command.{Command}
 use Rattle.wh_event.specs.declared.fault.LineFault.{LineFault}
 use Rattle.wh_event.proofs.Asking.{command_law}
-use Rattle.wh_token.specs.Fleet.{TellsSpare}
+use Rattle.wh_replay.specs.Fleet.{TellsSpare}
 use Rattle.wh_edge.specs.Script.{IsScript, command_in, commands_in}
 use Rattle.wh_edge.specs.declared.work.Work.{Work}
 use Rattle.wh_log.specs.Ranges.{EventKeeps, SpareKeeps}
-use Rattle.wh_desk.specs.Lists.{Received, entries_from, entries_of}
-use Rattle.wh_crew.specs.Work.{IsSublist, nothing, keeps, skips, Worked, commands_of, spares_told, told_by, LentFromEnd}
-use Rattle.wh_crew.specs.Work as crew
-use Rattle.wh_board.specs.Pasts.{Origin}
+use Rattle.wh_live.specs.Lists.{Received, entries_from, entries_of}
+use Rattle.wh_live.specs.Work.{IsSublist, nothing, keeps, skips, Worked, commands_of, spares_told, told_by, LentFromEnd}
+use Rattle.wh_live.specs.Work as crew
+use Rattle.wh_live.specs.Pasts.{Origin}
 use Rattle.wh_core.specs.States.{State}
 use Rattle.wh_live.specs.Clients.{ReadInTurn}
 use Rattle.wh_live.specs.Lives.{WorkedFrom}
@@ -99,14 +100,14 @@ requests_keep turns (suc agent) few =
 abbrev pub CountKeeps : {X : Type 0} → (X → ℕ) → X → Type 0
 CountKeeps count planner = count planner < 10 ^ 9
 
-pub spare_keeps : {X : Type 0} (fits : X → Bool) (count : X → ℕ) (handed : Option X) (told : Spare) → ((planner : X) → handed ≡ Some planner → CountKeeps count planner)
-    → TellsSpare fits count handed told → SpareKeeps told
-spare_keeps fits count None Spare.None few tells = tt
-spare_keeps fits count None Spare.Foreign few tells = absurd tells
-spare_keeps fits count None (Spare.Fits slots) few tells = absurd tells
-spare_keeps fits count (Some planner) Spare.None few tells = absurd tells
-spare_keeps fits count (Some planner) Spare.Foreign few tells = tt
-spare_keeps fits count (Some planner) (Spare.Fits slots) few tells = let same = tells.1 in let small = few planner refl in omega arith
+pub spare_keeps : {X : Type 0} (fits : X → Floor → Bool) (count : X → ℕ) (grid : Floor) (handed : Option X) (told : Spare) → ((planner : X) → handed ≡ Some planner → CountKeeps count planner)
+    → TellsSpare fits count grid handed told → SpareKeeps told
+spare_keeps fits count grid None Spare.None few tells = tt
+spare_keeps fits count grid None Spare.Foreign few tells = absurd tells
+spare_keeps fits count grid None (Spare.Fits slots) few tells = absurd tells
+spare_keeps fits count grid (Some planner) Spare.None few tells = absurd tells
+spare_keeps fits count grid (Some planner) Spare.Foreign few tells = tt
+spare_keeps fits count grid (Some planner) (Spare.Fits slots) few tells = let same = tells.1 in let small = few planner refl in omega arith
 
 -- a planner of the list, wherever it stands in the list turned round
 turned : {X : Type 0} (P : X → Type 0) (xs : List X) (k : ℕ) (x : X) → All P xs → slice_get (reverse xs) k ≡ Some x → P x
@@ -120,10 +121,10 @@ told_keeps : (told : List Spare) → ((k : ℕ) (t : Spare) → slice_get told k
 told_keeps [] each = tt
 told_keeps (t ∷ told) each = (each 0 t refl, told_keeps told (λ k s at. each (suc k) s at))
 
-lent_keeps : {X : Type 0} (fits : X → Bool) (count : X → ℕ) (spares : List X) (told : List Spare) → All (CountKeeps count) spares → LentFromEnd fits count spares told
+lent_keeps : {X : Type 0} (fits : X → Floor → Bool) (count : X → ℕ) (grid : Floor) (spares : List X) (told : List Spare) → All (CountKeeps count) spares → LentFromEnd fits count grid spares told
     → AllByRecursion SpareKeeps told
-lent_keeps fits count spares told few lent =
-    told_keeps told (λ k t at. spare_keeps fits count (slice_get (reverse spares) k) t (λ planner is. turned (CountKeeps count) spares k planner few is) (lent k t at))
+lent_keeps fits count grid spares told few lent =
+    told_keeps told (λ k t at. spare_keeps fits count grid (slice_get (reverse spares) k) t (λ planner is. turned (CountKeeps count) spares k planner few is) (lent k t at))
 
 -- ---- the entries of one worker
 
@@ -184,7 +185,7 @@ pub record WorkKeeps {X : Type 0} (count : X → ℕ) (work : Work X) : Type 0 w
   pub spares : All (CountKeeps count) work.spares.items
 
 -- what workers did who had nothing before is in range, where their works are
-pub worked_keeps : {X : Type 0} (fits : X → Bool) (count : X → ℕ) (origin : Origin) (works : List (Work X)) (journal : ℕ) (history : List Entry) (state : State)
+pub worked_keeps : {X : Type 0} (fits : X → Floor → Bool) (count : X → ℕ) (origin : Origin) (works : List (Work X)) (journal : ℕ) (history : List Entry) (state : State)
     → length works ≤ 64 → AllByRecursion (WorkKeeps count) works → WorkedFrom fits count origin works journal history state → All IsAskedInRange history
 worked_keeps {X} fits count origin works journal history state few keep worked =
     let all = All-from_recursion (WorkKeeps count) works keep in
@@ -204,6 +205,6 @@ worked_keeps {X} fits count origin works journal history state few keep worked =
           let goes : entries_of history caller ≡ seen.received = seen.goes_on ∙ ap (λ l. l ++ seen.received) had_none in
           subst (AllByRecursion ReceiptKeeps) (sym goes)
           (receipts_keep seen.received (sublist_keeps CommandKeeps (commands_of seen.received) w.commands.items seen.in_order good.commands)
-          (lent_keeps fits count w.spares.items (spares_told seen.received) good.spares seen.lent))
+          (lent_keeps fits count origin.site.grid w.spares.items (spares_told seen.received) good.spares seen.lent))
     ]) refl in
     All-from_recursion IsAskedInRange history (history_keeps 0 history (length works) few worked.callers each)

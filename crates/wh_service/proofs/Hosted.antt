@@ -59,9 +59,9 @@ few_works {X} gives options grid agents scripts planners works team few =
     omega (arith, size, others, asked_each options.turns agents, clients, few)
 
 -- what a team's run came to: each planner has the fleet's slots
-pub hosts : {X : Type 0} (fits : Floor → X → Bool) (count : X → ℕ) (gives : Gives X) (options : LiveOptions) (site : Site) (scripts : List (List Command)) (planners : List X) (works : List (Work X)) (old new : Input) (text : List ℕ)
+pub hosts : {X : Type 0} (fits : X → Floor → Bool) (count : X → ℕ) (gives : Gives X) (options : LiveOptions) (site : Site) (scripts : List (List Command)) (planners : List X) (works : List (Work X)) (old new : Input) (text : List ℕ)
     → ReadsAll old new site scripts → MakesPlanners fits count gives → IsOfFleet options.fleet → IsTeam gives options site.grid (length site.layout.agents) scripts planners works
-    → Lives (fits site.grid) count site planners works options.journal text → Hosts fits count gives options old new text
+    → Lives fits count site planners works options.journal text → Hosts fits count gives options old new text
 hosts fits count gives options site scripts planners works old new text reads makes range team lives =
     let each = recursion_from_All (IsMember gives options.fleet site.grid team.bank) planners team.planners_are.members in
     let slots_are =
@@ -96,17 +96,17 @@ team_at gives options grid agents seats scripts planners works same team = subst
 
 -- ---- why there is no log
 
-pub at_clients : {X : Type 0} (fits : Floor → X → Bool) (count : X → ℕ) (gives : Gives X) (options : LiveOptions) (told : Trouble) (old between new : Input) (site : Site) (agents : ℕ) (had has : Option (List ℕ))
+pub at_clients : {X : Type 0} (fits : X → Floor → Bool) (count : X → ℕ) (gives : Gives X) (options : LiveOptions) (told : Trouble) (old between new : Input) (site : Site) (agents : ℕ) (had has : Option (List ℕ))
     → agents ≡ length site.layout.agents → SiteRead old between site.grid site.layout → ClientsFault told agents between new → Keeps had has → IsWhyUnhosted fits count gives options told old new had has
 at_clients fits count gives options told old between new site agents had has same at fault kept =
     inr (inl (record { between = between; site = site; site_read = at; fault = subst (λ (n : ℕ). ClientsFault told n between new) same fault }, kept))
 
-pub at_team : {X : Type 0} (fits : Floor → X → Bool) (count : X → ℕ) (gives : Gives X) (options : LiveOptions) (told : Trouble) (old new : Input) (site : Site) (scripts : List (List Command)) (had has : Option (List ℕ))
+pub at_team : {X : Type 0} (fits : X → Floor → Bool) (count : X → ℕ) (gives : Gives X) (options : LiveOptions) (told : Trouble) (old new : Input) (site : Site) (scripts : List (List Command)) (had has : Option (List ℕ))
     → ReadsAll old new site scripts → IsWhyUnclaimed options.fleet.slots told → Keeps had has → IsWhyUnhosted fits count gives options told old new had has
 at_team fits count gives options told old new site scripts had has reads why kept =
     inr (inr (inl (record { site = site; scripts = scripts; reads = reads; why = why }, kept)))
 
-pub at_run : {X : Type 0} (fits : Floor → X → Bool) (count : X → ℕ) (gives : Gives X) (options : LiveOptions) (told : Trouble) (old new : Input) (site : Site) (scripts : List (List Command)) (planners : List X) (works : List (Work X)) (had has : Option (List ℕ))
+pub at_run : {X : Type 0} (fits : X → Floor → Bool) (count : X → ℕ) (gives : Gives X) (options : LiveOptions) (told : Trouble) (old new : Input) (site : Site) (scripts : List (List Command)) (planners : List X) (works : List (Work X)) (had has : Option (List ℕ))
     → ReadsAll old new site scripts → IsTeam gives options site.grid (length site.layout.agents) scripts planners works → IsWhyDead told → Keeps had has
     → IsWhyUnhosted fits count gives options told old new had has
 at_run fits count gives options told old new site scripts planners works had has reads team why kept =
@@ -114,12 +114,12 @@ at_run fits count gives options told old new site scripts planners works had has
 
 -- ---- the text
 
-pub written : {X U : Type 0} (fits : Floor → X → Bool) (count : X → ℕ) (gives : Gives X) (options : LiveOptions) (old new : Input) (text : List ℕ) (had has : Option (List ℕ)) (answer : Result U Trouble)
+pub written : {X U : Type 0} (fits : X → Floor → Bool) (count : X → ℕ) (gives : Gives X) (options : LiveOptions) (old new : Input) (text : List ℕ) (had has : Option (List ℕ)) (answer : Result U Trouble)
     → Hosts fits count gives options old new text → OnOk answer (Appends had has text) → OnOk answer (HostsTo fits count gives options old new had has)
 written fits count gives options old new text had has (Ok u) hosts appends = record { text = text; hosts = hosts; appends = appends }
 written fits count gives options old new text had has (Err told) hosts appends = tt
 
-pub unwritten : {X U : Type 0} (fits : Floor → X → Bool) (count : X → ℕ) (gives : Gives X) (options : LiveOptions) (old new : Input) (text : List ℕ) (had has : Option (List ℕ)) (answer : Result U Trouble)
+pub unwritten : {X U : Type 0} (fits : X → Floor → Bool) (count : X → ℕ) (gives : Gives X) (options : LiveOptions) (old new : Input) (text : List ℕ) (had has : Option (List ℕ)) (answer : Result U Trouble)
     → Hosts fits count gives options old new text → IfErr answer (λ told. told ≡ trouble.Unwritten) → OnErr answer (WritesFront had has text)
     → IfErr answer (λ told. IsWhyUnhosted fits count gives options told old new had has)
 unwritten fits count gives options old new text had has (Ok u) hosts is front = tt

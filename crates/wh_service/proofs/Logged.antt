@@ -21,9 +21,9 @@ use Rattle.wh_service.proofs.Played.{Gives}
 use Rattle.wh_service.proofs.Teams.{team_keeps}
 
 -- the text of a team's run is a log
-pub logged : {X : Type 0} (fits : Floor → X → Bool) (count : X → ℕ) (gives : Gives X) (options : LiveOptions) (site : Site) (scripts : List (List Command)) (planners : List X) (works : List (Work X)) (old new : Input) (text : List ℕ)
+pub logged : {X : Type 0} (fits : X → Floor → Bool) (count : X → ℕ) (gives : Gives X) (options : LiveOptions) (site : Site) (scripts : List (List Command)) (planners : List X) (works : List (Work X)) (old new : Input) (text : List ℕ)
     → ReadsAll old new site scripts → MakesPlanners fits count gives → IsOfFleet options.fleet → IsTeam gives options site.grid (length site.layout.agents) scripts planners works
-    → length works ≤ 64 → (lives : Lives (fits site.grid) count site planners works options.journal text) → lives.slots ≡ replicate (length site.layout.agents) options.fleet.slots
+    → length works ≤ 64 → (lives : Lives fits count site planners works options.journal text) → lives.slots ≡ replicate (length site.layout.agents) options.fleet.slots
     → options.journal < 10 ^ 9 → IsLogText (record { clock = 0; slots = lives.slots; entries = lives.history }) text
 logged {X} fits count gives options site scripts planners works old new text reads makes range team few lives slots_are short =
     let content : Content = record { clock = 0; slots = lives.slots; entries = lives.history } in
@@ -32,7 +32,7 @@ logged {X} fits count gives options site scripts planners works old new text rea
     let told = run_of old reads.between site lives.slots lives.history reads.site_read seats lives.state lives.worked.run in
     let slots = subst (AllByRecursion IsSlots) (sym slots_are) (slots_keep (length site.layout.agents) options.fleet.slots range.0 range.1) in
     let keep = team_keeps fits count gives options site.grid (length site.layout.agents) reads.between new scripts planners works at.few makes range reads.clients_read.in_turn team in
-    let asked = worked_keeps (fits site.grid) count _ works options.journal lives.history lives.state few keep lives.worked in
+    let asked = worked_keeps fits count _ works options.journal lives.history lives.state few keep lives.worked in
     let within = lives.worked.within in
     record {
       version = Two;

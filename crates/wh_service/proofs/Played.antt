@@ -17,9 +17,9 @@ use Rattle.wh_claims.specs.declared.bank.Bank.{Bank}
 use Rattle.wh_event.specs.declared.entry.Entry.{Entry}
 use Rattle.wh_core.specs.States.{State, opened}
 use Rattle.wh_core.specs.Steps.{Run}
-use Rattle.wh_book.specs.Drafts.{Seen}
-use Rattle.wh_token.specs.Fleet.{IsTied, AllFit}
-use Rattle.wh_token.specs.Runs.{Ran, entries_of}
+use Rattle.wh_verify.specs.Drafts.{Seen}
+use Rattle.wh_replay.specs.Fleet.{IsTied, AllFit}
+use Rattle.wh_replay.specs.Runs.{Ran, entries_of}
 use Rattle.wh_edge.specs.Site.{SiteRead}
 use Rattle.wh_edge.specs.declared.trouble.Trouble.{Trouble}
 use Rattle.wh_options.specs.declared.chosen.Fleet.{Fleet}
@@ -39,14 +39,14 @@ use Rattle.wh_service.proofs.Spared.{ran_from}
 
 -- ---- opening
 
-pub opened_with : {X : Type 0} (fits : Floor → X → Bool) (count : X → ℕ) (site : Site) (planners seated : List X) (book : Seen)
+pub opened_with : {X : Type 0} (fits : X → Floor → Bool) (count : X → ℕ) (site : Site) (planners seated : List X) (book : Seen)
     → book.site ≡ site → ((slots : List ℕ) × (book.opening ≡ opened site.layout 0 slots) × (book.state ≡ book.opening)) → book.history ≡ [] → seated ≡ planners
-    → IsTied (fits site.grid) count seated book.state.slots → IsOpened fits count site planners book
+    → IsTied fits count site.grid seated book.state.slots → IsOpened fits count site planners book
 opened_with {X} fits count site planners seated book at started fresh same tied = record {
   site_is = at;
   slots = started.0;
-  tied = subst (λ (slots : List ℕ). IsTied (fits site.grid) count planners slots) (ap (λ (s : State). s.slots) (started.2 ∙ started.1))
-      (subst (λ (xs : List X). IsTied (fits site.grid) count xs book.state.slots) same tied);
+  tied = subst (λ (slots : List ℕ). IsTied fits count site.grid planners slots) (ap (λ (s : State). s.slots) (started.2 ∙ started.1))
+      (subst (λ (xs : List X). IsTied fits count site.grid xs book.state.slots) same tied);
   opening = started.1;
   state = started.2;
   history = fresh;
@@ -70,28 +70,28 @@ pub equipped_at : {X : Type 0} {gives : Gives X} {fleet : Fleet} {grid : Floor} 
 equipped_at {X} {gives} {fleet} {grid} {n} {m} {planners} {spares} same e = subst (λ (k : ℕ). IsEquipped gives fleet grid k planners spares) same e
 
 -- members of a fleet on a grid plan on it, with the fleet's slots
-pub member_tells : {X : Type 0} (fits : Floor → X → Bool) (count : X → ℕ) (gives : Gives X) (fleet : Fleet) (grid : Floor) (bank : Bank) (planner : X)
-    → MakesPlanners fits count gives → IsOfFleet fleet → IsMember gives fleet grid bank planner → (fits grid planner ≡ true) × (count planner ≡ fleet.slots)
+pub member_tells : {X : Type 0} (fits : X → Floor → Bool) (count : X → ℕ) (gives : Gives X) (fleet : Fleet) (grid : Floor) (bank : Bank) (planner : X)
+    → MakesPlanners fits count gives → IsOfFleet fleet → IsMember gives fleet grid bank planner → (fits planner grid ≡ true) × (count planner ≡ fleet.slots)
 member_tells fits count gives fleet grid bank planner makes range m =
     let few : IsForPlanner m.parts.claim = (subst (λ n. 2 ≤ n) (sym m.slots_are) range.0, subst (λ n. n ≤ 64) (sym m.slots_are) range.1) in (
-      subst (λ (g : Floor). fits g planner ≡ true) m.grid_is (makes.on_grid m.parts planner few m.made),
+      subst (λ (g : Floor). fits planner g ≡ true) m.grid_is (makes.on_grid m.parts planner few m.made),
       makes.has_slots m.parts planner few m.made ∙ m.slots_are,
     )
 
-pub members_fit : {X : Type 0} (fits : Floor → X → Bool) (count : X → ℕ) (gives : Gives X) (fleet : Fleet) (grid : Floor) (bank : Bank) (row : List X)
-    → MakesPlanners fits count gives → IsOfFleet fleet → All (IsMember gives fleet grid bank) row → AllFit (fits grid) row
+pub members_fit : {X : Type 0} (fits : X → Floor → Bool) (count : X → ℕ) (gives : Gives X) (fleet : Fleet) (grid : Floor) (bank : Bank) (row : List X)
+    → MakesPlanners fits count gives → IsOfFleet fleet → All (IsMember gives fleet grid bank) row → AllFit fits grid row
 members_fit fits count gives fleet grid bank row makes range all = λ k planner at.
-    subst (λ b. fits grid b ≡ true) (get_or_from_slice_get row k planner planner at)
+    subst (λ b. fits b grid ≡ true) (get_or_from_slice_get row k planner planner at)
     (member_tells fits count gives fleet grid bank _ makes range (all k planner (slice_get_within row k planner at))).0
 
-fit_each : {X : Type 0} (fits : Floor → X → Bool) (count : X → ℕ) (gives : Gives X) (fleet : Fleet) (grid : Floor) (bank : Bank) (row : List X)
-    → MakesPlanners fits count gives → IsOfFleet fleet → AllByRecursion (IsMember gives fleet grid bank) row → AllByRecursion (λ b. fits grid b ≡ true) row
+fit_each : {X : Type 0} (fits : X → Floor → Bool) (count : X → ℕ) (gives : Gives X) (fleet : Fleet) (grid : Floor) (bank : Bank) (row : List X)
+    → MakesPlanners fits count gives → IsOfFleet fleet → AllByRecursion (IsMember gives fleet grid bank) row → AllByRecursion (λ b. fits b grid ≡ true) row
 fit_each fits count gives fleet grid bank [] makes range all = tt
 fit_each fits count gives fleet grid bank (b ∷ row) makes range all =
     ((member_tells fits count gives fleet grid bank b makes range all.0).0, fit_each fits count gives fleet grid bank row makes range all.1)
 
 -- the slots of each
-pub slots_each : {X : Type 0} (fits : Floor → X → Bool) (count : X → ℕ) (gives : Gives X) (fleet : Fleet) (grid : Floor) (bank : Bank) (row : List X) (n : ℕ)
+pub slots_each : {X : Type 0} (fits : X → Floor → Bool) (count : X → ℕ) (gives : Gives X) (fleet : Fleet) (grid : Floor) (bank : Bank) (row : List X) (n : ℕ)
     → MakesPlanners fits count gives → IsOfFleet fleet → length row ≡ n → AllByRecursion (IsMember gives fleet grid bank) row → map count row ≡ replicate n fleet.slots
 slots_each fits count gives fleet grid bank [] zero makes range size all = refl
 slots_each fits count gives fleet grid bank [] (suc n) makes range size all = absurd (omega (arith, size))
@@ -115,7 +115,7 @@ tied_slots count (b ∷ row) (s ∷ slots) size tell =
 -- ---- the run
 
 -- the opening state has the fleet's slots
-opening_is : {X : Type 0} (fits : Floor → X → Bool) (count : X → ℕ) (gives : Gives X) (fleet : Fleet) (site : Site) (planners spares : List X) (book : Seen)
+opening_is : {X : Type 0} (fits : X → Floor → Bool) (count : X → ℕ) (gives : Gives X) (fleet : Fleet) (site : Site) (planners spares : List X) (book : Seen)
     → MakesPlanners fits count gives → IsOfFleet fleet → IsEquipped gives fleet site.grid (length site.layout.agents) planners spares
     → IsOpened fits count site planners book → book.opening ≡ opening fleet site
 opening_is fits count gives fleet site planners spares book makes range e o =
@@ -124,7 +124,7 @@ opening_is fits count gives fleet site planners spares book makes range e o =
     o.opening ∙ ap (opened site.layout 0) (tied_slots count planners o.slots o.tied.seats o.tied.counts ∙ seats_are)
 
 -- the replies of a fleet's warehouse
-abbrev operates : {X : Type 0} (fits : Floor → X → Bool) (count : X → ℕ) (gives : Gives X) (fleet : Fleet) (site : Site) (planners spares : List X) (lines : List (List ℕ))
+abbrev operates : {X : Type 0} (fits : X → Floor → Bool) (count : X → ℕ) (gives : Gives X) (fleet : Fleet) (site : Site) (planners spares : List X) (lines : List (List ℕ))
     (book final : Seen) (rest : List X) (replies : List (List ℕ))
     → MakesPlanners fits count gives → IsOfFleet fleet → IsEquipped gives fleet site.grid (length site.layout.agents) planners spares
     → IsOpened fits count site planners book → IsOutputOf fits count lines book spares final rest replies
@@ -133,8 +133,8 @@ operates fits count gives fleet site planners spares lines book final rest repli
     let apart = recursion_from_All (IsMember gives fleet site.grid e.bank) spares e.spares_are in
     let spares_are = slots_each fits count gives fleet site.grid e.bank spares fleet.spares makes range e.stands_by apart in
     let start = o.state ∙ opening_is fits count gives fleet site planners spares book makes range e o in
-    let ran = subst (λ (at : Site). Ran (fits at.grid) count at 0 (commands_of lines) g.outcomes book.state spares final.state rest) o.site_is g.ran in
-    let seen = ran_from (fits site.grid) count site (commands_of lines) g.outcomes book.state spares final.state rest (fit_each fits count gives fleet site.grid e.bank spares makes range apart) ran in
+    let ran = subst (λ (at : Site). Ran fits count at 0 (commands_of lines) g.outcomes book.state spares final.state rest) o.site_is g.ran in
+    let seen = ran_from fits count site (commands_of lines) g.outcomes book.state spares final.state rest (fit_each fits count gives fleet site.grid e.bank spares makes range apart) ran in
     let run = subst (λ (at : Site). Run at book.state (entries_of g.outcomes) final.state) o.site_is g.run in
     record {
       outcomes = g.outcomes;
@@ -148,7 +148,7 @@ operates fits count gives fleet site planners spares lines book final rest repli
     }
 
 -- what follows the replies of it
-tail_is : {X : Type 0} (fits : Floor → X → Bool) (count : X → ℕ) (gives : Gives X) (fleet : Fleet) (site : Site) (planners spares : List X) (tail : Tail) (lines : List (List ℕ))
+tail_is : {X : Type 0} (fits : X → Floor → Bool) (count : X → ℕ) (gives : Gives X) (fleet : Fleet) (site : Site) (planners spares : List X) (tail : Tail) (lines : List (List ℕ))
     (book final : Seen) (rest : List X) (replies : List (List ℕ))
     → MakesPlanners fits count gives → IsOfFleet fleet → IsEquipped gives fleet site.grid (length site.layout.agents) planners spares
     → IsOpened fits count site planners book → (g : IsOutputOf fits count lines book spares final rest replies)
@@ -158,7 +158,7 @@ tail_is fits count gives fleet site planners spares tail lines book final rest r
     let grew = g.history ∙ ap (λ (h : List Entry). h ++ entries_of g.outcomes) o.history in
     ap (λ (s : State). tail_after tail s final.history final.state) opens ∙ ap (λ (h : List Entry). tail_after tail (opening fleet site) h final.state) grew
 
-abbrev finishes : {X : Type 0} (fits : Floor → X → Bool) (count : X → ℕ) (gives : Gives X) (fleet : Fleet) (site : Site) (planners spares : List X) (old between new : Input)
+abbrev finishes : {X : Type 0} (fits : X → Floor → Bool) (count : X → ℕ) (gives : Gives X) (fleet : Fleet) (site : Site) (planners spares : List X) (old between new : Input)
     (had has : Option (List ℕ)) (final : Seen) (written : ℕ)
     → SiteRead old between site.grid site.layout
     → MakesPlanners fits count gives → IsOfFleet fleet → IsEquipped gives fleet site.grid (length site.layout.agents) planners spares
@@ -177,7 +177,7 @@ finishes fits count gives fleet site planners spares old between new had has fin
       is_log = replay_logged fleet site old between (lines_of p.replays.read) p.replays.replies at range done;
     }
 
-pub serves : {X : Type 0} (fits : Floor → X → Bool) (count : X → ℕ) (gives : Gives X) (fleet : Fleet) (site : Site) (planners spares : List X) (tail : Tail) (old between new : Input)
+pub serves : {X : Type 0} (fits : X → Floor → Bool) (count : X → ℕ) (gives : Gives X) (fleet : Fleet) (site : Site) (planners spares : List X) (tail : Tail) (old between new : Input)
     (had has : Option (List ℕ)) (written : ℕ)
     → SiteRead old between site.grid site.layout
     → MakesPlanners fits count gives → IsOfFleet fleet → IsEquipped gives fleet site.grid (length site.layout.agents) planners spares
@@ -192,7 +192,7 @@ serves fits count gives fleet site planners spares tail old between new had has 
       written_is = q.replays.written_is;
     }
 
-serves_without : {X : Type 0} (fits : Floor → X → Bool) (count : X → ℕ) (gives : Gives X) (fleet : Fleet) (site : Site) (planners spares : List X) (tail : Tail) (told : Trouble)
+serves_without : {X : Type 0} (fits : X → Floor → Bool) (count : X → ℕ) (gives : Gives X) (fleet : Fleet) (site : Site) (planners spares : List X) (tail : Tail) (told : Trouble)
     (old between new : Input) (had has : Option (List ℕ))
     → SiteRead old between site.grid site.layout
     → MakesPlanners fits count gives → IsOfFleet fleet → IsEquipped gives fleet site.grid (length site.layout.agents) planners spares
@@ -207,7 +207,7 @@ serves_without fits count gives fleet site planners spares tail told old between
       why = subst (λ (t : List ℕ). IsWhyNoTail told p.replied has t) same p.why;
     }
 
-serves_until : {X : Type 0} (fits : Floor → X → Bool) (count : X → ℕ) (gives : Gives X) (fleet : Fleet) (site : Site) (planners spares : List X) (fault : ReplayFault)
+serves_until : {X : Type 0} (fits : X → Floor → Bool) (count : X → ℕ) (gives : Gives X) (fleet : Fleet) (site : Site) (planners spares : List X) (fault : ReplayFault)
     (old between new : Input) (had has : Option (List ℕ))
     → SiteRead old between site.grid site.layout
     → MakesPlanners fits count gives → IsOfFleet fleet → IsEquipped gives fleet site.grid (length site.layout.agents) planners spares
@@ -225,7 +225,7 @@ serves_until fits count gives fleet site planners spares fault old between new h
 }
 
 -- why it was not served
-pub unserved : {X : Type 0} (fits : Floor → X → Bool) (count : X → ℕ) (gives : Gives X) (fleet : Fleet) (site : Site) (planners spares : List X) (tail : Tail) (old between new : Input)
+pub unserved : {X : Type 0} (fits : X → Floor → Bool) (count : X → ℕ) (gives : Gives X) (fleet : Fleet) (site : Site) (planners spares : List X) (tail : Tail) (old between new : Input)
     (had has : Option (List ℕ)) (told : Trouble)
     → SiteRead old between site.grid site.layout
     → MakesPlanners fits count gives → IsOfFleet fleet → IsEquipped gives fleet site.grid (length site.layout.agents) planners spares
@@ -252,7 +252,7 @@ pub unequipped : (fleet : Fleet) (site : Site) (tail : Tail) (old new : Input) (
 unequipped fleet site tail old new had has told at why kept = inr (inl (record { site = site; site_read = at; why = why }, kept))
 
 -- the same of an answer
-pub answer_serves : {X : Type 0} (fits : Floor → X → Bool) (count : X → ℕ) (gives : Gives X) (fleet : Fleet) (site : Site) (planners spares : List X) (tail : Tail) (old between new : Input)
+pub answer_serves : {X : Type 0} (fits : X → Floor → Bool) (count : X → ℕ) (gives : Gives X) (fleet : Fleet) (site : Site) (planners spares : List X) (tail : Tail) (old between new : Input)
     (had has : Option (List ℕ)) (answer : Result Replayed Trouble)
     → SiteRead old between site.grid site.layout
     → MakesPlanners fits count gives → IsOfFleet fleet → IsEquipped gives fleet site.grid (length site.layout.agents) planners spares
@@ -261,7 +261,7 @@ answer_serves fits count gives fleet site planners spares tail old between new h
     IfOk-weaker answer (λ r. Plays fits count site planners spares tail between new had has r.replies) (λ r. Serves fleet tail old new had has r.replies)
     (λ r p. serves fits count gives fleet site planners spares tail old between new had has r.replies at makes range e p) plays
 
-pub answer_unserved : {X : Type 0} (fits : Floor → X → Bool) (count : X → ℕ) (gives : Gives X) (fleet : Fleet) (site : Site) (planners spares : List X) (tail : Tail) (old between new : Input)
+pub answer_unserved : {X : Type 0} (fits : X → Floor → Bool) (count : X → ℕ) (gives : Gives X) (fleet : Fleet) (site : Site) (planners spares : List X) (tail : Tail) (old between new : Input)
     (had has : Option (List ℕ)) (answer : Result Replayed Trouble)
     → SiteRead old between site.grid site.layout
     → MakesPlanners fits count gives → IsOfFleet fleet → IsEquipped gives fleet site.grid (length site.layout.agents) planners spares

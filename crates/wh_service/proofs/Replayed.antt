@@ -5,6 +5,7 @@ use Rattle.std.specs.List.{AllByRecursion}
 use Rattle.std.proofs.lemmas.List.{length-replicate}
 use Rattle.std.proofs.lemmas.List.Elements.{All-from_recursion}
 use Rattle.wh_lines.specs.Input.{Input}
+use Rattle.wh_grid.specs.Grids.{Floor}
 use Rattle.wh_points.specs.Points.{Site}
 use Rattle.wh_event.specs.CommandLines.{command_of}
 use Rattle.wh_event.specs.declared.entry.Entry.{Entry}
@@ -13,9 +14,9 @@ use Rattle.wh_event.specs.declared.event.Spare.{Spare}
 use Rattle.wh_event.specs.declared.event.Command.{Command}
 use Rattle.wh_event.specs.declared.fault.LineFault.{LineFault}
 use Rattle.wh_core.specs.States.{State}
-use Rattle.wh_token.specs.Commands.{event_of}
-use Rattle.wh_token.specs.Fleet.{TellsFor}
-use Rattle.wh_token.specs.Runs.{Takes, entries_of}
+use Rattle.wh_replay.specs.Commands.{event_of}
+use Rattle.wh_replay.specs.Fleet.{TellsFor}
+use Rattle.wh_replay.specs.Runs.{Takes, entries_of}
 use Rattle.wh_log.specs.Logs.{Content, IsLogText}
 use Rattle.wh_log.specs.Ranges.{EventKeeps}
 use Rattle.wh_log.specs.declared.version.Version.TheVariants.{Two}
@@ -46,29 +47,29 @@ lines_keep : (lines : List (List ℕ)) → AllByRecursion CommandKeeps (commands
 lines_keep [] = tt
 lines_keep (line ∷ lines) = keeps_append CommandKeeps (asked (command_of line)) (commands_of lines) (asked_keeps line (command_of line) refl) (lines_keep lines)
 
-event_keeps : (command : Command) (told : Spare) (handed : Option ℕ) → CommandKeeps command → Few (option_to_list handed)
-    → TellsFor (λ (slots : ℕ). true) (λ (slots : ℕ). slots) handed (event_of command told) → EventKeeps 8 (event_of command told)
-event_keeps (Command.Submit client stops) told handed keep few tells = keep
-event_keeps (Command.Token agent) told handed keep few tells = keep
-event_keeps Command.Tick told handed keep few tells = tt
-event_keeps (Command.Replace agent) told handed keep few tells =
-    (keep, spare_keeps (λ (slots : ℕ). true) (λ (slots : ℕ). slots) handed told (λ slots is. (subst (λ (o : Option ℕ). Few (option_to_list o)) is few).0) tells)
-event_keeps Command.Close told handed keep few tells = tt
+event_keeps : (grid : Floor) (command : Command) (told : Spare) (handed : Option ℕ) → CommandKeeps command → Few (option_to_list handed)
+    → TellsFor (λ (slots : ℕ) (g : Floor). true) (λ (slots : ℕ). slots) grid handed (event_of command told) → EventKeeps 8 (event_of command told)
+event_keeps grid (Command.Submit client stops) told handed keep few tells = keep
+event_keeps grid (Command.Token agent) told handed keep few tells = keep
+event_keeps grid Command.Tick told handed keep few tells = tt
+event_keeps grid (Command.Replace agent) told handed keep few tells =
+    (keep, spare_keeps (λ (slots : ℕ) (g : Floor). true) (λ (slots : ℕ). slots) grid handed told (λ slots is. (subst (λ (o : Option ℕ). Few (option_to_list o)) is few).0) tells)
+event_keeps grid Command.Close told handed keep few tells = tt
 
 -- an entry by its command, with what is left of the spares
-entry_keeps : (s : State) (command : Command) (event : Event) (old new : List ℕ) → CommandKeeps command → Few old → ((told : Spare) × (event ≡ event_of command told))
-    → Takes (λ (slots : ℕ). true) (λ (slots : ℕ). slots) s command event old new → EventKeeps 8 event × Few new
-entry_keeps s command event old new keep few asked takes =
-    let tells : Option ℕ → Event → Type 0 = λ handed e. TellsFor (λ (slots : ℕ). true) (λ (slots : ℕ). slots) handed e in
+entry_keeps : (grid : Floor) (s : State) (command : Command) (event : Event) (old new : List ℕ) → CommandKeeps command → Few old → ((told : Spare) × (event ≡ event_of command told))
+    → Takes (λ (slots : ℕ) (g : Floor). true) (λ (slots : ℕ). slots) grid s command event old new → EventKeeps 8 event × Few new
+entry_keeps grid s command event old new keep few asked takes =
+    let tells : Option ℕ → Event → Type 0 = λ handed e. TellsFor (λ (slots : ℕ) (g : Floor). true) (λ (slots : ℕ). slots) grid handed e in
     elim (wants s command) [
       | inl wanted ↦
           let t = takes.last wanted in
           let parts = split_left (λ (slots : ℕ). slots < 10 ^ 9) new (option_to_list t.spare) (subst Few t.taken few) in (
-            subst (EventKeeps 8) (sym asked.1) (event_keeps command asked.0 t.spare keep parts.1 (subst (tells t.spare) asked.1 t.tells)),
+            subst (EventKeeps 8) (sym asked.1) (event_keeps grid command asked.0 t.spare keep parts.1 (subst (tells t.spare) asked.1 t.tells)),
             parts.0,
           )
       | inr unwanted ↦ (
-        subst (EventKeeps 8) (sym asked.1) (event_keeps command asked.0 None keep tt (subst (tells None) asked.1 (takes.none_told unwanted))),
+        subst (EventKeeps 8) (sym asked.1) (event_keeps grid command asked.0 None keep tt (subst (tells None) asked.1 (takes.none_told unwanted))),
         subst Few (sym (takes.other unwanted)) few,
       )
     ]
@@ -81,7 +82,7 @@ ran_keeps site (command ∷ commands) [] s spares new rest keep few ran = absurd
 ran_keeps site (command ∷ commands) (None ∷ outcomes) s spares new rest keep few ran =
     ran_keeps site commands outcomes ran.0 ran.1 new rest keep.1 (subst Few (sym ran.2.1) few) ran.3
 ran_keeps site (command ∷ commands) (Some entry ∷ outcomes) s spares new rest keep few ran =
-    let one = entry_keeps s command entry.event spares ran.1 keep.0 few ran.2.2 ran.2.3 in
+    let one = entry_keeps site.grid s command entry.event spares ran.1 keep.0 few ran.2.2 ran.2.3 in
     let mine = ran.2.0 in (
       record { caller = omega arith; event = one.0 },
       ran_keeps site commands outcomes ran.0 ran.1 new rest keep.1 one.1 ran.3,

@@ -30,7 +30,7 @@ no_spares : {X : Type 0} (count : X → ℕ) (works : List (Work X)) → AllByRe
 no_spares count [] none = tt
 no_spares {X} count (w ∷ ws) none = (subst (λ (l : List X). All (CountKeeps count) l) (sym none.0) (All-nil (CountKeeps count)), no_spares count ws none.1)
 
-member_spares : {X : Type 0} (fits : Floor → X → Bool) (count : X → ℕ) (gives : Gives X) (fleet : Fleet) (grid : Floor) (bank : Bank) (works : List (Work X))
+member_spares : {X : Type 0} (fits : X → Floor → Bool) (count : X → ℕ) (gives : Gives X) (fleet : Fleet) (grid : Floor) (bank : Bank) (works : List (Work X))
     → MakesPlanners fits count gives → IsOfFleet fleet → HaveSpares gives fleet grid bank works → AllByRecursion (λ work. All (CountKeeps count) work.spares.items) works
 member_spares {X} fits count gives fleet grid bank works makes range have = recursion_from_All (λ work. All (CountKeeps count) work.spares.items) works (λ k d less.
     let w = get_or works k d in
@@ -39,7 +39,7 @@ member_spares {X} fits count gives fleet grid bank works makes range have = recu
     let slots = (member_tells fits count gives fleet grid bank _ makes range ((have k d less).members j planner within)).1 in omega arith)
 
 -- the works of a team are in range
-pub team_keeps : {X : Type 0} (fits : Floor → X → Bool) (count : X → ℕ) (gives : Gives X) (options : LiveOptions) (grid : Floor) (agents : ℕ)
+pub team_keeps : {X : Type 0} (fits : X → Floor → Bool) (count : X → ℕ) (gives : Gives X) (options : LiveOptions) (grid : Floor) (agents : ℕ)
     (old new : Input) (scripts : List (List Command)) (planners : List X) (works : List (Work X))
     → agents ≤ 256 → MakesPlanners fits count gives → IsOfFleet options.fleet → ReadInTurn old new scripts → IsTeam gives options grid agents scripts planners works
     → AllByRecursion (WorkKeeps count) works

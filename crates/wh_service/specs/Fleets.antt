@@ -20,8 +20,8 @@ IsForPlanner claim = (2 ≤ claim_amount claim) × (claim_amount claim ≤ 64)
 
 -- Each planner that a call gives of such parts plans on their grid, and has the slots of their claim. Fits and count say what
 -- a planner answers.
-pub record MakesPlanners {X : Type 0} (fits : Floor → X → Bool) (count : X → ℕ) (gives : PlannerParts → Result X AllocError → Type 0) : Type 0 where
-  pub on_grid : (parts : PlannerParts) (planner : X) → IsForPlanner parts.claim → gives parts (Ok planner) → fits (arc_value parts.grid) planner ≡ true
+pub record MakesPlanners {X : Type 0} (fits : X → Floor → Bool) (count : X → ℕ) (gives : PlannerParts → Result X AllocError → Type 0) : Type 0 where
+  pub on_grid : (parts : PlannerParts) (planner : X) → IsForPlanner parts.claim → gives parts (Ok planner) → fits planner (arc_value parts.grid) ≡ true
   pub has_slots : (parts : PlannerParts) (planner : X) → IsForPlanner parts.claim → gives parts (Ok planner) → count planner ≡ claim_amount parts.claim
 
 -- each planner of the fleet may keep 2 to 64 fields

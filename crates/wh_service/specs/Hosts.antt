@@ -52,7 +52,7 @@ pub record ReadsAll (old new : Input) (site : Site) (scripts : List (List Comman
 -- A site and its clients were read, and the team did its works; each agent's planner had the fleet's slots at the opening.
 -- The text is the log of all that was done: it has no more entries than the journal of the options has positions, and
 -- where these are fewer than 1,000,000,000 it is of the format, so that it is read back as what was done.
-pub record Hosts {X : Type 0} (fits : Floor → X → Bool) (count : X → ℕ) (gives : PlannerParts → Result X AllocError → Type 0) (options : LiveOptions)
+pub record Hosts {X : Type 0} (fits : X → Floor → Bool) (count : X → ℕ) (gives : PlannerParts → Result X AllocError → Type 0) (options : LiveOptions)
     (old new : Input) (text : List ℕ) : Type 0 where
   pub site : Site
   pub scripts : List (List Command)
@@ -60,12 +60,12 @@ pub record Hosts {X : Type 0} (fits : Floor → X → Bool) (count : X → ℕ) 
   pub planners : List X
   pub works : List (Work X)
   pub team : IsTeam gives options site.grid (length site.layout.agents) scripts planners works
-  pub lives : Lives (fits site.grid) count site planners works options.journal text
+  pub lives : Lives fits count site planners works options.journal text
   pub slots : lives.slots ≡ replicate (length site.layout.agents) options.fleet.slots
   pub is_log : options.journal < 10 ^ 9 → IsLogText (record { clock = 0; slots = lives.slots; entries = lives.history }) text
 
 -- a team did its works, and the log of them stands behind what was written
-pub record HostsTo {X : Type 0} (fits : Floor → X → Bool) (count : X → ℕ) (gives : PlannerParts → Result X AllocError → Type 0) (options : LiveOptions)
+pub record HostsTo {X : Type 0} (fits : X → Floor → Bool) (count : X → ℕ) (gives : PlannerParts → Result X AllocError → Type 0) (options : LiveOptions)
     (old new : Input) (had has : Option (List ℕ)) : Type 0 where
   pub text : List ℕ
   pub hosts : Hosts fits count gives options old new text
@@ -96,7 +96,7 @@ pub record EndsAtRun {X : Type 0} (gives : PlannerParts → Result X AllocError 
   pub why : IsWhyDead told
 
 -- a team did its works, and a front of their log was written
-pub record EndsUnwritten {X : Type 0} (fits : Floor → X → Bool) (count : X → ℕ) (gives : PlannerParts → Result X AllocError → Type 0) (options : LiveOptions)
+pub record EndsUnwritten {X : Type 0} (fits : X → Floor → Bool) (count : X → ℕ) (gives : PlannerParts → Result X AllocError → Type 0) (options : LiveOptions)
     (told : Trouble) (old new : Input) (had has : Option (List ℕ)) : Type 0 where
   pub told_is : told ≡ trouble.Unwritten
   pub text : List ℕ
@@ -104,7 +104,7 @@ pub record EndsUnwritten {X : Type 0} (fits : Floor → X → Bool) (count : X �
   pub front : WritesFront had has text
 
 -- Why no log was written, the earlier first. Before the log nothing is written.
-abbrev pub IsWhyUnhosted : {X : Type 0} → (Floor → X → Bool) → (X → ℕ) → (PlannerParts → Result X AllocError → Type 0) → LiveOptions → Trouble → Input → Input → Option (List ℕ) → Option (List ℕ) → Type 0
+abbrev pub IsWhyUnhosted : {X : Type 0} → (X → Floor → Bool) → (X → ℕ) → (PlannerParts → Result X AllocError → Type 0) → LiveOptions → Trouble → Input → Input → Option (List ℕ) → Option (List ℕ) → Type 0
 IsWhyUnhosted fits count gives options told old new had has =
     (SiteFault told old new × Keeps had has)
     ⊎ (EndsAtClients told old new × Keeps had has)

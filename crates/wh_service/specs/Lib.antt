@@ -5,3 +5,7 @@ pub mod Serves
 pub mod Checks
 pub mod Verifies
 pub mod Hosts
+-- handed on, for the crates above
+pub use Rattle.wh_live.specs.Calls
+pub use Rattle.wh_live.specs.Lists
+pub use Rattle.wh_live.specs.Pasts

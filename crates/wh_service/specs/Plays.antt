@@ -5,8 +5,8 @@ use Rattle.wh_lines.specs.Input.{Input}
 use Rattle.wh_grid.specs.Grids.{Floor}
 use Rattle.wh_points.specs.Points.{Site}
 use Rattle.wh_core.specs.States.{opened}
-use Rattle.wh_book.specs.Drafts.{Seen}
-use Rattle.wh_token.specs.Fleet.{IsTied}
+use Rattle.wh_verify.specs.Drafts.{Seen}
+use Rattle.wh_replay.specs.Fleet.{IsTied}
 use Rattle.wh_edge.specs.declared.trouble.Trouble.{Trouble}
 use Rattle.wh_edge.specs.declared.trouble.Trouble.TheVariants as trouble
 use Rattle.wh_options.specs.declared.chosen.Tail.{Tail}
@@ -22,16 +22,16 @@ trouble_of replay.Endless = trouble.Endless
 trouble_of replay.Unwritten = trouble.Unwritten
 
 -- the book of a warehouse that was opened at clock 0 with these planners, in the agents' order
-pub record IsOpened {X : Type 0} (fits : Floor → X → Bool) (count : X → ℕ) (site : Site) (planners : List X) (book : Seen) : Type 0 where
+pub record IsOpened {X : Type 0} (fits : X → Floor → Bool) (count : X → ℕ) (site : Site) (planners : List X) (book : Seen) : Type 0 where
   pub site_is : book.site ≡ site
   pub slots : List ℕ
-  pub tied : IsTied (fits site.grid) count planners slots
+  pub tied : IsTied fits count site.grid planners slots
   pub opening : book.opening ≡ opened site.layout 0 slots
   pub state : book.state ≡ book.opening
   pub history : book.history ≡ []
 
 -- a warehouse was opened, and served the script to its end
-pub record PlaysThrough {X : Type 0} (fits : Floor → X → Bool) (count : X → ℕ) (site : Site) (planners spares : List X)
+pub record PlaysThrough {X : Type 0} (fits : X → Floor → Bool) (count : X → ℕ) (site : Site) (planners spares : List X)
     (before after : Input) (had has : Option (List ℕ)) (final : Seen) (written : ℕ) : Type 0 where
   pub book : Seen
   pub opened : IsOpened fits count site planners book
@@ -39,7 +39,7 @@ pub record PlaysThrough {X : Type 0} (fits : Floor → X → Bool) (count : X �
   pub replays : Replays fits count before after book spares final rest had has written
 
 -- and what is to follow the replies follows them
-pub record Plays {X : Type 0} (fits : Floor → X → Bool) (count : X → ℕ) (site : Site) (planners spares : List X) (tail : Tail)
+pub record Plays {X : Type 0} (fits : X → Floor → Bool) (count : X → ℕ) (site : Site) (planners spares : List X) (tail : Tail)
     (before after : Input) (had has : Option (List ℕ)) (written : ℕ) : Type 0 where
   pub final : Seen
   pub replied : Option (List ℕ)
@@ -47,7 +47,7 @@ pub record Plays {X : Type 0} (fits : Floor → X → Bool) (count : X → ℕ) 
   pub follows : Appends replied has (tail_after tail final.opening final.history final.state)
 
 -- or it does not follow
-pub record PlaysWithoutTail {X : Type 0} (fits : Floor → X → Bool) (count : X → ℕ) (site : Site) (planners spares : List X) (tail : Tail)
+pub record PlaysWithoutTail {X : Type 0} (fits : X → Floor → Bool) (count : X → ℕ) (site : Site) (planners spares : List X) (tail : Tail)
     (told : Trouble) (before after : Input) (had has : Option (List ℕ)) : Type 0 where
   pub final : Seen
   pub replied : Option (List ℕ)
@@ -56,7 +56,7 @@ pub record PlaysWithoutTail {X : Type 0} (fits : Floor → X → Bool) (count : 
   pub why : IsWhyNoTail told replied has (tail_after tail final.opening final.history final.state)
 
 -- a warehouse was opened, and served a beginning of the script
-pub record PlaysUntil {X : Type 0} (fits : Floor → X → Bool) (count : X → ℕ) (site : Site) (planners spares : List X)
+pub record PlaysUntil {X : Type 0} (fits : X → Floor → Bool) (count : X → ℕ) (site : Site) (planners spares : List X)
     (fault : ReplayFault) (before after : Input) (had has : Option (List ℕ)) : Type 0 where
   pub book : Seen
   pub opened : IsOpened fits count site planners book
@@ -66,7 +66,7 @@ pub record PlaysUntil {X : Type 0} (fits : Floor → X → Bool) (count : X → 
 
 -- Why a script was not played to its end: memory was wanting to open the warehouse, or the reader or the writer failed, or what
 -- is to follow the replies does not.
-abbrev pub IsWhyUnplayed : {X : Type 0} → (Floor → X → Bool) → (X → ℕ) → Site → List X → List X → Tail → Trouble → Input → Input → Option (List ℕ) → Option (List ℕ) → Type 0
+abbrev pub IsWhyUnplayed : {X : Type 0} → (X → Floor → Bool) → (X → ℕ) → Site → List X → List X → Tail → Trouble → Input → Input → Option (List ℕ) → Option (List ℕ) → Type 0
 IsWhyUnplayed fits count site planners spares tail told before after had has =
     ((told ≡ trouble.NoMemory) × (after ≡ before) × Keeps had has)
     ⊎ ((fault : ReplayFault) × (told ≡ trouble_of fault) × PlaysUntil fits count site planners spares fault before after had has)

@@ -3,14 +3,15 @@ use Rattle.std.specs.Prelude.{◌≡◌, ◌⊎◌, ◌<◌, ◌^◌, ℕ, Bool,
 use Rattle.std.specs.Io.KnownBytes.{Appends, Keeps, IsAtEnd}
 use Rattle.wh_text.specs.Lines.{lines_of}
 use Rattle.wh_lines.specs.Input.{Input, left, Takes}
+use Rattle.wh_grid.specs.Grids.{Floor}
 use Rattle.wh_points.specs.Points.{Site}
 use Rattle.wh_points.specs.Formed.{IsFormed}
 use Rattle.wh_event.specs.declared.event.Command.{Command}
 use Rattle.wh_event.specs.declared.entry.Entry.{Entry}
 use Rattle.wh_core.specs.States.{State, opened}
 use Rattle.wh_core.specs.Steps.{Run}
-use Rattle.wh_book.specs.Drafts.{AllServed}
-use Rattle.wh_token.specs.Runs.{Ran, entries_of}
+use Rattle.wh_verify.specs.Drafts.{AllServed}
+use Rattle.wh_replay.specs.Runs.{Ran, entries_of}
 use Rattle.wh_edge.specs.Site.{SiteRead, SiteFault}
 use Rattle.wh_edge.specs.declared.trouble.Trouble.{Trouble}
 use Rattle.wh_edge.specs.declared.trouble.Trouble.TheVariants as trouble
@@ -44,7 +45,7 @@ opening fleet site = opened site.layout 0 (replicate (length site.layout.agents)
 -- the site's grid, a list tells the slots of each; the last of them is taken first.
 abbrev pub RanFrom : Site → State → List ℕ → List Command → List (Option Entry) → State → List ℕ → Type 0
 RanFrom site old spares commands outcomes new rest =
-    Ran (λ (slots : ℕ). true) (λ (slots : ℕ). slots) site 0 commands outcomes old spares new rest
+    Ran (λ (slots : ℕ) (grid : Floor). true) (λ (slots : ℕ). slots) site 0 commands outcomes old spares new rest
 
 -- These replies answer the lines: their commands ran from the opening state, with the fleet's spare planners.
 pub record Operates (fleet : Fleet) (site : Site) (lines : List (List ℕ)) (replies : List (List ℕ)) : Type 0 where

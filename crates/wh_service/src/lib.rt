@@ -18,3 +18,8 @@ pub use parts::PlannerParts;
 pub use program::{ended, play, serve};
 pub use verdict::judge;
 pub use verified::judge_log;
+
+// handed on, for callers: what the items below take, return and speak of
+pub use wh_live::{Cells, Desk, DeskFault, DeskName, Pass, Publisher, Receipt, Viewer};
+pub use wh_replay::{Committed, NoMemory, OpenFault, ReplayFault, Warehouse, replay};
+pub use wh_verify::{Book, Verified, verify};

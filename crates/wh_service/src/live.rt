@@ -115,9 +115,9 @@ pub fn host<
 ) -> Result<(), Trouble>
     requires range { IsOfFleet options.now.fleet }
     requires callable { F.IsAlwaysCallable make }
-    requires makes { MakesPlanners (λ g b. P.fits_map b g) (λ b. P.slot_count b) (F.post make) }
-    ensures ok { OnOk result (HostsTo (λ g b. P.fits_map b g) (λ b. P.slot_count b) (F.post make) options.now lines.old lines.new (W.contents output.old) (W.contents output.new)) }
-    ensures fault { IfErr result (λ told. IsWhyUnhosted (λ g b. P.fits_map b g) (λ b. P.slot_count b) (F.post make) options.now told lines.old lines.new (W.contents output.old) (W.contents output.new)) }
+    requires makes { MakesPlanners P.fits_map P.slot_count (F.post make) }
+    ensures ok { OnOk result (HostsTo P.fits_map P.slot_count (F.post make) options.now lines.old lines.new (W.contents output.old) (W.contents output.new)) }
+    ensures fault { IfErr result (λ told. IsWhyUnhosted P.fits_map P.slot_count (F.post make) options.now told lines.old lines.new (W.contents output.old) (W.contents output.new)) }
 {
     let Site { grid, points } = read_site(lines, alloc)?;
     let agents = points.agents().len();

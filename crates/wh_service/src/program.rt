@@ -2,7 +2,7 @@
 
 ghost use Rattle.std.specs.Prelude.{◌≡◌, IfErr, IfOk, length};
 ghost use Rattle.wh_points.specs.Points.{IsLayout};
-ghost use Rattle.wh_token.specs.Fleet.{AllFit};
+ghost use Rattle.wh_replay.specs.Fleet.{AllFit};
 ghost use Rattle.wh_service.specs.Fleets.{IsOfFleet, MakesPlanners};
 ghost use Rattle.wh_service.specs.Plays.{Plays, IsWhyUnplayed, trouble_of};
 ghost use Rattle.wh_service.specs.Serves.{Serves, IsWhyUnserved, ended_by};
@@ -19,8 +19,7 @@ use wh_lines::Lines;
 use wh_options::{Refusal, ReplayOptions, Tail};
 use wh_planner::Planner;
 use wh_points::Points;
-use wh_replay::{ReplayFault, Replayed, replay};
-use wh_token::{OpenFault, Warehouse};
+use wh_replay::{OpenFault, ReplayFault, Replayed, Warehouse, replay};
 
 /// What is told of a script that was not served to its end.
 fn trouble_of(fault: ReplayFault) -> Trouble
@@ -47,10 +46,10 @@ pub fn play<R: Read, W: Write, P: Planner>(
 ) -> Result<Replayed, Trouble>
     requires layout { IsLayout grid.value points }
     requires count { length planners.items ≡ length points.agents }
-    requires fit { AllFit (λ b. P.fits_map b grid.value) planners.items }
-    ensures ok { IfOk result (λ r. Plays (λ g b. P.fits_map b g) (λ b. P.slot_count b) (record { grid = grid.value; layout = points }) planners.items spares.items tail
+    requires fit { AllFit P.fits_map grid.value planners.items }
+    ensures ok { IfOk result (λ r. Plays P.fits_map P.slot_count (record { grid = grid.value; layout = points }) planners.items spares.items tail
         lines.old lines.new (W.contents output.old) (W.contents output.new) r.replies) }
-    ensures fault { IfErr result (λ told. IsWhyUnplayed (λ g b. P.fits_map b g) (λ b. P.slot_count b) (record { grid = grid.value; layout = points }) planners.items spares.items tail
+    ensures fault { IfErr result (λ told. IsWhyUnplayed P.fits_map P.slot_count (record { grid = grid.value; layout = points }) planners.items spares.items tail
         told lines.old lines.new (W.contents output.old) (W.contents output.new)) }
 {
     let mut warehouse = match Warehouse::open(alloc, grid, points, planners, 0) {
@@ -82,7 +81,7 @@ pub fn serve<R: Read, W: Write, P: Planner, F: Fn(PlannerParts) -> Result<P, All
 ) -> Result<Replayed, Trouble>
     requires range { IsOfFleet options.now.fleet }
     requires callable { F.IsAlwaysCallable make }
-    requires makes { MakesPlanners (λ g b. P.fits_map b g) (λ b. P.slot_count b) (F.post make) }
+    requires makes { MakesPlanners P.fits_map P.slot_count (F.post make) }
     ensures ok { IfOk result (λ r. Serves options.now.fleet options.now.tail lines.old lines.new (W.contents output.old) (W.contents output.new) r.replies) }
     ensures fault { IfErr result (λ told. IsWhyUnserved options.now.fleet options.now.tail told lines.old lines.new (W.contents output.old) (W.contents output.new)) }
 {

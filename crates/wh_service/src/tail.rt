@@ -12,8 +12,7 @@ use wh_ledger::ledger_text;
 use wh_log::{NoMemory, log_text};
 use wh_options::Tail;
 use wh_planner::Planner;
-use wh_replay::{WriteFault, write_all};
-use wh_token::Warehouse;
+use wh_replay::{Warehouse, WriteFault, write_all};
 
 /// The line between the replies and what follows them.
 fn separator(tail: Tail) -> &'static [u8]

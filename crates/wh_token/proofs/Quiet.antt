@@ -1,9 +1,10 @@
 -- no open task is clear of the ends of paths: of all of them, and of those of the others
 use Rattle.std.proofs.Common.{◌≡◌, ◌≢◌, ℕ, ◌+◌, ◌<◌, ◌∙◌, inl, inr, List, [], length, map, ap, sym, subst, refl, Option, Some, None}
-use Rattle.std.specs.Prelude.{Bool, true, Contains}
+use Rattle.std.specs.Prelude.{Bool, true, false, Contains}
 use Rattle.std.proofs.lemmas.List.{get_or-map, length-map, get_or_default}
 use Rattle.std.proofs.lemmas.Bool.{cases_eq}
 use Rattle.wh_grid.specs.declared.cell.Cell.{Cell}
+use Rattle.wh_grid.specs.Grids.{Floor}
 use Rattle.wh_path.specs.Paths.{end, path_of, place_of, others, ends, advanced}
 use Rattle.wh_path.proofs.AtLemmas.{at-resting}
 use Rattle.wh_path.proofs.Fleet.{no_end-at, no_end-from}
@@ -12,17 +13,22 @@ use Rattle.wh_tasks.specs.Tasks.{IsTask, IsOpen}
 use Rattle.wh_tasks.specs.Arrivals.{arrived_by, arrived_task, arrived_tasks}
 use Rattle.wh_tasks.specs.Choice.{NoneEligible}
 use Rattle.wh_points.specs.Points.{Site}
-use Rattle.wh_core.specs.States.{State}
+use Rattle.wh_core.specs.States.{State, arrived, moved}
 use Rattle.wh_state.proofs.Ties.{mapped-from}
 use Rattle.wh_state.proofs.FloorLemmas.{ends-advanced}
-use Rattle.wh_core.specs.Steps.{Answers, IsDue, NoneIsNext}
+use Rattle.wh_core.specs.Steps.{Answers, IsDue, NoneIsNext, last_clock}
 use Rattle.wh_event.specs.declared.event.Event.{Event}
 use Rattle.wh_event.specs.declared.event.Spare.{Spare}
 use Rattle.wh_event.specs.declared.reply.Reply.{Reply}
 use Rattle.wh_field.specs.Fields.{Seeking}
-use Rattle.wh_book.specs.Drafts.{Seen, IsSame}
+use Rattle.wh_book.specs.Drafts.{Seen, IsSame, ticked}
+use Rattle.wh_book.proofs.Kept.{step-ticked}
 use Rattle.wh_token.specs.Commands.{LeavesQuiet}
+use Rattle.wh_grid.specs.Grids.{Floor}
 use Rattle.wh_token.specs.Houses.{IsFurnished}
+use Rattle.wh_token.proofs.Fleet.{tied-slots, tied-same}
+use Rattle.std.proofs.Common.{get_or, set}
+use Rattle.std.proofs.lemmas.List.{length-set}
 
 -- an open task has a stop at the cell
 abbrev pub HasStopAt : List Task → Cell → Type 0
@@ -66,25 +72,42 @@ quiet-lasts s agent here due is none away n task eligible = none n task (record 
 })
 
 -- what a warehouse keeps, where the book has the same state
-pub furnished-still : (old new : Seen) (planners : ℕ) (near : Seeking) (is_quiet : Bool) → new.state ≡ old.state → new.site ≡ old.site →
-    IsFurnished old planners near is_quiet → IsFurnished new planners near is_quiet
-furnished-still old new planners near is_quiet state site is = record {
+pub furnished-still : {X : Type 0} (fits : X → Floor → Bool) (count : X → ℕ) (old new : Seen) (planners : List X) (near : Seeking) (is_quiet : Bool) (stored : Floor) → new.state ≡ old.state → new.site ≡ old.site →
+    IsFurnished fits count old planners near is_quiet stored → IsFurnished fits count new planners near is_quiet stored
+furnished-still fits count old new planners near is_quiet stored state site is = record {
   seats = is.seats ∙ ap (λ (s : State). length s.paths) (sym state);
+  tied = tied-slots fits count old.site.grid new.site.grid planners planners old.state.slots new.state.slots (ap (λ (s : Site). s.grid) (sym site)) refl
+      (ap (λ (s : State). s.slots) (sym state)) is.tied;
   over = is.over ∙ ap (λ (s : Site). s.grid) (sym site);
+  lent = is.lent ∙ ap (λ (s : Site). s.grid) (sym site);
   quiet = λ on. subst (λ (s : State). NoneEligible s.tasks (ends s.paths)) (sym state) (is.quiet on);
 }
 
-pub furnished-same : (old new : Seen) (planners : ℕ) (near : Seeking) (is_quiet : Bool) → IsSame old new → IsFurnished old planners near is_quiet →
-    IsFurnished new planners near is_quiet
-furnished-same old new planners near is_quiet same is = furnished-still old new planners near is_quiet same.state same.site is
+pub furnished-same : {X : Type 0} (fits : X → Floor → Bool) (count : X → ℕ) (old new : Seen) (planners : List X) (near : Seeking) (is_quiet : Bool) (stored : Floor) → IsSame old new → IsFurnished fits count old planners near is_quiet stored →
+    IsFurnished fits count new planners near is_quiet stored
+furnished-same fits count old new planners near is_quiet stored same is = furnished-still fits count old new planners near is_quiet stored same.state same.site is
 
 -- what a warehouse keeps, where a request found none
-pub furnished-found : (book : Seen) (planners : ℕ) (old new : Seeking) (was : Bool) (agent : ℕ) → IsFurnished book planners old was →
-    new.grid ≡ old.grid → NoneIsNext book.state agent → IsFurnished book planners new true
-furnished-found book planners old new was agent is same none = record {
+pub furnished-found : {X : Type 0} (fits : X → Floor → Bool) (count : X → ℕ) (book : Seen) (planners : List X) (old new : Seeking) (was : Bool) (stored : Floor) (agent : ℕ) → IsFurnished fits count book planners old was stored →
+    new.grid ≡ old.grid → NoneIsNext book.state agent → IsFurnished fits count book planners new true stored
+furnished-found fits count book planners old new was stored agent is same none = record {
   seats = is.seats;
+  tied = is.tied;
   over = same ∙ is.over;
+  lent = is.lent;
   quiet = λ _. quiet-found book.state agent none;
+}
+
+-- what a warehouse keeps, where an agent's planner was asked
+pub furnished-asked : {X : Type 0} (fits : X → Floor → Bool) (count : X → ℕ) (book : Seen) (planners : List X) (near : Seeking) (is_quiet : Bool) (before after : Floor) (agent : ℕ) (old new : X) →
+    agent < length book.state.paths → old ≡ get_or planners agent old → ((g : Floor) → fits new g ≡ fits old g) → count new ≡ count old → after ≡ before →
+    IsFurnished fits count book planners near is_quiet before → IsFurnished fits count book (set planners agent new) near is_quiet after
+furnished-asked fits count book planners near is_quiet before after agent old new known read same_fits same_count same_grid is = record {
+  seats = length-set planners agent new ∙ is.seats;
+  tied = tied-same fits count book.site.grid planners book.state.slots agent old new (rw is.seats known) read (same_fits book.site.grid) same_count is.tied;
+  over = is.over;
+  lent = same_grid ∙ is.lent;
+  quiet = is.quiet;
 }
 
 quiet-same : (old new : State) → new ≡ old → NoneEligible old.tasks (ends old.paths) → NoneEligible new.tasks (ends new.paths)
@@ -125,3 +148,16 @@ quiet-step site old (Reply.Accepted task) event new leaves step none = absurd le
 quiet-step site old (Reply.Took task path) event new leaves step none = absurd leaves
 quiet-step site old (Reply.Parked point path) event new leaves step none = absurd leaves
 quiet-step site old reply event new leaves step none = absurd step
+
+-- what a warehouse keeps, over a tick
+pub furnished-ticked : {X : Type 0} (fits : X → Floor → Bool) (count : X → ℕ) (old new : Seen) (planners : List X) (near : Seeking) (is_quiet : Bool) (stored : Floor) →
+    old.state.closed ≡ false → old.state.clock < last_clock → new.state ≡ arrived (moved old.state) → new.site ≡ old.site →
+    IsFurnished fits count old planners near is_quiet stored → IsFurnished fits count new planners near is_quiet stored
+furnished-ticked fits count old new planners near is_quiet stored not_closed early state site is = record {
+  seats = is.seats ∙ sym (ap (λ (s : State). length s.paths) state ∙ length-map old.state.paths advanced);
+  tied = tied-slots fits count old.site.grid new.site.grid planners planners old.state.slots new.state.slots (ap (λ (s : Site). s.grid) (sym site)) refl
+      (ap (λ (s : State). s.slots) (sym state)) is.tied;
+  over = is.over ∙ ap (λ (s : Site). s.grid) (sym site);
+  lent = is.lent ∙ ap (λ (s : Site). s.grid) (sym site);
+  quiet = λ on. quiet-step old.site old.state (ticked old.state) Event.Tick new.state tt (step-ticked old.site old.state new.state not_closed early state) (is.quiet on);
+}

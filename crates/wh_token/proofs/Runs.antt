@@ -1,18 +1,21 @@
 use Rattle.std.proofs.Common.{◌≡◌, ℕ, ◌+◌, ◌<◌, take, get_or, length-append, List, [], ◌∷◌, ◌++◌, length, ap, sym, subst, arith, refl, ◌∙◌, Bool, true, false, append_assoc, append-nil}
 use Rattle.std.specs.Prelude.{Option, Some, None, is_some, MatchBool}
 use Rattle.std.proofs.lemmas.List.{take_more}
-use Rattle.wh_core.specs.States.{State}
+use Rattle.wh_core.specs.States.{State, arrived, moved}
 use Rattle.wh_grid.specs.Grids.{Floor}
 use Rattle.wh_points.specs.Points.{Site}
-use Rattle.wh_core.specs.Steps.{Run, Answers}
-use Rattle.wh_token.specs.Runs.{Moves, Ran, entries_of}
+use Rattle.wh_core.specs.Steps.{Run, Answers, last_clock}
+use Rattle.wh_book.specs.Drafts.{Seen, ticked}
+use Rattle.wh_book.proofs.Kept.{step-ticked}
+use Rattle.wh_token.specs.Houses.{StaysAt}
+use Rattle.wh_token.specs.Runs.{Moves, Ran, RunsOne, entries_of}
 use Rattle.wh_event.specs.declared.event.Command.{Command}
 use Rattle.wh_event.specs.declared.entry.Entry.{Entry}
 use Rattle.wh_event.specs.declared.event.Event.{Event}
 use Rattle.wh_event.specs.declared.event.Spare.{Spare}
 use Rattle.wh_event.specs.declared.reply.Reply.{Reply}
 
-pub ran-more : {X : Type 0} (fits : X → Bool) (count : X → ℕ) (site : Site) (caller : ℕ) (commands : List Command) (outcomes : List (Option Entry))
+pub ran-more : {X : Type 0} (fits : X → Floor → Bool) (count : X → ℕ) (site : Site) (caller : ℕ) (commands : List Command) (outcomes : List (Option Entry))
     (command : Command) (outcome : Option Entry) (s : State) (spares : List X) (mid : State) (left : List X) (new : State) (rest : List X) →
     Ran fits count site caller commands outcomes s spares mid left →
     Moves fits count site caller command outcome mid left new rest →
@@ -33,7 +36,7 @@ entries_of-more (None ∷ os) o = entries_of-more os o
 entries_of-more (Some e ∷ os) o = ap (λ es. e ∷ es) (entries_of-more os o)
 
 -- the entries of a list of commands are a run
-pub ran-run : {X : Type 0} (fits : X → Bool) (count : X → ℕ) (site : Site) (caller : ℕ) (commands : List Command) (outcomes : List (Option Entry))
+pub ran-run : {X : Type 0} (fits : X → Floor → Bool) (count : X → ℕ) (site : Site) (caller : ℕ) (commands : List Command) (outcomes : List (Option Entry))
     (s : State) (spares : List X) (new : State) (rest : List X) →
     Ran fits count site caller commands outcomes s spares new rest → Run site s (entries_of outcomes) new
 ran-run fits count site caller [] [] s spares new rest ran = ran.0
@@ -54,7 +57,7 @@ length-none None h = refl
 length-none (Some e) h = cc
 
 -- the step of a loop over the commands
-pub ran-take : {X : Type 0} (fits : X → Bool) (count : X → ℕ) (site : Site) (caller : ℕ) (commands : List Command) (i : ℕ) (d : Command) (outcomes : List (Option Entry))
+pub ran-take : {X : Type 0} (fits : X → Floor → Bool) (count : X → ℕ) (site : Site) (caller : ℕ) (commands : List Command) (i : ℕ) (d : Command) (outcomes : List (Option Entry))
     (outcome : Option Entry) (s : State) (spares : List X) (mid : State) (left : List X) (new : State) (rest : List X) → i < length commands →
     Ran fits count site caller (take i commands) outcomes s spares mid left →
     Moves fits count site caller (get_or commands i d) outcome mid left new rest →
@@ -76,24 +79,57 @@ pub length-kept : (os : List (Option Entry)) (o : Option Entry) (n : ℕ) → le
 length-kept os o n e h = rw (entries_of-more os o, length-append, length-none o h, e) (omega arith)
 
 -- the same where the step was taken at a site that is the same, by a command that was read
-pub ran-take-at : {X : Type 0} (fits : Floor → X → Bool) (count : X → ℕ) (site here : Site) (caller : ℕ) (commands : List Command) (i : ℕ) (command : Command) (outcomes : List (Option Entry))
+pub ran-take-at : {X : Type 0} (fits : X → Floor → Bool) (count : X → ℕ) (site here : Site) (caller : ℕ) (commands : List Command) (i : ℕ) (command : Command) (outcomes : List (Option Entry))
     (outcome : Option Entry) (s : State) (spares : List X) (mid : State) (left : List X) (new : State) (rest : List X) → here ≡ site → i < length commands →
-    command ≡ get_or commands i command → Ran (fits site.grid) count site caller (take i commands) outcomes s spares mid left →
-    Moves (fits here.grid) count here caller command outcome mid left new rest →
-    Ran (fits site.grid) count site caller (take (i + 1) commands) (outcomes ++ outcome ∷ []) s spares new rest
+    command ≡ get_or commands i command → Ran fits count site caller (take i commands) outcomes s spares mid left →
+    Moves fits count here caller command outcome mid left new rest →
+    Ran fits count site caller (take (i + 1) commands) (outcomes ++ outcome ∷ []) s spares new rest
 ran-take-at fits count site here caller commands i command outcomes outcome s spares mid left new rest same lt read ran moves =
-    ran-take (fits site.grid) count site caller commands i command outcomes outcome s spares mid left new rest lt ran
-    (subst (λ c. Moves (fits site.grid) count site caller c outcome mid left new rest) read
-    (subst (λ (t : Site). Moves (fits t.grid) count t caller command outcome mid left new rest) same moves))
+    ran-take fits count site caller commands i command outcomes outcome s spares mid left new rest lt ran
+    (subst (λ c. Moves fits count site caller c outcome mid left new rest) read
+    (subst (λ (t : Site). Moves fits count t caller command outcome mid left new rest) same moves))
 
 -- a request that is answered at once, by a reply that changes nothing, where there was memory for its entry
-pub moved-at-once : {X : Type 0} (fits : X → Bool) (count : X → ℕ) (site : Site) (caller agent : ℕ) (reply : Reply) (s new : State) (spares : List X)
-    (had has : List Entry) (added : Bool) → Answers site s reply (Event.Request agent) s → new ≡ s →
-    MatchBool added (has ≡ had ++ record { caller = caller; event = Event.Request agent; reply = reply } ∷ []) (has ≡ had) →
-    (outcome : Option Entry) × (is_some outcome ≡ added) × (has ≡ had ++ entries_of (outcome ∷ []))
-    × Moves fits count site caller (Command.Token agent) outcome s spares new spares
-moved-at-once fits count site caller agent reply s new spares had has true answers same history =
+pub moved-at-once : {X : Type 0} (fits : X → Floor → Bool) (count : X → ℕ) (caller agent : ℕ) (reply : Reply) (old : Seen) (spares : List X) (new : Seen) (added : Bool) →
+    Answers old.site old.state reply (Event.Request agent) old.state → new.state ≡ old.state → StaysAt old new →
+    MatchBool added (new.history ≡ old.history ++ record { caller = caller; event = Event.Request agent; reply = reply } ∷ []) (new.history ≡ old.history) →
+    RunsOne fits count caller (Command.Token agent) added old spares new spares
+moved-at-once fits count caller agent reply old spares new true answers same stays history =
     let entry : Entry = record { caller = caller; event = Event.Request agent; reply = reply } in
-    let step = subst (λ t. Answers site s reply (Event.Request agent) t) (sym same) answers in
-    (Some entry, refl, history, (refl, step, (Spare.None, refl), record { last = λ wants. absurd wants; other = λ unwanted. refl; none_told = λ unwanted. tt }))
-moved-at-once fits count site caller agent reply s new spares had has false answers same history = (None, refl, history ∙ sym (append-nil had), (same, refl))
+    let step = subst (λ t. Answers old.site old.state reply (Event.Request agent) t) (sym same) answers in
+    record {
+      outcome = Some entry;
+      added_is = refl;
+      history = history;
+      moves = (refl, step, (Spare.None, refl), record { last = λ wants. absurd wants; other = λ unwanted. refl; none_told = λ unwanted. tt });
+      stays = stays;
+    }
+moved-at-once fits count caller agent reply old spares new false answers same stays history = record {
+  outcome = None;
+  added_is = refl;
+  history = history ∙ sym (append-nil old.history);
+  moves = (same, refl);
+  stays = stays;
+}
+
+-- a tick at once, where there was memory for its entry
+pub moved-by-tick : {X : Type 0} (fits : X → Floor → Bool) (count : X → ℕ) (caller : ℕ) (old : Seen) (spares : List X) (new : Seen) (added : Bool) →
+    old.state.closed ≡ false → old.state.clock < last_clock → MatchBool added (new.state ≡ arrived (moved old.state)) (new.state ≡ old.state) → StaysAt old new →
+    MatchBool added (new.history ≡ old.history ++ record { caller = caller; event = Event.Tick; reply = ticked old.state } ∷ []) (new.history ≡ old.history) →
+    RunsOne fits count caller Command.Tick added old spares new spares
+moved-by-tick fits count caller old spares new true not_closed early state stays history =
+    let entry : Entry = record { caller = caller; event = Event.Tick; reply = ticked old.state } in
+    record {
+      outcome = Some entry;
+      added_is = refl;
+      history = history;
+      moves = (refl, step-ticked old.site old.state new.state not_closed early state, (Spare.None, refl), record { last = λ wants. absurd wants; other = λ unwanted. refl; none_told = λ unwanted. tt });
+      stays = stays;
+    }
+moved-by-tick fits count caller old spares new false not_closed early state stays history = record {
+  outcome = None;
+  added_is = refl;
+  history = history ∙ sym (append-nil old.history);
+  moves = (state, refl);
+  stays = stays;
+}

@@ -5,5 +5,5 @@ mod command;
 mod roster;
 mod warehouse;
 
-pub use roster::OpenFault;
+pub use roster::{OpenFault, ResumeFault};
 pub use warehouse::{Committed, NoMemory, Ran, Ready, Warehouse};

@@ -1,12 +1,11 @@
 //! The warehouse.
 #![tactic(auto)]
 
-ghost use Rattle.std.specs.Prelude.{◌≡◌, ◌≢◌, ℕ, ◌+◌, ◌-◌, ◌<◌, ◌≤◌, ◌↔◌, List, [], ◌∷◌, ◌++◌, Option, Some, true, false, is_some, length, map, slice_index, slice_set, slice_get, All, Contains, IfOk, IfErr, IfNone, IfSome, IsTrue, MatchBool, MatchResult};
+ghost use Rattle.std.specs.Prelude.{◌≡◌, ◌≢◌, ℕ, ◌+◌, ◌-◌, ◌<◌, ◌≤◌, ◌↔◌, List, [], ◌∷◌, ◌++◌, Option, Some, true, false, length, map, slice_get, All, Contains, IfOk, IfErr, IfNone, IfSome, IsTrue, MatchBool, MatchResult};
 ghost use Rattle.wh_grid.specs.declared.cell.Cell.{Cell as Place};
-ghost use Rattle.wh_grid.specs.Grids.{Floor};
 ghost use Rattle.wh_points.specs.Formed.{IsFormed};
 ghost use Rattle.wh_points.specs.Points.{IsLayout};
-ghost use Rattle.wh_path.specs.Paths.{AllFree, place_of, steps_left};
+ghost use Rattle.wh_path.specs.Paths.{place_of, steps_left};
 ghost use Rattle.wh_tasks.specs.declared.task.Task.{Task as Job};
 ghost use Rattle.wh_tasks.specs.Tasks.{IsTask};
 ghost use Rattle.wh_event.specs.declared.event.Event.{Event as Asked};
@@ -16,17 +15,18 @@ ghost use Rattle.wh_event.specs.declared.entry.Entry.{Entry as Line};
 ghost use Rattle.wh_event.specs.declared.event.Spare.{Spare as Told};
 ghost use Rattle.wh_ledger.specs.Ledgers.{rows_of};
 ghost use Rattle.wh_planner.specs.Duties.{IsLawful, HasNoClearWay, Delivers, ParksAt};
-ghost use Rattle.wh_core.specs.States.{State, opened};
+ghost use Rattle.wh_core.specs.States.{opened, arrived, moved};
 ghost use Rattle.wh_core.specs.Laws.{IsOpening};
-ghost use Rattle.wh_core.specs.Steps.{Step, Run, Answers, IsDue, IsNext, NoneIsNext, IsDeliveryCell, IsAllowed, MakesWay, other_ends, last_clock};
-ghost use Rattle.wh_planner.specs.Asked.{IsDuty, Serves, legs};
-ghost use Rattle.wh_book.specs.Drafts.{IsSame, IsReady, Drafts, AllServed};
+ghost use Rattle.wh_core.specs.Steps.{Step, Run, Answers, IsDue, IsNext, NoneIsNext, IsDeliveryCell, IsAllowed, MakesWay, last_clock};
+ghost use Rattle.wh_shared.specs.Shares.{stored_grid};
+ghost use Rattle.wh_book.specs.Drafts.{IsSame, IsReady, Drafts, AllServed, ticked};
 ghost use Rattle.wh_token.specs.Commands.{event_of};
-ghost use Rattle.wh_token.specs.Fleet.{IsTied, AllFit, RefusesToOpen, TellsSpare, TellsFor, Swaps, IsSeated, StaySeated, replaced_agent};
-ghost use Rattle.wh_token.specs.Runs.{Moves, Ran as RanBy, WantsSpare, entries_of};
+ghost use Rattle.wh_token.specs.Fleet.{IsTied, AllFit, RefusesToOpen, RefusesToResume, TellsSpare, TellsFor, Swaps, IsSeated, StaySeated, replaced_agent};
+ghost use Rattle.wh_token.specs.Houses.{StaysAt};
+ghost use Rattle.wh_token.specs.Runs.{RunsOne, Ran as RanBy, WantsSpare, entries_of};
 
 use crate::command::{event_of, leaves_quiet, replaced};
-use crate::roster::{OpenFault, first_foreign, slots_of};
+use crate::roster::{OpenFault, ResumeFault, fields_over, first_foreign, outfit, slots_of};
 use std::alloc::{AllocError, Global};
 use std::marker::Model;
 use std::mem;
@@ -39,28 +39,33 @@ use wh_ledger::DeliveryLedger;
 use wh_path::TimedPath;
 use wh_planner::{Duty, PlanFault, Planner, Scene};
 use wh_points::Points;
+use wh_shared::SharedFields;
 use wh_tasks::{Load, Task};
 
-/// The book and the agents' planners.
+/// The book and the agents' planners: one for each agent, which plans on the book's grid and has the slots that the state
+/// tells.
 #[derive(Drop)]
-pub struct Warehouse<P = Box<dyn Planner>> {
+pub struct Warehouse<P: Planner = Box<dyn Planner>> {
     book: Book,
     planners: Vec<P>,
     near: LazyField,
+    /// The distance fields that are lent to the planners.
+    fields: SharedFields,
     /// No open task is clear of all ends, as the last request that looked found. A change of the tasks or the ends takes
     /// it back.
     quiet: bool,
 }
 
-impl<P> Model for Warehouse<P> {
+impl<P: Planner> Model for Warehouse<P> {
     ghost use Rattle.std.specs.Prelude.{length};
+    ghost use Rattle.wh_shared.specs.Shares.{stored_grid};
     ghost use Rattle.wh_token.specs.Houses.{House, IsFurnished};
 
     ghost Value = { House P };
 
     ghost view = { λ w. record { book = w.book; planners = w.planners.items } };
 
-    ghost invariant = { λ w. IsFurnished w.book (length w.planners.items) w.near w.quiet };
+    ghost invariant = { λ w. IsFurnished P.fits_map P.slot_count w.book w.planners.items w.near w.quiet (stored_grid w.fields) };
 }
 
 impl<P: Planner> Warehouse<P> {
@@ -80,8 +85,8 @@ impl<P: Planner> Warehouse<P> {
         ensures opening { IfOk result (λ w. ((slots : List ℕ) × (w.book.opening ≡ opened points start slots) × (w.book.state ≡ w.book.opening))) }
         ensures history { IfOk result (λ w. w.book.history ≡ []) }
         ensures planners { IfOk result (λ w. w.planners ≡ planners.items) }
-        ensures tied { IfOk result (λ w. IsTied (λ b. P.fits_map b grid.value) (λ b. P.slot_count b) w.planners w.book.state.slots) }
-        ensures refused { IfErr result (RefusesToOpen (λ b. P.fits_map b grid.value) planners.items (length points.agents)) }
+        ensures tied { IfOk result (λ w. IsTied P.fits_map P.slot_count grid.value w.planners w.book.state.slots) }
+        ensures refused { IfErr result (RefusesToOpen P.fits_map grid.value planners.items (length points.agents)) }
     {
         if planners.len() != points.agents().len() {
             return Err(OpenFault::WrongCount);
@@ -106,20 +111,41 @@ impl<P: Planner> Warehouse<P> {
         requires layout { IsLayout grid.value points }
         requires start { start ≤ last_clock }
         requires seats { length planners.items ≡ length points.agents }
-        requires fit { AllFit (λ b. P.fits_map b grid.value) planners.items }
+        requires fit { AllFit P.fits_map grid.value planners.items }
         ensures site { IfOk result (λ w. w.book.site ≡ record { grid = grid.value; layout = points }) }
         ensures opening { IfOk result (λ w. ((slots : List ℕ) × (w.book.opening ≡ opened points start slots) × (w.book.state ≡ w.book.opening))) }
         ensures history { IfOk result (λ w. w.book.history ≡ []) }
         ensures planners { IfOk result (λ w. w.planners ≡ planners.items) }
-        ensures tied { IfOk result (λ w. IsTied (λ b. P.fits_map b grid.value) (λ b. P.slot_count b) w.planners w.book.state.slots) }
+        ensures tied { IfOk result (λ w. IsTied P.fits_map P.slot_count grid.value w.planners w.book.state.slots) }
     {
         let slots = slots_of(alloc, planners.as_slice(), &grid)?;
         let near = LazyField::from(alloc, &grid, Cell { x: 0, y: 0 })?;
+        let fields = fields_over(alloc, &grid, &slots)?;
         let book = Book::open(alloc, Setting::new(grid, points), start, slots)?;
         Ok(Warehouse {
             book,
             planners,
             near,
+            fields,
+            quiet: false,
+        })
+    }
+
+    /// The warehouse that goes on from the book's state, with one planner for each agent, in the agents' order, each with
+    /// the slots that the state tells. It refuses a wrong count of planners, then the first planner of another map, then
+    /// the first with other slots, then wants memory; on a refusal what was handed in is dropped.
+    pub fn resume(alloc: Global, book: Book, planners: Vec<P>) -> Result<Warehouse<P>, ResumeFault>
+        ensures book { IfOk result (λ w. w.book ≡ book) }
+        ensures planners { IfOk result (λ w. w.planners ≡ planners.items) }
+        ensures tied { IfOk result (λ w. IsTied P.fits_map P.slot_count book.site.grid w.planners w.book.state.slots) }
+        ensures refused { IfErr result (RefusesToResume P.fits_map P.slot_count book.site.grid planners.items book.state.slots) }
+    {
+        let (near, fields) = outfit(alloc, &book, planners.as_slice())?;
+        Ok(Warehouse {
+            book,
+            planners,
+            near,
+            fields,
             quiet: false,
         })
     }
@@ -226,9 +252,17 @@ impl<P: Planner> Warehouse<P> {
         self.book.first_clock()
     }
 
+    /// The agents' planners, in the agents' order. Each plans on the grid, and has the slots that the state tells.
+    pub fn planners(&self) -> &[P]
+        ensures value { result.now ≡ self.now.planners }
+        ensures tied { IsTied P.fits_map P.slot_count self.now.book.site.grid self.now.planners self.now.book.state.slots }
+    {
+        self.planners.as_slice()
+    }
+
     /// What is told of a spare.
     fn tell(&self, spare: &Option<P>) -> Spare
-        ensures { TellsSpare (λ b. P.fits_map b self.now.book.site.grid) (λ b. P.slot_count b) spare.now result }
+        ensures { TellsSpare P.fits_map P.slot_count self.now.book.site.grid spare.now result }
     {
         match spare {
             None => Spare::None,
@@ -258,8 +292,6 @@ impl<P: Planner> Warehouse<P> {
             × IsLawful self.old.book.site.grid self.old.book.site.layout.nofollow self.old.book.state.paths agent (length job.stops) (Delivers job.stops) path) }
         ensures no_path { IfErr result (λ fault. fault ≡ PlanFault.NoPath → ((job : Job) × IsTask self.old.book.state.tasks task job
             × HasNoClearWay self.old.book.site.grid self.old.book.state.paths agent (Delivers job.stops))) }
-        ensures tied { IsTied (λ b. P.fits_map b self.old.book.site.grid) (λ b. P.slot_count b) self.old.planners self.old.book.state.slots
-            → IsTied (λ b. P.fits_map b self.old.book.site.grid) (λ b. P.slot_count b) self.new.planners self.old.book.state.slots }
     {
         let scene = Scene {
             grid: self.book.setting().grid(),
@@ -270,7 +302,7 @@ impl<P: Planner> Warehouse<P> {
         let duty = Duty::Deliver {
             stops: self.book.tasks().task(task).stops.as_slice(),
         };
-        ask(&mut self.planners[agent as usize], alloc, &scene, duty)
+        self.planners[agent as usize].plan(alloc, &mut self.fields, &scene, duty)
     }
 
     /// A path for the agent, which stands, to one of these cells.
@@ -284,8 +316,6 @@ impl<P: Planner> Warehouse<P> {
         ensures book { self.new.book ≡ self.old.book }
         ensures lawful { IfOk result (IsLawful self.old.book.site.grid self.old.book.site.layout.nofollow self.old.book.state.paths agent 2 (ParksAt (Contains allowed.now))) }
         ensures no_path { IfErr result (λ fault. fault ≡ PlanFault.NoPath → HasNoClearWay self.old.book.site.grid self.old.book.state.paths agent (ParksAt (Contains allowed.now))) }
-        ensures tied { IsTied (λ b. P.fits_map b self.old.book.site.grid) (λ b. P.slot_count b) self.old.planners self.old.book.state.slots
-            → IsTied (λ b. P.fits_map b self.old.book.site.grid) (λ b. P.slot_count b) self.new.planners self.old.book.state.slots }
     {
         let scene = Scene {
             grid: self.book.setting().grid(),
@@ -293,12 +323,7 @@ impl<P: Planner> Warehouse<P> {
             paths: self.book.paths(),
             agent: agent as usize,
         };
-        ask(
-            &mut self.planners[agent as usize],
-            alloc,
-            &scene,
-            Duty::Park { allowed },
-        )
+        self.planners[agent as usize].plan(alloc, &mut self.fields, &scene, Duty::Park { allowed })
     }
 
     /// The draft of a request by a due agent, for which this task is next.
@@ -314,8 +339,6 @@ impl<P: Planner> Warehouse<P> {
         requires room { 1 ≤ self.old.book.entry_room }
         ensures book { self.new.book ≡ self.old.book }
         ensures drafts { IfOk result (Drafts self.old.book caller (Asked.Request agent)) }
-        ensures tied { IsTied (λ b. P.fits_map b self.old.book.site.grid) (λ b. P.slot_count b) self.old.planners self.old.book.state.slots
-            → IsTied (λ b. P.fits_map b self.old.book.site.grid) (λ b. P.slot_count b) self.new.planners self.old.book.state.slots }
     {
         match self.plan_delivery(alloc, agent, task) {
             Ok(path) => self.book.draft_took(alloc, caller, agent, task, path),
@@ -341,8 +364,6 @@ impl<P: Planner> Warehouse<P> {
         requires room { 1 ≤ self.old.book.entry_room }
         ensures book { self.new.book ≡ self.old.book }
         ensures drafts { IfOk result (Drafts self.old.book caller (Asked.Request agent)) }
-        ensures tied { IsTied (λ b. P.fits_map b self.old.book.site.grid) (λ b. P.slot_count b) self.old.planners self.old.book.state.slots
-            → IsTied (λ b. P.fits_map b self.old.book.site.grid) (λ b. P.slot_count b) self.new.planners self.old.book.state.slots }
     {
         match self.plan_parking(alloc, agent, allowed) {
             Ok(path) => self.book.draft_parked(alloc, caller, agent, path),
@@ -392,8 +413,6 @@ impl<P: Planner> Warehouse<P> {
         requires room { 1 ≤ self.old.book.entry_room }
         ensures book { self.new.book ≡ self.old.book }
         ensures drafts { IfOk result (Drafts self.old.book caller (Asked.Request agent)) }
-        ensures tied { IsTied (λ b. P.fits_map b self.old.book.site.grid) (λ b. P.slot_count b) self.old.planners self.old.book.state.slots
-            → IsTied (λ b. P.fits_map b self.old.book.site.grid) (λ b. P.slot_count b) self.new.planners self.new.book.state.slots }
     {
         if let Some(task) = self.book.next(agent, &mut self.near) {
             return self.draft_delivery(alloc, caller, agent, task);
@@ -413,8 +432,6 @@ impl<P: Planner> Warehouse<P> {
         requires room { 1 ≤ self.old.book.entry_room }
         ensures book { self.new.book ≡ self.old.book }
         ensures drafts { IfOk result (Drafts self.old.book caller (Asked.Request agent)) }
-        ensures tied { IsTied (λ b. P.fits_map b self.old.book.site.grid) (λ b. P.slot_count b) self.old.planners self.old.book.state.slots
-            → IsTied (λ b. P.fits_map b self.old.book.site.grid) (λ b. P.slot_count b) self.new.planners self.new.book.state.slots }
     {
         match self.answer_at_once(agent) {
             Some(reply) => {
@@ -436,8 +453,6 @@ impl<P: Planner> Warehouse<P> {
         ensures same { IsSame self.old.book self.new.book }
         ensures drafts { IfOk result (Drafts self.new.book caller (event_of command told)) }
         ensures still { StaySeated command self.old.planners self.new.planners }
-        ensures tied { IsTied (λ b. P.fits_map b self.old.book.site.grid) (λ b. P.slot_count b) self.old.planners self.old.book.state.slots
-            → IsTied (λ b. P.fits_map b self.old.book.site.grid) (λ b. P.slot_count b) self.new.planners self.new.book.state.slots }
     {
         self.book.reserve_entry()?;
         if self.book.closed() {
@@ -464,12 +479,10 @@ impl<P: Planner> Warehouse<P> {
         spare: Option<P>,
     ) -> Result<Ready<P>, (NoMemory, Option<P>)>
         ensures same { IsSame self.old.book self.new.book }
-        ensures tied { IsTied (λ b. P.fits_map b self.old.book.site.grid) (λ b. P.slot_count b) self.old.planners self.old.book.state.slots
-            → IsTied (λ b. P.fits_map b self.old.book.site.grid) (λ b. P.slot_count b) self.new.planners self.new.book.state.slots }
         ensures ready { IfOk result (λ ready. IsReady self.new.book ready.draft) }
         ensures caller { IfOk result (λ ready. ready.draft.entry.caller ≡ caller) }
         ensures event { IfOk result (λ ready. ((told : Told) × (ready.draft.entry.event ≡ event_of command told))) }
-        ensures tells { IfOk result (λ ready. TellsFor (λ b. P.fits_map b self.old.book.site.grid) (λ b. P.slot_count b) spare ready.draft.entry.event) }
+        ensures tells { IfOk result (λ ready. TellsFor P.fits_map P.slot_count self.old.book.site.grid spare ready.draft.entry.event) }
         ensures spare { MatchResult result (λ ready. ready.spare ≡ spare) (λ fault. fault.1 ≡ spare) }
         ensures still { StaySeated command self.old.planners self.new.planners }
     {
@@ -483,17 +496,14 @@ impl<P: Planner> Warehouse<P> {
     /// Commits what was prepared. It takes no memory and always succeeds.
     pub fn commit(&mut self, ready: Ready<P>) -> Committed<P>
         requires ready { IsReady self.old.book ready.draft }
-        requires tells { TellsFor (λ b. P.fits_map b self.old.book.site.grid) (λ b. P.slot_count b) ready.spare ready.draft.entry.event }
+        requires tells { TellsFor P.fits_map P.slot_count self.old.book.site.grid ready.spare ready.draft.entry.event }
         ensures entry { result.entry ≡ ready.draft.entry }
-        ensures site { self.new.book.site ≡ self.old.book.site }
-        ensures opening { self.new.book.opening ≡ self.old.book.opening }
+        ensures stays { StaysAt self.old.book self.new.book }
         ensures history { self.new.book.history ≡ self.old.book.history ++ result.entry ∷ [] }
         ensures step { Step self.old.book.site self.old.book.state result.entry self.new.book.state }
         ensures served { IsFormed self.old.book.site → result.entry.reply ≢ Answer.Refused Reason.NoPath }
         ensures seats { length self.old.planners ≡ length self.old.book.state.paths }
         ensures swaps { Swaps (replaced_agent result.entry) self.old.planners ready.spare self.new.planners result.back }
-        ensures tied { IsTied (λ b. P.fits_map b self.old.book.site.grid) (λ b. P.slot_count b) self.old.planners self.old.book.state.slots
-            → IsTied (λ b. P.fits_map b self.old.book.site.grid) (λ b. P.slot_count b) self.new.planners self.new.book.state.slots }
     {
         let Ready { draft, spare } = ready;
         self.commit_draft(draft, spare)
@@ -502,17 +512,14 @@ impl<P: Planner> Warehouse<P> {
     /// Commits a draft, for which this planner was handed in.
     fn commit_draft(&mut self, draft: Draft, spare: Option<P>) -> Committed<P>
         requires ready { IsReady self.old.book draft }
-        requires tells { TellsFor (λ b. P.fits_map b self.old.book.site.grid) (λ b. P.slot_count b) spare draft.entry.event }
+        requires tells { TellsFor P.fits_map P.slot_count self.old.book.site.grid spare draft.entry.event }
         ensures entry { result.entry ≡ draft.entry }
-        ensures site { self.new.book.site ≡ self.old.book.site }
-        ensures opening { self.new.book.opening ≡ self.old.book.opening }
+        ensures stays { StaysAt self.old.book self.new.book }
         ensures history { self.new.book.history ≡ self.old.book.history ++ result.entry ∷ [] }
         ensures step { Step self.old.book.site self.old.book.state result.entry self.new.book.state }
         ensures served { IsFormed self.old.book.site → result.entry.reply ≢ Answer.Refused Reason.NoPath }
         ensures seats { length self.old.planners ≡ length self.old.book.state.paths }
         ensures swaps { Swaps (replaced_agent result.entry) self.old.planners spare self.new.planners result.back }
-        ensures tied { IsTied (λ b. P.fits_map b self.old.book.site.grid) (λ b. P.slot_count b) self.old.planners self.old.book.state.slots
-            → IsTied (λ b. P.fits_map b self.old.book.site.grid) (λ b. P.slot_count b) self.new.planners self.new.book.state.slots }
     {
         let agent = replaced(&draft.entry);
         self.quiet = self.quiet && leaves_quiet(&draft.entry.reply);
@@ -529,19 +536,16 @@ impl<P: Planner> Warehouse<P> {
         command: Command,
         spare: Option<P>,
     ) -> Result<Committed<P>, (NoMemory, Option<P>)>
-        ensures site { self.new.book.site ≡ self.old.book.site }
-        ensures opening { self.new.book.opening ≡ self.old.book.opening }
+        ensures stays { StaysAt self.old.book self.new.book }
         ensures history { MatchResult result (λ done. self.new.book.history ≡ self.old.book.history ++ done.entry ∷ []) (λ _. self.new.book.history ≡ self.old.book.history) }
         ensures step { MatchResult result (λ done. Step self.old.book.site self.old.book.state done.entry self.new.book.state) (λ _. self.new.book.state ≡ self.old.book.state) }
         ensures served { IfOk result (λ done. IsFormed self.old.book.site → done.entry.reply ≢ Answer.Refused Reason.NoPath) }
         ensures caller { IfOk result (λ done. done.entry.caller ≡ caller) }
         ensures event { IfOk result (λ done. ((told : Told) × (done.entry.event ≡ event_of command told))) }
-        ensures tells { IfOk result (λ done. TellsFor (λ b. P.fits_map b self.old.book.site.grid) (λ b. P.slot_count b) spare done.entry.event) }
+        ensures tells { IfOk result (λ done. TellsFor P.fits_map P.slot_count self.old.book.site.grid spare done.entry.event) }
         ensures spare { IfErr result (λ fault. fault.1 ≡ spare) }
         ensures swaps { IfOk result (λ done. ((mid : List P) × StaySeated command self.old.planners mid × Swaps (replaced_agent done.entry) mid spare self.new.planners done.back)) }
         ensures still { IfErr result (λ _. StaySeated command self.old.planners self.new.planners) }
-        ensures tied { IsTied (λ b. P.fits_map b self.old.book.site.grid) (λ b. P.slot_count b) self.old.planners self.old.book.state.slots
-            → IsTied (λ b. P.fits_map b self.old.book.site.grid) (λ b. P.slot_count b) self.new.planners self.new.book.state.slots }
     {
         let told = self.tell(&spare);
         match self.draft(alloc, caller, command, told) {
@@ -564,8 +568,7 @@ impl<P: Planner> Warehouse<P> {
     /// Answers a request at once, by a reply that changes nothing: whether there was memory for the entry.
     fn add_answer(&mut self, caller: u32, agent: u32, reply: Reply) -> bool
         requires answers { Answers self.old.book.site self.old.book.state reply (Asked.Request agent) self.old.book.state }
-        ensures site { self.new.book.site ≡ self.old.book.site }
-        ensures opening { self.new.book.opening ≡ self.old.book.opening }
+        ensures stays { StaysAt self.old.book self.new.book }
         ensures state { self.new.book.state ≡ self.old.book.state }
         ensures history { MatchBool result (self.new.book.history ≡ self.old.book.history ++ record { caller = caller; event = Asked.Request agent; reply = reply } ∷ []) (self.new.book.history ≡ self.old.book.history) }
         ensures planners { self.new.planners ≡ self.old.planners }
@@ -578,6 +581,30 @@ impl<P: Planner> Warehouse<P> {
         true
     }
 
+    /// Whether a tick is no refusal.
+    fn may_tick(&self) -> bool
+        ensures { IsTrue result → (self.now.book.state.closed ≡ false) × (self.now.book.state.clock < last_clock) }
+    {
+        !self.book.closed() && self.book.clock() < 1_000_000_000
+    }
+
+    /// One step of time at once: whether there was memory for the entry.
+    fn add_tick(&mut self, caller: u32) -> bool
+        requires not_closed { self.old.book.state.closed ≡ false }
+        requires early { self.old.book.state.clock < last_clock }
+        ensures stays { StaysAt self.old.book self.new.book }
+        ensures state { MatchBool result (self.new.book.state ≡ arrived (moved self.old.book.state)) (self.new.book.state ≡ self.old.book.state) }
+        ensures slots { self.new.book.state.slots ≡ self.old.book.state.slots }
+        ensures history { MatchBool result (self.new.book.history ≡ self.old.book.history ++ record { caller = caller; event = Asked.Tick; reply = ticked self.old.book.state } ∷ []) (self.new.book.history ≡ self.old.book.history) }
+        ensures planners { self.new.planners ≡ self.old.planners }
+    {
+        if self.book.reserve_entry().is_err() {
+            return false;
+        }
+        self.book.tick(caller);
+        true
+    }
+
     /// Runs a command, and a Replace of a known agent takes the last spare: whether it added an entry. With none it was
     /// refused for want of memory, and the spare goes back to its place.
     pub fn run_event(
@@ -587,72 +614,33 @@ impl<P: Planner> Warehouse<P> {
         command: &Command,
         spares: &mut Vec<P>,
     ) -> bool
-        ensures site { self.new.book.site ≡ self.old.book.site }
-        ensures opening { self.new.book.opening ≡ self.old.book.opening }
-        ensures moves { ((outcome : Option Line) × (is_some outcome ≡ result) × (self.new.book.history ≡ self.old.book.history ++ entries_of (outcome ∷ []))
-            × Moves (λ b. P.fits_map b self.old.book.site.grid) (λ b. P.slot_count b) self.old.book.site caller command.now outcome self.old.book.state spares.old.items self.new.book.state spares.new.items) }
-        ensures tied { IsTied (λ b. P.fits_map b self.old.book.site.grid) (λ b. P.slot_count b) self.old.planners self.old.book.state.slots
-            → IsTied (λ b. P.fits_map b self.old.book.site.grid) (λ b. P.slot_count b) self.new.planners self.new.book.state.slots }
+        ensures runs { RunsOne P.fits_map P.slot_count caller command.now result self.old.book spares.old.items self.new.book spares.new.items }
     {
         match command {
-            Command::Token { agent } => self.run_request(alloc, caller, *agent, spares),
-            _ => self.run_step(alloc, caller, command.copy(), spares),
+            Command::Token { agent } => match self.answer_at_once(*agent) {
+                Some(reply) => self.add_answer(caller, *agent, reply),
+                None => self.run_step(alloc, caller, command, spares),
+            },
+            Command::Tick if self.may_tick() => self.add_tick(caller),
+            _ => self.run_step(alloc, caller, command, spares),
         }
     }
 
-    /// Runs a request of an agent for the token, as `run_event` does with that command. Most are answered at once, and no
-    /// command is made for these, which has room for nine names.
-    pub fn run_request(
-        &mut self,
-        alloc: Global,
-        caller: u32,
-        agent: u32,
-        spares: &mut Vec<P>,
-    ) -> bool
-        ensures site { self.new.book.site ≡ self.old.book.site }
-        ensures opening { self.new.book.opening ≡ self.old.book.opening }
-        ensures moves { ((outcome : Option Line) × (is_some outcome ≡ result) × (self.new.book.history ≡ self.old.book.history ++ entries_of (outcome ∷ []))
-            × Moves (λ b. P.fits_map b self.old.book.site.grid) (λ b. P.slot_count b) self.old.book.site caller (Command.Token agent) outcome self.old.book.state spares.old.items self.new.book.state spares.new.items) }
-        ensures tied { IsTied (λ b. P.fits_map b self.old.book.site.grid) (λ b. P.slot_count b) self.old.planners self.old.book.state.slots
-            → IsTied (λ b. P.fits_map b self.old.book.site.grid) (λ b. P.slot_count b) self.new.planners self.new.book.state.slots }
-    {
-        match self.answer_at_once(agent) {
-            Some(reply) => self.add_answer(caller, agent, reply),
-            None => self.choose(alloc, caller, agent, spares),
-        }
-    }
-
-    /// Runs a request that is not answered at once.
+    /// Runs a command by a step. It stays a function of its own, since a command has room for nine names, and where none is
+    /// copied it is not even cleared.
     #[inline(never)]
-    fn choose(&mut self, alloc: Global, caller: u32, agent: u32, spares: &mut Vec<P>) -> bool
-        ensures site { self.new.book.site ≡ self.old.book.site }
-        ensures opening { self.new.book.opening ≡ self.old.book.opening }
-        ensures moves { ((outcome : Option Line) × (is_some outcome ≡ result) × (self.new.book.history ≡ self.old.book.history ++ entries_of (outcome ∷ []))
-            × Moves (λ b. P.fits_map b self.old.book.site.grid) (λ b. P.slot_count b) self.old.book.site caller (Command.Token agent) outcome self.old.book.state spares.old.items self.new.book.state spares.new.items) }
-        ensures tied { IsTied (λ b. P.fits_map b self.old.book.site.grid) (λ b. P.slot_count b) self.old.planners self.old.book.state.slots
-            → IsTied (λ b. P.fits_map b self.old.book.site.grid) (λ b. P.slot_count b) self.new.planners self.new.book.state.slots }
-    {
-        self.run_step(alloc, caller, Command::Token { agent }, spares)
-    }
-
-    /// Runs a command by a step.
     fn run_step(
         &mut self,
         alloc: Global,
         caller: u32,
-        command: Command,
+        command: &Command,
         spares: &mut Vec<P>,
     ) -> bool
-        ensures site { self.new.book.site ≡ self.old.book.site }
-        ensures opening { self.new.book.opening ≡ self.old.book.opening }
-        ensures moves { ((outcome : Option Line) × (is_some outcome ≡ result) × (self.new.book.history ≡ self.old.book.history ++ entries_of (outcome ∷ []))
-            × Moves (λ b. P.fits_map b self.old.book.site.grid) (λ b. P.slot_count b) self.old.book.site caller command outcome self.old.book.state spares.old.items self.new.book.state spares.new.items) }
-        ensures tied { IsTied (λ b. P.fits_map b self.old.book.site.grid) (λ b. P.slot_count b) self.old.planners self.old.book.state.slots
-            → IsTied (λ b. P.fits_map b self.old.book.site.grid) (λ b. P.slot_count b) self.new.planners self.new.book.state.slots }
+        ensures runs { RunsOne P.fits_map P.slot_count caller command.now result self.old.book spares.old.items self.new.book spares.new.items }
     {
-        let wants = self.wants_spare(&command);
+        let wants = self.wants_spare(command);
         let spare = if wants { spares.pop() } else { None };
-        match self.step(alloc, caller, command, spare) {
+        match self.step(alloc, caller, command.copy(), spare) {
             Ok(done) => {
                 drop(done);
                 true
@@ -674,17 +662,14 @@ impl<P: Planner> Warehouse<P> {
         commands: &[Command],
         spares: &mut Vec<P>,
     ) -> Ran
-        ensures site { self.new.book.site ≡ self.old.book.site }
-        ensures opening { self.new.book.opening ≡ self.old.book.opening }
+        ensures stays { StaysAt self.old.book self.new.book }
         ensures count { result.entries + result.starved ≡ length commands.now }
         ensures ran { ((outcomes : List (Option Line)) × (self.new.book.history ≡ self.old.book.history ++ entries_of outcomes)
             × (length (entries_of outcomes) ≡ result.entries)
-            × RanBy (λ b. P.fits_map b self.old.book.site.grid) (λ b. P.slot_count b) self.old.book.site caller commands.now outcomes self.old.book.state spares.old.items self.new.book.state spares.new.items) }
+            × RanBy P.fits_map P.slot_count self.old.book.site caller commands.now outcomes self.old.book.state spares.old.items self.new.book.state spares.new.items) }
         ensures run { ((added : List Line) × (self.new.book.history ≡ self.old.book.history ++ added)
             × (length added ≡ result.entries) × Run self.old.book.site self.old.book.state added self.new.book.state
             × (IsFormed self.old.book.site → AllServed added)) }
-        ensures tied { IsTied (λ b. P.fits_map b self.old.book.site.grid) (λ b. P.slot_count b) self.old.planners self.old.book.state.slots
-            → IsTied (λ b. P.fits_map b self.old.book.site.grid) (λ b. P.slot_count b) self.new.planners self.new.book.state.slots }
     {
         let _before = self.book.history();
         let mut entries = 0u64;
@@ -699,28 +684,6 @@ impl<P: Planner> Warehouse<P> {
         }
         Ran { entries, starved }
     }
-}
-
-/// The planner's answer; no memory where it does not fit the grid.
-fn ask<P: Planner>(
-    planner: &mut P,
-    alloc: Global,
-    scene: &Scene,
-    duty: Duty,
-) -> Result<TimedPath, PlanFault>
-    requires agent { scene.now.agent < length scene.now.paths.now }
-    requires resting { steps_left scene.now.paths.now scene.now.agent ≡ 0 }
-    requires free { AllFree scene.now.nofollow scene.now.paths.now }
-    requires duty { IsDuty duty }
-    ensures fits_stays { (g : Floor) → P.fits_map planner.new g ≡ P.fits_map planner.old g }
-    ensures slots_stay { P.slot_count planner.new ≡ P.slot_count planner.old }
-    ensures lawful { IfOk result (IsLawful scene.now.grid.now scene.now.nofollow scene.now.paths.now scene.now.agent (legs duty.entry) (Serves duty.entry)) }
-    ensures no_path { IfErr result (λ fault. fault ≡ PlanFault.NoPath → HasNoClearWay scene.now.grid.now scene.now.paths.now scene.now.agent (Serves duty.entry)) }
-{
-    if !planner.fits(scene.grid) {
-        return Err(PlanFault::NoMemory);
-    }
-    planner.plan(alloc, scene, duty)
 }
 
 /// Puts the spare in the agent's place, and answers the box that is left over.

@@ -8,5 +8,8 @@ mod verifier;
 pub use laws::runs_are_logs;
 pub use verifier::{Verified, verify};
 
+// handed on, for callers: what the items below take, return and speak of
+pub use wh_judge::Book;
+
 #[cfg(test)]
 mod tests;

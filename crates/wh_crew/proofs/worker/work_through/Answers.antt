@@ -5,7 +5,7 @@ use Rattle.wh_crew.proofs.worker.work_through.Goals.{then-not-try_one, else-not-
 use Rattle.wh_crew.proofs.worker.work_through.Goals as goal
 
 pub loop-command-init : goal.loop-command-init
-loop-command-init g c = (search rules, working_nothing (λ b. g.P.Planner.fits_map b g.N.DeskName.origin.site.grid) (λ b. g.P.Planner.slot_count b) c.args.work.spares.items c.args.pass.now)
+loop-command-init g c = (search rules, working_nothing g.P.Planner.fits_map g.P.Planner.slot_count g.N.DeskName.origin.site.grid c.args.work.spares.items c.args.pass.now)
 
 pub loop-command-preserved : goal.loop-command-preserved
 loop-command-preserved g c =
@@ -14,7 +14,7 @@ loop-command-preserved g c =
     let x = c.in-Some.command in
     let all : (done ++ x ∷ []) ++ left ≡ c.args.work.commands.items = append_assoc done (x ∷ []) left ∙ ap (λ l. done ++ l) (sym c.in-Some.ensures.steps.0) ∙ c.loop-command.invariant.0 in (
       all,
-      working_more (λ b. g.P.Planner.fits_map b g.N.DeskName.origin.site.grid) (λ b. g.P.Planner.slot_count b) c.args.work.spares.items done c.args.pass.now c.loop-command.pass c.loop-command.missed c.loop-command.spares.items x c.try_one.result c.try_one.new.pass c.try_one.new.spares.items c.loop-command.invariant.1 c.try_one.ensures c.if-not-try_one.missed
+      working_more g.P.Planner.fits_map g.P.Planner.slot_count g.N.DeskName.origin.site.grid c.args.work.spares.items done c.args.pass.now c.loop-command.pass c.loop-command.missed c.loop-command.spares.items x c.try_one.result c.try_one.new.pass c.try_one.new.spares.items c.loop-command.invariant.1 c.try_one.ensures c.if-not-try_one.missed
           (λ yes. elim c.if-not-try_one.branch [ then-not-try_one w ↦ absurd (cc (yes, w.if-not-try_one.true)) | else-not-try_one w ↦ w.missed-is ])
           (λ no. elim c.if-not-try_one.branch [ then-not-try_one w ↦ w.missed-is | else-not-try_one w ↦ absurd (cc (no, w.if-not-try_one.false)) ]),
     )

@@ -9,6 +9,8 @@ invariant-loop-front l =
     × HasRoom (vec_capacity l.queue) l.table l.queue.items
     × IsListed l.table l.queue.items
     × (l.front.head ≤ length l.queue.items)
+    × (l.fn.front.distance ≤ l.front.distance)
+    × (length l.fn.queue.items ≤ l.fn.front.head → length l.queue.items ≤ l.front.head)
 
 abbrev pub decreases-loop-front : goal.decreases-loop-front
 decreases-loop-front l = length l.table - l.front.distance

@@ -1,7 +1,7 @@
 use Rattle.std.proofs.Common.{ℕ, ◌<◌, sym, subst}
 use Rattle.std.specs.List.{All}
 use Rattle.wh_event.specs.declared.entry.Entry.{Entry}
-use Rattle.wh_desk.specs.Calls.{InOrder}
+use Rattle.wh_crew.specs.Calls.{InOrder}
 use Rattle.wh_live.proofs.run.over_desk.Goals as goal
 
 pub returns-in-Ok-clause-ok : goal.returns-in-Ok-clause-ok

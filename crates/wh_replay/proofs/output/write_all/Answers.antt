@@ -4,5 +4,5 @@ use Rattle.wh_replay.proofs.output.write_all.Goals as goal
 pub loop-preserved : goal.loop-preserved
 loop-preserved g c = record {
   within = rest_long c.args.bytes.now c.loop.done c.in_ok-done.field-0 c.loop.invariant.within c.in_ok-done.ensures.bound;
-  wrote = wrote_rest (g.W.Write.contents c.args.writer.now) (g.W.Write.contents c.loop.writer) (g.W.Write.contents c.write_front.new.writer) c.args.bytes.now c.loop.done c.in_ok-done.field-0 c.loop.invariant.wrote c.in_ok-done.ensures.ok;
+  wrote = wrote_rest (g.W.Write.contents c.args.writer.now) (g.W.Write.contents c.loop.writer) (g.W.Write.contents c.write_front-in-loop.new.writer) c.args.bytes.now c.loop.done c.in_ok-done.field-0 c.loop.invariant.wrote c.in_ok-done.ensures.ok;
 }

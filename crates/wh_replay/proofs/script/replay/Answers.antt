@@ -4,5 +4,5 @@ use Rattle.wh_replay.proofs.script.replay.Goals as goal
 
 pub returns-then-has_failed-clause-fault : goal.returns-then-has_failed-clause-fault
 returns-then-has_failed-clause-fault g c =
-    stops_now (λ grid b. g.P.Planner.fits_map b grid) (λ b. g.P.Planner.slot_count b) c.args.lines.now c.args.lines.now c.args.warehouse.now.book c.args.spares.now.items _ _ _ _ 0 Broken
+    stops_now g.P.Planner.fits_map g.P.Planner.slot_count c.args.lines.now c.args.lines.now c.args.warehouse.now.book c.args.spares.now.items _ _ _ _ 0 Broken
     (follows_start _ _ c.args.lines.now c.args.warehouse.now.book c.args.spares.now.items (g.W.Write.contents c.args.writer.now))

@@ -4,7 +4,7 @@ use Rattle.wh_replay.proofs.script.serve_all.Given as goal
 
 abbrev pub invariant-loop : goal.invariant-loop
 invariant-loop g l = record {
-  follows : Follows (λ grid b. g.P.Planner.fits_map b grid) (λ b. g.P.Planner.slot_count b) l.fn.lines l.lines l.fn.warehouse.book l.fn.spares.items l.warehouse.book l.spares.items
+  follows : Follows g.P.Planner.fits_map g.P.Planner.slot_count l.fn.lines l.lines l.fn.warehouse.book l.fn.spares.items l.warehouse.book l.spares.items
       (g.W.Write.contents l.fn.writer) (g.W.Write.contents l.writer) l.replies;
   few : l.replies ≤ l.counter;
 }

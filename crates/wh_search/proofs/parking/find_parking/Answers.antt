@@ -10,8 +10,8 @@ use Rattle.wh_search.proofs.Parks.{parking_weaker}
 use Rattle.wh_search.proofs.Nearest.{nearest_estimates}
 use Rattle.wh_search.proofs.parking.find_parking.Goals as goal
 
-pub search-requires-clause-errand : goal.search-requires-clause-errand
-search-requires-clause-errand c =
+pub search_straight-requires-clause-errand : goal.search_straight-requires-clause-errand
+search_straight-requires-clause-errand c =
     let g = c.args.grid.now in
     let ends = c.args.allowed.now in
     record {
@@ -23,6 +23,7 @@ search-requires-clause-errand c =
       guided = subst (λ (f : Sources). IsEstimate g [] ends (λ l d. nearest_estimate f.grid f.cells d)) (sym c.in_ok-field.ensures) (nearest_estimates g ends);
       not_sooner = λ k s e. omega arith;
       exact = λ t. cc;
+      none_before = λ q t. omega arith;
     }
 
 pub returns : goal.returns
@@ -30,7 +31,7 @@ returns c =
     let g = c.args.grid.now in
     let o = c.args.others.now in
     let ends = c.args.allowed.now in
-    ok_weaker c.search.result
+    ok_weaker c.search_straight.result
     (λ found. MatchOption found ((q : List Cell) → IsTour g o c.args.loc [] ends q → ⊥) (λ p. IsLeastTour g o c.args.loc [] ends p))
     (λ found. MatchOption found ((q : List Cell) → IsParking g o c.args.loc ends q → ⊥) (λ p. IsLeastParking g o c.args.loc ends p))
-    (λ found h. parking_weaker g o c.args.loc ends found h) c.search.ensures.found
+    (λ found h. parking_weaker g o c.args.loc ends found h) c.search_straight.ensures

@@ -51,7 +51,7 @@ returns-clause-ok g c =
     let reads = reads_all _ _ _ c.in_ok-grid.field-0.grid grid layout _ _ c.in-Ok-new.ensures.ok seats c.in_ok-grid.ensures.ok c.in-Ok.ensures.ok in
     let team = team_at _ c.args.options.now grid _ _ _ _ _ seats c.in-Ok-make_team.ensures.ok in
     let made = c.in-Ok-make_team.team in
-    let lives = subst (λ (text : List ℕ). Lives (λ b. g.P.Planner.fits_map b grid) (λ b. g.P.Planner.slot_count b) site made.planners.items made.works.items c.args.options.now.journal text) (sym c.as_slice.ensures.value) c.in-Ok-run_crew.ensures.ok in
+    let lives = subst (λ (text : List ℕ). Lives g.P.Planner.fits_map g.P.Planner.slot_count site made.planners.items made.works.items c.args.options.now.journal text) (sym c.as_slice.ensures.value) c.in-Ok-run_crew.ensures.ok in
     written _ _ _ c.args.options.now _ _ _ _ _ c.write_text.result
     (hosts _ _ _ c.args.options.now site _ made.planners.items made.works.items _ _ c.as_slice.result.now reads c.requires.makes c.requires.range team lives)
     c.write_text.ensures.ok
@@ -65,7 +65,7 @@ returns-clause-fault g c =
     let reads = reads_all _ _ _ c.in_ok-grid.field-0.grid grid layout _ _ c.in-Ok-new.ensures.ok seats c.in_ok-grid.ensures.ok c.in-Ok.ensures.ok in
     let team = team_at _ c.args.options.now grid _ _ _ _ _ seats c.in-Ok-make_team.ensures.ok in
     let made = c.in-Ok-make_team.team in
-    let lives = subst (λ (text : List ℕ). Lives (λ b. g.P.Planner.fits_map b grid) (λ b. g.P.Planner.slot_count b) site made.planners.items made.works.items c.args.options.now.journal text) (sym c.as_slice.ensures.value) c.in-Ok-run_crew.ensures.ok in
+    let lives = subst (λ (text : List ℕ). Lives g.P.Planner.fits_map g.P.Planner.slot_count site made.planners.items made.works.items c.args.options.now.journal text) (sym c.as_slice.ensures.value) c.in-Ok-run_crew.ensures.ok in
     unwritten _ _ _ c.args.options.now _ _ _ _ _ c.write_text.result
     (hosts _ _ _ c.args.options.now site _ made.planners.items made.works.items _ _ c.as_slice.result.now reads c.requires.makes c.requires.range team lives)
     c.write_text.ensures.fault c.write_text.ensures.front

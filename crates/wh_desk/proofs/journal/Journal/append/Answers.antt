@@ -1,8 +1,10 @@
 use Rattle.std.proofs.Common.{arith, ap, sym, subst, ◌∙◌, ◌≡◌, ◌+◌, ◌<◌, ℕ, List, [], ◌∷◌, ◌++◌, length, Some, slice_get, slice_set}
 use Rattle.std.proofs.lemmas.List.{length-map, length_push}
 use Rattle.wh_event.specs.declared.entry.Entry.{Entry}
-use Rattle.wh_token.specs.Fleet.{replaced_agent}
-use Rattle.wh_board.specs.Pasts.{Past, Extends, grown, past_of}
+use Rattle.wh_points.specs.Points.{Site}
+use Rattle.wh_token.specs.Fleet.{AllFit, replaced_agent}
+use Rattle.wh_board.specs.Pasts.{Origin, Past, Extends, grown, past_of}
+use Rattle.wh_board.proofs.Chains.{extends_same}
 use Rattle.wh_desk.specs.Lists.{entries_of, last_position, Ledger, Received}
 use Rattle.wh_desk.specs.Calls.{HandsBack, IsAskedBy, Reseats}
 use Rattle.wh_desk.specs.declared.pass.Held.{Held}
@@ -12,6 +14,21 @@ use Rattle.wh_desk.proofs.Entries.{last_push, entries_push_same}
 use Rattle.wh_desk.proofs.Receipts.{pass_push, journal_push, past_same, journal_same, journal_refused, shown_next, either_same}
 use Rattle.wh_desk.proofs.Handing.{seated, handed_back, reseats}
 use Rattle.wh_desk.proofs.journal.Journal.append.Goals as goal
+
+-- the publisher's book has just this entry more, as the warehouse's has
+pub publish-told-requires : goal.publish-told-requires
+publish-told-requires g c =
+    let e : Entry = c.in-Ok.made.ready.draft.entry in
+    let was : Past = past_of c.self.inside.warehouse.book in
+    let ready : past_of c.make_ready-made.new.warehouse.book ≡ was = past_same _ _ c.in-Ok.ensures.same in
+    let now : Past = past_of c.commit-entry.new.self.book in
+    let done : c.commit-entry.result.entry ≡ e = c.commit-entry.ensures.entry in
+    let grows : now.history ≡ c.self.inside.warehouse.book.history ++ e ∷ [] = c.commit-entry.ensures.history ∙ ap (λ (d : Entry). c.make_ready-made.new.warehouse.book.history ++ d ∷ []) done ∙ ap (λ (p : Past). p.history ++ e ∷ []) ready in
+    let begins : now.origin ≡ was.origin = (λ i. record { site = c.commit-entry.ensures.stays.site i; opening = c.commit-entry.ensures.stays.opening i }) ∙ ap (λ (p : Past). p.origin) ready in
+    let next : now ≡ grown was e = λ i. record { origin = begins i; history = grows i } in
+    let longer : c.add.new.self.added ≡ grown was e = c.if-not-add.ensures.added ∙ ap (λ (p : Past). grown p c.entry.result.now) c.self.invariant.added_is ∙ ap (λ (y : Entry). grown was y) c.entry.ensures in
+    let here : past_of c.book-2.result.now ≡ now = ap past_of c.book-2.ensures in
+    extends_same _ _ (longer ∙ sym next ∙ sym here)
 
 pub invariant_of-self-then-not-add : goal.invariant_of-self-then-not-add
 invariant_of-self-then-not-add g c =
@@ -50,7 +67,7 @@ invariant_of-self-2 g c =
     let now : Past = past_of c.commit-entry.new.self.book in
     let done : c.commit-entry.result.entry ≡ e = c.commit-entry.ensures.entry in
     let grows : now.history ≡ h ++ e ∷ [] = c.commit-entry.ensures.history ∙ ap (λ (d : Entry). c.make_ready-made.new.warehouse.book.history ++ d ∷ []) done ∙ ap (λ (p : Past). p.history ++ e ∷ []) ready in
-    let begins : now.origin ≡ was.origin = (λ i. record { site = c.commit-entry.ensures.site i; opening = c.commit-entry.ensures.opening i }) ∙ ap (λ (p : Past). p.origin) ready in
+    let begins : now.origin ≡ was.origin = (λ i. record { site = c.commit-entry.ensures.stays.site i; opening = c.commit-entry.ensures.stays.opening i }) ∙ ap (λ (p : Past). p.origin) ready in
     let room : length h < c.self.inside.capacity = omega (arith, ap (λ (s : Ledger g.row.P.Denot). length s.history) c.self.view_is, ap (λ (s : Ledger g.row.P.Denot). s.capacity) c.self.view_is, c.requires.room) in
     let place : length h ≡ at = sym (ap length c.history.ensures.value) in
     let mine : e.caller ≡ caller = c.in-Ok.ensures.caller in
@@ -78,8 +95,12 @@ pub returns-clause-back : goal.returns-clause-back
 returns-clause-back g c =
     let old = c.make_ready-made.new.warehouse in
     let entry = c.commit-entry.result.entry in
-    let back = handed_back (replaced_agent entry) old.planners c.in-Ok.made.ready.spare c.commit-entry.new.self.planners c.commit-entry.result.back (λ agent is. omega (arith, c.commit-entry.ensures.seats, seated old.book.site old.book.state entry.reply entry.event c.commit-entry.new.self.book.state agent c.commit-entry.ensures.step is)) c.commit-entry.ensures.swaps in
-    subst (λ handed. HandsBack (replaced_agent entry) handed c.commit-entry.result.back) c.in-Ok.ensures.spare back
+    let fits = g.P.Planner.fits_map in
+    let origin = g.N.DeskName.origin in
+    let site : old.book.site ≡ origin.site = ap (λ (p : Past). p.origin.site) (past_same _ _ c.in-Ok.ensures.same) ∙ ap (λ (o : Origin). o.site) c.self.invariant.origin_is in
+    let fit : AllFit fits origin.site.grid old.planners = subst (λ (s : Site). AllFit fits s.grid old.planners) site c.planners-seated.ensures.tied.fit in
+    let back = handed_back fits origin.site.grid (replaced_agent entry) old.planners c.in-Ok.made.ready.spare c.commit-entry.new.self.planners c.commit-entry.result.back (λ agent is. omega (arith, c.commit-entry.ensures.seats, seated old.book.site old.book.state entry.reply entry.event c.commit-entry.new.self.book.state agent c.commit-entry.ensures.step is)) fit c.commit-entry.ensures.swaps in
+    subst (λ handed. HandsBack fits origin.site.grid (replaced_agent entry) handed c.commit-entry.result.back) c.in-Ok.ensures.spare back
 
 pub returns-clause-reseats : goal.returns-clause-reseats
 returns-clause-reseats g c =

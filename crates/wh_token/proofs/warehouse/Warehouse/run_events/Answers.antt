@@ -9,26 +9,22 @@ use Rattle.wh_token.proofs.warehouse.Warehouse.run_events.Goals as goal
 pub loop-command-preserved : goal.loop-command-preserved
 loop-command-preserved g c =
     let before = c.loop-command.invariant in
-    let moves = c.run_event-added.ensures.moves in
-    let tied = rw before.site at c.run_event-added.ensures.tied in
+    let one = c.run_event-added.ensures.runs in
     let outcomes = before.ran.0 in
-    let outcome = moves.0 in
     record {
-      site = c.run_event-added.ensures.site ∙ before.site;
-      opening = c.run_event-added.ensures.opening ∙ before.opening;
+      stays = record { site = one.stays.site ∙ before.stays.site; opening = one.stays.opening ∙ before.stays.opening };
       count = elim c.if-added.branch [ then-added w ↦ omega arith | else-added w ↦ omega arith ];
       ran = (
-        outcomes ++ outcome ∷ [],
-        history-more _ _ _ outcomes outcome before.ran.1 moves.2,
+        outcomes ++ one.outcome ∷ [],
+        history-more _ _ _ outcomes one.outcome before.ran.1 one.history,
         elim c.if-added.branch [
-          | then-added w ↦ rw w.entries-is (length-added outcomes outcome _ before.ran.2 (moves.1 ∙ w.if-added.true))
-          | else-added w ↦ rw w.entries-is (length-kept outcomes outcome _ before.ran.2 (moves.1 ∙ w.if-added.false))
+          | then-added w ↦ rw w.entries-is (length-added outcomes one.outcome _ before.ran.2 (one.added_is ∙ w.if-added.true))
+          | else-added w ↦ rw w.entries-is (length-kept outcomes one.outcome _ before.ran.2 (one.added_is ∙ w.if-added.false))
         ],
-        ran-take-at (λ grid b. g.P.Planner.fits_map b grid) (λ b. g.P.Planner.slot_count b) c.args.self.now.book.site c.loop-command.self.book.site c.args.caller c.args.commands.now c.loop-command.command-index c.command-item.result outcomes outcome
+        ran-take-at g.P.Planner.fits_map g.P.Planner.slot_count c.args.self.now.book.site c.loop-command.self.book.site c.args.caller c.args.commands.now c.loop-command.command-index c.command-item.result outcomes one.outcome
             c.args.self.now.book.state c.args.spares.now.items _ _ c.run_event-added.new.self.book.state c.run_event-added.new.spares.items
-            before.site c.loop-command-test.true c.command-item.is before.ran.3 moves.3,
+            before.stays.site c.loop-command-test.true c.command-item.is before.ran.3 one.moves,
       );
-      tied = λ first. tied (before.tied first);
     }
 
 pub returns-clause-run : goal.returns-clause-run

@@ -1,22 +1,15 @@
 use Rattle.std.proofs.Common.{◌≡◌, ◌+◌, List, ◌++◌, length, take}
 use Rattle.std.specs.Prelude.{Option}
 use Rattle.wh_token.specs.Runs.{Ran, entries_of}
-use Rattle.wh_token.specs.Fleet.{IsTied}
+use Rattle.wh_token.specs.Houses.{StaysAt}
 use Rattle.wh_event.specs.declared.entry.Entry.{Entry}
 use Rattle.wh_token.proofs.warehouse.Warehouse.run_events.Given as goal
 
 abbrev pub invariant-loop-command : goal.invariant-loop-command
 invariant-loop-command g l = record {
-  site : l.self.book.site ≡ l.fn.self.book.site;
-  opening : l.self.book.opening ≡ l.fn.self.book.opening;
+  stays : StaysAt l.fn.self.book l.self.book;
   count : l.entries + l.starved ≡ l.command-index;
   ran : (outcomes : List (Option Entry)) × (l.self.book.history ≡ l.fn.self.book.history ++ entries_of outcomes)
       × (length (entries_of outcomes) ≡ l.entries)
-      × Ran (λ b. g.P.Planner.fits_map b l.fn.self.book.site.grid)
-      (λ b. g.P.Planner.slot_count b)
-      l.fn.self.book.site l.caller (take l.command-index l.commands) outcomes l.fn.self.book.state l.fn.spares.items l.self.book.state l.spares.items;
-  tied : IsTied (λ b. g.P.Planner.fits_map b l.fn.self.book.site.grid)
-      (λ b. g.P.Planner.slot_count b) l.fn.self.planners l.fn.self.book.state.slots
-      → IsTied (λ b. g.P.Planner.fits_map b l.fn.self.book.site.grid)
-      (λ b. g.P.Planner.slot_count b) l.self.planners l.self.book.state.slots;
+      × Ran g.P.Planner.fits_map g.P.Planner.slot_count l.fn.self.book.site l.caller (take l.command-index l.commands) outcomes l.fn.self.book.state l.fn.spares.items l.self.book.state l.spares.items;
 }

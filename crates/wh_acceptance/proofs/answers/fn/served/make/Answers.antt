@@ -15,10 +15,10 @@ returns-in_ok-new-in-Near g c =
     record {
       on_grid =
           read_made (dyn-1-ghosts g.dyn-1).0 _ (has.at tt) (has.same tt) Bool (λ j v. j.1.fits_map v c.args.parts.grid.value) _ _ _ made
-          ∙ same_at _ _ (ap (λ n. n.grid) inner ∙ c.in_ok-near-in-Near.ensures.grid);
+          ∙ same_at _ _ (ap (λ n. n.grid) inner ∙ c.in_ok-sharing-in-Near.ensures.grid);
       has_slots =
           read_made (dyn-1-ghosts g.dyn-1).0 _ (has.at tt) (has.same tt) ℕ (λ j v. j.1.slot_count v) _ _ _ made
-          ∙ ap (λ n. claim_amount n.claim) inner ∙ ap claim_amount c.in_ok-near-in-Near.ensures.claim;
+          ∙ ap (λ n. claim_amount n.claim) inner ∙ ap claim_amount c.in_ok-sharing-in-Near.ensures.claim;
     }
 
 pub returns-in_ok-new-in-Patient : goal.returns-in_ok-new-in-Patient

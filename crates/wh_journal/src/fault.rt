@@ -1,0 +1,32 @@
+//! Why a script was not served to its end.
+#![tactic(auto)]
+
+ghost use Rattle.std.specs.Prelude.{◌≡◌};
+ghost use Rattle.wh_journal.specs.Faults.{fault_of};
+
+use wh_lines::{LineFault, ReadFault};
+
+/// Why a script was not served to its end.
+#[derive(Clone, Copy, Debug, PartialEq, Eq)]
+pub enum JournaledFault {
+    /// X1: the reader failed, or a fault came before.
+    Broken,
+    /// X2: the reader was asked 100,000,000 times.
+    Endless,
+    /// X3: the writer failed, took no byte, or could not be flushed.
+    Unwritten,
+    /// X5: the journal failed.
+    Unjournaled,
+    /// E90: memory was wanting for replies or lines that wait.
+    NoMemory,
+}
+
+pub(crate) fn read_fault(fault: LineFault) -> JournaledFault
+    ensures { result ≡ fault_of fault }
+{
+    match fault {
+        LineFault::Read(ReadFault::Broken) => JournaledFault::Broken,
+        LineFault::Read(ReadFault::Endless) => JournaledFault::Endless,
+        LineFault::Flush => JournaledFault::Unwritten,
+    }
+}

@@ -1,0 +1,54 @@
+//! A script that is served over a journal.
+#![tactic(auto)]
+
+ghost use Rattle.std.specs.Prelude.{◌≡◌, true, IfErr, OnOk, OnErr};
+ghost use Rattle.std.specs.Io.KnownBytes.{Keeps};
+ghost use Rattle.wh_journal.specs.Journals.{Journaled, ReplaysJournaled};
+ghost use Rattle.wh_journal.specs.Surviving.{HoldsLog, StaysLog};
+
+use crate::fault::JournaledFault;
+use crate::journal::Journal;
+use crate::rounds::{Round, serve_round};
+use std::alloc::Global;
+use std::io::{Read, Write};
+use wh_lines::Lines;
+use wh_planner::Planner;
+use wh_token::Warehouse;
+
+/// Serves the script that is left in the reader, to the reader's end, as `wh_replay::replay` does, but that what follows the
+/// last line feed is no line: a command that was cut is not served. It has the journal keep each entry before its reply is
+/// told: in rounds, before each read that may wait and at the end, the lines of all new entries are appended and synced, and
+/// then the replies that waited are written. A fault of the journal stops it, and then no reply is told whose entry does not
+/// stand in the journal.
+pub fn replay_journaled<R: Read, W: Write, J: Journal, P: Planner>(
+    lines: &mut Lines<R>,
+    alloc: Global,
+    journal: &mut J,
+    writer: &mut W,
+    warehouse: &mut Warehouse<P>,
+    spares: &mut Vec<P>,
+) -> Result<(), JournaledFault>
+    requires synced { J.synced journal.old ≡ J.contents journal.old }
+    // A journal that tells its bytes is the book's log, but for the end line.
+    requires log { HoldsLog (J.contents journal.old) warehouse.old.book }
+    ensures ok { OnOk result (ReplaysJournaled P.fits_map P.slot_count lines.old lines.new warehouse.old.book spares.old.items warehouse.new.book spares.new.items (W.contents writer.old) (W.contents writer.new) (J.contents journal.old) (J.synced journal.new) (J.contents journal.new)) }
+    // It stays so.
+    ensures log { OnOk result (StaysLog (J.contents journal.old) (J.contents journal.new) warehouse.new.book) }
+    ensures fault { IfErr result (λ fault. Journaled P.fits_map P.slot_count fault lines.old lines.new warehouse.old.book spares.old.items warehouse.new.book spares.new.items (W.contents writer.old) (W.contents writer.new) (J.contents journal.old) (J.failed journal.new) (J.synced journal.new) (J.contents journal.new)) }
+    // After a fault there is nothing more.
+    ensures failed { OnErr result (lines.new.failed ≡ true) }
+    ensures again { lines.old.failed ≡ true → (result ≡ Err JournaledFault.Broken) × (lines.new ≡ lines.old) × (warehouse.new.book ≡ warehouse.old.book) × (spares.new.items ≡ spares.old.items) × (journal.new ≡ journal.old) × Keeps (W.contents writer.old) (W.contents writer.new) }
+{
+    if lines.has_failed() {
+        return Err(JournaledFault::Broken);
+    }
+    for _ in 0..u64::MAX {
+        match serve_round(lines, alloc, journal, writer, warehouse, spares) {
+            Ok(Round::Served) => {}
+            Ok(Round::Ended) => return Ok(()),
+            Err(fault) => return Err(fault),
+        }
+    }
+    lines.fail();
+    Err(JournaledFault::Endless)
+}

@@ -1,0 +1,96 @@
+//! The searches of a planner: through the stops of a task, and to a parking cell.
+#![tactic(auto)]
+
+ghost use Rattle.std.specs.Prelude.{◌≡◌, ℕ, ◌<◌, ◌≤◌, IfOk, IfErr, List, Contains, length};
+ghost use Rattle.wh_grid.specs.declared.cell.Cell.{Cell};
+ghost use Rattle.wh_path.specs.Paths.{AllFree, steps_left};
+ghost use Rattle.wh_search.specs.Deliveries.{AreStops};
+ghost use Rattle.wh_planner.specs.Duties.{Delivers, ParksAt, IsLawful};
+ghost use Rattle.wh_planners.specs.Services.{HasNoService, HasNoShorter, others_of};
+ghost use Rattle.wh_shared.specs.Shares.{stored_grid, room, slots};
+
+use crate::deliver::deliver_shared;
+use std::alloc::{AllocError, Global};
+use wh_grid::Cell;
+use wh_path::TimedPath;
+use wh_planner::{PlanFault, Scene};
+use wh_resv::Reservations;
+use wh_search::{Fault, SearchMemory, park_in};
+use wh_shared::{Share, SharedFields};
+
+/// The paths of all agents but the one that asks. The error comes where memory is wanting, or the agent's number has
+/// more than 32 bits.
+fn reserve<'a>(alloc: Global, scene: &Scene<'a>) -> Result<Reservations<'a>, AllocError>
+    requires agent { scene.now.agent < length scene.now.paths.now }
+    ensures { IfOk result (λ r. r ≡ others_of scene.now.nofollow scene.now.paths.now scene.now.agent) }
+{
+    let Ok(agent) = u32::try_from(scene.agent) else {
+        return Err(AllocError);
+    };
+    Reservations::build(alloc, scene.paths, agent, scene.nofollow)
+}
+
+/// A least lawful path through the stops.
+pub fn plan_delivery(
+    alloc: Global,
+    fields: &mut SharedFields,
+    share: &mut Share,
+    memory: &mut SearchMemory,
+    scene: &Scene,
+    stops: &[Cell],
+) -> Result<TimedPath, PlanFault>
+    requires fits { stored_grid fields.old ≡ scene.now.grid.now }
+    requires agent { scene.now.agent < length scene.now.paths.now }
+    requires resting { steps_left scene.now.paths.now scene.now.agent ≡ 0 }
+    requires free { AllFree scene.now.nofollow scene.now.paths.now }
+    requires stops { AreStops stops.now }
+    ensures room { room fields.new ≡ room fields.old }
+    ensures grid { stored_grid fields.new ≡ stored_grid fields.old }
+    ensures slots { slots share.new ≡ slots share.old }
+    ensures lawful { IfOk result (IsLawful scene.now.grid.now scene.now.nofollow scene.now.paths.now scene.now.agent (length stops.now) (Delivers stops.now)) }
+    ensures least { IfOk result (HasNoShorter scene.now.grid.now scene.now.nofollow scene.now.paths.now scene.now.agent (Delivers stops.now)) }
+    ensures none { IfErr result (λ fault. fault ≡ PlanFault.NoPath → HasNoService scene.now.grid.now scene.now.nofollow scene.now.paths.now scene.now.agent (Delivers stops.now)) }
+{
+    let loc = scene.paths[scene.agent].at(0);
+    if !scene.grid.passable(loc) {
+        return Err(PlanFault::NoPath);
+    }
+    match reserve(alloc, scene) {
+        Ok(others) => match deliver_shared(
+            alloc, fields, share, memory, scene.grid, &others, loc, stops,
+        ) {
+            Ok(path) => Ok(path),
+            Err(Fault::NoPath) => Err(PlanFault::NoPath),
+            Err(Fault::NoMemory) => Err(PlanFault::NoMemory),
+        },
+        Err(_) => Err(PlanFault::NoMemory),
+    }
+}
+
+/// A least lawful path to one of the allowed cells.
+pub fn plan_parking(
+    alloc: Global,
+    memory: &mut SearchMemory,
+    scene: &Scene,
+    allowed: &[Cell],
+) -> Result<TimedPath, PlanFault>
+    requires agent { scene.now.agent < length scene.now.paths.now }
+    requires resting { steps_left scene.now.paths.now scene.now.agent ≡ 0 }
+    requires free { AllFree scene.now.nofollow scene.now.paths.now }
+    ensures lawful { IfOk result (IsLawful scene.now.grid.now scene.now.nofollow scene.now.paths.now scene.now.agent 2 (ParksAt (Contains allowed.now))) }
+    ensures least { IfOk result (HasNoShorter scene.now.grid.now scene.now.nofollow scene.now.paths.now scene.now.agent (ParksAt (Contains allowed.now))) }
+    ensures none { IfErr result (λ fault. fault ≡ PlanFault.NoPath → HasNoService scene.now.grid.now scene.now.nofollow scene.now.paths.now scene.now.agent (ParksAt (Contains allowed.now))) }
+{
+    let loc = scene.paths[scene.agent].at(0);
+    if !scene.grid.passable(loc) {
+        return Err(PlanFault::NoPath);
+    }
+    match reserve(alloc, scene) {
+        Ok(others) => match park_in(alloc, memory, scene.grid, &others, loc, allowed) {
+            Ok(path) => Ok(path),
+            Err(Fault::NoPath) => Err(PlanFault::NoPath),
+            Err(Fault::NoMemory) => Err(PlanFault::NoMemory),
+        },
+        Err(_) => Err(PlanFault::NoMemory),
+    }
+}

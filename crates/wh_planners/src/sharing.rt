@@ -1,0 +1,129 @@
+//! The planner that searches for a least path, guided by distance fields that all planners share.
+#![tactic(auto)]
+
+ghost use Rattle.std.specs.Prelude.{◌≡◌, ◌<◌, ◌≤◌, IfOk, IfErr, [], length};
+ghost use Rattle.wh_grid.specs.Grids.{Floor, same_floor};
+ghost use Rattle.wh_path.specs.Paths.{AllFree, steps_left};
+ghost use Rattle.wh_planner.specs.Duties.{IsLawful, HasNoClearWay};
+ghost use Rattle.wh_planner.specs.Asked.{IsDuty, Serves, legs};
+ghost use Rattle.wh_claims.specs.Claim.{claim_amount};
+ghost use Rattle.wh_planners.specs.Services.{HasNoService, HasNoShorter};
+ghost use Rattle.wh_shared.specs.Shares.{stored_grid, room};
+
+use crate::searches::{plan_delivery, plan_parking};
+use std::alloc::{AllocError, Global};
+use std::marker::Model;
+use std::num::NonZeroUsize;
+use std::sync::Arc;
+use wh_claims::Claim;
+use wh_grid::Grid;
+use wh_path::TimedPath;
+use wh_planner::{Duty, PlanFault, Planner, Scene};
+use wh_search::SearchMemory;
+use wh_shared::{Share, SharedFields};
+
+/// Searches for a least path by fields that are lent to it, and counts one as kept for each slot of its claim. Where it
+/// is dropped, its claim gives the slots back.
+#[derive(Drop)]
+pub struct Sharing {
+    grid: Arc<Grid, Global>,
+    claim: Claim,
+    share: Share,
+    memory: SearchMemory,
+}
+
+impl Model for Sharing {
+    ghost use Rattle.wh_shared.specs.Shares.{kept_stops};
+    ghost use Rattle.wh_planners.specs.Sharing.{Sharer, HasShare};
+
+    ghost Value = { Sharer };
+
+    ghost view = { λ n. record { grid = n.grid.value; claim = n.claim; kept = kept_stops n.share } };
+
+    ghost invariant = { λ n. HasShare n.claim n.share };
+}
+
+impl Sharing {
+    /// A searching planner on a grid, with the slots of a claim: 2 to 64 of them, that counts no field as kept yet. The
+    /// error comes where memory is wanting, and the claim is dropped.
+    pub fn new(alloc: Global, grid: Arc<Grid, Global>, claim: Claim) -> Result<Sharing, AllocError>
+        requires at_least { 2 ≤ claim_amount claim }
+        requires at_most { claim_amount claim ≤ 64 }
+        ensures grid { IfOk result (λ n. n.grid ≡ grid.value) }
+        ensures claim { IfOk result (λ n. n.claim ≡ claim) }
+        ensures kept { IfOk result (λ n. n.kept ≡ []) }
+    {
+        let Some(most) = NonZeroUsize::new(claim.amount() as usize) else {
+            unreachable!()
+        };
+        let share = Share::new(alloc, most)?;
+        Ok(Sharing {
+            grid,
+            claim,
+            share,
+            memory: SearchMemory::empty(alloc),
+        })
+    }
+
+    /// How many distance fields it counts as kept at the moment: no more than its slots.
+    pub fn kept(&self) -> usize
+        ensures value { result ≡ length self.now.kept }
+        ensures at_most { result ≤ claim_amount self.now.claim }
+    {
+        self.share.kept()
+    }
+}
+
+impl Planner for Sharing {
+    ghost fits_map = { λ n g. same_floor n.grid g };
+
+    ghost slot_count = { λ n. claim_amount n.claim };
+
+    fn fits(&self, grid: &Grid) -> bool {
+        self.grid.same(grid)
+    }
+
+    fn slots(&self) -> u32
+        ensures value { result ≡ claim_amount self.now.claim }
+        ensures at_least { 2 ≤ result }
+        ensures at_most { result ≤ 64 }
+    {
+        self.claim.amount()
+    }
+
+    fn plan(
+        &mut self,
+        alloc: Global,
+        fields: &mut SharedFields,
+        scene: &Scene,
+        duty: Duty,
+    ) -> Result<TimedPath, PlanFault>
+        requires stored { stored_grid fields.old ≡ scene.now.grid.now }
+        requires agent { scene.now.agent < length scene.now.paths.now }
+        requires resting { steps_left scene.now.paths.now scene.now.agent ≡ 0 }
+        requires free { AllFree scene.now.nofollow scene.now.paths.now }
+        requires duty { IsDuty duty }
+        ensures grid_stays { self.new.grid ≡ self.old.grid }
+        ensures claim_stays { self.new.claim ≡ self.old.claim }
+        ensures fits_stays { (g : Floor) → same_floor self.new.grid g ≡ same_floor self.old.grid g }
+        ensures slots_stay { claim_amount self.new.claim ≡ claim_amount self.old.claim }
+        ensures room_stays { room fields.new ≡ room fields.old }
+        ensures stored_stays { stored_grid fields.new ≡ stored_grid fields.old }
+        ensures lawful { IfOk result (IsLawful scene.now.grid.now scene.now.nofollow scene.now.paths.now scene.now.agent (legs duty.entry) (Serves duty.entry)) }
+        ensures least { IfOk result (HasNoShorter scene.now.grid.now scene.now.nofollow scene.now.paths.now scene.now.agent (Serves duty.entry)) }
+        ensures none { IfErr result (λ fault. fault ≡ PlanFault.NoPath → HasNoService scene.now.grid.now scene.now.nofollow scene.now.paths.now scene.now.agent (Serves duty.entry)) }
+        ensures no_path { IfErr result (λ fault. fault ≡ PlanFault.NoPath → HasNoClearWay scene.now.grid.now scene.now.paths.now scene.now.agent (Serves duty.entry)) }
+    {
+        match duty {
+            Duty::Deliver { stops } => plan_delivery(
+                alloc,
+                fields,
+                &mut self.share,
+                &mut self.memory,
+                scene,
+                stops,
+            ),
+            Duty::Park { allowed } => plan_parking(alloc, &mut self.memory, scene, allowed),
+        }
+    }
+}

@@ -1,0 +1,125 @@
+-- Whole lines at the front of a text.
+use Rattle.std.proofs.Common.{◌≡◌, ◌≤◌, ◌<◌, ◌+◌, ◌-◌, ◌⊎◌, ℕ, inl, inr, List, [], ◌∷◌, ◌++◌, length, take, refl, sym, ap, ◌∙◌, subst, arith, length-append, append-nil}
+use Rattle.std.specs.List.{AllByRecursion}
+use Rattle.wh_points.specs.Points.{Site}
+use Rattle.wh_words.specs.Lines.{IsLine, text_of}
+use Rattle.wh_log.specs.declared.version.Version.{Version}
+use Rattle.wh_log.specs.Logs.{head_line}
+use Rattle.wh_log.specs.FirstBad.{Begins, IsFirstBad}
+use Rattle.wh_log.specs.Torn.{IsUnopened}
+use Rattle.wh_log.proofs.LineLaws.{one_line, not_whole, one_text}
+use Rattle.wh_log.proofs.HeadLaws.{head_is_line}
+use Rattle.wh_log.proofs.Fronts.{all_append}
+use Rattle.wh_log.proofs.Following.{one_more}
+use Rattle.wh_resume.specs.declared.recovery.Resumed.{Resumed}
+use Rattle.wh_resume.specs.declared.recovery.Recovery.{Recovery}
+use Rattle.wh_resume.specs.declared.recovery.Recovery.TheVariants as told
+use Rattle.wh_resume.specs.Resuming.{IsRunOf, IsFront, EndsBefore, BreaksOff, BeginsOtherwise, TellsOther, Tells, FrontsAreResumed}
+
+-- as many lines at the front of one text are the same lines
+pub same_lines : (a b : List (List ℕ)) (x y : List ℕ) → AllByRecursion IsLine a → AllByRecursion IsLine b → length a ≡ length b → text_of a ++ x ≡ text_of b ++ y → a ≡ b
+same_lines [] [] x y h k many e = refl
+same_lines [] (l ∷ b) x y h k many e = absurd (omega (arith, many))
+same_lines (l ∷ a) [] x y h k many e = absurd (omega (arith, many))
+same_lines (l ∷ a) (m ∷ b) x y h k many e =
+    let cut = one_line l m (text_of a ++ x) (text_of b ++ y) h.0 k.0 (sym (one_text l a x) ∙ e ∙ one_text m b y) in
+    let rest : a ≡ b = same_lines a b x y h.1 k.1 (omega (arith, many)) cut.1 in
+    ap (λ (n : List ℕ). n ∷ a) cut.0 ∙ ap (λ (ls : List (List ℕ)). m ∷ ls) rest
+
+-- lines, and a rest with no line feed, are not the text of more lines
+pub fewer_lines : (a b : List (List ℕ)) (x y : List ℕ) → AllByRecursion IsLine a → AllByRecursion IsLine b → IsLine x → length a < length b → text_of a ++ x ≡ text_of b ++ y → ⊥
+fewer_lines a [] x y h k is less e = omega (arith, less)
+fewer_lines [] (m ∷ b) x y h k is less e = not_whole x m (text_of b ++ y) is (e ∙ one_text m b y)
+fewer_lines (l ∷ a) (m ∷ b) x y h k is less e =
+    let cut = one_line l m (text_of a ++ x) (text_of b ++ y) h.0 k.0 (sym (one_text l a x) ∙ e ∙ one_text m b y) in
+    fewer_lines a b x y h.1 k.1 is (omega (arith, less)) cut.1
+
+-- the whole lines before this one were walked over, and this is the rest
+pub record Walked (text rest : List ℕ) (line : ℕ) : Type 0 where
+  pub before : List (List ℕ)
+  pub lines : AllByRecursion IsLine before
+  pub parts : text ≡ text_of before ++ rest
+  pub place : line ≡ length before + 1
+
+pub walked_none : (text : List ℕ) → Walked text text 1
+walked_none text = record { before = []; lines = tt; parts = refl; place = refl }
+
+pub walked_line : (text rest : List ℕ) (count : ℕ) (line after : List ℕ) → Walked text rest count → IsLine line → rest ≡ line ++ 10 ∷ after → Walked text after (count + 1)
+walked_line text rest count line after w is e = record {
+  before = w.before ++ line ∷ [];
+  lines = all_append IsLine w.before (line ∷ []) w.lines (is, tt);
+  parts = w.parts ∙ ap (λ (t : List ℕ). text_of w.before ++ t) e ∙ one_more w.before line after;
+  place = omega (arith, w.place, length-append w.before (line ∷ []));
+}
+
+pub walked_all : (text rest : List ℕ) (count line : ℕ) (before : List (List ℕ)) (other : List ℕ) → Walked text rest count → line ≤ count → (1 ≤ line → count ≤ line) → AllByRecursion IsLine before → text ≡ text_of before ++ other
+    → line ≡ length before + 1 → length text - length rest ≡ length (text_of before)
+walked_all text rest count line before other w least most h e place =
+    let upper : count ≤ line = most (omega (arith, place)) in
+    let same : w.before ≡ before = same_lines w.before before rest other w.lines h (omega (arith, w.place, place, least, upper)) (sym w.parts ∙ e) in
+    omega (arith, ap length w.parts, length-append (text_of w.before) rest, ap (λ (ls : List (List ℕ)). length (text_of ls)) same)
+
+pub walked_less : (text rest : List ℕ) (count line : ℕ) (before : List (List ℕ)) (other : List ℕ) → Walked text rest count → IsLine rest → count < line → AllByRecursion IsLine before → text ≡ text_of before ++ other
+    → line ≡ length before + 1 → ⊥
+walked_less text rest count line before other w is less h e place = fewer_lines w.before before rest other w.lines h is (omega (arith, w.place, place, less)) (sym w.parts ∙ e)
+
+pub ends_before_one : (text line rest : List ℕ) → IsLine line → text ≡ line ++ 10 ∷ rest → EndsBefore text 2 (length text - length rest)
+ends_before_one text line rest is e =
+    let parts : text ≡ text_of (line ∷ []) ++ rest = e ∙ sym (one_text line [] rest) in
+    record {
+      before = line ∷ [];
+      rest = rest;
+      lines = (is, tt);
+      parts = parts;
+      place = refl;
+      bytes_are = omega (arith, ap length parts, length-append (text_of (line ∷ [])) rest);
+    }
+
+pub other_told : (site : Site) (begun text : List ℕ) (said : Recovery) → TellsOther text said → IsUnopened text → (IsFront text begun → ⊥) → Tells site begun text said
+other_told site begun text (told.Resumed r) t unopened other = absurd t
+other_told site begun text (told.Unopened setting) t unopened other = absurd t
+other_told site begun text (told.Bad line bytes) t unopened other = (t, inr (record { unopened = unopened; other = other }))
+
+-- where two lines stand whole a run was begun
+pub not_unopened : (before : List (List ℕ)) (rest : List ℕ) → AllByRecursion IsLine before → 2 ≤ length before → IsUnopened (text_of before ++ rest) → ⊥
+not_unopened before rest h two (inl none) = fewer_lines [] before (text_of before ++ rest) rest tt h none (omega (arith, two)) refl
+not_unopened before rest h two (inr one) =
+    fewer_lines (head_line one.0 ∷ []) before one.1 rest (head_is_line one.0, tt) h one.2 (omega (arith, two)) (one_text (head_line one.0) [] one.1 ∙ sym one.3)
+
+take_front : (xs ys : List ℕ) → take (length xs) (xs ++ ys) ≡ xs
+take_front [] ys = refl
+take_front (x ∷ xs) ys = ap (λ (l : List ℕ). x ∷ l) (take_front xs ys)
+
+-- the bytes before the line
+pub front_is : (text : List ℕ) (line bytes : ℕ) (e : EndsBefore text line bytes) → take bytes text ≡ text_of e.before
+front_is text line bytes e = ap (λ (n : ℕ). take n text) e.bytes_are ∙ ap (λ (t : List ℕ). take (length (text_of e.before)) t) e.parts ∙ take_front (text_of e.before) e.rest
+
+-- where a run begins with two lines or more, it is found
+begun_is_resumed : (site : Site) (other text : List ℕ) (before : List (List ℕ)) (said : Recovery) → AllByRecursion IsLine before → 2 ≤ length before → text ≡ text_of before ++ []
+    → Begins (IsRunOf site) text → Tells site other text said → (r : Resumed) × (said ≡ told.Resumed r)
+begun_is_resumed site other text before (told.Resumed r) h two is begins t = (r, refl)
+begun_is_resumed site other text before (told.Unopened setting) h two is begins t = absurd (not_unopened before [] h two (subst (λ (x : List ℕ). IsUnopened x) is t.0))
+begun_is_resumed site other text before (told.Bad line bytes) h two is begins (e, inl breaks) = absurd (breaks.never begins)
+begun_is_resumed site other text before (told.Bad line bytes) h two is begins (e, inr otherwise) = absurd (not_unopened before [] h two (subst (λ (x : List ℕ). IsUnopened x) is otherwise.unopened))
+
+front_resumed : (site : Site) (begun other text : List ℕ) (line bytes : ℕ) (said : Recovery) (e : EndsBefore text line bytes) → BreaksOff site text line ⊎ BeginsOtherwise begun text → 3 ≤ line
+    → Tells site other (take bytes text) said → (r : Resumed) × (said ≡ told.Resumed r)
+front_resumed site begun other text line bytes said e (inl breaks) three t =
+    let bad = breaks.bad in
+    let same : e.before ≡ bad.before = same_lines e.before bad.before e.rest bad.rest e.lines bad.lines (omega (arith, e.place, bad.place)) (sym e.parts ∙ bad.parts) in
+    let front : take bytes text ≡ text_of bad.before = front_is text line bytes e ∙ ap text_of same in
+    begun_is_resumed site other (take bytes text) bad.before said bad.lines (omega (arith, bad.place, three)) (front ∙ sym (append-nil (text_of bad.before)))
+    (subst (λ (x : List ℕ). Begins (IsRunOf site) x) (sym front) bad.begins) t
+front_resumed site begun other text line bytes said e (inr otherwise) three t =
+    absurd (not_unopened e.before e.rest e.lines (omega (arith, e.place, three)) (subst (λ (x : List ℕ). IsUnopened x) e.parts otherwise.unopened))
+
+pub fronts_are_resumed : FrontsAreResumed
+fronts_are_resumed site begun other text line bytes said bad three t = front_resumed site begun other text line bytes said bad.0 bad.1 three t
+
+pub breaks_off : (site : Site) (begun text : List ℕ) (line bytes : ℕ) (bad : IsFirstBad (IsRunOf site) text line) → (Begins (IsRunOf site) text → ⊥)
+    → ((before : List (List ℕ)) (rest : List ℕ) → AllByRecursion IsLine before → text ≡ text_of before ++ rest → line ≡ length before + 1 → bytes ≡ length (text_of before))
+    → Tells site begun text (told.Bad line bytes)
+breaks_off site begun text line bytes bad never long = (
+  record { before = bad.before; rest = bad.rest; lines = bad.lines; parts = bad.parts; place = bad.place; bytes_are = long bad.before bad.rest bad.lines bad.parts bad.place },
+  inl (record { bad = bad; never = never }),
+)

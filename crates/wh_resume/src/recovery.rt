@@ -1,0 +1,104 @@
+//! Recovers a book from the text of a log that may have been cut.
+#![tactic(auto)]
+
+ghost use Rattle.std.specs.Prelude.{◌≡◌, ◌≤◌, IfOk, length};
+ghost use Rattle.wh_points.specs.Points.{IsLayout};
+ghost use Rattle.wh_resume.specs.Resuming.{Tells, TellsOther};
+
+use crate::fronts::{is_front, length_before};
+use crate::keeper::{Keeper, Parts};
+use std::alloc::Global;
+use wh_judge::{Book, Instance, Setting};
+use wh_log::{Front, NoMemory, Version, follow_front};
+use wh_words::whole_line;
+
+/// A book that goes on from what a log tells.
+#[derive(Drop)]
+pub struct Resumed {
+    /// The version of the log.
+    pub version: Version,
+    /// The book: its history is the log's entries.
+    pub book: Book,
+    /// So many bytes of the text are the lines that stand whole, without an end line. A longer file is cut there.
+    pub bytes: usize,
+    /// Whether the end line stands behind them.
+    pub is_ended: bool,
+}
+
+/// What a text is to a warehouse that is to go on.
+#[derive(Drop)]
+pub enum Recovery {
+    /// The beginning of a log whose entries are a run, and the book that goes on from there. Any bytes behind its last line
+    /// feed are taken for a line that was cut.
+    Resumed(Resumed),
+    /// Fewer than two lines stand whole, and the text is a front of the two that were to be written: no run was begun.
+    Unopened(Setting),
+    /// No beginning of such a log: the first line, from 1, that is not in the format or whose entry is no step, or that is
+    /// not whole and is not as it was to be written. The lines before it are good, and are so many bytes.
+    Bad { line: u64, bytes: usize },
+}
+
+/// What a text is that was not begun as it was to be.
+fn begun_otherwise(text: &[u8]) -> Recovery
+    ensures { TellsOther text.now result }
+{
+    match whole_line(text) {
+        None => Recovery::Bad { line: 1, bytes: 0 },
+        Some((_, rest)) => Recovery::Bad {
+            line: 2,
+            bytes: text.len() - rest.len(),
+        },
+    }
+}
+
+/// Recovers the book of the run that a log tells, as far as its lines stand whole. The log may have been cut anywhere. A text
+/// in which not even the first two lines stand whole is taken for a run that was not begun only where it is a front of the
+/// two lines that would begin it: no other file is.
+///
+/// Error: `NoMemory` where memory is wanting.
+pub fn recover(
+    alloc: Global,
+    setting: Setting,
+    begun: &[u8],
+    text: &[u8],
+) -> Result<Recovery, NoMemory>
+    requires some { 1 ≤ length setting.layout.agents }
+    ensures { IfOk result (Tells setting begun.now text.now) }
+{
+    let _agents = setting.agents();
+    let mut keeper = Keeper::new(alloc, Instance::new(setting.grid(), setting.points()))?;
+    let (version, bytes, is_ended) = match follow_front(alloc, &mut keeper, text)? {
+        Front::Whole {
+            version,
+            bytes,
+            is_ended,
+            ..
+        } => (version, bytes, is_ended),
+        Front::Unopened => {
+            drop(keeper);
+            if is_front(text, begun) {
+                return Ok(Recovery::Unopened(setting));
+            }
+            return Ok(begun_otherwise(text));
+        }
+        Front::Bad { line } => {
+            return Ok(Recovery::Bad {
+                line,
+                bytes: length_before(text, line),
+            });
+        }
+    };
+    let Parts {
+        first_clock,
+        first_slots,
+        floor,
+        history,
+    } = keeper.into_parts();
+    let book = Book::resume(setting, first_clock, first_slots, floor, history);
+    Ok(Recovery::Resumed(Resumed {
+        version,
+        book,
+        bytes,
+        is_ended,
+    }))
+}

@@ -1,0 +1,169 @@
+-- A client that is served line by line.
+use Rattle.std.proofs.Common.{◌≡◌, ◌+◌, ℕ, List, [], ◌∷◌, ◌++◌, refl, sym, ap, ◌∙◌, arith, subst, Option, append_assoc, append-nil, Bool, Result}
+use Rattle.std.proofs.lemmas.List.{length-append}
+use Rattle.std.specs.Prelude.{IfSome}
+use Rattle.std.specs.Io.KnownBytes.{Appends, Keeps}
+use Rattle.std.proofs.KnownBytes.{Consumes-whole, Keeps-refl, Consumes-nil, Consumes-trans, Appends-nil, Appends-trans, Appends-kept}
+use Rattle.wh_text.specs.Lines.{lines_of, without_cr}
+use Rattle.wh_text.proofs.CutLemmas.{lines-feed, lines-last}
+use Rattle.wh_lines.specs.Text.{short_line}
+use Rattle.wh_lines.proofs.Cuts.{whole_next}
+use Rattle.wh_lines.specs.Input.{Input, left, Takes, Gathered, Taken}
+use Rattle.wh_lines.specs.declared.lines.Next.TheVariants.{Whole, Last, End}
+use Rattle.wh_grid.specs.Grids.{Floor}
+use Rattle.wh_desk.specs.Lists.{Received}
+use Rattle.wh_event.specs.declared.entry.Entry.{Entry}
+use Rattle.wh_event.specs.CommandLines.{command_of}
+use Rattle.wh_event.specs.declared.event.Command.{Command}
+use Rattle.wh_event.specs.declared.fault.LineFault.{LineFault}
+use Rattle.wh_replay.specs.declared.script.ReplayFault.{ReplayFault}
+use Rattle.wh_replay.specs.declared.script.ReplayFault.TheVariants.{Broken, Endless, Unwritten}
+use Rattle.wh_replay.specs.Answers.{asked, reply_line, text_of, said}
+use Rattle.wh_replay.specs.Scripts.{WritesFront, WritesUntil}
+use Rattle.wh_serve.specs.Outcomes.{Gives, IsOutputOf, answers}
+use Rattle.wh_serve.specs.Sessions.{Serves, ServesUnwritten, Follows, ServesAll, Outputs, Stops}
+use Rattle.wh_replay.proofs.Returns.{said_is}
+use Rattle.wh_replay.proofs.Written.{front_after, front_all}
+use Rattle.wh_serve.proofs.Giving.{gives_nothing, output_push}
+
+text_append : (xs ys : List (List ℕ)) → text_of (xs ++ ys) ≡ text_of xs ++ text_of ys
+text_append [] ys = refl
+text_append (x ∷ xs) ys = ap (λ l. reply_line x ++ l) (text_append xs ys) ∙ sym (append_assoc (reply_line x) (text_of xs) (text_of ys))
+
+texts_more : (a b c d : Option (List ℕ)) (xs ys : List (List ℕ)) → Appends a b (text_of xs) → Keeps b c → Appends c d (text_of ys) → Appends a d (text_of (xs ++ ys))
+texts_more a b c d xs ys p k q = subst (Appends a d) (sym (text_append xs ys)) (Appends-trans a c d (text_of xs) (text_of ys) (Appends-kept a b c (text_of xs) p k) q)
+
+texts_front : (a b c d : Option (List ℕ)) (xs ys : List (List ℕ)) → Appends a b (text_of xs) → Keeps b c → WritesFront c d (text_of ys) → WritesFront a d (text_of (xs ++ ys))
+texts_front a b c d xs ys p k q = subst (WritesFront a d) (sym (text_append xs ys)) (front_after a c d (text_of xs) (text_of ys) (Appends-kept a b c (text_of xs) p k) q)
+
+module _ {X : Type 0} (fits : X → Floor → Bool) (count : X → ℕ) (grid : Floor) (text : ℕ × Entry → List ℕ) where
+  pub follows_start : (i : Input) (old : Received) (spares : List X) (had : Option (List ℕ)) → Follows fits count grid text i i old spares old spares had had 0
+  follows_start i old spares had = record {
+    read = [];
+    takes = Consumes-nil (left i);
+    whole = λ more. refl;
+    replies = [];
+    output = gives_nothing fits count grid (λ outcomes. []) old spares;
+    appends = Appends-nil had;
+    written_is = refl;
+  }
+
+  -- what a line gives of which a front is kept
+  gives_front : (raw kept : List ℕ) (old : Received) (spares : List X) (new : Received) (rest : List X) (replies : List (List ℕ)) → short_line kept ≡ short_line raw
+      → Gives fits count grid (asked (said (short_line kept))) (answers text (said (short_line kept))) old spares new rest replies
+      → Gives fits count grid (asked (command_of (without_cr raw))) (answers text (command_of (without_cr raw))) old spares new rest replies
+  gives_front raw kept old spares new rest replies e h =
+      subst (λ (k : Result (Option Command) LineFault). Gives fits count grid (asked k) (answers text k) old spares new rest replies) (ap said e ∙ said_is raw) h
+
+  module _ (i j k : Input) (old : Received) (spares : List X) (mid : Received) (held : List X) (new : Received) (rest : List X) (a b c d : Option (List ℕ)) (n : ℕ) (kept : List ℕ)
+      (f : Follows fits count grid text i j old spares mid held a b n) (flushed : Keeps b c) where
+    -- the output of the lines with one more, a whole one or the last one
+    output_line : (bytes raw : List ℕ) (replies : List (List ℕ)) → lines_of bytes ≡ without_cr raw ∷ [] → short_line kept ≡ short_line raw
+        → Gives fits count grid (asked (said (short_line kept))) (answers text (said (short_line kept))) mid held new rest replies
+        → IsOutputOf fits count grid text (lines_of (f.read ++ bytes)) old spares new rest (f.replies ++ replies)
+    output_line bytes raw replies one says gives =
+        subst (λ ls. IsOutputOf fits count grid text ls old spares new rest (f.replies ++ replies)) (sym (f.whole bytes ∙ ap (λ l. lines_of f.read ++ l) one))
+        (output_push fits count grid text (lines_of f.read) (without_cr raw) old spares mid held new rest f.replies replies f.output (gives_front raw kept mid held new rest replies says gives))
+
+    pub follows_line : (written m : ℕ) → Gathered Whole j k kept → Serves fits count grid text (said (short_line kept)) mid held new rest c d written → m ≡ n + written
+        → Follows fits count grid text i k old spares new rest a d m
+    follows_line written m g s e =
+        let bytes = g.raw ++ 10 ∷ [] in
+        record {
+          read = f.read ++ bytes;
+          takes = Consumes-trans (left i) (left j) (left k) f.read bytes f.takes g.ends;
+          whole = whole_next f.read g.raw f.whole g.plain;
+          replies = f.replies ++ s.replies;
+          output = output_line bytes g.raw s.replies (lines-feed g.raw [] g.plain) g.says s.gives;
+          appends = texts_more a b c d f.replies s.replies f.appends flushed s.appends;
+          written_is = omega (arith, e, f.written_is, s.written_is, length-append f.replies s.replies);
+        }
+
+    pub stops_line : Gathered Whole j k kept → ServesUnwritten fits count grid text (said (short_line kept)) mid held new rest c d → Stops fits count grid text Unwritten i k old spares new rest a d
+    stops_line g s =
+        let bytes = g.raw ++ 10 ∷ [] in
+        record {
+          read = f.read ++ bytes;
+          begun = [];
+          takes = subst (λ l. Takes i k l) (sym (append-nil (f.read ++ bytes))) (Consumes-trans (left i) (left j) (left k) f.read bytes f.takes g.ends);
+          replies = f.replies ++ s.replies;
+          output = output_line bytes g.raw s.replies (lines-feed g.raw [] g.plain) g.says s.gives;
+          writes = texts_front a b c d f.replies s.replies f.appends flushed s.writes;
+        }
+
+    pub stops_last : Gathered Last j k kept → ServesUnwritten fits count grid text (said (short_line kept)) mid held new rest c d → Stops fits count grid text Unwritten i k old spares new rest a d
+    stops_last g s = record {
+      read = f.read ++ g.raw;
+      begun = [];
+      takes = subst (λ l. Takes i k l) (sym (append-nil (f.read ++ g.raw))) (Consumes-trans (left i) (left j) (left k) f.read g.raw f.takes g.ends.0);
+      replies = f.replies ++ s.replies;
+      output = output_line g.raw g.raw s.replies (lines-last g.raw g.plain g.ends.1) g.says s.gives;
+      writes = texts_front a b c d f.replies s.replies f.appends flushed s.writes;
+    }
+
+    pub replays_last : (written m : ℕ) (e : Option (List ℕ)) → Gathered Last j k kept → Serves fits count grid text (said (short_line kept)) mid held new rest c d written → Keeps d e → m ≡ n + written
+        → ServesAll fits count grid text i k old spares new rest a e m
+    replays_last written m e g s kept_after m_is = record {
+      read = f.read ++ g.raw;
+      takes = Consumes-trans (left i) (left j) (left k) f.read g.raw f.takes g.ends.0;
+      ended = g.ends.2;
+      replies = f.replies ++ s.replies;
+      output = output_line g.raw g.raw s.replies (lines-last g.raw g.plain g.ends.1) g.says s.gives;
+      appends = Appends-kept a d e (text_of (f.replies ++ s.replies)) (texts_more a b c d f.replies s.replies f.appends flushed s.appends) kept_after;
+      written_is = omega (arith, m_is, f.written_is, s.written_is, length-append f.replies s.replies);
+    }
+
+    -- the last line was served, and the writer could not be flushed
+    pub stops_flush : (written : ℕ) (e : Option (List ℕ)) → Gathered Last j k kept → Serves fits count grid text (said (short_line kept)) mid held new rest c d written → Keeps d e
+        → Stops fits count grid text Unwritten i k old spares new rest a e
+    stops_flush written e g s kept_after =
+        let r = replays_last written (n + written) e g s kept_after refl in
+        record {
+          read = r.read;
+          begun = [];
+          takes = subst (λ l. Takes i k l) (sym (append-nil r.read)) r.takes;
+          replies = r.replies;
+          output = r.output;
+          writes = front_all a e (text_of r.replies) r.appends;
+        }
+
+  module _ (i j k : Input) (old : Received) (spares : List X) (mid : Received) (held : List X) (a b c : Option (List ℕ)) (n : ℕ)
+      (f : Follows fits count grid text i j old spares mid held a b n) (flushed : Keeps b c) where
+    pub replays_end : (kept : List ℕ) → Gathered End j k kept → ServesAll fits count grid text i k old spares mid held a c n
+    replays_end kept g = record {
+      read = f.read;
+      takes = subst (λ l. Takes i k l) (ap (λ l. f.read ++ l) g.ends.1 ∙ append-nil f.read) (Consumes-trans (left i) (left j) (left k) f.read g.raw f.takes g.ends.0);
+      ended = g.ends.2;
+      replies = f.replies;
+      output = f.output;
+      appends = Appends-kept a b c (text_of f.replies) f.appends flushed;
+      written_is = f.written_is;
+    }
+
+    writes_until : (fault : ReplayFault) → WritesUntil fault a c (text_of f.replies)
+    writes_until Unwritten = front_all a c (text_of f.replies) (Appends-kept a b c (text_of f.replies) f.appends flushed)
+    writes_until Broken = Appends-kept a b c (text_of f.replies) f.appends flushed
+    writes_until Endless = Appends-kept a b c (text_of f.replies) f.appends flushed
+
+    -- no next line
+    pub stops_between : (fault : ReplayFault) → Taken j k → Stops fits count grid text fault i k old spares mid held a c
+    stops_between fault t = record {
+      read = f.read;
+      begun = t.bytes;
+      takes = Consumes-trans (left i) (left j) (left k) f.read t.bytes f.takes t.takes;
+      replies = f.replies;
+      output = f.output;
+      writes = writes_until fault;
+    }
+
+  -- nothing more was taken
+  pub stops_now : (i j : Input) (old : Received) (spares : List X) (mid : Received) (held : List X) (a b : Option (List ℕ)) (n : ℕ) (fault : ReplayFault)
+      → Follows fits count grid text i j old spares mid held a b n → Stops fits count grid text fault i j old spares mid held a b
+  stops_now i j old spares mid held a b n fault f = stops_between i j j old spares mid held a b b n f (Keeps-refl b) fault (record { bytes = []; takes = Consumes-nil (left j) })
+
+  -- a reader that tells its bytes has given them all
+  pub outputs_of : (i j : Input) (old : Received) (spares : List X) (new : Received) (rest : List X) (had has : Option (List ℕ)) (n : ℕ)
+      → ServesAll fits count grid text i j old spares new rest had has n → IfSome (left i) (λ script. Outputs fits count grid text script old spares new rest had has n)
+  outputs_of i j old spares new rest had has n r =
+      Consumes-whole (left i) (left j) r.read (λ script. Outputs fits count grid text script old spares new rest had has n) r.takes r.ended
+      (record { replies = r.replies; output = r.output; appends = r.appends; written_is = r.written_is })

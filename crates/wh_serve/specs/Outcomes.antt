@@ -1,0 +1,75 @@
+-- what came of the commands of lines, and how the lines are answered
+use Rattle.std.specs.Prelude.{◌≡◌, ℕ, Bool, List, [], ◌∷◌, ◌++◌, length, drop, codes, Option, Some, None, Result, Ok, Err}
+use Rattle.wh_grid.specs.Grids.{Floor}
+use Rattle.wh_event.specs.CommandLines.{command_of}
+use Rattle.wh_event.specs.declared.event.Command.{Command}
+use Rattle.wh_event.specs.declared.entry.Entry.{Entry}
+use Rattle.wh_event.specs.declared.fault.LineFault.{LineFault}
+use Rattle.wh_event.specs.declared.fault.LineFault.TheVariants.{Form, TooLong}
+use Rattle.wh_desk.specs.declared.answer.DeskFault.{DeskFault}
+use Rattle.wh_desk.specs.Lists.{Received}
+use Rattle.wh_crew.specs.Work.{Takes}
+use Rattle.wh_crew.specs.Work as work
+use Rattle.wh_replay.specs.Answers.{asked, commands_of}
+use Rattle.wh_serve.specs.Texts as texts
+
+-- what the desk answered a call: the receipt's position and entry, or why it refused
+abbrev pub Outcome : Type 0
+Outcome = Result (ℕ × Entry) DeskFault
+
+-- the receipts among the outcomes
+abbrev pub receipts_of : List Outcome → List (ℕ × Entry)
+receipts_of [] = []
+receipts_of (Ok receipt ∷ outcomes) = receipt ∷ receipts_of outcomes
+receipts_of (Err fault ∷ outcomes) = receipts_of outcomes
+
+abbrev pub outcome_text : (ℕ × Entry → List ℕ) → Outcome → List ℕ
+outcome_text text (Ok receipt) = text receipt
+outcome_text text (Err fault) = texts.fault_text fault
+
+-- what the fault of a line is told as
+abbrev pub line_text : LineFault → List ℕ
+line_text Form = codes "refused C1"
+line_text TooLong = codes "refused C2"
+
+-- What a line is answered. A line that asks for nothing is answered nothing, and one that is no command its fault; for a
+-- command it is told by the first outcome.
+abbrev pub answers : (ℕ × Entry → List ℕ) → Result (Option Command) LineFault → List Outcome → List (List ℕ)
+answers text (Ok None) outcomes = []
+answers text (Err fault) outcomes = line_text fault ∷ []
+answers text (Ok (Some command)) [] = []
+answers text (Ok (Some command)) (outcome ∷ outcomes) = outcome_text text outcome ∷ []
+
+-- the replies to lines, line by line, where their commands have these outcomes
+abbrev pub replies_to : (ℕ × Entry → List ℕ) → List (List ℕ) → List Outcome → List (List ℕ)
+replies_to text [] outcomes = []
+replies_to text (line ∷ lines) outcomes =
+    answers text (command_of line) outcomes ++ replies_to text lines (drop (length (asked (command_of line))) outcomes)
+
+-- A receipt answers the command, and takes the spare that its event tells; a refusal takes none.
+abbrev pub Moves : {X : Type 0} → (X → Floor → Bool) → (X → ℕ) → Floor → Command → Outcome → List X → List X → Type 0
+Moves fits count grid command (Ok receipt) spares left = (work.command_of receipt.1.event ≡ command) × Takes fits count grid receipt.1.event spares left
+Moves fits count grid command (Err fault) spares left = left ≡ spares
+
+-- the commands one after another, each with its outcome
+abbrev pub Made : {X : Type 0} → (X → Floor → Bool) → (X → ℕ) → Floor → List Command → List Outcome → List X → List X → Type 0
+Made fits count grid [] [] spares rest = rest ≡ spares
+Made {X} fits count grid (command ∷ commands) (outcome ∷ outcomes) spares rest =
+    (left : List X) × Moves fits count grid command outcome spares left × Made fits count grid commands outcomes left rest
+Made fits count grid [] (outcome ∷ outcomes) spares rest = ⊥
+Made fits count grid (command ∷ commands) [] spares rest = ⊥
+
+-- The commands were calls of the desk, one after another, and had these outcomes, which tell the replies. What the pass
+-- gained are the receipts, in order, and nothing else. Fits and count say what a planner answers.
+pub record Gives {X : Type 0} (fits : X → Floor → Bool) (count : X → ℕ) (grid : Floor) (commands : List Command) (told : List Outcome → List (List ℕ))
+    (old : Received) (spares : List X) (new : Received) (rest : List X) (replies : List (List ℕ)) : Type 0 where
+  pub outcomes : List Outcome
+  pub replies_are : replies ≡ told outcomes
+  pub made : Made fits count grid commands outcomes spares rest
+  pub caller_is : new.caller ≡ old.caller
+  pub gained : new.list ≡ old.list ++ receipts_of outcomes
+
+-- the output of lines: line by line nothing for one that is skipped, its fault for one that is no command, and for a
+-- command what its call was answered
+abbrev pub IsOutputOf : {X : Type 0} → (X → Floor → Bool) → (X → ℕ) → Floor → (ℕ × Entry → List ℕ) → List (List ℕ) → Received → List X → Received → List X → List (List ℕ) → Type 0
+IsOutputOf fits count grid text lines old spares new rest replies = Gives fits count grid (commands_of lines) (replies_to text lines) old spares new rest replies

@@ -1,0 +1,40 @@
+-- What clients did from the opening of a warehouse, and the log of it.
+use Rattle.std.specs.Prelude.{◌≡◌, ℕ, ◌<◌, ◌≤◌, Bool, List, length, All, Option}
+use Rattle.wh_words.specs.Lines.{text_of}
+use Rattle.wh_grid.specs.Grids.{Floor}
+use Rattle.wh_points.specs.Points.{Site}
+use Rattle.wh_event.specs.declared.entry.Entry.{Entry}
+use Rattle.wh_core.specs.States.{State, opened}
+use Rattle.wh_core.specs.Steps.{Run}
+use Rattle.wh_desk.specs.Fleet.{IsTied}
+use Rattle.wh_log.specs.Logs.{log_lines}
+use Rattle.wh_log.specs.declared.version.Version.TheVariants.{Two}
+use Rattle.wh_desk.specs.Pasts.{Origin}
+use Rattle.wh_desk.specs.Lists.{Received}
+use Rattle.wh_desk.specs.Calls.{AllEmpty, InOrder}
+use Rattle.wh_serve.specs.Hosting.{Session, AllServed}
+use Rattle.wh_serve.specs.declared.threads.Client.{Client}
+use Rattle.wh_serve.specs.declared.threads.Ended.{Ended}
+
+-- The history is one run from there, by these clients alone, and has no more entries than the journal has positions. Each
+-- client had nothing before, and what was written to it is told by what is its caller's in the history.
+pub record ServedFrom {R W X : Type 0} (fits : X → Floor → Bool) (count : X → ℕ) (text : ℕ × Entry → List ℕ) (remaining : R → Option (List ℕ)) (contents : W → Option (List ℕ))
+    (origin : Origin) (clients : List (Client R W X)) (journal : ℕ) (history : List Entry) (state : State) (ends : List (Ended W)) : Type 0 where
+  pub run : Run origin.site origin.opening history state
+  pub within : length history ≤ journal
+  pub callers : All (λ entry. entry.caller < length clients) history
+  pub passes : List Received
+  pub in_order : InOrder (length clients) passes
+  pub empty : AllEmpty passes
+  pub served : AllServed (λ d had has w e. Session fits count origin.site.grid text remaining contents d had has w e) clients passes history ends
+
+-- The warehouse was opened at clock 0 with these planners, the clients were served over a journal of so many positions, and
+-- the log is of what they did.
+pub record Hosts {R W X : Type 0} (fits : X → Floor → Bool) (count : X → ℕ) (text : ℕ × Entry → List ℕ) (remaining : R → Option (List ℕ)) (contents : W → Option (List ℕ))
+    (site : Site) (planners : List X) (clients : List (Client R W X)) (journal : ℕ) (ends : List (Ended W)) (log : List ℕ) : Type 0 where
+  pub slots : List ℕ
+  pub tied : IsTied fits count site.grid planners slots
+  pub history : List Entry
+  pub state : State
+  pub served : ServedFrom fits count text remaining contents (record { site = site; opening = opened site.layout 0 slots }) clients journal history state ends
+  pub log_is : log ≡ text_of (log_lines Two (record { clock = 0; slots = slots; entries = history }))

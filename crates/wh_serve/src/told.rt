@@ -1,0 +1,156 @@
+//! What a line is answered, and how that is written.
+
+ghost use Rattle.std.specs.Prelude.{◌≡◌, ◌++◌, ◌∷◌, ◌≤◌, [], IfOk, OnOk, OnErr, length, MatchResult};
+ghost use Rattle.std.specs.Io.KnownBytes.{Appends};
+ghost use Rattle.wh_lines.specs.Text.{short_line};
+ghost use Rattle.wh_replay.specs.Answers.{asked, said, text_of};
+ghost use Rattle.wh_replay.specs.Scripts.{WritesFront};
+ghost use Rattle.wh_serve.specs.Texts.{fault_text, receipt_text};
+ghost use Rattle.wh_serve.specs.Outcomes.{Gives, answers, line_text};
+ghost use Rattle.wh_serve.specs.Tellings.{texts};
+
+use crate::call::call_desk;
+use crate::form::{Form, tell};
+use std::alloc::Global;
+use std::io::Write;
+use std::sync::Wait;
+use wh_desk::{Desk, DeskFault, DeskName, Pass, Receipt};
+use wh_event::{Command, LineFault, read_line};
+use wh_lines::CommandLine;
+use wh_planner::Planner;
+use wh_replay::{WriteFault, write_all};
+
+/// What a line is answered.
+#[derive(Drop)]
+pub(crate) enum Told {
+    /// It asks for nothing.
+    Nothing,
+    /// It is no command.
+    NoCommand(LineFault),
+    /// The desk refused the call.
+    Refused(DeskFault),
+    /// The receipt of the call.
+    Received(Receipt),
+}
+
+/// What a line says, of which a front is kept.
+fn read_kept(line: &CommandLine) -> Result<Option<Command>, LineFault>
+    ensures { result ≡ said (short_line line.now) }
+{
+    match line.text() {
+        Some(text) => read_line(text),
+        None => Err(LineFault::TooLong),
+    }
+}
+
+/// Answers a line: one that is a command is one call of the desk.
+pub(crate) fn answer<N: DeskName, H: Wait + Drop, P: Planner, X: Wait>(
+    rt: &X,
+    alloc: Global,
+    form: Form,
+    line: &CommandLine,
+    desk: &Desk<N, H, P>,
+    pass: &mut Pass<N>,
+    spares: &mut Vec<P>,
+) -> Told
+    ensures { Gives P.fits_map P.slot_count N.origin.site.grid (asked (said (short_line line.now))) (answers (receipt_text form) (said (short_line line.now))) pass.old spares.old.items pass.new spares.new.items (texts form result) }
+{
+    match read_kept(line) {
+        Ok(None) => Told::Nothing,
+        Ok(Some(command)) => match call_desk(rt, alloc, desk, pass, command, spares) {
+            Ok(receipt) => Told::Received(receipt),
+            Err(fault) => Told::Refused(fault),
+        },
+        Err(fault) => Told::NoCommand(fault),
+    }
+}
+
+/// What the fault of a line is told as.
+fn line_fault(fault: LineFault) -> &'static [u8]
+    ensures { result.now ≡ line_text fault }
+{
+    match fault {
+        LineFault::Form => b"refused C1",
+        LineFault::TooLong => b"refused C2",
+    }
+}
+
+/// What a call is told as that the desk refused.
+fn desk_fault(fault: DeskFault) -> &'static [u8]
+    ensures { result.now ≡ fault_text fault }
+{
+    match fault {
+        DeskFault::Stale => b"refused E95",
+        DeskFault::Full => b"refused E11",
+        DeskFault::NoMemory => b"refused E90",
+        DeskFault::CellTaken => b"refused E91",
+    }
+}
+
+/// Ends a line of output once its reply was written.
+fn end_line<W: Write>(writer: &mut W) -> Result<u64, WriteFault>
+    ensures ok { IfOk result (λ count. Appends (W.contents writer.old) (W.contents writer.new) (10 ∷ []) × (count ≡ 1)) }
+    ensures err { OnErr result (WritesFront (W.contents writer.old) (W.contents writer.new) (10 ∷ [])) }
+{
+    match write_all(writer, b"\n") {
+        Ok(()) => Ok(1),
+        Err(fault) => Err(fault),
+    }
+}
+
+/// Writes a reply and a line feed.
+#[tactic(auto, using(crate::proofs::Fronts::line_ended, crate::proofs::Fronts::line_begun, crate::proofs::Fronts::line_unended))]
+fn write_line<W: Write>(writer: &mut W, reply: &[u8]) -> Result<u64, WriteFault>
+    ensures ok { IfOk result (λ count. Appends (W.contents writer.old) (W.contents writer.new) (text_of (reply.now ∷ [])) × (count ≡ 1)) }
+    ensures err { OnErr result (WritesFront (W.contents writer.old) (W.contents writer.new) (text_of (reply.now ∷ []))) }
+{
+    match write_all(writer, reply) {
+        Ok(()) => match end_line(writer) {
+            Ok(count) => Ok(count),
+            Err(fault) => Err(fault),
+        },
+        Err(fault) => Err(fault),
+    }
+}
+
+/// Writes what a receipt is told as and a line feed.
+#[tactic(auto, using(crate::proofs::Fronts::line_ended, crate::proofs::Fronts::line_begun, crate::proofs::Fronts::line_unended))]
+fn write_receipt<W: Write>(form: Form, writer: &mut W, receipt: &Receipt) -> Result<u64, WriteFault>
+    ensures ok { IfOk result (λ count. Appends (W.contents writer.old) (W.contents writer.new) (text_of (receipt_text form (receipt.now.position, receipt.now.entry) ∷ [])) × (count ≡ 1)) }
+    ensures err { OnErr result (WritesFront (W.contents writer.old) (W.contents writer.new) (text_of (receipt_text form (receipt.now.position, receipt.now.entry) ∷ []))) }
+{
+    match tell(form, writer, receipt.position, &receipt.entry) {
+        Ok(()) => match end_line(writer) {
+            Ok(count) => Ok(count),
+            Err(fault) => Err(fault),
+        },
+        Err(fault) => Err(fault),
+    }
+}
+
+/// Writes what a line is answered, with a line feed. How many lines these are: one or none.
+pub(crate) fn write_told<W: Write>(
+    form: Form,
+    writer: &mut W,
+    told: &Told,
+) -> Result<u64, WriteFault>
+    ensures ok { IfOk result (λ count. Appends (W.contents writer.old) (W.contents writer.new) (text_of (texts form told.now)) × (count ≡ length (texts form told.now))) }
+    ensures few { IfOk result (λ count. count ≤ 1) }
+    ensures err { OnErr result (WritesFront (W.contents writer.old) (W.contents writer.new) (text_of (texts form told.now))) }
+{
+    match told {
+        Told::Nothing => Ok(0),
+        Told::NoCommand(fault) => match write_line(writer, line_fault(*fault)) {
+            Ok(count) => Ok(count),
+            Err(fault) => Err(fault),
+        },
+        Told::Refused(fault) => match write_line(writer, desk_fault(*fault)) {
+            Ok(count) => Ok(count),
+            Err(fault) => Err(fault),
+        },
+        Told::Received(receipt) => match write_receipt(form, writer, receipt) {
+            Ok(count) => Ok(count),
+            Err(fault) => Err(fault),
+        },
+    }
+}

@@ -1,0 +1,20 @@
+"""Runs the tests of a script: each of its functions test_*, in their order. One that breaks has failed, and the others go on."""
+import sys
+import traceback
+
+
+def run(names: dict, left_out=()) -> int:
+    """Tells `N passed, M failed` in a last line, and returns the status: 1 where one failed, else 0."""
+    passed = failed = 0
+    for name, test in list(names.items()):
+        if not name.startswith('test_') or name in left_out:
+            continue
+        try:
+            test()
+            passed += 1
+        except Exception:
+            failed += 1
+            print(f'{name}:')
+            traceback.print_exc(file=sys.stdout)
+    print(f'{passed} passed, {failed} failed')
+    return int(failed != 0)

@@ -1,0 +1,453 @@
+#!/usr/bin/env python3
+"""Tests of tools/drive.py and tools/next_shift.py, with expected values worked out by hand.
+
+    tests/tools_drive.py            all; what runs the program takes it from WAREHOUSE, else ./warehouse
+    tests/tools_drive.py --no-program
+
+A stand-in for the program has a tape of commands and replies: it ends with status 9 at a command that is not the tape's,
+so a tape also tells what drive.py sends, and when. The last line is `N passed, M failed`; status 1 where one failed.
+"""
+import os
+import re
+import subprocess
+import sys
+import tempfile
+
+import counting
+
+ROOT = os.path.dirname(os.path.dirname(os.path.abspath(__file__)))
+PROGRAM = os.environ.get('WAREHOUSE', os.path.join(ROOT, 'warehouse'))
+ENVIRONMENT = {**os.environ, 'WAREHOUSE': PROGRAM}
+SCRATCH = tempfile.TemporaryDirectory()
+
+# The map of examples/deliveries: a corridor of five cells in row 1, and A, B above it, C, D below, at columns 1 and 3.
+MAP = 'type t\nheight 3\nwidth 5\nmap\n@.@.@\n.....\n@.@.@\n%%\n'
+POINTS = 'parking P0 0 1\nparking P1 4 1\nstation A 1 0\nstation B 3 0\nstation C 1 2\nstation D 3 2\n'
+ONE, TWO = MAP + POINTS + 'agent P0\n%%\n', MAP + POINTS + 'agent P0\nagent P1\n%%\n'
+LONG = ONE.replace('agent P0', '# floor\n' * 20000 + 'agent P0')
+# The one least path of agent 0 from P0 by A to B: 2 steps to A, 4 from there.
+A_TO_B = '0,1 1,1 1,0 1,1 2,1 3,1 3,0'
+
+STAND_IN = '''
+import sys, time
+tape, log, status = sys.argv[1:4]
+cut = 0
+while cut < 2:
+    line = sys.stdin.readline()
+    if not line:
+        sys.exit(8)
+    cut += line == '%%\\n'
+for row in open(tape):
+    wanted, reply = row.rstrip('\\n').split(' = ')
+    line = sys.stdin.readline().rstrip('\\n')
+    if line != wanted:
+        sys.stderr.write('stand-in: ' + repr(line) + ' came in place of ' + repr(wanted) + '\\n')
+        sys.exit(9)
+    if reply == 'GONE':
+        sys.exit(3)
+    if reply == 'SILENT':
+        time.sleep(30)
+    print(reply, flush=True)
+more = sys.stdin.readline()
+if more:
+    sys.stderr.write('stand-in: ' + repr(more) + ' came behind the tape\\n')
+    sys.exit(9)
+sys.stdout.write(open(log).read())
+sys.exit(int(status))
+'''
+
+
+def file(name: str, text: str) -> str:
+    path = os.path.join(SCRATCH.name, name)
+    with open(path, 'w', encoding='latin-1', newline='') as made:
+        made.write(text)
+    return path
+
+
+def text_of(*names: str) -> str:
+    with open(os.path.join(ROOT, *names), encoding='utf-8') as text:
+        return text.read()
+
+
+def tool(name: str, *words: str) -> tuple[str, str, int]:
+    """Standard output, standard error and status of a script."""
+    done = subprocess.run([sys.executable, os.path.join(ROOT, 'tools', name), *words], capture_output=True, env=ENVIRONMENT, timeout=30)
+    assert b'Traceback' not in done.stderr, done.stderr.decode()
+    return done.stdout.decode(), done.stderr.decode(), done.returncode
+
+
+def warehouse(text: str, *words: str) -> str:
+    return subprocess.run([PROGRAM, *words], input=text.encode(), stdout=subprocess.PIPE).stdout.decode()
+
+
+def same(found: object, wanted: object) -> None:
+    assert found == wanted, f'found {found!r}, wanted {wanted!r}'
+
+
+def has(text: str, *parts: str) -> None:
+    for part in parts:
+        assert part in text, f'{part!r} not in {text!r}'
+
+
+def drive(instance: str, *words: str) -> tuple[str, str, int]:
+    """The figures but for the time, each `NAME VALUE`, what it said, and the status."""
+    out, said, status = tool('drive.py', file('instance', instance), *words)
+    rows = out.splitlines()
+    if rows and rows[-1].startswith('wall_us '):
+        assert float(rows.pop().split()[1]) > 0
+    return ' '.join(rows), said, status
+
+
+def figures(orders: int, makespan: int, mean: str, p95: int, per100: str, ticks: int, commands: int, requests: int, refused: int = 0) -> str:
+    return (f'orders {orders} accepted {orders} done {orders} makespan {makespan} service_mean {mean} service_p95 {p95} '
+            f'per100 {per100} ticks {ticks} commands {commands} requests {requests} refused {refused}')
+
+
+# ------------------------------------------------------------------------------------------- with the program
+
+def test_one_order() -> None:
+    # 2 steps to A and 4 to B; one submit, one request, six ticks
+    found, said, status = drive(ONE + 'submit x A B\n')
+    same((found, status), (figures(1, 6, '6.00', 6, '16.67', 6, 8, 1), 0))
+    # the same orders from a file of their own; what else a script says is left out
+    script = file('script', '# a shift\ntoken 0\nsubmit x A B\ntick\nclose\n')
+    same(drive(ONE, script)[0], found)
+
+
+def test_two_agents_on_one_corridor() -> None:
+    # As examples/README.md says: agent 0 comes by 1,1 at 3, 2,1 at 4, 3,1 at 5. Agent 1 is at D at 2; it cannot be at 1,1
+    # before 3, so it enters the corridor at 6 and is at C at 9.
+    log = file('log', '')
+    wanted = figures(2, 9, '7.50', 9, '22.22', 9, 14, 2)
+    for batch in ('1', '7'):
+        same(drive(TWO + 'submit x A B\nsubmit y D C\n', '--close', '--log', log, '--batch', batch)[::2], (wanted, 0))
+    with open(log) as made:
+        made = made.read()
+    # two submits, two requests, nine ticks, close
+    same((made.splitlines()[-2:], made.count('\n')), (['0 close = closed', 'end 14'], 17))
+    same(warehouse(TWO + made, 'verify'), 'run 14\n')
+
+
+def test_an_order_released_later() -> None:
+    # nobody asks before clock 4, where the order comes; delivered 6 ticks after
+    same(drive(ONE + '# @4\nsubmit x A B\n')[::2], (figures(1, 10, '6.00', 6, '10.00', 10, 12, 1), 0))
+    # behind three ticks of a script it is released at clock 3
+    same(drive(ONE + 'tick\ntick\ntick\nsubmit x A B\n')[0], figures(1, 9, '6.00', 6, '11.11', 9, 11, 1))
+
+
+def test_an_order_that_waits_for_another() -> None:
+    # Both end at B. Agent 0 takes the first, and B is where its path ends, so agent 1 rests, and is not asked again while
+    # nothing changes. At 6 agent 0 is at B, takes the second: 4 steps to C and 4 back, so it is delivered at 14.
+    found, _, status = drive(TWO + 'submit x A B\nsubmit y C B\n')
+    same((found, status), (figures(2, 14, '10.00', 14, '14.29', 14, 19, 3), 0))
+
+
+ROW = 'type t\nheight 1\nwidth 5\nmap\n.....\n%%\nparking P0 0 0\nparking P1 2 0\nstation A 3 0\nstation B 4 0\nagent P0\nagent P1\n%%\n'
+
+
+def test_no_path_now() -> None:
+    # agent 1 stands between agent 0 and A, so agent 0 is refused E6; agent 1 goes one step to A and one to B
+    same(drive(ROW + 'submit x A B\n')[::2], (figures(1, 2, '2.00', 2, '50.00', 2, 5, 2, 1), 0))
+
+
+def test_no_path_ever() -> None:
+    instance = ROW.replace('.....', '..@..').replace('agent P1\n', '').replace('P1 2 0', 'P1 1 0') + 'submit x A B\n'
+    found, said, status = drive(instance)
+    # E6 at clock 0, again at 1, and nobody moves
+    same((found, status), ('orders 1 accepted 1 done 0 ticks 1 commands 4 requests 2 refused 2', 1))
+    has(said, 'at clock 1 all agents stand, 1 orders are open')
+
+
+def test_an_order_of_three_stops_that_nobody_may_take() -> None:
+    # Agent 0 is at A and agent 1 at C, so for each the other's path ends at a stop, and neither is at D, the delivery.
+    instance = TWO.replace('agent P0\nagent P1', 'agent A\nagent C') + 'submit x A C D\n'
+    found, said, status = drive(instance)
+    same((found, status), ('orders 1 accepted 1 done 0 ticks 0 commands 3 requests 2 refused 0', 1))
+    has(said, 'at clock 0 all agents stand, 1 orders are open')
+    # Once agent 0 is sent to B, 4 steps off, agent 1 may take it: agent 0 is at 1,1 one step after, so agent 1 is there at
+    # two and at A at three, then 2 steps to C and 4 to D. All that begins at clock 2.
+    same(drive(instance + '# @2\nsubmit move B B\n')[::2], (figures(2, 11, '7.50', 11, '18.18', 11, 17, 4), 0))
+
+
+def test_a_bound_on_ticks() -> None:
+    found, said, status = drive(ONE + 'submit x A B\n# @9\nsubmit x A B\n', '--ticks', '3')
+    same((found, status), ('orders 2 accepted 1 done 0 ticks 3 commands 5 requests 1 refused 0', 1))
+    has(said, 'at clock 3 it was not at its end', '1 orders not released, 0 open, 1 agents on their way')
+
+
+def test_a_shift_that_ends_with_an_open_order() -> None:
+    # the second order comes at 3, when nobody asks any more; agent 0 is at B at 6, and the shift is over
+    log = file('shift.log', '')
+    instance = ONE + 'submit x A B\n# @3\nsubmit y D C\n# @7\nsubmit z A B\n'
+    wanted = 'orders 3 accepted 2 done 1 makespan 6 service_mean 6.00 service_p95 6 per100 16.67 ticks 6 commands 9 requests 1 refused 0'
+    same(drive(instance, '--shift', '3', '--log', log)[::2], (wanted, 0))
+    out, said, status = tool('next_shift.py', log, file('instance', instance))
+    same((out.split('agent ')[1], said, status), ('B\n%%\n# task 1 of the shift before, handed in at its clock 3\nsubmit y D C\n', '', 0))
+
+
+def test_refused_orders_are_left_out() -> None:
+    found, said, status = drive(ONE + 'submit x A Z\nsubmit x P1 A\nsubmit x A B\n')
+    same((found.startswith('orders 3 accepted 1 done 1 makespan 6 service_mean 6.00 '), status), (True, 1))
+    has(said, '`submit x A Z` is left out: refused E1 Z', '`submit x P1 A` is left out: refused E2 P1')
+    assert found.endswith('commands 10 requests 1 refused 2'), found
+    _, said, status = drive(ONE + 'submit x A\n')
+    same(status, 2)
+    has(said, '`refused C1` came to `submit x A`')
+
+
+def test_batches_that_are_longer_than_a_pipe() -> None:
+    # 146 bytes an order, so a batch of 1000 is more than the 65,536 that a pipe holds
+    names = {letter: letter * 16 for letter in 'ABCD'}
+    points = re.sub(r'station (\w)', lambda found: 'station ' + names[found[1]], POINTS)
+    order = 'submit client12 ' + ' '.join([names['A'], names['B']] * 4) + '\n'
+    assert len(order) * 1000 > 2 * 65536
+    found, _, status = drive(MAP + points + 'agent P0\n%%\n' + order * 2500, '--batch', '1000', '--ticks', '0')
+    same((found, status), ('orders 2500 accepted 2500 done 0 ticks 0 commands 2501 requests 1 refused 0', 1))
+
+
+def test_the_program_refuses_the_points() -> None:
+    instance = ONE.replace('%%\nparking', '%%\nparking P9 1 0\nparking')    # the cell of A
+    _, said, status = drive(instance + 'submit x A B\n')
+    same(status, 2)
+    has(said, 'refused P5 line 4', 'the program ended with status 1 and gave no reply to `submit x A B`')
+
+
+# ----------------------------------------------------------------------------------------- with the stand-in
+
+def log_of(*entries: str, agents: int = 1) -> str:
+    return '\n'.join(['%%', 'wlog 2', 'start 0 slots' + ' 4' * agents, *('0 ' + entry for entry in entries), f'end {len(entries)}', ''])
+
+
+def ticks(first: int, last: int, picked: int = 0, dropped: int = 0) -> list[str]:
+    """Entries, with the clocks of the one pickup and the one delivery."""
+    return [f'tick = clock {now} picked {int(now == picked)} dropped {int(now == dropped)}' for now in range(first, last + 1)]
+
+
+def taped(tape: list[str], log: str = '', *words: str, instance: str = ONE + 'submit x A B\n', status: int = 0) -> tuple[str, str, int]:
+    stand_in = [sys.executable, file('stand_in.py', STAND_IN), file('tape', '\n'.join(tape) + '\n'), file('tail', log), str(status)]
+    return drive(instance, '--program', ' '.join(stand_in), *words)
+
+
+def replies(entries: list[str]) -> list[str]:
+    """Entries of a log as commands and replies: a path is told by its last index."""
+    return [re.sub(r' path (.*)', lambda path: f' end {path[1].count(" ")}', entry) for entry in entries]
+
+
+GOES = ['submit x A B = accepted 0', f'token 0 = took 0 path {A_TO_B}', *ticks(1, 6, 2, 6)]
+
+
+def test_the_stand_in_is_driven_to_the_end() -> None:
+    wanted = figures(1, 6, '6.00', 6, '16.67', 6, 8, 1)
+    same(taped(replies(GOES), log_of(*GOES)), (wanted, '', 0))
+    # a program that ends with another status has not ended well
+    found, said, status = taped(replies(GOES), log_of(*GOES), status=4)
+    same((found, status), (wanted, 2))
+    has(said, 'status 4')
+
+
+def test_e6_is_asked_again_after_a_tick() -> None:
+    entries = ['submit x A B = accepted 0', 'token 0 = refused E6', 'tick = clock 1 picked 0 dropped 0', f'token 0 = took 0 path {A_TO_B}',
+               *ticks(2, 7, 3, 7)]
+    same(taped(replies(entries), log_of(*entries)), (figures(1, 7, '7.00', 7, '14.29', 7, 10, 2, 1), '', 0))
+
+
+def test_e6_twice_is_not_asked_until_something_changes() -> None:
+    orders = 'submit x A B\nsubmit y D C\n# @4\nsubmit z D C\n'
+    entries = ['submit x A B = accepted 0', 'submit y D C = accepted 1', f'token 0 = took 0 path {A_TO_B}', 'token 1 = refused E6',
+               *ticks(1, 1), 'token 1 = refused E6', *ticks(2, 4, 2), 'submit z D C = accepted 2', 'token 1 = refused E6',
+               *ticks(5, 5), 'token 1 = refused E6', *ticks(6, 6, 0, 6), 'token 0 = rested']
+    found, said, status = taped(replies(entries), log_of(*entries, agents=2), instance=TWO + orders)
+    # nothing is left that could change an answer, and two orders are open
+    same((found, status), ('orders 3 accepted 3 done 1 makespan 6 service_mean 6.00 service_p95 6 per100 16.67 ticks 6 commands 15 '
+                           'requests 6 refused 4', 1))
+    has(said, 'at clock 6 all agents stand, 2 orders are open')
+
+
+def test_a_rest_lasts_until_a_path_is_taken_up() -> None:
+    # agent 0 rests; agent 1 parks, so agent 0 is asked once more; then nobody until agent 1 has made its two steps
+    entries = ['submit x A B = accepted 0', 'token 0 = rested', 'token 1 = parked D path 4,1 3,1 3,2', 'token 0 = rested', *ticks(1, 2),
+               'token 1 = rested']
+    found, said, status = taped(replies(entries), log_of(*entries, agents=2), instance=TWO + 'submit x A B\n')
+    same((found, status), ('orders 1 accepted 1 done 0 ticks 2 commands 7 requests 4 refused 0', 1))
+    has(said, 'at clock 2 all agents stand')
+
+
+def test_a_path_of_no_steps_is_at_its_end_at_once() -> None:
+    # the agent starts at A and has two orders there; no tick counts them, and no tick is sent
+    instance = ONE.replace('agent P0', 'agent A') + 'submit x A A\nsubmit x A A\n'
+    entries = ['submit x A A = accepted 0', 'submit x A A = accepted 1', 'token 0 = took 0 path 1,0', 'token 0 = took 1 path 1,0']
+    wanted = 'orders 2 accepted 2 done 2 makespan 0 service_mean 0.00 service_p95 0 ticks 0 commands 4 requests 2 refused 0'
+    same(taped(replies(entries), log_of(*entries), instance=instance), (wanted, '', 0))
+
+
+def test_a_delivery_before_the_path_ends() -> None:
+    # The path is at B at 6, which is the last visit, makes way and comes back at 8: no reply tells it, the log does.
+    entries = [GOES[0], GOES[1] + ' 3,1 3,0', *ticks(1, 8, 2, 6)]
+    same(taped(replies(entries), log_of(*entries)), (figures(1, 6, '6.00', 6, '16.67', 8, 10, 1), '', 0))
+
+
+def test_refusals_that_end_the_run() -> None:
+    log = file('log', 'old')
+    for reply in ('C1', 'C2', 'E90', 'E8', 'E7', 'E4 0', 'E5 3', 'E11', 'X1', 'E10'):
+        entries = GOES[:2] + ticks(1, 1)
+        found, said, status = taped(replies(entries) + [f'tick = refused {reply}'], log_of(*entries), '--log', log)
+        # what was done until then is told, and its log kept
+        same((found, status), ('orders 1 accepted 1 done 0 ticks 1 commands 4 requests 1 refused 1', 2))
+        has(said, f'`refused {reply}` came to `tick`: ')
+        same(said.count('\n'), 1)
+        with open(log) as made:
+            same(made.read(), log_of(*entries)[3:])
+
+
+def test_a_closed_pipe() -> None:
+    for tape, line in ((['submit x A B = GONE'], 'submit x A B'), (replies(GOES[:1]) + ['token 0 = GONE'], 'token 0'),
+                       (replies(GOES[:2]) + ['tick = GONE'], 'tick')):
+        _, said, status = taped(tape)
+        same(status, 2)
+        has(said, f'the program ended with status 3 and gave no reply to `{line}`', 'no log came')
+    # it ends while the site is written still
+    _, said, status = drive(LONG + 'submit x A B\n', '--program', 'sh -c "exit 5"')
+    same(status, 2)
+    has(said, 'the program ended with status 5 and gave no reply to `submit x A B`')
+
+
+def test_a_program_that_says_more_than_it_was_asked() -> None:
+    # the site is longer than a pipe, and the first two do not read it
+    assert len(LONG) > 2 * 65536
+    for words in ('yes y', 'cat /dev/zero', 'cat'):
+        _, said, status = drive(LONG + 'submit x A B\n', '--program', f'sh -c "{words}"')
+        same((status, said.count('\n')), (2, 2))
+        has(said, 'the program says more than it was asked: ')
+
+
+def test_silence() -> None:
+    _, said, status = taped(replies(GOES[:1]) + ['token 0 = SILENT'], '', '--wait', '0.5')
+    same(status, 2)
+    has(said, 'nothing came from the program for 0.5 seconds')
+
+
+def test_wrong_replies() -> None:
+    for before, line, reply in ((0, 'submit x A B', 'accepted 1'), (0, 'submit x A B', 'rested'), (1, 'token 0', 'clock 1 picked 0 dropped 0'),
+                                (1, 'token 0', 'took 5 end 3'), (1, 'token 0', 'took 0 end x'), (1, 'token 0', 'took 0 end'),
+                                (1, 'token 0', 'parked Z end 3'), (1, 'token 0', ''), (1, 'token 0', 'refused'), (1, 'token 0', 'refused Q1'),
+                                (2, 'tick', 'clock 2 picked 0 dropped 0'), (2, 'tick', 'clock 1 picked 0'), (2, 'tick', 'accepted 1')):
+        _, said, status = taped(replies(GOES[:before]) + [f'{line} = {reply}'])
+        same(status, 2)
+        has(said, f'`{reply}`', f'to `{line}`', 'no log came')
+        same(said.count('\n'), 2)
+
+
+def test_a_log_that_is_not_of_the_run() -> None:
+    for log, part in ((log_of(*GOES[:-1]), 'it is not of this run, with 1 tasks and clock 5'), (log_of(*GOES)[:-7], 'it has no end line'),
+                      (log_of(*GOES).replace('picked 1', 'picked 0'), 'at clock 2 it counts 0 picked and 0 dropped'),
+                      (log_of(*GOES).replace(' 3,0', ' 3,2'), 'does not come to B')):
+        _, said, status = taped(replies(GOES), log)
+        same(status, 2)
+        has(said, part)
+
+
+def test_words_that_are_wrong() -> None:
+    instance = file('i', ONE + 'submit x A B\n')
+    for words, part in ((['--program', '/none/such'], '/none/such: No such file'), (['--program', ' '], 'no word'), (['--program', "'"], '--program'),
+                        (['--batch', '0'], '1 to 1000'), (['--batch', '1001'], '1 to 1000'), (['--wait', '0'], 'above 0'),
+                        (['--log', '/none/such'], '/none/such: No such file'), (['/none/such'], '/none/such: No such file')):
+        out, said, status = tool('drive.py', instance, *words)
+        same((out, status, said.count('\n')), ('', 2, 1))
+        has(said, part)
+    out, said, status = tool('drive.py', file('j', ONE.removesuffix('%%\n')))
+    same((out, status), ('', 2))
+    has(said, 'no script')
+
+
+# --------------------------------------------------------------------------------------------- the next shift
+
+SHIFT = MAP + 'agent_line' + '# floor\nrule nofollow\n' + POINTS + '%%\n'
+SHIFT = SHIFT.replace('agent_line', 'parking P2 2 1\nagent P2\n') + 'submit never A B\n'
+# P2 is at 2,1: the agent goes 1 step to 1,1, up to A at 2, and by 1,1 2,1 3,1 to B at 6
+SERVED = ['submit x A B = accepted 0', 'token 0 = took 0 path 2,1 1,1 1,0 1,1 2,1 3,1 3,0', *ticks(1, 2, 2), 'submit y D C A = accepted 1',
+          'submit z P2 A = refused E2 P2', *ticks(3, 6, 0, 6)]
+
+
+def next_shift(log: str, instance: str = SHIFT) -> tuple[str, str, int]:
+    return tool('next_shift.py', file('log', log), file('instance', instance))
+
+
+def test_next_shift() -> None:
+    wanted = MAP + 'parking P2 2 1\n# floor\nrule nofollow\n' + POINTS + ('agent B\n%%\n'
+              '# task 1 of the shift before, handed in at its clock 2\nsubmit y D C A\n')
+    same(next_shift(log_of(*SERVED)), (wanted, '', 0))
+    # replies may stand before the log, and a log may stand alone
+    same(next_shift('accepted 0\n' + log_of(*SERVED)), (wanted, '', 0))
+    same(next_shift(log_of(*SERVED)[3:], SHIFT.replace('\n', '\r\n')), (wanted, '', 0))
+
+
+def test_next_shift_while_a_task_is_under_way() -> None:
+    for entries, part in ((SERVED[:3], 'task 0 is assigned at clock 1: agent 0 has it, with 5 steps left'),
+                          (SERVED[:4], 'task 0 is carried at clock 2: agent 0 has it, with 4 steps left'),
+                          (SERVED + ['token 0 = took 1 path 3,0 3,1 3,2 3,1 2,1 1,1 1,2 1,1 1,0'], 'task 1 is assigned at clock 6: agent 0 has it, with 8')):
+        out, said, status = next_shift(log_of(*entries))
+        same((out, status, said.count('\n')), ('', 2, 1))
+        has(said, part)
+
+
+def test_next_shift_of_an_agent_that_is_on_its_way() -> None:
+    parks = ['token 0 = parked P0 path 2,1 1,1 1,2 1,1 0,1', *ticks(1, 2)]
+    out, said, status = next_shift(log_of(*parks[:2]))
+    same((out, status, said.count('\n')), ('', 2, 1))
+    has(said, 'agent 0 stands at no point but at 1,1, with 3 steps left')
+    out, said, status = next_shift(log_of(*parks))
+    same((out.split('%%\n')[1].splitlines()[-1], status), ('agent C', 0))
+    has(said, 'agent 0 starts at C, where it comes by, with 2 steps left')
+
+
+def test_next_shift_refuses_other_texts() -> None:
+    for log, instance, part in ((log_of(*SERVED)[:-7], SHIFT, 'no end line'), ('closed\n', SHIFT, 'no log is in it'),
+                                (log_of(*SERVED, agents=2), SHIFT, '2 agents'), (log_of(*SERVED), 'type t\n', 'no line `%%`')):
+        out, said, status = next_shift(log, instance)
+        same((out, status, said.count('\n')), ('', 2, 1))
+        has(said, part)
+
+
+def test_the_next_shift_is_run() -> None:
+    shift, _, _ = next_shift(log_of(*SERVED))
+    same(warehouse('%%\n'.join(shift.split('%%\n')[:2]), 'check').split(' ')[0], 'cut')    # P2 is in the corridor
+    # from B by 3,1 to D at 2, by 3,1 2,1 1,1 to C at 6, by 1,1 to A at 8
+    same(drive(shift)[::2], (figures(1, 8, '8.00', 8, '12.50', 8, 10, 1), 0))
+
+
+# ---------------------------------------------------------------------------------------------------- the page
+
+def test_the_page_names_every_refusal() -> None:
+    section = text_of('docs', 'FORMATS.md').split('## Replies')[1].split('## The log')[0]
+    codes = set(re.findall(r'\b[CE][0-9]{1,2}\b', section))
+    assert {'E1', 'E10', 'C2', 'E90'} <= codes, codes
+    rows = set(re.findall(r'^\| `refused ([A-Z][0-9]+)', text_of('docs', 'FLEET.md'), re.MULTILINE))
+    same(codes - rows, set())
+
+
+def test_the_dialogue_of_the_page() -> None:
+    page = text_of('docs', 'FLEET.md')
+    spoken = re.findall(r'^> (.*?) +< (.*)$', page.split('<!-- dialogue -->')[1], re.MULTILINE)
+    sent, wanted = [line for line, _ in spoken], [reply for _, reply in spoken]
+    same(len(sent), 22)
+    site = '%%\n'.join(text_of('examples', 'deliveries').split('%%\n')[:2]) + '%%\n'
+    same(warehouse(site + '\n'.join(sent) + '\n', 'replay').splitlines(), wanted)
+
+
+NEEDS_PROGRAM = {'test_one_order', 'test_two_agents_on_one_corridor', 'test_an_order_released_later',
+                 'test_an_order_that_waits_for_another', 'test_no_path_now', 'test_no_path_ever',
+                 'test_an_order_of_three_stops_that_nobody_may_take', 'test_a_bound_on_ticks', 'test_a_shift_that_ends_with_an_open_order',
+                 'test_refused_orders_are_left_out', 'test_batches_that_are_longer_than_a_pipe', 'test_the_program_refuses_the_points',
+                 'test_the_next_shift_is_run', 'test_the_dialogue_of_the_page'}
+
+
+def main() -> None:
+    if sys.argv[1:] not in ([], ['--no-program']):
+        sys.exit(__doc__)
+    status = counting.run(globals(), NEEDS_PROGRAM if sys.argv[1:] else ())
+    SCRATCH.cleanup()
+    sys.exit(status)
+
+
+if __name__ == '__main__':
+    main()

@@ -1,0 +1,170 @@
+"""How far one process goes: an hour of ticks with orders kept coming, for tools/experiments.py."""
+from __future__ import annotations
+
+import argparse
+import os
+import random
+import subprocess
+import time
+from dataclasses import dataclass, field
+from typing import Callable, NamedTuple, Sequence
+
+import drive
+import experiments_plot
+import runs
+from sections import fail
+
+LATE = 1.0       # seconds of a tick above which it is counted as missed
+QUARTERS = 4
+MB = 1 << 20
+
+
+class Floor(NamedTuple):
+    words: Sequence[str]      # for make_instance.py
+    agents: Sequence[int]
+
+
+# 35 columns by 21 rows have 78 parkings, so that many agents fit; the program takes 256 at most
+FLOORS = {
+    '35x21': Floor(('--columns', '35', '--rows', '21', '--shelf', '10'), (50, 78)),
+    '81x81': Floor(('--columns', '81', '--rows', '81'), (50, 100, 200, 256)),
+    '256x256': Floor(('--columns', '256', '--rows', '256'), (50, 100, 200, 256)),
+    '512x512': Floor(('--columns', '512', '--rows', '512'), (50, 100, 200, 256)),
+}
+
+
+class Meter(drive.Program):
+    """A program whose processor time can be read, and the wall time for which it was waited."""
+
+    def __init__(self, words: list[str], wait: float | None = None):
+        super().__init__(words, wait)
+        # Linux's number for the processor time of all threads of a process, as clock_getcpuclockid(3) gives it
+        self.clock = (~self.process.pid << 3) | 2
+        self.wall = 0.0
+
+    def ask(self, commands: list[str]) -> list[str]:
+        began = time.perf_counter()
+        try:
+            return super().ask(commands)
+        finally:
+            self.wall += time.perf_counter() - began
+
+    def processor(self) -> float:
+        return time.clock_gettime(self.clock)
+
+    def memory(self, name: str) -> int:
+        """VmRSS or VmHWM in bytes; 0 where the system tells none."""
+        with open(f'/proc/{self.process.pid}/status') as file:
+            return next((int(line.split()[1]) * 1024 for line in file if line.startswith(name + ':')), 0)
+
+
+class Kept(drive.Fleet):
+    """A fleet with as many orders open as are wanted, at each clock."""
+
+    def __init__(self, to: Meter, site: runs.Site, level: int, seed: int):
+        super().__init__(to, site, [], drive.MOST_IN_BATCH)
+        self.level = level
+        self.chance = random.Random(seed)
+        self.stations = [point.name for point in site.points if point.kind == 'station']
+
+    def release(self) -> None:
+        short = self.level - len(self.open)
+        self.waiting = [(self.clock, f'submit c {self.chance.choice(self.stations)} {self.chance.choice(self.stations)}')
+                        for _ in range(short)]
+        super().release()
+        if self.left_out:
+            raise drive.Stop(self.left_out[0])
+
+
+@dataclass
+class Reached:
+    """What was measured."""
+    floor: str
+    agents: int
+    processor: list[float] = field(default_factory=list)    # seconds, tick by tick
+    wall: list[float] = field(default_factory=list)
+    memory: list[int] = field(default_factory=list)         # bytes, at the start and at each quarter of the ticks
+    most: int = 0
+    requests: int = 0
+    taken: int = 0
+
+
+def rank(values: list[float], percent: int) -> float:
+    """The nearest rank: so many of 100 are no greater."""
+    return sorted(values)[-(-percent * len(values) // 100) - 1]
+
+
+def one_tick(fleet: Kept, to: Meter, found: Reached) -> None:
+    wall, processor = to.wall, to.processor()
+    fleet.release()
+    fleet.give_token()
+    fleet.tick()
+    found.wall.append(to.wall - wall)
+    found.processor.append(to.processor() - processor)
+
+
+def judge(program: str, site: runs.Site, log: bytes, commands: int, name: str) -> None:
+    """Ends the script where `verify` does not say that the log is a run of so many commands."""
+    done = subprocess.run([program, 'verify'], input=site.text + log, stdout=subprocess.PIPE)
+    if done.stdout != f'run {commands}\n'.encode():
+        fail(f'{name}: `verify` says {done.stdout!r} to {commands} commands')
+
+
+def reached(name: str, agents: int, site: runs.Site, options: argparse.Namespace) -> Reached:
+    to = Meter([options.program, 'replay', '--planner', options.planner, '--tail', 'log'])
+    found = Reached(name, agents)
+    try:
+        fleet = Kept(to, site, options.open or agents, options.seed)
+        to.send(site.text)
+        for tick in range(options.ticks):
+            one_tick(fleet, to, found)
+            if tick == 0 or (tick + 1) * QUARTERS // options.ticks > tick * QUARTERS // options.ticks:
+                found.memory.append(to.memory('VmRSS'))
+        found.most = to.memory('VmHWM')
+        found.requests, found.taken = fleet.requests, len(fleet.accepted) - len(fleet.open)
+        log = drive.log_of(to.tail())
+        if status := to.status():
+            fail(f'{name}, {agents} agents: the program ended with status {status}')
+    finally:
+        to.drop()
+    judge(options.program, site, log, fleet.commands, f'{name}, {agents} agents')
+    return found
+
+
+def check_words(options: argparse.Namespace) -> None:
+    """Floors that are known, before anything is run."""
+    options.floors = [name for name in (options.floors or ','.join(FLOORS)).split(',') if name]
+    for name in options.floors:
+        if name not in FLOORS:
+            fail(f'--floors {name}: there are {", ".join(FLOORS)}')
+
+
+def row(found: Reached) -> list[str]:
+    """A row of the table; milliseconds and MB."""
+    def spread(values: list[float]) -> list[str]:
+        told = sum(values) / len(values), rank(values, 95), max(values[1:], default=values[0]), values[0]
+        return [f'{1000 * value:.2f}' for value in told]
+    busy = sum(found.processor)
+    return [found.floor, str(found.agents), str(found.taken), f'{found.requests / len(found.processor):.1f}',
+            *spread(found.processor), f'{found.requests / busy:.0f}', *spread(found.wall),
+            str(sum(wall > LATE for wall in found.wall)), ', '.join(f'{value / MB:.0f}' for value in found.memory),
+            f'{found.most / MB:.0f}']
+
+
+HEAD = ('Floor', 'Agents', 'Orders taken', 'Requests a tick', 'Processor ms a tick: mean', '95 of 100', 'most', 'first tick',
+        'Requests a processor second', 'Wall ms a tick: mean', '95 of 100', 'most', 'first tick', 'Missed', 'Memory, MB', 'Most')
+
+
+def table(options: argparse.Namespace, make: Callable[[Sequence[str], int, int, int], bytes]) -> None:
+    print('| ' + ' | '.join(HEAD) + ' |\n' + '|---' * len(HEAD) + '|', flush=True)
+    lines: dict[str, list[tuple[float, float]]] = {}
+    for name in options.floors:
+        for agents in options.agents or FLOORS[name].agents:
+            words = [*FLOORS[name].words, *(['--nofollow'] if options.nofollow else [])]
+            site = runs.read_instance(name, make(words, agents, 0, options.seed))
+            found = reached(name, agents, site, options)
+            print('| ' + ' | '.join(row(found)) + ' |', flush=True)
+            lines.setdefault(name, []).append((agents, 1000 * sum(found.processor) / len(found.processor)))
+    if options.plots:
+        experiments_plot.write(os.path.join(options.plots, 'experiments-reach.svg'), experiments_plot.Plot(
+            'Processor time a tick, mean', 'agents', 'milliseconds', lines))

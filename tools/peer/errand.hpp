@@ -1,0 +1,79 @@
+// What is sought: a path through all stops of a task, or to one of the places where an agent may park; and by what the
+// steps that are left of it are estimated. A leg is the way to the next stop.
+#pragma once
+
+#include "fields.hpp"
+#include "reservations.hpp"
+
+// Moves by the order in which all that plans takes them: stay, left, right, up, down.
+constexpr uint32_t MOVES = 5;
+
+inline void list_moves(uint32_t cell, uint32_t stride, uint32_t (&nexts)[MOVES]) {
+    nexts[0] = cell;
+    nexts[1] = cell - 1;
+    nexts[2] = cell + 1;
+    nexts[3] = cell - stride;
+    nexts[4] = cell + stride;
+}
+
+class Errand {
+public:
+    struct Leg {
+        const uint32_t* table;
+        uint32_t bound;
+        uint32_t onward;    // the steps that the legs behind it need at least
+        uint32_t stop;      // where it ends; NONE for the last, which is_end alone ends
+    };
+    const Reservations& reservations;
+
+private:
+    Leg legs_[MOST_STOPS];
+    uint32_t last_ = 0, goal_ = NONE, limit_ = 0;
+
+public:
+    explicit Errand(const Reservations& others) : reservations(others) {}
+
+    void deliver(const uint32_t* stops, uint32_t count, const Bounded* fields, uint32_t passable) {
+        last_ = count - 1;
+        goal_ = stops[last_];
+        uint32_t onward = 0;
+        for (uint32_t leg = count; leg-- > 0;) {
+            legs_[leg] = {fields[leg].table, fields[leg].bound, onward, leg == last_ ? NONE : stops[leg]};
+            if (leg != 0) onward = estimate(leg, stops[leg - 1]);
+        }
+        set_limit(passable);
+    }
+
+    void park(const uint32_t* field, uint32_t passable) {
+        last_ = 0;
+        goal_ = NONE;
+        legs_[0] = {field, UNSEEN, 0, NONE};
+        set_limit(passable);
+    }
+
+    const Leg& leg(uint32_t number) const { return legs_[number]; }
+    uint32_t legs() const { return last_ + 1; }
+    uint32_t limit() const { return limit_; }    // no least path is longer
+
+    uint32_t estimate(uint32_t leg, uint32_t cell) const {
+        return std::min(std::min(legs_[leg].table[cell], legs_[leg].bound) + legs_[leg].onward, UNSEEN);
+    }
+
+    // A stop may be named several times in a row: one visit serves them all.
+    uint32_t arrive(uint32_t leg, uint32_t cell) const {
+        while (legs_[leg].stop == cell) ++leg;
+        return leg;
+    }
+
+    bool is_end(uint32_t leg, uint32_t cell, uint32_t time) const {
+        if (leg != last_) return false;
+        if (goal_ != NONE) return cell == goal_ && time >= reservations.soonest();
+        return legs_[0].table[cell] == 0 && reservations.rest_from(cell) <= time;
+    }
+
+private:
+    // From the horizon on each leg is a walk on a still map, and comes to no place twice.
+    void set_limit(uint64_t passable) {
+        limit_ = uint32_t(std::min<uint64_t>(reservations.horizon() + legs() * passable, UNSEEN - 1));
+    }
+};
