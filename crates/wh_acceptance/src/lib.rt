@@ -11,4 +11,6 @@ mod last_values;
 #[cfg(test)]
 mod machine;
 #[cfg(test)]
+mod options;
+#[cfg(test)]
 mod rows;

@@ -12,6 +12,3 @@ mod stake;
 
 pub use bank::{Bank, BankSeat};
 pub use claim::{Claim, ClaimRefused, Refusal};
-
-#[cfg(test)]
-mod tests;

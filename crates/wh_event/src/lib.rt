@@ -16,6 +16,3 @@ pub use fault::LineFault;
 pub use reply::{Refusal, Reply};
 pub use reply_text::{put, put_number, put_reply, replies_tell, write_reply};
 pub use stops::{KeptStops, Stops};
-
-#[cfg(test)]
-mod tests;

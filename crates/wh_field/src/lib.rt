@@ -17,6 +17,3 @@ pub use lazy::LazyField;
 pub use nearest::NearestField;
 pub use routes::{route, route_to_nearest};
 pub use sight::Sight;
-
-#[cfg(test)]
-mod tests;

@@ -7,8 +7,6 @@ mod gather;
 mod labels;
 mod stamps;
 mod table;
-#[cfg(test)]
-mod tests;
 mod verdict;
 
 pub use checker::check;

@@ -11,6 +11,3 @@ mod rows;
 pub use cell::Cell;
 pub use fault::{Fault, MapFault, MapKind};
 pub use grid::Grid;
-
-#[cfg(test)]
-mod tests;

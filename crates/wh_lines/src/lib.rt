@@ -15,6 +15,3 @@ pub use command_line::CommandLine;
 pub use lines::{Lines, Next, ReadFault};
 pub use next::LineFault;
 pub use sections::SectionFault;
-
-#[cfg(test)]
-mod tests;

@@ -32,6 +32,3 @@ pub use log::Log;
 pub use reader::{LogFault, read_log};
 pub use version::Version;
 pub use writer::{begun_text, entries_text, log_text, written_again};
-
-#[cfg(test)]
-mod tests;

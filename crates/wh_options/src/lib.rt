@@ -12,6 +12,3 @@ mod refused;
 pub use chosen::{Fleet, LiveOptions, Options, PlannerKind, ReplayOptions, Tail};
 pub use read::options;
 pub use refused::{Refusal, refusal_of};
-
-#[cfg(test)]
-mod tests;

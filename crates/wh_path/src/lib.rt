@@ -9,6 +9,3 @@ mod path;
 pub use kind::Conflict;
 pub use meeting::conflict;
 pub use path::TimedPath;
-
-#[cfg(test)]
-mod tests;

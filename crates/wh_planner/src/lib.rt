@@ -9,6 +9,3 @@ mod planner;
 pub use duty::Duty;
 pub use others::{last_to_rest, other_ends};
 pub use planner::{PlanFault, Planner, Scene};
-
-#[cfg(test)]
-mod tests;

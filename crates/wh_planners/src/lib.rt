@@ -9,6 +9,3 @@ mod sharing;
 
 pub use patient::{Patient, patient_path};
 pub use sharing::Sharing;
-
-#[cfg(test)]
-mod tests;

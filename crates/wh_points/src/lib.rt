@@ -10,6 +10,3 @@ mod reader;
 pub use fault::{Fault, FaultKind, PointFault};
 pub use layout::Points;
 pub use points::{Kind, Point};
-
-#[cfg(test)]
-mod tests;

@@ -23,6 +23,3 @@ pub use guided::{Fault, deliver_guided, deliver_in, guided_steps};
 pub use memory::{MOST_KEPT, SearchMemory};
 pub use parking::{park, park_in};
 pub use sighted::deliver_sighted;
-
-#[cfg(test)]
-mod tests;

@@ -9,6 +9,3 @@ mod store;
 
 pub use share::Share;
 pub use store::{SharedFields, room_within};
-
-#[cfg(test)]
-mod tests;

@@ -10,6 +10,3 @@ pub use verifier::{Verified, verify};
 
 // handed on, for callers: what the items below take, return and speak of
 pub use wh_judge::Book;
-
-#[cfg(test)]
-mod tests;

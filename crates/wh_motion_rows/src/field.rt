@@ -1,7 +1,7 @@
 //! Distances and routes on small maps, by tables that other programs and hands have made.
 #![tactic(auto)]
 
-use crate::{Field, LazyField, NearestField, laws, route, route_to_nearest};
+use wh_field::{Field, LazyField, NearestField, laws, route, route_to_nearest};
 use std::test::Fail;
 use wh_grid::{Cell, Grid};
 

@@ -1,6 +1,6 @@
 //! Texts with their lines, words, numbers and names, written out by hand.
 
-use super::*;
+use wh_text::*;
 
 #[test]
 fn line_ends(rt: HostRuntime) {

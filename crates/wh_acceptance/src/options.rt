@@ -1,5 +1,5 @@
 //! The command line from outside: each subcommand, both spellings of an option, and refusals.
-use super::*;
+use wh_options::*;
 use clap::error::ErrorKind;
 use std::test::*;
 

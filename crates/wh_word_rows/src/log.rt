@@ -2,7 +2,7 @@
 ghost use Rattle.std.specs.Prelude.{◌≡◌, ◌+◌, ◌<◌};
 ghost use Rattle.std.proofs.Common.{sym, ◌∙◌};
 
-use super::*;
+use wh_log::*;
 use std::alloc::Global;
 use std::test::Fail;
 use wh_event::Entry;

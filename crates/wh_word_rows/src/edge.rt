@@ -1,5 +1,5 @@
 //! Sites and works from outside, and the texts of troubles.
-use super::*;
+use wh_edge::*;
 use std::alloc::AllocError;
 use std::test::*;
 use wh_event::{Command, LineFault};

@@ -1,5 +1,5 @@
 //! Sections and lines from small readers, at hand and byte by byte, with each read failing in turn.
-use super::*;
+use wh_lines::*;
 use std::alloc::{AllocError, Global};
 use std::io;
 use std::io::{Error, ErrorKind, Read, Write};

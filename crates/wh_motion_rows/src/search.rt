@@ -1,6 +1,6 @@
 //! Small errands on a floor of rows `.....` and `@.@@@`, and one on an open floor.
 
-use crate::{
+use wh_search::{
     Fault, SearchMemory, deliver, deliver_guided, deliver_in, guided_steps, layers, park, park_in,
 };
 use std::process::Abort;

@@ -1,7 +1,7 @@
 //! Worked verdicts, and one on a large grid.
 #![tactic(auto)]
 
-use crate::{Verdict, check};
+use wh_formed::{Verdict, check};
 use std::test::Fail;
 use std::thread::Threads;
 use wh_grid::Grid;

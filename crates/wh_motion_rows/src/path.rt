@@ -1,7 +1,7 @@
 //! Worked conflicts of two paths, and each call on a path once.
 #![tactic(auto)]
 
-use crate::{Conflict, TimedPath, conflict, laws};
+use wh_path::{Conflict, TimedPath, conflict, laws};
 use std::test::Fail;
 use wh_grid::Cell;
 

@@ -1,7 +1,7 @@
 //! Tasks on small maps: which is nearest, and how they go from phase to phase.
 #![tactic(auto)]
 
-use crate::{
+use wh_tasks::{
     Arrived, Counts, Distances, Foretold, Load, PathEnds, Phase, Places, TaskSet, Visit, arrive,
     foretell, laws,
 };

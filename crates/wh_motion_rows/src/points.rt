@@ -1,6 +1,6 @@
 //! Points files with their points and faults, written out by hand.
 
-use super::*;
+use wh_points::*;
 use std::alloc::Global;
 use std::test::Fail;
 use wh_grid::{Cell, Grid};

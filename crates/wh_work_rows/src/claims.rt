@@ -3,7 +3,7 @@ ghost use Rattle.std.specs.Prelude.{IfOk};
 ghost use Rattle.std.specs.Arc.{arc_value};
 ghost use Rattle.wh_claims.specs.Bank.{Belongs};
 
-use super::*;
+use wh_claims::*;
 use std::alloc::{AllocError, Global};
 use std::sync::Arc;
 use std::test::Fail;

@@ -1,7 +1,7 @@
 //! A planner for tests alone, in a box.
 ghost use Rattle.std.specs.Prelude.{true};
 
-use super::*;
+use wh_planner::*;
 use std::alloc::Global;
 use std::num::NonZeroUsize;
 use std::sync::Arc;

@@ -1,6 +1,6 @@
 //! Shared fields on a small open map.
 
-use crate::{Share, SharedFields, room_within};
+use wh_shared::{Share, SharedFields, room_within};
 use std::num::NonZeroUsize;
 use std::process::Abort;
 use std::sync::Arc;

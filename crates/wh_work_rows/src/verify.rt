@@ -1,5 +1,5 @@
 //! A worked log and its changes, over one small map.
-use super::*;
+use wh_verify::*;
 use std::alloc::Global;
 use std::test::*;
 use wh_grid::Grid;

@@ -1,6 +1,6 @@
 //! Maps with their grids and faults, written out by hand.
 
-use super::*;
+use wh_grid::*;
 use std::alloc::Global;
 use std::test::Fail;
 

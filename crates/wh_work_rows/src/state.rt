@@ -3,7 +3,7 @@
 
 ghost use Rattle.std.specs.Prelude.{◌≡◌};
 
-use crate::{Arrivals, Floor};
+use wh_state::{Arrivals, Floor};
 use std::alloc::{AllocError, Global};
 use std::process::Abort;
 use std::test::Fail;

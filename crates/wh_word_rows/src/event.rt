@@ -1,5 +1,5 @@
 //! Lines and replies from outside, as a user meets them.
-use super::*;
+use wh_event::*;
 use arrayvec::ArrayVec;
 use std::alloc::{AllocError, Global};
 use std::test::*;

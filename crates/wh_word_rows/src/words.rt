@@ -1,5 +1,5 @@
 //! Lines, words and numerals from outside.
-use super::*;
+use wh_words::*;
 use std::test::*;
 
 #[test]

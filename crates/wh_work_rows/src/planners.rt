@@ -1,6 +1,6 @@
 //! A delivery by shared fields on a small map.
 
-use crate::deliver::deliver_shared;
+use wh_planners::deliver::deliver_shared;
 use std::num::NonZeroUsize;
 use std::process::Abort;
 use std::sync::Arc;
