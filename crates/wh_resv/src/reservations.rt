@@ -276,6 +276,13 @@ impl<'a> Reservations<'a> {
         self.latest
     }
 
+    /// Whether nobody may follow another.
+    pub fn nofollow(&self) -> bool
+        ensures { result ≡ self.now.nofollow }
+    {
+        self.nofollow
+    }
+
     /// Whether nobody is at a cell at time k.
     pub fn vacant(&self, cell: Cell, k: u64) -> bool
         ensures { IsTrue result ↔ IsVacant self.now.paths cell k }

@@ -16,6 +16,7 @@ use Rattle.wh_field.specs.Distances.{distance}
 use Rattle.wh_field.proofs.DistanceLaws.{distance_start, distance_falls}
 use Rattle.wh_path.proofs.WalkLemmas.{move_back}
 use Rattle.wh_search.specs.Fields.{far, IsFieldAt, AreFieldsOf}
+use Rattle.wh_search.specs.Expansions.{MayEnd}
 use Rattle.wh_search.specs.Guides.{by_field, stops_estimate, IsOnward}
 use Rattle.wh_search.specs.States.{IsEstimate}
 use Rattle.wh_search.specs.Tours.{IsTour, IsLeastTour}
@@ -165,6 +166,21 @@ path_weaker g others loc stops via ends (Some p) many v e h = least_delivery g o
 -- a delivery rests at the last stop
 pub delivery_rests : (g : Floor) (others : Others) (loc : Cell) (stops p : List Cell) → IsDelivery g others loc stops p → MayRest others (cell_at stops (length stops - 1)) (last_index p)
 delivery_rests g others loc stops p d = λ i q b. record { away = λ j c e. (d.free i q b).apart j (at-beyond p j c ∙ d.delivers ∙ sym e) }
+
+-- and comes there when nobody has just left it, where nobody may follow
+pub delivery_ends : (g : Floor) (others : Others) (loc : Cell) (stops p : List Cell) → IsDelivery g others loc stops p → MayEnd others (cell_at stops (length stops - 1)) (last_index p)
+delivery_ends g others loc stops p d =
+    let c = cell_at stops (length stops - 1) in
+    let n = last_index p in
+    record {
+      rests = delivery_rests g others loc stops p d;
+      follows_none = λ rule i q b. record {
+        away = λ j since there. elim (cases_lt j n) [
+          | inl early ↦ (d.free i q b).no_follow rule j (inl (ap (at p) (let e : j + 1 ≡ n = omega arith in e) ∙ d.delivers ∙ sym there))
+          | inr late ↦ (d.free i q b).apart j (at-beyond p j late ∙ d.delivers ∙ sym there)
+        ];
+      };
+    }
 
 pub stops_estimates : (g : Floor) (stops via ends : List Cell) (fields : List (Option (Bor Source))) (onward : List ℕ) → 2 ≤ length stops → via ≡ take (length stops - 1) stops → ends ≡ drop (length stops - 1) stops
     → AreFieldsOf g stops fields → IsOnward fields stops onward → IsEstimate g via ends (stops_estimate fields onward)

@@ -1,5 +1,5 @@
 -- which states a best-first search expands: makes the successors of
-use Rattle.std.specs.Prelude.{◌≡◌, ◌≢◌, ℕ, ◌+◌, ◌-◌, ◌<◌, ◌≤◌, ◌⊎◌, List, Option, length, take, Contains}
+use Rattle.std.specs.Prelude.{◌≡◌, ◌≢◌, ℕ, ◌+◌, ◌-◌, ◌<◌, ◌≤◌, ◌⊎◌, List, Option, length, take, Contains, true}
 use Rattle.std.specs.List.{AllPairs}
 use Rattle.std.specs.Borrow.{Bor}
 use Rattle.wh_grid.specs.declared.cell.Cell.{Cell}
@@ -42,12 +42,18 @@ pub record AreExpanded (g : Floor) (others : Others) (via : List Cell) (loc : Ce
   pub each_time : (k : ℕ) → k < n → IsAtTime moments k
   pub all : (k : ℕ) (s : State) → IsReachable g others via loc k s → k + estimate s.leg s.cell < n → soonest < n → IsAmong (horizon others.paths) moments k s
 
--- these are expanded for a path through the stops that ends at n, where these fields give the estimate, and nobody may rest at the last stop before `soonest`
+-- An agent may come to a cell at k and rest there: none is there at k or later; and none just before, where nobody may follow.
+pub record MayEnd (others : Others) (c : Cell) (k : ℕ) : Type 0 where
+  pub rests : MayRest others c k
+  pub follows_none : others.nofollow ≡ true → MayRest others c (k - 1)
+
+-- these are expanded for a path through the stops that ends at n, where these fields give the estimate, and nobody may come to rest at the last stop
+-- before `soonest`
 pub record IsSearch (g : Floor) (others : Others) (loc : Cell) (stops : List Cell) (fields : List (Option (Bor Source))) (n : ℕ) (moments : List Moment) : Type 0 where
   pub onward : List ℕ
   pub by_fields : IsOnward fields stops onward
   pub soonest : ℕ
-  pub not_sooner : (k : ℕ) → MayRest others (cell_at stops (length stops - 1)) k → soonest ≤ k
+  pub not_sooner : (k : ℕ) → MayEnd others (cell_at stops (length stops - 1)) k → soonest ≤ k
   pub expanded : AreExpanded g others (take (length stops - 1) stops) loc (stops_estimate fields onward) soonest n moments
 
 -- no moment twice

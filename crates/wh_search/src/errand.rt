@@ -7,6 +7,7 @@ ghost use Rattle.wh_grid.specs.Grids.{IsPassable};
 ghost use Rattle.wh_path.specs.Paths.{cell_at};
 ghost use Rattle.wh_resv.specs.Others.{MayStep, MayRest};
 ghost use Rattle.wh_resv.specs.Calls.{IsVacant};
+ghost use Rattle.wh_search.specs.Expansions.{MayEnd};
 ghost use Rattle.wh_search.specs.Frontiers.{IsErrand};
 ghost use Rattle.wh_search.specs.Guides.{guide_estimate};
 ghost use Rattle.wh_search.specs.States.{Arrives, IsEnd};
@@ -101,6 +102,21 @@ impl<'a> Errand<'a> {
         ensures limit { result ≤ self.now.limit }
     {
         if own < bound { self.limit } else { bound }
+    }
+}
+
+/// A time before which no path ends at a cell where one may rest from `soonest` on, and not before. Under the rule that
+/// nobody follows it is one later: in the tick after another has left the cell nobody comes to it.
+pub fn first_end(others: &Reservations, cell: Cell, soonest: u64) -> u64
+    requires { (k : ℕ) → MayRest others.now cell k → soonest ≤ k }
+    ensures none { (k : ℕ) → MayEnd others.now cell k → result ≤ k }
+    ensures late { soonest ≤ result }
+{
+    let _ = cell;
+    if others.nofollow() && soonest > 0 {
+        soonest.saturating_add(1)
+    } else {
+        soonest
     }
 }
 

@@ -11,7 +11,7 @@ ghost use Rattle.wh_search.specs.Fields.{AreFieldsOf};
 ghost use Rattle.wh_search.specs.Guides.{IsOnward};
 ghost use Rattle.wh_search.specs.Expansions.{IsSearch, IsEffort};
 
-use crate::errand::{Errand, arrive};
+use crate::errand::{Errand, arrive, first_end};
 use crate::frontier::Frontier;
 use crate::guide::{Guide, onward_of};
 use crate::memory::{SearchMemory, settle};
@@ -77,7 +77,7 @@ fn find<'x>(
         limit: horizon + stops.len() as u64 * u64::from(grid.cells()),
         soonest,
         exact: true,
-        least: soonest,
+        least: first_end(others, stops[last], soonest),
     };
     if straight {
         search_straight(alloc, frontier, &errand)

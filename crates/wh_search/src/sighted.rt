@@ -9,7 +9,7 @@ ghost use Rattle.wh_path.specs.Paths.{last_index};
 ghost use Rattle.wh_search.specs.Deliveries.{IsDelivery, IsLawful, IsLeast, IfNoPath, AreStops};
 ghost use Rattle.wh_search.specs.Sights.{AreSightsOf, IsOnwardBySights};
 
-use crate::errand::{Errand, arrive};
+use crate::errand::{Errand, arrive, first_end};
 use crate::frontier::Frontier;
 use crate::guide::{Guide, onward_by_sights};
 use crate::guided::Fault;
@@ -62,7 +62,7 @@ fn find_sighted<'x>(
         limit: horizon + stops.len() as u64 * u64::from(grid.cells()),
         soonest,
         exact: true,
-        least: soonest,
+        least: first_end(others, stops[last], soonest),
     };
     search_straight(alloc, frontier, &errand)
 }

@@ -9,7 +9,7 @@ use Rattle.wh_search.specs.Expansions.{AreExpanded, IsSearch}
 use Rattle.wh_search.specs.Guides.{IsOnward, stops_estimate}
 use Rattle.wh_search.specs.Tours.{IsTour, IsLeastTour}
 use Rattle.wh_resv.specs.Others.{MayRest}
-use Rattle.wh_search.proofs.Stops.{ok_weaker, some_weaker, path_weaker, tour_delivery, delivery_rests, stops_estimates, via_size, last_only, last_part, one_only}
+use Rattle.wh_search.proofs.Stops.{ok_weaker, some_weaker, path_weaker, tour_delivery, delivery_rests, delivery_ends, stops_estimates, via_size, last_only, last_part, one_only}
 use Rattle.wh_search.proofs.guided.find.Goals as goal
 
 pub returns-in_default-clause-found : goal.returns-in_default-clause-found
@@ -42,7 +42,7 @@ search-requires-clause-errand c =
       exact = λ t k end b since.
           let is : cell_at stops n ≡ end = one_only (cell_at stops n) end (subst (λ (w : List Cell). Contains w end) (last_part stops ∙ last_only stops n (omega arith)) b) in
           subst (λ (d : Cell). MayRest c.args.others.now d k) is (c.in-Some.ensures.since k since);
-      none_before = λ q t. c.in-Some.ensures.some (last_index q) (delivery_rests g c.args.others.now c.args.loc stops q (tour_delivery g c.args.others.now c.args.loc stops via ends q many refl (last_part stops) t));
+      none_before = λ q t. c.first_end.ensures.none (last_index q) (delivery_ends g c.args.others.now c.args.loc stops q (tour_delivery g c.args.others.now c.args.loc stops via ends q many refl (last_part stops) t));
     }
 
 pub search_straight-requires-clause-errand : goal.search_straight-requires-clause-errand
@@ -72,7 +72,7 @@ search_straight-requires-clause-errand c =
       exact = λ t k end b since.
           let is : cell_at stops n ≡ end = one_only (cell_at stops n) end (subst (λ (w : List Cell). Contains w end) (last_part stops ∙ last_only stops n (omega arith)) b) in
           subst (λ (d : Cell). MayRest c.args.others.now d k) is (c.in-Some.ensures.since k since);
-      none_before = λ q t. c.in-Some.ensures.some (last_index q) (delivery_rests g c.args.others.now c.args.loc stops q (tour_delivery g c.args.others.now c.args.loc stops via ends q many refl (last_part stops) t));
+      none_before = λ q t. c.first_end.ensures.none (last_index q) (delivery_ends g c.args.others.now c.args.loc stops q (tour_delivery g c.args.others.now c.args.loc stops via ends q many refl (last_part stops) t));
     }
 
 pub returns-clause-found : goal.returns-clause-found
@@ -107,10 +107,10 @@ returns-clause-expanded c = λ plain.
     let o = c.args.others.now in
     let stops = c.args.stops.now in
     let onward = c.deref.result.now in
-    let Expanded : ℕ → List Moment → Type 0 = AreExpanded g o (take (length stops - 1) stops) c.args.loc (stops_estimate c.args.fields.now onward) c.in-Some.soonest in
+    let Expanded : ℕ → List Moment → Type 0 = AreExpanded g o (take (length stops - 1) stops) c.args.loc (stops_estimate c.args.fields.now onward) c.first_end.result in
     let on : IsOnward c.args.fields.now stops onward = subst (IsOnward c.args.fields.now stops) (sym c.deref.ensures.value) c.in_ok-onward.ensures in
     ok_weaker c.search.result
     (λ found. IfSome found (λ p. Expanded (last_index p) c.search.new.frontier.expanded.items))
     (λ found. IfSome found (λ p. IsSearch g o c.args.loc stops c.args.fields.now (last_index p) c.search.new.frontier.expanded.items))
     (λ found h. some_weaker found (λ p. Expanded (last_index p) c.search.new.frontier.expanded.items) (λ p. IsSearch g o c.args.loc stops c.args.fields.now (last_index p) c.search.new.frontier.expanded.items)
-    (λ p x. record { onward = onward; by_fields = on; soonest = c.in-Some.soonest; not_sooner = c.in-Some.ensures.some; expanded = x }) h) c.search.ensures.expanded
+    (λ p x. record { onward = onward; by_fields = on; soonest = c.first_end.result; not_sooner = c.first_end.ensures.none; expanded = x }) h) c.search.ensures.expanded

@@ -8,7 +8,7 @@ use Rattle.wh_search.specs.Sights.{IsOnwardBySights}
 use Rattle.wh_search.specs.Tours.{IsTour, IsLeastTour}
 use Rattle.wh_resv.specs.Others.{MayRest}
 use Rattle.wh_search.proofs.SightedStops.{sights_estimates}
-use Rattle.wh_search.proofs.Stops.{ok_weaker, path_weaker, tour_delivery, delivery_rests, via_size, last_only, last_part, one_only}
+use Rattle.wh_search.proofs.Stops.{ok_weaker, path_weaker, tour_delivery, delivery_rests, delivery_ends, via_size, last_only, last_part, one_only}
 use Rattle.wh_search.proofs.sighted.find_sighted.Goals as goal
 
 pub returns-in_default : goal.returns-in_default
@@ -41,7 +41,7 @@ search_straight-requires-clause-errand c =
       exact = λ t k end b since.
           let is : cell_at stops n ≡ end = one_only (cell_at stops n) end (subst (λ (w : List Cell). Contains w end) (last_part stops ∙ last_only stops n (omega arith)) b) in
           subst (λ (d : Cell). MayRest c.args.others.now d k) is (c.in-Some.ensures.since k since);
-      none_before = λ q t. c.in-Some.ensures.some (last_index q) (delivery_rests g c.args.others.now c.args.loc stops q (tour_delivery g c.args.others.now c.args.loc stops via ends q many refl (last_part stops) t));
+      none_before = λ q t. c.first_end.ensures.none (last_index q) (delivery_ends g c.args.others.now c.args.loc stops q (tour_delivery g c.args.others.now c.args.loc stops via ends q many refl (last_part stops) t));
     }
 
 pub returns : goal.returns
