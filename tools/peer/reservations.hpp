@@ -40,6 +40,8 @@ public:
     uint32_t self() const { return self_; }
     uint32_t horizon() const { return horizon_; }    // from then on no other moves
     uint32_t soonest() const { return soonest_; }    // from then on no other comes to the goal
+    // No path ends at the goal before: under the rule nobody comes there in the step after another left it.
+    uint32_t first_end() const { return soonest_ + (nofollow_ && soonest_ > 0); }
 
     void reserve(uint32_t self, uint32_t goal) {
         self_ = self;

@@ -45,7 +45,7 @@ private:
     bool run(uint32_t start) {
         const uint32_t first = errand_.arrive(0, start);
         const uint32_t whole = errand_.estimate(first, start);
-        uint32_t least = reservations_.soonest();    // no path is shorter
+        uint32_t least = reservations_.first_end();    // no path is shorter
         if (whole > errand_.limit()) return false;
         if (whole >= least) {
             if (straight_.find(errand_, start, first, whole, path)) return true;
