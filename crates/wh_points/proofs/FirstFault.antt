@@ -1,8 +1,7 @@
 -- A fault's line is one of the file's, and nothing behind it changes the fault.
-use Rattle.std.proofs.Common.{◌≡◌, ℕ, suc, ◌+◌, ◌-◌, ◌<◌, ◌≤◌, ◌⊎◌, inl, inr, Result, Ok, Err, List, [], ◌∷◌, ◌++◌, length, take, refl, sym, ap, subst, arith, ◌∙◌}
+use Rattle.std.proofs.Common.{◌≡◌, ℕ, suc, ◌+◌, ◌-◌, ◌<◌, ◌≤◌, inl, inr, Result, Ok, Err, List, [], ◌∷◌, ◌++◌, length, take, refl, ap, subst, arith}
 use Rattle.std.specs.Prelude.{IfErr}
 use Rattle.wh_grid.specs.Grids.{Floor}
-use Rattle.wh_grid.specs.Faults.{◌>>=◌}
 use Rattle.wh_grid.proofs.Steps.{bind_err}
 use Rattle.wh_points.specs.declared.fault.FaultKind.{FaultKind}
 use Rattle.wh_points.specs.declared.fault.FaultKind.TheVariants.{NoAgent}

@@ -11,20 +11,19 @@ use Rattle.wh_text.specs.Words.{words_of}
 use Rattle.wh_text.specs.Numbers.{small_number_of}
 use Rattle.wh_text.specs.Names.{is_name}
 use Rattle.wh_grid.specs.declared.cell.Cell.{Cell}
-use Rattle.wh_grid.specs.Grids.{Floor, IsPassable}
-use Rattle.wh_grid.specs.Faults.{◌>>=◌}
+use Rattle.wh_grid.specs.Grids.{Floor}
 use Rattle.wh_grid.proofs.Steps.{bind_ok}
 use Rattle.wh_points.specs.declared.points.Kind.{Kind}
 use Rattle.wh_points.specs.declared.points.Kind.TheVariants.{Station, Parking}
 use Rattle.wh_points.specs.declared.points.Point.{Point}
 use Rattle.wh_points.specs.declared.fault.FaultKind.{FaultKind}
-use Rattle.wh_points.specs.declared.fault.FaultKind.TheVariants.{Form, Name, NameTwice, Blocked, CellTwice, TooMany, Unknown, StartTwice, RuleTwice, NoAgent}
+use Rattle.wh_points.specs.declared.fault.FaultKind.TheVariants.{Form, Name, NameTwice, Blocked, CellTwice, TooMany, StartTwice, RuleTwice}
 use Rattle.wh_points.specs.declared.fault.Fault.{Fault}
 use Rattle.wh_points.specs.declared.fault.PointFault.{PointFault}
 use Rattle.wh_points.specs.Points.{Layout}
 use Rattle.wh_points.specs.Layouts.{find_name}
-use Rattle.wh_points.specs.PointLines.{is_open, has_name, has_cell, with_point, with_agent, with_rule, placed, placed_at, point_by, starts_at, agent_by, rule_by, named, is_comment, line_by, line_of}
-use Rattle.wh_points.specs.PointFiles.{empty, located, whole, layout_from, layout_at, Gives}
+use Rattle.wh_points.specs.PointLines.{is_open, has_name, has_cell, with_point, with_agent, with_rule, placed_at, point_by, starts_at, agent_by, rule_by, named, is_comment, line_by, line_of}
+use Rattle.wh_points.specs.PointFiles.{empty, located, whole, layout_from, Gives}
 use Rattle.wh_points.specs.PointGrammar.{IsSkipped, word_of, AddsPoint, AddsAgent, AddsRule, Says, Spells, IsPointsFile}
 use Rattle.wh_points.proofs.Additions.{list_any-false}
 use Rattle.wh_points.proofs.LineSteps.{open_passable, passable_open, cases_Bool}

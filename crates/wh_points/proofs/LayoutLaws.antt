@@ -1,5 +1,5 @@
 -- What is read from a points file is a layout on its grid.
-use Rattle.std.proofs.Common.{◌≡◌, ◌≢◌, ℕ, ◌+◌, ◌<◌, ◌≤◌, Bool, true, false, cond, eqb, Option, Some, None, Result, Ok, Err, List, [], ◌∷◌, length, All, refl, sym, ap, subst, arith, ◌∙◌}
+use Rattle.std.proofs.Common.{◌≡◌, ℕ, ◌+◌, ◌<◌, ◌≤◌, Bool, true, false, cond, eqb, Option, Some, None, Result, Ok, Err, List, [], ◌∷◌, length, All, refl, ap, subst, arith}
 use Rattle.std.specs.Prelude.{IfOk, codes}
 use Rattle.std.specs.List.{list_any}
 use Rattle.std.specs.Str.{bytes_eq}
@@ -10,14 +10,12 @@ use Rattle.wh_text.specs.Words.{words_of}
 use Rattle.wh_text.specs.Numbers.{small_number_of}
 use Rattle.wh_text.specs.Names.{is_name}
 use Rattle.wh_grid.specs.Grids.{Floor, IsPassable}
-use Rattle.wh_grid.specs.Faults.{◌>>=◌}
 use Rattle.wh_grid.proofs.Steps.{bind_ok}
 use Rattle.wh_points.specs.declared.points.Kind.{Kind}
 use Rattle.wh_points.specs.declared.points.Kind.TheVariants.{Station, Parking}
 use Rattle.wh_points.specs.declared.points.Point.{Point}
 use Rattle.wh_points.specs.declared.fault.FaultKind.{FaultKind}
-use Rattle.wh_points.specs.declared.fault.FaultKind.TheVariants.{Form, Name, NameTwice, Blocked, CellTwice, TooMany, Unknown, StartTwice, RuleTwice, NoAgent}
-use Rattle.wh_points.specs.declared.fault.Fault.{Fault}
+use Rattle.wh_points.specs.declared.fault.FaultKind.TheVariants.{Form, Name, NameTwice, Blocked, CellTwice, TooMany, StartTwice, RuleTwice}
 use Rattle.wh_points.specs.declared.fault.PointFault.{PointFault}
 use Rattle.wh_points.specs.Points.{Layout, IsLayout, point_at}
 use Rattle.wh_points.specs.Layouts.{AreApart, find_name}

@@ -1,18 +1,15 @@
 -- What the parts of a line's code find is what the line says.
-use Rattle.std.proofs.Common.{◌≡◌, ℕ, suc, zero, ◌<◌, ◌≤◌, ◌+◌, ◌*◌, Bool, true, false, cond, ◌&&◌, ◌||◌, if◌then◌else◌, eqb, Option, Some, None, Result, Ok, Err, List, [], ◌∷◌, ◌++◌, length, get_or, slice_get, map, refl, ap, sym, ◌∙◌, subst, arith}
+use Rattle.std.proofs.Common.{◌≡◌, ℕ, suc, zero, ◌<◌, ◌+◌, ◌*◌, Bool, true, false, cond, ◌&&◌, if◌then◌else◌, eqb, Some, None, Ok, List, [], ◌∷◌, ◌++◌, length, get_or, map, refl, ap, sym, ◌∙◌, arith}
 use Rattle.std.specs.List.{list_any}
-use Rattle.std.specs.Bool.{Decides}
 use Rattle.std.proofs.Math.Dec.{ltb}
 use Rattle.std.proofs.lemmas.Bool.{lt-ltb, ltb-true}
 use Rattle.std.proofs.lemmas.List.{map-append}
 use Rattle.std.proofs.lemmas.Option.{slice_get-get_or, get_or_from_slice_get}
-use Rattle.wh_text.specs.Names.{is_name, name_of}
 use Rattle.wh_grid.specs.declared.cell.Cell.{Cell}
 use Rattle.wh_grid.specs.Grids.{Floor, IsPassable}
-use Rattle.wh_points.specs.declared.points.Kind.{Kind}
 use Rattle.wh_points.specs.declared.points.Point.{Point}
 use Rattle.wh_points.specs.Points.{Layout}
-use Rattle.wh_points.specs.PointLines.{is_open, has_name, has_cell, with_point, with_agent, placed, starts_at}
+use Rattle.wh_points.specs.PointLines.{is_open, has_cell, with_agent, starts_at}
 use Rattle.wh_points.proofs.Lookups.{list_any-map}
 
 pub and_three : (a b c : Bool) → (a && b && c) ≡ true → (a ≡ true) × (b ≡ true) × (c ≡ true)
@@ -56,21 +53,6 @@ some_if false x y h = absurd cc
 
 pub agent_started : (layout new : Layout) (n : ℕ) → list_any (λ m. eqb m n) layout.agents ≡ false → length layout.agents < 256 → new ≡ with_agent layout n → starts_at layout (Some n) ≡ Ok new
 agent_started layout new n fresh room e = rw (fresh, lt-ltb (length layout.agents) 256 room) (ap (λ (l : Layout). Ok l) (sym e))
-
-pub point_placed : (g : Floor) (layout new : Layout) (kind : Kind) (word name : List ℕ) (x y : ℕ) (cell : Cell)
-    → name_of word ≡ Some name → has_name name layout.points ≡ false → cond (is_open g x y) (Some (record { x = x; y = y })) None ≡ Some cell
-    → has_cell cell.x cell.y layout.points ≡ false → length layout.points < 4096 → new ≡ with_point layout (record { name = name; cell = cell; kind = kind })
-    → placed g layout kind word x y ≡ Ok new
-point_placed g layout new kind word name x y cell is fresh at apart room e =
-    let n = some_if (is_name word) word name is in
-    let made : Cell = record { x = x; y = y } in
-    let o = some_if (is_open g x y) made cell at in
-    let f : has_name word layout.points ≡ false = ap (λ (w : List ℕ). has_name w layout.points) n.1 ∙ fresh in
-    let a : has_cell x y layout.points ≡ false = ap (λ (c : Cell). has_cell c.x c.y layout.points) o.1 ∙ apart in
-    let p : Point = record { name = word; cell = made; kind = kind } in
-    let q : Point = record { name = name; cell = cell; kind = kind } in
-    let same : p ≡ q = (λ i. record { name = n.1 i; cell = o.1 i; kind = kind }) in
-    rw (n.0, f, o.0, a, lt-ltb (length layout.points) 4096 room) (ap (λ (v : Point). Ok (with_point layout v)) same ∙ ap (λ (l : Layout). Ok l) (sym e))
 
 -- a place among the cells is the place of the point
 pub has_cell-among : (cell : Cell) (cells : List Cell) (points : List Point) → cells ≡ map (λ p. p.cell) points

@@ -1,8 +1,7 @@
 -- Reading line after line, as a loop does.
-use Rattle.std.proofs.Common.{◌≡◌, ℕ, ◌+◌, List, [], ◌∷◌, Result, Ok, Err, refl, sym, ap, ◌∙◌, subst}
+use Rattle.std.proofs.Common.{◌≡◌, ℕ, ◌+◌, List, [], ◌∷◌, Result, Ok, Err, refl, sym, ap, ◌∙◌}
 use Rattle.wh_grid.specs.Grids.{Floor}
 use Rattle.wh_grid.specs.Faults.{◌>>=◌}
-use Rattle.wh_points.specs.declared.fault.FaultKind.{FaultKind}
 use Rattle.wh_points.specs.declared.fault.Fault.{Fault}
 use Rattle.wh_points.specs.declared.fault.Refused.{Refused}
 use Rattle.wh_points.specs.declared.fault.Refused.TheVariants.{NoMemory, Line}

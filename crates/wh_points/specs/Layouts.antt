@@ -1,5 +1,5 @@
 -- What every layout has, whatever its grid.
-use Rattle.std.specs.Prelude.{◌≡◌, ◌≢◌, ℕ, ◌<◌, List, Option, length, slice_index, position, All}
+use Rattle.std.specs.Prelude.{◌≢◌, ℕ, ◌<◌, List, Option, length, slice_index, position, All}
 use Rattle.std.specs.Str.{bytes_eq}
 use Rattle.wh_points.specs.declared.points.Point.{Point}
 use Rattle.wh_points.specs.Points.{Layout, point_at}

@@ -1,5 +1,5 @@
 -- What a points file says: its layout, or the first fault with its line.
-use Rattle.std.specs.Prelude.{◌≡◌, ℕ, ◌+◌, ◌≤◌, Bool, false, List, [], ◌∷◌, ◌++◌, length, take, Result, Ok, Err}
+use Rattle.std.specs.Prelude.{◌≡◌, ℕ, ◌+◌, ◌≤◌, false, List, [], ◌∷◌, ◌++◌, length, take, Result, Ok, Err}
 use Rattle.wh_text.specs.Lines.{lines_of}
 use Rattle.wh_grid.specs.Grids.{Floor}
 use Rattle.wh_grid.specs.Faults.{◌>>=◌}

@@ -1,5 +1,5 @@
 -- The grammar of points files: what each line may add, said without an order of tests.
-use Rattle.std.specs.Prelude.{◌≡◌, ◌≢◌, ℕ, ◌<◌, ◌≤◌, ◌⊎◌, Bool, true, false, List, [], ◌∷◌, length, Some, All, Contains, codes}
+use Rattle.std.specs.Prelude.{◌≡◌, ◌≢◌, ℕ, ◌<◌, ◌≤◌, ◌⊎◌, true, false, List, [], ◌∷◌, length, Some, All, codes}
 use Rattle.wh_text.specs.Words.{words_of}
 use Rattle.wh_text.specs.Numbers.{small_number_of}
 use Rattle.wh_text.specs.Names.{is_name}

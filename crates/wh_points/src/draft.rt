@@ -1,6 +1,6 @@
 //! A layout that is read line by line.
 
-ghost use Rattle.std.specs.Prelude.{◌≡◌, ◌+◌, List, ℕ, Some, None, Ok, cond, IfOk, false, length, ◌<◌, ◌^◌};
+ghost use Rattle.std.specs.Prelude.{◌≡◌, ◌+◌, List, ℕ, Some, None, Ok, cond, IfOk, IfErr, false, length, ◌<◌, ◌^◌};
 ghost use Rattle.wh_text.specs.Numbers.{small_number_of};
 ghost use Rattle.wh_text.specs.Words.{words_of};
 ghost use Rattle.wh_grid.specs.declared.cell.Cell.{Cell};
@@ -95,25 +95,47 @@ impl Draft {
         Ok(Draft { points, cells })
     }
 
+    /// The point that a line places, if it may.
+    fn point_of(
+        &self,
+        grid: &Grid,
+        kind: Kind,
+        name: &[u8],
+        x: u32,
+        y: u32,
+    ) -> Result<Point, FaultKind>
+        ensures fresh { IfOk result (λ point. says.has_name point.name self.now.points ≡ false) }
+        ensures apart { IfOk result (λ point. has_cell point.cell.x point.cell.y self.now.points ≡ false) }
+        ensures room { IfOk result (λ point. length self.now.points < 4096) }
+        ensures placed { IfOk result (λ point. placed grid.now self.now kind name.now x y ≡ Ok (with_point self.now point)) }
+        ensures fault { IfErr result (λ fault. placed grid.now self.now kind name.now x y ≡ Err fault) }
+    {
+        let Some(name) = Name::read(name) else {
+            return Err(FaultKind::Name);
+        };
+        if self.points.has_name(&name) {
+            return Err(FaultKind::NameTwice);
+        }
+        let Some(cell) = open_cell(grid, x, y) else {
+            return Err(FaultKind::Blocked);
+        };
+        if self.has_cell(cell) {
+            return Err(FaultKind::CellTwice);
+        }
+        if self.points.len() >= MOST_POINTS {
+            return Err(FaultKind::TooMany);
+        }
+        Ok(Point { name, cell, kind })
+    }
+
     fn place(self, grid: &Grid, kind: Kind, name: &[u8], x: u32, y: u32) -> Result<Draft, Refused>
         ensures { Takes result (placed grid.now self kind name.now x y) }
     {
-        let Some(name) = Name::read(name) else {
-            return Err(Refused::Line(FaultKind::Name));
+        let point = match self.point_of(grid, kind, name, x, y) {
+            Ok(point) => point,
+            Err(fault) => return Err(Refused::Line(fault)),
         };
-        if self.points.has_name(&name) {
-            return Err(Refused::Line(FaultKind::NameTwice));
-        }
-        let Some(cell) = open_cell(grid, x, y) else {
-            return Err(Refused::Line(FaultKind::Blocked));
-        };
-        if self.has_cell(cell) {
-            return Err(Refused::Line(FaultKind::CellTwice));
-        }
-        if self.points.len() >= MOST_POINTS {
-            return Err(Refused::Line(FaultKind::TooMany));
-        }
-        let draft = self.with_point(Point { name, cell, kind })?;
+        let draft = self.with_point(point)?;
         Ok(draft)
     }
 

@@ -1,4 +1,4 @@
-use Rattle.std.proofs.Common.{◌≡◌, refl}
+use Rattle.std.proofs.Common.{refl}
 use Rattle.wh_points.proofs.LineSteps.{not_open}
 use Rattle.wh_points.proofs.draft.open_cell.Goals as goal
 

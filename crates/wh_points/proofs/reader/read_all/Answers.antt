@@ -1,4 +1,4 @@
-use Rattle.std.proofs.Common.{◌≡◌, ℕ, Result, Ok, Err, sym, ◌∙◌, ap}
+use Rattle.std.proofs.Common.{◌≡◌, ℕ, sym, ◌∙◌, ap}
 use Rattle.wh_text.specs.Lines.{Unread}
 use Rattle.wh_points.specs.PointFiles.{layout_at, whole}
 use Rattle.wh_points.proofs.ReadSteps.{goes_on, ends, all_read}

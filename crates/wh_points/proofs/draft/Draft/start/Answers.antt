@@ -1,4 +1,4 @@
-use Rattle.std.proofs.Common.{◌≡◌, ◌<◌, ◌==◌, Some, Ok, false, length, subst, ◌∙◌, sym, arith, ap, ℕ, List}
+use Rattle.std.proofs.Common.{◌≡◌, ◌<◌, Some, Ok, length, subst, ◌∙◌, sym, arith, ap, ℕ, List}
 use Rattle.wh_points.specs.Points.{Layout}
 use Rattle.wh_points.specs.PointLines.{starts_at}
 use Rattle.wh_points.proofs.LineSteps.{agent_started}

@@ -1,7 +1,6 @@
-use Rattle.std.proofs.Common.{◌≡◌, ℕ, List, Option, Some, None, sym, ◌∙◌, ap, subst}
-use Rattle.wh_points.specs.declared.points.Point.{Point}
+use Rattle.std.proofs.Common.{◌≡◌, sym, ◌∙◌, subst}
 use Rattle.wh_points.specs.Layouts.{find_name}
-use Rattle.wh_points.specs.Points.{Layout, point_at}
+use Rattle.wh_points.specs.Points.{Layout}
 use Rattle.wh_points.proofs.Lookups.{find_name-among, find_name-found, find_name-none}
 use Rattle.wh_points.proofs.layout.Points.find.Goals as goal
 
