@@ -1,17 +1,19 @@
 #!/usr/bin/env bash
-# Times the parts (crates/wh_times) and whole runs of the program on seeded instances, and prints the figures as Markdown:
-# the machine, its load, then a table of the least of several runs. docs/PERFORMANCE.md keeps what it printed. Where there
-# is a g++, the unproved peer in tools/peer runs the three warehouses too.
+# Times whole runs of the program on seeded instances, and counts the instructions of its parts, and prints the figures as
+# Markdown: the machine, its load, then a table of the least of several runs. docs/PERFORMANCE.md keeps what it printed.
+# Where there is a g++, the unproved peer in tools/peer runs the three warehouses too.
 #
-#   tools/bench.sh [all|parts|runs]        RUNS=5 tools/bench.sh parts
+#   tools/bench.sh [all|parts|runs]        RUNS=5 tools/bench.sh runs
 #
-# It builds what is not built. Run it on a machine that does nothing else.
+# The parts want valgrind, and each of their runs is made once. It builds what is not built. Run it on a machine that does
+# nothing else; instructions do not depend on that.
 set -eu
 
 root=$(cd -- "$(dirname -- "$(readlink -f -- "${BASH_SOURCE[0]}")")/.." && pwd)
 what=${1:-all}
 runs=${RUNS:-3}
 program=${WAREHOUSE:-$root/crates/warehouse/out/warehouse}
+make="python3 $root/tools/make_instance.py --seed 7 --every 1"
 folder=$(mktemp -d)
 trap 'rm -rf -- "$folder"' EXIT
 
@@ -36,25 +38,41 @@ print(f'{best:.3f} {resource.getrusage(resource.RUSAGE_CHILDREN).ru_maxrss // 10
 PYTHON
 }
 
-# Each line of the parts, with its least time.
+# The functions of ours that count most in one run, as rows: a function's instructions and those of all that it calls.
+# What the compiler put into its callers has no row of its own.
+#   calls NAME INPUT WORDS..
+calls() {
+    local name=$1 input=$2
+    shift 2
+    valgrind -q --tool=callgrind --callgrind-out-file="$folder/calls" "$program" "$@" < "$input" > /dev/null 2>&1 || true
+    callgrind_annotate --inclusive=yes --threshold=100 --auto=no "$folder/calls" | awk -v run="$name" -v words="$*" '
+        { count = $1; gsub(",", "", count); count += 0 }
+        /PROGRAM TOTALS/ { all = count }
+        match($0, /[:<]wh_[a-z]+::/) && count >= all / 50 {    # two in a hundred, or more
+            what = substr($0, RSTART)
+            sub(/^:/, "", what)
+            sub(/ \[[^]]*\]$/, "", what)
+            printf "| %s | `%s` | `%s` | %.1f | %.0f |\n", run, words, what, count / 1e6, 100 * count / all
+        }'
+}
+
 parts() {
-    local run
-    (cd -- "$root/crates/wh_times" && rt run ${RT_JOBS:+--jobs "$RT_JOBS"} > "$folder/built" 2>&1) || {
-        cat -- "$folder/built" >&2
-        return 1
-    }
-    for ((run = 0; run < runs; run++)); do
-        "$root/crates/wh_times/out/wh_times" full
-    done > "$folder/parts"
+    command -v valgrind > /dev/null || { echo 'bench.sh: no valgrind, so no parts' >&2; return 0; }
+    instances
+    $make --columns 512 --rows 512 --open --agents 4 --tasks 10000 --ticks 12000 > "$folder/many"
+    $make --columns 4096 --rows 4096 --open --agents 1 --tasks 1 --ticks 1 > "$folder/widest"
+    $make --columns 35 --rows 21 --agents 50 --tasks 0 --ticks 0 > "$folder/counted"
+    awk 'BEGIN { for (n = 0; n < 1000000; n++) printf "submit c%d S%d S%d\n", n % 10000, n % 20, (n + 7) % 20 }' >> "$folder/counted"
     echo
-    echo '| Part | What came out | Milliseconds |'
-    echo '|---|---|---|'
-    awk -F': |, ' '
-        { name = $1; for (i = 2; i < NF - 1; i++) name = name ", " $i }
-        { split($NF, time, " "); if (!(name in least)) { order[++count] = name; least[name] = time[1] } }
-        { found[name] = $(NF - 1); if (time[1] < least[name]) least[name] = time[1] }
-        END { for (i = 1; i <= count; i++) printf "| %s | %s | %.2f |\n", order[i], found[order[i]], least[order[i]] / 1000 }
-    ' "$folder/parts"
+    echo '| Instance | Options | Function, with all that it calls | Million instructions | Of 100 |'
+    echo '|---|---|---|---|---|'
+    calls '4096 points, 1024 x 1024' "$folder/wide" check
+    calls 'small warehouse' "$folder/small" replay --planner near
+    calls 'large warehouse' "$folder/large" replay --planner near
+    calls 'open map, 512 x 512' "$folder/open" replay --planner near
+    calls '10000 tasks, 512 x 512, 4 agents' "$folder/many" replay --planner near
+    calls 'one task, 4096 x 4096' "$folder/widest" replay --planner near
+    calls '1,000,000 tasks of 10,000 clients' "$folder/counted" replay --tail ledger
 }
 
 # One run of the program on an input, as a row.
@@ -87,8 +105,9 @@ peers() {
     row 'open map, by the peer in C++' "$folder/open" replay
 }
 
-whole_runs() {
-    local make="python3 $root/tools/make_instance.py --seed 7 --every 1"
+# The instances of both, made once; the program is built.
+instances() {
+    [[ ! -e $folder/small ]] || return 0
     if [[ ! -x $program ]]; then
         "$root/warehouse" replay < "$root/examples/deliveries" > /dev/null    # it is built
     fi
@@ -96,6 +115,10 @@ whole_runs() {
     $make --columns 81 --rows 81 --agents 250 --tasks 1000 --ticks 1500 > "$folder/large"
     $make --columns 512 --rows 512 --open --agents 100 --tasks 200 --ticks 2500 > "$folder/open"
     $make --columns 1024 --rows 1024 --open --agents 100 --tasks 0 --ticks 0 > "$folder/wide"
+}
+
+whole_runs() {
+    instances
     $make --columns 35 --rows 21 --agents 50 --tasks 0 --ticks 0 > "$folder/ticks"
     yes tick | head -n 1000000 >> "$folder/ticks"
     echo
