@@ -6,7 +6,7 @@ use std::sync::Arc;
 use std::test::Fail;
 use wh_claims::{Bank, Claim};
 use wh_grid::{Cell, Grid};
-use wh_path::{TimedPath, conflict};
+use wh_path::TimedPath;
 use wh_planner::{Duty, Planner, Scene};
 use wh_planners::Sharing;
 use wh_resv::Reservations;
@@ -51,8 +51,6 @@ fn a_path_is_as_short_as_by_whole_fields(rt: HostRuntime) -> Result<(), Fail> {
     assert!(rt; grid.passable(loc));
     assert!(rt; others.may_rest(loc, 0));
     let whole = deliver(rt.alloc(), &grid, &others, loc, &stops).expect(&rt, "there is a path");
-    assert!(rt; conflict(&paths[0], &paths[1], true).is_none());
-    assert!(rt; conflict(&paths[1], &paths[0], true).is_none());
     let scene = Scene {
         grid: &grid,
         nofollow: true,
