@@ -1,7 +1,9 @@
 //! The command line from outside: each subcommand, both spellings of an option, and refusals.
-use wh_options::*;
 use clap::error::ErrorKind;
 use std::test::*;
+use wh_options::{
+    Fleet, LiveOptions, Options, PlannerKind, Refusal, ReplayOptions, Tail, options, refusal_of,
+};
 
 const FLEET: Fleet = Fleet {
     planner: PlannerKind::Near,

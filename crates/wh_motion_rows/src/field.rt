@@ -1,8 +1,8 @@
 //! Distances and routes on small maps, by tables that other programs and hands have made.
 #![tactic(auto)]
 
-use wh_field::{Field, LazyField, NearestField, laws, route, route_to_nearest};
 use std::test::Fail;
+use wh_field::{Field, LazyField, NearestField, laws, route, route_to_nearest};
 use wh_grid::{Cell, Grid};
 
 // The map `@.@.@`, `.....`, `@.@.@`: a tree, so its least walks are unique.

@@ -1,9 +1,9 @@
 //! Worked verdicts, and one on a large grid.
 #![tactic(auto)]
 
-use wh_formed::{Verdict, check};
 use std::test::Fail;
 use std::thread::Threads;
+use wh_formed::{Verdict, check};
 use wh_grid::Grid;
 use wh_points::Points;
 

@@ -1,8 +1,8 @@
 //! Maps with their grids and faults, written out by hand.
 
-use wh_grid::*;
 use std::alloc::Global;
 use std::test::Fail;
+use wh_grid::{Cell, Grid, MapFault};
 
 const MAP_A: &[u8] = b"type octile\nheight 3\nwidth 5\nmap\n@.@.@\n.....\n@.@.@\n";
 

@@ -1,20 +1,20 @@
-//! Worked rows of the libraries of grids, points, paths, fields and searches, from outside: each public call once, and what failing allocations leave.
-//! There is nothing here but tests; they stand beside their crates, since a crate that has tests is proved twice.
+//! Worked rows of the libraries of grids, points, paths, fields and searches, from outside, a file for each.
+//! There is nothing here but tests: a crate that has tests is proved twice, so those crates have none.
 #![tactic(auto)]
 
 #[cfg(test)]
-mod grid;
-#[cfg(test)]
-mod points;
+mod field;
 #[cfg(test)]
 mod formed;
 #[cfg(test)]
+mod grid;
+#[cfg(test)]
+mod intervals;
+#[cfg(test)]
 mod path;
 #[cfg(test)]
-mod field;
+mod points;
 #[cfg(test)]
 mod search;
 #[cfg(test)]
 mod timetable;
-#[cfg(test)]
-mod intervals;

@@ -1,9 +1,9 @@
 //! Worked conflicts of two paths, and each call on a path once.
 #![tactic(auto)]
 
-use wh_path::{Conflict, TimedPath, conflict, laws};
 use std::test::Fail;
 use wh_grid::Cell;
+use wh_path::{Conflict, TimedPath, conflict, laws};
 
 fn path<R: AllocGlobal>(rt: &R, cells: &[(u16, u16)]) -> Result<TimedPath, Fail> {
     let mut list = Vec::new(rt.alloc());

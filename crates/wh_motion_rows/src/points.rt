@@ -1,9 +1,9 @@
 //! Points files with their points and faults, written out by hand.
 
-use wh_points::*;
 use std::alloc::Global;
 use std::test::Fail;
 use wh_grid::{Cell, Grid};
+use wh_points::{Kind, PointFault, Points};
 use wh_text::Name;
 
 const MAP_A: &[u8] = b"type octile\nheight 3\nwidth 5\nmap\n@.@.@\n.....\n@.@.@\n";

@@ -1,14 +1,14 @@
 //! Small errands on a floor of rows `.....` and `@.@@@`, and one on an open floor.
 
-use wh_search::{
-    Fault, SearchMemory, deliver, deliver_guided, deliver_in, guided_steps, layers, park, park_in,
-};
 use std::process::Abort;
 use std::test::Fail;
 use wh_field::Field;
 use wh_grid::{Cell, Grid};
 use wh_path::TimedPath;
 use wh_resv::Reservations;
+use wh_search::{
+    Fault, SearchMemory, deliver, deliver_guided, deliver_in, guided_steps, layers, park, park_in,
+};
 
 fn path<R: Abort + AllocGlobal>(rt: &R, cells: &[(u16, u16)]) -> Result<TimedPath, Fail> {
     let mut all = Vec::new(rt.alloc());

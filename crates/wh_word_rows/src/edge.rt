@@ -1,7 +1,9 @@
 //! Sites and works from outside, and the texts of troubles.
-use wh_edge::*;
 use std::alloc::AllocError;
 use std::test::*;
+use wh_edge::{
+    ScriptFault, ScriptPlace, Trouble, Work, agent_work, client_work, clock_work, read_site,
+};
 use wh_event::{Command, LineFault};
 use wh_lines::Lines;
 use wh_points::{Fault, FaultKind};

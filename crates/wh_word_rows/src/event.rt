@@ -1,8 +1,10 @@
 //! Lines and replies from outside, as a user meets them.
-use wh_event::*;
 use arrayvec::ArrayVec;
 use std::alloc::{AllocError, Global};
 use std::test::*;
+use wh_event::{
+    Command, Entry, Event, KeptStops, LineFault, Refusal, Reply, Stops, read_line, write_reply,
+};
 use wh_path::TimedPath;
 use wh_text::Name;
 

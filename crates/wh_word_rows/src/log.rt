@@ -2,10 +2,10 @@
 ghost use Rattle.std.specs.Prelude.{◌≡◌, ◌+◌, ◌<◌};
 ghost use Rattle.std.proofs.Common.{sym, ◌∙◌};
 
-use wh_log::*;
 use std::alloc::Global;
 use std::test::Fail;
 use wh_event::Entry;
+use wh_log::{Followed, Judge, Log, LogFault, NoMemory, follow, log_text, read_log, written_again};
 
 const LOG: &[u8] =
     b"wlog 1\nstart 0 slots 4 4\n0 submit x A B = accepted 0\n0 token 0 = took 0 path 0,1 1,1 1,0 1,1 2,1 3,1 3,0\n0 tick = clock 1 picked 0 dropped 0\nend 3\n";

@@ -1,6 +1,6 @@
 //! Texts with their lines, words, numbers and names, written out by hand.
 
-use wh_text::*;
+use wh_text::{Lines, Name, Words, lines_are, number_up_to, small_number, words_are};
 
 #[test]
 fn line_ends(rt: HostRuntime) {

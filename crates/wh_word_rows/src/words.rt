@@ -1,6 +1,6 @@
 //! Lines, words and numerals from outside.
-use wh_words::*;
 use std::test::*;
+use wh_words::{Words, around, long_numeral, numeral, whole_line, wide_numeral};
 
 #[test]
 fn lines(rt: HostRuntime) {

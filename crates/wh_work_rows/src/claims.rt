@@ -3,11 +3,11 @@ ghost use Rattle.std.specs.Prelude.{IfOk};
 ghost use Rattle.std.specs.Arc.{arc_value};
 ghost use Rattle.wh_claims.specs.Bank.{Belongs};
 
-use wh_claims::*;
 use std::alloc::{AllocError, Global};
 use std::sync::Arc;
 use std::test::Fail;
 use std::thread;
+use wh_claims::{Bank, BankSeat, Claim, Refusal};
 
 #[test]
 fn a_claim_gives_back_where_it_is_dropped(rt: HostRuntime) -> Result<(), Fail> {

@@ -1,22 +1,22 @@
-//! Worked rows of the libraries of tasks, states, planners, judges and late vehicles, from outside: each public call once, and what failing allocations leave.
-//! There is nothing here but tests; they stand beside their crates, since a crate that has tests is proved twice.
+//! Worked rows of the libraries of tasks, states, planners, judges and late vehicles, from outside, a file for each.
+//! There is nothing here but tests: a crate that has tests is proved twice, so those crates have none.
 #![tactic(auto)]
 
 #[cfg(test)]
-mod tasks;
+mod claims;
 #[cfg(test)]
-mod state;
+mod drive;
 #[cfg(test)]
-mod shared;
+mod order;
 #[cfg(test)]
 mod planner;
 #[cfg(test)]
 mod planners;
 #[cfg(test)]
-mod claims;
+mod shared;
+#[cfg(test)]
+mod state;
+#[cfg(test)]
+mod tasks;
 #[cfg(test)]
 mod verify;
-#[cfg(test)]
-mod drive;
-#[cfg(test)]
-mod order;

@@ -1,13 +1,13 @@
 //! A planner for tests alone, in a box.
 ghost use Rattle.std.specs.Prelude.{true};
 
-use wh_planner::*;
 use std::alloc::Global;
 use std::num::NonZeroUsize;
 use std::sync::Arc;
 use std::test::Fail;
 use wh_grid::{Cell, Grid};
 use wh_path::TimedPath;
+use wh_planner::{Duty, PlanFault, Planner, Scene};
 use wh_shared::SharedFields;
 
 /// Plans on every grid, and never has memory.

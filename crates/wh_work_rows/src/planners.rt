@@ -1,15 +1,17 @@
 //! A delivery by shared fields on a small map.
 
-use wh_planners::deliver::deliver_shared;
 use std::num::NonZeroUsize;
 use std::process::Abort;
 use std::sync::Arc;
 use std::test::Fail;
+use wh_claims::{Bank, Claim};
 use wh_grid::{Cell, Grid};
 use wh_path::TimedPath;
+use wh_planner::{Duty, Planner, Scene};
+use wh_planners::Sharing;
 use wh_resv::Reservations;
-use wh_search::{SearchMemory, deliver};
-use wh_shared::{Share, SharedFields};
+use wh_search::deliver;
+use wh_shared::SharedFields;
 
 /// An open map of 8 by 6 cells, in which the cells at x = 4 but for the one at y = 0 are blocked.
 fn walled<R: Abort + AllocGlobal>(rt: &R) -> Result<Grid, Fail> {
@@ -29,8 +31,11 @@ fn number<R: Abort>(rt: &R, n: usize) -> NonZeroUsize {
 fn a_path_is_as_short_as_by_whole_fields(rt: HostRuntime) -> Result<(), Fail> {
     let grid = Arc::new(rt.alloc(), walled(&rt)?)?;
     let mut store = SharedFields::new(rt.alloc(), Arc::try_clone(&grid)?, number(&rt, 4))?;
-    let mut share = Share::new(rt.alloc(), number(&rt, 2))?;
-    let mut memory = SearchMemory::empty(rt.alloc());
+    let (bank, seat) = Bank::new(rt.alloc(), 2)?;
+    let Ok(claim) = Claim::take(bank, seat, 2) else {
+        return Err("both slots are free")?;
+    };
+    let mut planner = Sharing::new(rt.alloc(), Arc::try_clone(&grid)?, claim)?;
     let loc = Cell { x: 0, y: 5 };
     let other = Cell { x: 5, y: 5 };
     let paths = [
@@ -46,20 +51,19 @@ fn a_path_is_as_short_as_by_whole_fields(rt: HostRuntime) -> Result<(), Fail> {
     assert!(rt; grid.passable(loc));
     assert!(rt; others.may_rest(loc, 0));
     let whole = deliver(rt.alloc(), &grid, &others, loc, &stops).expect(&rt, "there is a path");
-    let shared = deliver_shared(
-        rt.alloc(),
-        &mut store,
-        &mut share,
-        &mut memory,
-        &grid,
-        &others,
-        loc,
-        &stops,
-    )
-    .expect(&rt, "there is a path");
+    let scene = Scene {
+        grid: &grid,
+        nofollow: true,
+        paths: &paths,
+        agent: 0,
+    };
+    let duty = Duty::Deliver { stops: &stops };
+    let shared = planner
+        .plan(rt.alloc(), &mut store, &scene, duty)
+        .expect(&rt, "there is a path");
     // 16 steps to the first stop and 13 to each of the others, each time through the gap at (4, 0)
     assert_eq!(rt; whole.remaining(), 42);
     assert_eq!(rt; shared.remaining(), 42);
-    assert_eq!(rt; share.kept(), 2);
+    assert_eq!(rt; planner.kept(), 2);
     Ok(())
 }

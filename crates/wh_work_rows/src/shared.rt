@@ -1,12 +1,12 @@
 //! Shared fields on a small open map.
 
-use wh_shared::{Share, SharedFields, room_within};
 use std::num::NonZeroUsize;
 use std::process::Abort;
 use std::sync::Arc;
 use std::test::Fail;
 use wh_field::Field;
 use wh_grid::{Cell, Grid};
+use wh_shared::{Share, SharedFields, room_within};
 
 /// An open map of 8 by 6 cells, in which the cells at x = 4 but for the one at y = 0 are blocked.
 fn walled<R: Abort + AllocGlobal>(rt: &R) -> Result<Grid, Fail> {

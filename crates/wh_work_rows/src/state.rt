@@ -3,12 +3,12 @@
 
 ghost use Rattle.std.specs.Prelude.{◌≡◌};
 
-use wh_state::{Arrivals, Floor};
 use std::alloc::{AllocError, Global};
 use std::process::Abort;
 use std::test::Fail;
 use wh_grid::{Cell, Grid};
 use wh_path::TimedPath;
+use wh_state::{Arrivals, Floor};
 use wh_tasks::{Counts, Load, Phase, Places};
 use wh_text::Name;
 

@@ -1,14 +1,14 @@
 //! Tasks on small maps: which is nearest, and how they go from phase to phase.
 #![tactic(auto)]
 
-use wh_tasks::{
-    Arrived, Counts, Distances, Foretold, Load, PathEnds, Phase, Places, TaskSet, Visit, arrive,
-    foretell, laws,
-};
 use std::process::Abort;
 use std::test::Fail;
 use wh_field::LazyField;
 use wh_grid::{Cell, Grid};
+use wh_tasks::{
+    Arrived, Counts, Distances, Foretold, Load, PathEnds, Phase, Places, TaskSet, Visit, arrive,
+    foretell, laws,
+};
 use wh_text::Name;
 
 // On the map `@.@.@`, `.....`, `@.@.@`.

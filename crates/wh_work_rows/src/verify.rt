@@ -1,9 +1,9 @@
 //! A worked log and its changes, over one small map.
-use wh_verify::*;
 use std::alloc::Global;
 use std::test::*;
 use wh_grid::Grid;
 use wh_points::Points;
+use wh_verify::{Verified, verify};
 
 const MAP: &[u8] = b"type octile\nheight 3\nwidth 5\nmap\n@.@.@\n.....\n@.@.@\n";
 

@@ -1,7 +1,7 @@
 use Rattle.std.proofs.Common.{rules, ◌≡◌, [], ◌∷◌, lit≤, lit<, subst, sym}
 use Rattle.wh_log.specs.declared.version.Version.TheVariants.{Two}
 use Rattle.wh_log.specs.Logs.{Content, Fits}
-use Rattle.wh_log.proofs.tests.read_again.Goals as goal
+use Rattle.wh_word_rows.proofs.log.read_again.Goals as goal
 
 small_fits : (log : Content) → log ≡ record { clock = 7; slots = 4 ∷ 64 ∷ []; entries = [] } → Fits Two log
 small_fits log e =
