@@ -8,7 +8,7 @@ use std::io::{Read, Write};
 use std::test::Fail;
 use wh_edge::Trouble;
 use wh_lines::Lines;
-use wh_options::{Fleet, PlannerKind, ReplayOptions, Tail};
+use wh_options::{Fleet, PlannerKind, Replies, ReplayOptions, Tail};
 use wh_planner::Planner;
 use wh_planners::{Patient, Sharing};
 use wh_service::{PlannerParts, serve};
@@ -56,7 +56,11 @@ pub fn served<R: Read + Drop, W: Write>(
         bank: 1024,
         spares,
     };
-    let options = ReplayOptions { fleet, tail };
+    let options = ReplayOptions {
+        fleet,
+        tail,
+        replies: Replies::Short,
+    };
     let mut lines = Lines::new(reader);
     match serve(alloc, &mut lines, writer, &options, make) {
         Ok(_) => None,

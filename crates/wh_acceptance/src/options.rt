@@ -23,6 +23,7 @@ fn subcommands_with_their_defaults(rt: HostRuntime) -> Result<(), Fail> {
     let replay = ReplayOptions {
         fleet: FLEET,
         tail: Tail::Nothing,
+        replies: Replies::Short,
     };
     assert_eq!(rt; options(alloc, words.as_slice())?, Options::Replay(replay));
     let words = ["warehouse", "live"];
@@ -41,11 +42,61 @@ fn an_option_in_one_word_or_two(rt: HostRuntime) -> Result<(), Fail> {
     let replay = ReplayOptions {
         fleet: Fleet { slots: 8, ..FLEET },
         tail: Tail::Ledger,
+        replies: Replies::Full,
     };
-    let joined = ["warehouse", "replay", "--slots=8", "--tail=ledger"];
+    let joined = [
+        "warehouse",
+        "replay",
+        "--slots=8",
+        "--tail=ledger",
+        "--replies=full",
+    ];
     assert_eq!(rt; options(alloc, joined.as_slice())?, Options::Replay(replay));
-    let apart = ["warehouse", "replay", "--tail", "ledger", "--slots", "8"];
+    let apart = [
+        "warehouse",
+        "replay",
+        "--replies",
+        "full",
+        "--tail",
+        "ledger",
+        "--slots",
+        "8",
+    ];
     assert_eq!(rt; options(alloc, apart.as_slice())?, Options::Replay(replay));
+    Ok(())
+}
+
+fn replay(tail: Tail, replies: Replies) -> Options {
+    Options::Replay(ReplayOptions {
+        fleet: FLEET,
+        tail,
+        replies,
+    })
+}
+
+#[test]
+fn replies_by_their_word(rt: HostRuntime) -> Result<(), Fail> {
+    let alloc = rt.alloc();
+    let short = ["warehouse", "replay", "--replies", "short"];
+    assert_eq!(rt;
+        options(alloc, short.as_slice())?,
+        replay(Tail::Nothing, Replies::Short)
+    );
+    let full = ["warehouse", "replay", "--replies=full"];
+    assert_eq!(rt;
+        options(alloc, full.as_slice())?,
+        replay(Tail::Nothing, Replies::Full)
+    );
+    let logged = ["warehouse", "replay", "--tail=log"];
+    assert_eq!(rt;
+        options(alloc, logged.as_slice())?,
+        replay(Tail::Log, Replies::Short)
+    );
+    let other = ["warehouse", "replay", "--tail=none", "--replies=full"];
+    assert_eq!(rt;
+        options(alloc, other.as_slice())?,
+        replay(Tail::Nothing, Replies::Full)
+    );
     Ok(())
 }
 
@@ -94,6 +145,27 @@ fn mistakes(rt: HostRuntime) {
 }
 
 #[test]
+fn mistakes_in_replies(rt: HostRuntime) {
+    let other = ["warehouse", "replay", "--replies", "long"];
+    let error = options(rt.alloc(), other.as_slice()).expect_err(&rt, "another word");
+    assert!(rt; error.kind() == ErrorKind::InvalidValue);
+    assert_eq!(rt; refusal_of(&error), Refusal::Mistake);
+    let capital = ["warehouse", "replay", "--replies=Full"];
+    let error = options(rt.alloc(), capital.as_slice()).expect_err(&rt, "a capital");
+    assert!(rt; error.kind() == ErrorKind::InvalidValue);
+    let tail = ["warehouse", "replay", "--replies=log"];
+    let error = options(rt.alloc(), tail.as_slice()).expect_err(&rt, "a tail");
+    assert!(rt; error.kind() == ErrorKind::InvalidValue);
+    let twice = ["warehouse", "replay", "--replies=full", "--replies", "full"];
+    let error = options(rt.alloc(), twice.as_slice()).expect_err(&rt, "twice");
+    assert!(rt; error.kind() == ErrorKind::ArgumentConflict && error.use_stderr());
+    let live = ["warehouse", "live", "--replies=full"];
+    let error = options(rt.alloc(), live.as_slice()).expect_err(&rt, "live");
+    assert!(rt; error.kind() == ErrorKind::UnknownArgument);
+    assert_eq!(rt; refusal_of(&error), Refusal::Mistake);
+}
+
+#[test]
 fn help_and_version(rt: HostRuntime) -> Result<(), Fail> {
     let alloc = rt.alloc();
     let words = ["warehouse", "replay", "--help"];
@@ -106,6 +178,11 @@ fn help_and_version(rt: HostRuntime) -> Result<(), Fail> {
         "{text}"
     );
     assert!(rt; text.as_str().contains("--slots <N>"), "{text}");
+    assert!(rt;
+        text.as_str()
+            .contains("[default: short] [possible values: short, full]\n"),
+        "{text}"
+    );
     let words = ["warehouse", "--version"];
     let version = options(alloc, words.as_slice()).expect_err(&rt, "version");
     assert_eq!(rt; refusal_of(&version), Refusal::Asked);

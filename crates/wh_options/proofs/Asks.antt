@@ -60,19 +60,19 @@ below_fails b name leaf after k e f =
 
 -- ---- the program's command
 
-abbrev Answers : ErrorKind → Choices → Choices → Choices → Text → List Text → List Text → Text → Type 0
-Answers k p t q program front after flag = fault_of (menu p t q) (program ∷ front ++ flag ∷ after) ≡ k ∷ []
+abbrev Answers : ErrorKind → Choices → Choices → Choices → Choices → Text → List Text → List Text → Text → Type 0
+Answers k p t r q program front after flag = fault_of (menu p t r q) (program ∷ front ++ flag ∷ after) ≡ k ∷ []
 
 abbrev LeafAnswers : ErrorKind → Shape → List Text → Text → Type 0
 LeafAnswers k leaf after flag = level_fault leaf [] nothing_held (flag ∷ after) false [] ≡ k ∷ []
 
-top_help : (p t q : Choices) (program : Text) (after : List Text) → Answers DisplayHelp p t q program [] after (codes "--help") × Answers DisplayHelp p t q program [] after (codes "-h")
+top_help : (p t r q : Choices) (program : Text) (after : List Text) → Answers DisplayHelp p t r q program [] after (codes "--help") × Answers DisplayHelp p t r q program [] after (codes "-h")
 unfolding clap_on_literals
-top_help p t q program after = (refl, refl)
+top_help p t r q program after = (refl, refl)
 
-top_version : (p t q : Choices) (program : Text) (after : List Text) → Answers DisplayVersion p t q program [] after (codes "--version") × Answers DisplayVersion p t q program [] after (codes "-V")
+top_version : (p t r q : Choices) (program : Text) (after : List Text) → Answers DisplayVersion p t r q program [] after (codes "--version") × Answers DisplayVersion p t r q program [] after (codes "-V")
 unfolding clap_on_literals
-top_version p t q program after = (refl, refl)
+top_version p t r q program after = (refl, refl)
 
 -- a leaf's answers to the four flags
 pub record AnswersAll (leaf : Shape) (after : List Text) : Type 0 where
@@ -81,80 +81,80 @@ pub record AnswersAll (leaf : Shape) (after : List Text) : Type 0 where
   pub version : LeafAnswers DisplayVersion leaf after (codes "--version")
   pub short_version : LeafAnswers DisplayVersion leaf after (codes "-V")
 
-check_answers : (p t q : Choices) (after : List Text) → AnswersAll (leaf_at 0 p t q) after
+check_answers : (p t r q : Choices) (after : List Text) → AnswersAll (leaf_at 0 p t r q) after
 unfolding clap_on_literals
-check_answers p t q after = record { help = refl; short_help = refl; version = refl; short_version = refl }
+check_answers p t r q after = record { help = refl; short_help = refl; version = refl; short_version = refl }
 
-replay_answers : (p t q : Choices) (after : List Text) → AnswersAll (leaf_at 1 p t q) after
+replay_answers : (p t r q : Choices) (after : List Text) → AnswersAll (leaf_at 1 p t r q) after
 unfolding clap_on_literals
-replay_answers p t q after = record { help = refl; short_help = refl; version = refl; short_version = refl }
+replay_answers p t r q after = record { help = refl; short_help = refl; version = refl; short_version = refl }
 
-verify_answers : (p t q : Choices) (after : List Text) → AnswersAll (leaf_at 2 p t q) after
+verify_answers : (p t r q : Choices) (after : List Text) → AnswersAll (leaf_at 2 p t r q) after
 unfolding clap_on_literals
-verify_answers p t q after = record { help = refl; short_help = refl; version = refl; short_version = refl }
+verify_answers p t r q after = record { help = refl; short_help = refl; version = refl; short_version = refl }
 
-live_answers : (p t q : Choices) (after : List Text) → AnswersAll (leaf_at 3 p t q) after
+live_answers : (p t r q : Choices) (after : List Text) → AnswersAll (leaf_at 3 p t r q) after
 unfolding clap_on_literals
-live_answers p t q after = record { help = refl; short_help = refl; version = refl; short_version = refl }
+live_answers p t r q after = record { help = refl; short_help = refl; version = refl; short_version = refl }
 
 -- ---- any front
 
 -- one answer to a flag, at the top and at each subcommand
-pub record AnswersAt (k : ErrorKind) (p t q : Choices) (program : Text) (after : List Text) (flag : Text) : Type 0 where
-  pub top : Answers k p t q program [] after flag
-  pub check : LeafAnswers k (leaf_at 0 p t q) after flag
-  pub replay : LeafAnswers k (leaf_at 1 p t q) after flag
-  pub verify : LeafAnswers k (leaf_at 2 p t q) after flag
-  pub live : LeafAnswers k (leaf_at 3 p t q) after flag
+pub record AnswersAt (k : ErrorKind) (p t r q : Choices) (program : Text) (after : List Text) (flag : Text) : Type 0 where
+  pub top : Answers k p t r q program [] after flag
+  pub check : LeafAnswers k (leaf_at 0 p t r q) after flag
+  pub replay : LeafAnswers k (leaf_at 1 p t r q) after flag
+  pub verify : LeafAnswers k (leaf_at 2 p t r q) after flag
+  pub live : LeafAnswers k (leaf_at 3 p t r q) after flag
 
-named_answers : (k : ErrorKind) (p t q : Choices) (program : Text) (after : List Text) (flag name : Text) → AnswersAt k p t q program after flag → list_any (bytes_eq name) subcommand_names ≡ true
-    → Answers k p t q program (name ∷ []) after flag
-named_answers k p t q program after flag name a e =
-    one_of_four (λ n. Answers k p t q program (n ∷ []) after flag) (codes "check") (codes "replay") (codes "verify") (codes "live") name e
-    (below_fails (built (menu p t q)) (codes "check") (leaf_at 0 p t q) (flag ∷ after) k (check_enters p t q) a.check)
-    (below_fails (built (menu p t q)) (codes "replay") (leaf_at 1 p t q) (flag ∷ after) k (replay_enters p t q) a.replay)
-    (below_fails (built (menu p t q)) (codes "verify") (leaf_at 2 p t q) (flag ∷ after) k (verify_enters p t q) a.verify)
-    (below_fails (built (menu p t q)) (codes "live") (leaf_at 3 p t q) (flag ∷ after) k (live_enters p t q) a.live)
+named_answers : (k : ErrorKind) (p t r q : Choices) (program : Text) (after : List Text) (flag name : Text) → AnswersAt k p t r q program after flag → list_any (bytes_eq name) subcommand_names ≡ true
+    → Answers k p t r q program (name ∷ []) after flag
+named_answers k p t r q program after flag name a e =
+    one_of_four (λ n. Answers k p t r q program (n ∷ []) after flag) (codes "check") (codes "replay") (codes "verify") (codes "live") name e
+    (below_fails (built (menu p t r q)) (codes "check") (leaf_at 0 p t r q) (flag ∷ after) k (check_enters p t r q) a.check)
+    (below_fails (built (menu p t r q)) (codes "replay") (leaf_at 1 p t r q) (flag ∷ after) k (replay_enters p t r q) a.replay)
+    (below_fails (built (menu p t r q)) (codes "verify") (leaf_at 2 p t r q) (flag ∷ after) k (verify_enters p t r q) a.verify)
+    (below_fails (built (menu p t r q)) (codes "live") (leaf_at 3 p t r q) (flag ∷ after) k (live_enters p t r q) a.live)
 
-front_answers : (k : ErrorKind) (p t q : Choices) (program : Text) (after : List Text) (flag : Text) (front : List Text) → AnswersAt k p t q program after flag → IsFront front → Answers k p t q program front after flag
-front_answers k p t q program after flag front a (inl none) = subst (λ f. Answers k p t q program f after flag) (sym none) a.top
-front_answers k p t q program after flag front a (inr some) = subst (λ f. Answers k p t q program f after flag) (sym some.1) (named_answers k p t q program after flag some.0 a some.2)
+front_answers : (k : ErrorKind) (p t r q : Choices) (program : Text) (after : List Text) (flag : Text) (front : List Text) → AnswersAt k p t r q program after flag → IsFront front → Answers k p t r q program front after flag
+front_answers k p t r q program after flag front a (inl none) = subst (λ f. Answers k p t r q program f after flag) (sym none) a.top
+front_answers k p t r q program after flag front a (inr some) = subst (λ f. Answers k p t r q program f after flag) (sym some.1) (named_answers k p t r q program after flag some.0 a some.2)
 
-flag_answers : (k : ErrorKind) (p t q : Choices) (program : Text) (after : List Text) (one other flag : Text) (front : List Text) → AnswersAt k p t q program after one → AnswersAt k p t q program after other
-    → list_any (bytes_eq flag) (one ∷ other ∷ []) ≡ true → IsFront front → Answers k p t q program front after flag
-flag_answers k p t q program after one other flag front a b is at =
-    one_of_two (λ f. Answers k p t q program front after f) one other flag is (front_answers k p t q program after one front a at) (front_answers k p t q program after other front b at)
+flag_answers : (k : ErrorKind) (p t r q : Choices) (program : Text) (after : List Text) (one other flag : Text) (front : List Text) → AnswersAt k p t r q program after one → AnswersAt k p t r q program after other
+    → list_any (bytes_eq flag) (one ∷ other ∷ []) ≡ true → IsFront front → Answers k p t r q program front after flag
+flag_answers k p t r q program after one other flag front a b is at =
+    one_of_two (λ f. Answers k p t r q program front after f) one other flag is (front_answers k p t r q program after one front a at) (front_answers k p t r q program after other front b at)
 
-menu_helps : (p t q : Choices) (words : List Text) → AsksBy help_flags words → fault_of (menu p t q) words ≡ DisplayHelp ∷ []
-menu_helps p t q words asks =
-    let top = top_help p t q asks.program asks.after in
-    let check = check_answers p t q asks.after in
-    let replay = replay_answers p t q asks.after in
-    let verify = verify_answers p t q asks.after in
-    let live = live_answers p t q asks.after in
-    subst (λ ws. fault_of (menu p t q) ws ≡ DisplayHelp ∷ []) (sym asks.words_are)
-    (flag_answers DisplayHelp p t q asks.program asks.after (codes "--help") (codes "-h") asks.flag asks.front
+menu_helps : (p t r q : Choices) (words : List Text) → AsksBy help_flags words → fault_of (menu p t r q) words ≡ DisplayHelp ∷ []
+menu_helps p t r q words asks =
+    let top = top_help p t r q asks.program asks.after in
+    let check = check_answers p t r q asks.after in
+    let replay = replay_answers p t r q asks.after in
+    let verify = verify_answers p t r q asks.after in
+    let live = live_answers p t r q asks.after in
+    subst (λ ws. fault_of (menu p t r q) ws ≡ DisplayHelp ∷ []) (sym asks.words_are)
+    (flag_answers DisplayHelp p t r q asks.program asks.after (codes "--help") (codes "-h") asks.flag asks.front
     (record { top = top.0; check = check.help; replay = replay.help; verify = verify.help; live = live.help })
     (record { top = top.1; check = check.short_help; replay = replay.short_help; verify = verify.short_help; live = live.short_help })
     asks.is_flag asks.is_front)
 
-menu_tells_version : (p t q : Choices) (words : List Text) → AsksBy version_flags words → fault_of (menu p t q) words ≡ DisplayVersion ∷ []
-menu_tells_version p t q words asks =
-    let top = top_version p t q asks.program asks.after in
-    let check = check_answers p t q asks.after in
-    let replay = replay_answers p t q asks.after in
-    let verify = verify_answers p t q asks.after in
-    let live = live_answers p t q asks.after in
-    subst (λ ws. fault_of (menu p t q) ws ≡ DisplayVersion ∷ []) (sym asks.words_are)
-    (flag_answers DisplayVersion p t q asks.program asks.after (codes "--version") (codes "-V") asks.flag asks.front
+menu_tells_version : (p t r q : Choices) (words : List Text) → AsksBy version_flags words → fault_of (menu p t r q) words ≡ DisplayVersion ∷ []
+menu_tells_version p t r q words asks =
+    let top = top_version p t r q asks.program asks.after in
+    let check = check_answers p t r q asks.after in
+    let replay = replay_answers p t r q asks.after in
+    let verify = verify_answers p t r q asks.after in
+    let live = live_answers p t r q asks.after in
+    subst (λ ws. fault_of (menu p t r q) ws ≡ DisplayVersion ∷ []) (sym asks.words_are)
+    (flag_answers DisplayVersion p t r q asks.program asks.after (codes "--version") (codes "-V") asks.flag asks.front
     (record { top = top.0; check = check.version; replay = replay.version; verify = verify.version; live = live.version })
     (record { top = top.1; check = check.short_version; replay = replay.short_version; verify = verify.short_version; live = live.short_version })
     asks.is_flag asks.is_front)
 
 -- words that ask for help are answered with it
 pub help_is_given : (a : App) (words : List Text) → IsMenu a → AsksBy help_flags words → fault_of a words ≡ DisplayHelp ∷ []
-help_is_given a words m asks = subst (λ (x : App). fault_of x words ≡ DisplayHelp ∷ []) (sym m.is) (menu_helps m.planners m.tails m.others words asks)
+help_is_given a words m asks = subst (λ (x : App). fault_of x words ≡ DisplayHelp ∷ []) (sym m.is) (menu_helps m.planners m.tails m.replies m.others words asks)
 
 -- words that ask for the version are answered with it
 pub version_is_given : (a : App) (words : List Text) → IsMenu a → AsksBy version_flags words → fault_of a words ≡ DisplayVersion ∷ []
-version_is_given a words m asks = subst (λ (x : App). fault_of x words ≡ DisplayVersion ∷ []) (sym m.is) (menu_tells_version m.planners m.tails m.others words asks)
+version_is_given a words m asks = subst (λ (x : App). fault_of x words ≡ DisplayVersion ∷ []) (sym m.is) (menu_tells_version m.planners m.tails m.replies m.others words asks)

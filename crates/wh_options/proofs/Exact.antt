@@ -17,8 +17,8 @@ use Rattle.clap.specs.Faults.{action_fault, built_fault, check_fault, default_fa
 use Rattle.clap.specs.Simple.{App, Shape, built, entered, filled, label_of, names_of}
 use Rattle.clap.specs.declared.builder.value_parser.ValueParser.TheVariants as vp
 use Rattle.wh_options.specs.Setting.{IsLine, Setting, spelled, value_of}
-use Rattle.wh_options.specs.Options.{GivesFleet, GivesNumber, GivesPlanner, GivesTail, IsWritten, WordsGive, live_names, planner_text, replay_names, tail_text}
-use Rattle.wh_options.specs.Menu.{Choices, IsMenu, choice_rule, menu, number_rule, planner_words, tail_words}
+use Rattle.wh_options.specs.Options.{GivesFleet, GivesNumber, GivesPlanner, GivesReplies, GivesTail, IsWritten, WordsGive, live_names, planner_text, replay_names, replies_text, tail_text}
+use Rattle.wh_options.specs.Menu.{Choices, IsMenu, choice_rule, menu, number_rule, planner_words, replies_words, tail_words}
 use Rattle.wh_options.specs.declared.chosen.Options.{Options}
 use Rattle.wh_options.specs.declared.chosen.Options.TheVariants.{Check, Replay, Verify, Live}
 use Rattle.wh_options.specs.declared.chosen.Fleet.{Fleet}
@@ -28,6 +28,8 @@ use Rattle.wh_options.specs.declared.chosen.PlannerKind.{PlannerKind}
 use Rattle.wh_options.specs.declared.chosen.PlannerKind.TheVariants.{Near, Patient}
 use Rattle.wh_options.specs.declared.chosen.Tail.{Tail}
 use Rattle.wh_options.specs.declared.chosen.Tail.TheVariants.{Nothing, Log, Ledger}
+use Rattle.wh_options.specs.declared.chosen.Replies.{Replies}
+use Rattle.wh_options.specs.declared.chosen.Replies.TheVariants.{Short, Full}
 use Rattle.wh_options.proofs.Shapes.{bytes_same}
 use Rattle.wh_options.proofs.Leaf.{ArePlain, IsOption, long_plain}
 use Rattle.wh_options.proofs.Turns.{idle_at}
@@ -159,21 +161,21 @@ top_fine b name leaf after e f =
 
 -- ---- the program's command
 
-pub check_enters : (p t q : Choices) → Enters (built (menu p t q)) (codes "check") (leaf_at 0 p t q)
+pub check_enters : (p t r q : Choices) → Enters (built (menu p t r q)) (codes "check") (leaf_at 0 p t r q)
 unfolding walked defaults_fault
-check_enters p t q = record { turns = refl; stops = refl; found = refl; defaults = refl; checks = λ rows. refl }
+check_enters p t r q = record { turns = refl; stops = refl; found = refl; defaults = refl; checks = λ rows. refl }
 
-pub replay_enters : (p t q : Choices) → Enters (built (menu p t q)) (codes "replay") (leaf_at 1 p t q)
+pub replay_enters : (p t r q : Choices) → Enters (built (menu p t r q)) (codes "replay") (leaf_at 1 p t r q)
 unfolding walked defaults_fault
-replay_enters p t q = record { turns = refl; stops = refl; found = refl; defaults = refl; checks = λ rows. refl }
+replay_enters p t r q = record { turns = refl; stops = refl; found = refl; defaults = refl; checks = λ rows. refl }
 
-pub verify_enters : (p t q : Choices) → Enters (built (menu p t q)) (codes "verify") (leaf_at 2 p t q)
+pub verify_enters : (p t r q : Choices) → Enters (built (menu p t r q)) (codes "verify") (leaf_at 2 p t r q)
 unfolding walked defaults_fault
-verify_enters p t q = record { turns = refl; stops = refl; found = refl; defaults = refl; checks = λ rows. refl }
+verify_enters p t r q = record { turns = refl; stops = refl; found = refl; defaults = refl; checks = λ rows. refl }
 
-pub live_enters : (p t q : Choices) → Enters (built (menu p t q)) (codes "live") (leaf_at 3 p t q)
+pub live_enters : (p t r q : Choices) → Enters (built (menu p t r q)) (codes "live") (leaf_at 3 p t r q)
 unfolding walked defaults_fault
-live_enters p t q = record { turns = refl; stops = refl; found = refl; defaults = refl; checks = λ rows. refl }
+live_enters p t r q = record { turns = refl; stops = refl; found = refl; defaults = refl; checks = λ rows. refl }
 
 -- ---- the value of each setting
 
@@ -243,6 +245,10 @@ tail_listed Nothing = (refl, refl)
 tail_listed Log = (refl, refl)
 tail_listed Ledger = (refl, refl)
 
+replies_listed : (replies : Replies) → (list_any (λ w. bytes_eq w (replies_text replies)) replies_words ≡ true) × (strip_byte 45 (replies_text replies) ≡ None)
+replies_listed Short = (refl, refl)
+replies_listed Full = (refl, refl)
+
 -- a text that is not empty
 abbrev has_some : Text → Bool
 has_some [] = false
@@ -304,6 +310,15 @@ valid_tail s settings x choices tail is value found words gives =
     (word_taken choices tail_words x.value words (subst (λ t. list_any (λ w. bytes_eq w t) tail_words ≡ true) (sym given) listed.0))
     (ap (strip_byte 45) given ∙ listed.1)
 
+valid_replies : (s : Shape) (settings : List Setting) (x : Setting) (choices : Choices) (replies : Replies) → x.name ≡ codes "replies" → value_of x.name settings ≡ Some x.value
+    → arg_by_long s.rules (codes "replies") ≡ Some (filled (choice_rule (codes "replies") choices)) → texts choices.now ≡ replies_words → GivesReplies settings replies → IsValid s x
+valid_replies s settings x choices replies is value found words gives =
+    let given : x.value ≡ replies_text replies = subst (λ o. MatchOption o (replies ≡ Short) (λ text. text ≡ replies_text replies)) (value_at settings x (codes "replies") is value) gives in
+    let listed = replies_listed replies in
+    valid_setting s x (codes "replies") (filled (choice_rule (codes "replies") choices)) is found (choice_option (codes "replies") choices) refl refl
+    (word_taken choices replies_words x.value words (subst (λ t. list_any (λ w. bytes_eq w t) replies_words ≡ true) (sym given) listed.0))
+    (ap (strip_byte 45) given ∙ listed.1)
+
 -- ---- the settings of a subcommand
 
 pub either_true : (a b : Bool) → (a || b) ≡ true → (a ≡ true) ⊎ (b ≡ true)
@@ -331,57 +346,60 @@ fleet_valid s settings choices fleet others words gives planner slots bank spare
   ]
 ]
 
-replay_valid : (p t q : Choices) (settings : List Setting) (o : ReplayOptions) → texts p.now ≡ planner_words → texts t.now ≡ tail_words → GivesFleet settings o.fleet → GivesTail settings o.tail
-    → (x : Setting) → list_any (bytes_eq x.name) replay_names ≡ true → value_of x.name settings ≡ Some x.value → IsValid (leaf_at 1 p t q) x
-replay_valid p t q settings o planners tails fleet tail x listed value =
-    fleet_valid (leaf_at 1 p t q) settings p o.fleet (codes "tail" ∷ []) planners fleet refl refl refl refl x value
+replay_valid : (p t r q : Choices) (settings : List Setting) (o : ReplayOptions) → texts p.now ≡ planner_words → texts t.now ≡ tail_words → texts r.now ≡ replies_words → GivesFleet settings o.fleet → GivesTail settings o.tail → GivesReplies settings o.replies
+    → (x : Setting) → list_any (bytes_eq x.name) replay_names ≡ true → value_of x.name settings ≡ Some x.value → IsValid (leaf_at 1 p t r q) x
+replay_valid p t r q settings o planners tails words fleet tail replies x listed value =
+    fleet_valid (leaf_at 1 p t r q) settings p o.fleet (codes "tail" ∷ codes "replies" ∷ []) planners fleet refl refl refl refl x value
     (λ e. elim (either_true _ _ e) [
-      | inl is ↦ valid_tail (leaf_at 1 p t q) settings x t o.tail (bytes_same _ _ is) value refl tails tail
-      | inr none ↦ absurd (true≢false (sym none))
+      | inl is ↦ valid_tail (leaf_at 1 p t r q) settings x t o.tail (bytes_same _ _ is) value refl tails tail
+      | inr f ↦ elim (either_true _ _ f) [
+        | inl is ↦ valid_replies (leaf_at 1 p t r q) settings x r o.replies (bytes_same _ _ is) value refl words replies
+        | inr none ↦ absurd (true≢false (sym none))
+      ]
     ]) listed
 
-live_valid : (p t q : Choices) (settings : List Setting) (o : LiveOptions) → texts q.now ≡ planner_words → GivesFleet settings o.fleet
+live_valid : (p t r q : Choices) (settings : List Setting) (o : LiveOptions) → texts q.now ≡ planner_words → GivesFleet settings o.fleet
     → GivesNumber settings (codes "turns") 64 1 100000 o.turns → GivesNumber settings (codes "journal") 10000 1 1000000 o.journal
-    → (x : Setting) → list_any (bytes_eq x.name) live_names ≡ true → value_of x.name settings ≡ Some x.value → IsValid (leaf_at 3 p t q) x
-live_valid p t q settings o planners fleet turns journal x listed value =
-    fleet_valid (leaf_at 3 p t q) settings q o.fleet (codes "turns" ∷ codes "journal" ∷ []) planners fleet refl refl refl refl x value
+    → (x : Setting) → list_any (bytes_eq x.name) live_names ≡ true → value_of x.name settings ≡ Some x.value → IsValid (leaf_at 3 p t r q) x
+live_valid p t r q settings o planners fleet turns journal x listed value =
+    fleet_valid (leaf_at 3 p t r q) settings q o.fleet (codes "turns" ∷ codes "journal" ∷ []) planners fleet refl refl refl refl x value
     (λ e. elim (either_true _ _ e) [
-      | inl is ↦ valid_number (leaf_at 3 p t q) settings x (codes "turns") 1 100000 64 o.turns (bytes_same _ _ is) value refl refl refl (lit< tt) turns
+      | inl is ↦ valid_number (leaf_at 3 p t r q) settings x (codes "turns") 1 100000 64 o.turns (bytes_same _ _ is) value refl refl refl (lit< tt) turns
       | inr f ↦ elim (either_true _ _ f) [
-        | inl is ↦ valid_number (leaf_at 3 p t q) settings x (codes "journal") 1 1000000 10000 o.journal (bytes_same _ _ is) value refl refl refl (lit< tt) journal
+        | inl is ↦ valid_number (leaf_at 3 p t r q) settings x (codes "journal") 1 1000000 10000 o.journal (bytes_same _ _ is) value refl refl refl (lit< tt) journal
         | inr none ↦ absurd (true≢false (sym none))
       ]
     ]) listed
 
 -- ---- the whole line
 
-line_fine : (p t q : Choices) (words : List Text) (name told : Text) (settings : List Setting) (leaf : Shape) → told ≡ name → Enters (built (menu p t q)) name leaf → ArePlain leaf.rules
-    → ((rows : List Row) → check_fault leaf rows false ≡ []) → AllTaken leaf settings [] → IsLine words told settings → fault_of (menu p t q) words ≡ []
-line_fine p t q words name told settings leaf is enters all checks taken line =
+line_fine : (p t r q : Choices) (words : List Text) (name told : Text) (settings : List Setting) (leaf : Shape) → told ≡ name → Enters (built (menu p t r q)) name leaf → ArePlain leaf.rules
+    → ((rows : List Row) → check_fault leaf rows false ≡ []) → AllTaken leaf settings [] → IsLine words told settings → fault_of (menu p t r q) words ≡ []
+line_fine p t r q words name told settings leaf is enters all checks taken line =
     let after : line.after ≡ flat_map spelled settings ++ line.spelling.rest = line.spelling.words_are in
     let fine = settings_fine leaf settings line.spelling.rest all line.spelling.closes taken in
     let fine_after : IsFine leaf (idle_at [] None 1) line.after = subst (λ ws. IsFine leaf (idle_at [] None 1) ws) (sym after) fine in
     let whole : words ≡ line.program ∷ name ∷ line.after = line.words_are ∙ ap (λ n. line.program ∷ n ∷ line.after) is in
-    let built_fine : fault_of (menu p t q) (line.program ∷ name ∷ line.after) ≡ [] = top_fine (built (menu p t q)) name leaf line.after enters (level_fine leaf line.after all checks fine_after) in
-    subst (λ ws. fault_of (menu p t q) ws ≡ []) (sym whole) built_fine
+    let built_fine : fault_of (menu p t r q) (line.program ∷ name ∷ line.after) ≡ [] = top_fine (built (menu p t r q)) name leaf line.after enters (level_fine leaf line.after all checks fine_after) in
+    subst (λ ws. fault_of (menu p t r q) ws ≡ []) (sym whole) built_fine
 
-menu_fine : (p t q : Choices) (words : List Text) (o : Options) → texts p.now ≡ planner_words → texts t.now ≡ tail_words → texts q.now ≡ planner_words → WordsGive words o → fault_of (menu p t q) words ≡ []
-menu_fine p t q words Check planners tails others gives =
-    line_fine p t q words (codes "check") gives.0 gives.1 (leaf_at 0 p t q) gives.3.0 (check_enters p t q) asking_plain (λ rows. refl)
-    (subst (λ xs. AllTaken (leaf_at 0 p t q) xs []) (sym gives.3.1) tt) gives.2
-menu_fine p t q words Verify planners tails others gives =
-    line_fine p t q words (codes "verify") gives.0 gives.1 (leaf_at 2 p t q) gives.3.0 (verify_enters p t q) asking_plain (λ rows. refl)
-    (subst (λ xs. AllTaken (leaf_at 2 p t q) xs []) (sym gives.3.1) tt) gives.2
-menu_fine p t q words (Replay o) planners tails others gives =
-    let valid = all_zip _ _ _ (replay_valid p t q gives.1 o planners tails gives.3.2 gives.3.3) gives.1 gives.3.1 (each_value gives.1 gives.2.once) in
-    line_fine p t q words (codes "replay") gives.0 gives.1 (leaf_at 1 p t q) gives.3.0 (replay_enters p t q) (replay_plain p t q) (λ rows. refl)
-    (valid_taken (leaf_at 1 p t q) gives.1 [] (replay_plain p t q) refl valid (none_fresh gives.1) gives.2.once) gives.2
-menu_fine p t q words (Live o) planners tails others gives =
-    let valid = all_zip _ _ _ (live_valid p t q gives.1 o others gives.3.2 gives.3.3 gives.3.4) gives.1 gives.3.1 (each_value gives.1 gives.2.once) in
-    line_fine p t q words (codes "live") gives.0 gives.1 (leaf_at 3 p t q) gives.3.0 (live_enters p t q) (live_plain p t q) (λ rows. refl)
-    (valid_taken (leaf_at 3 p t q) gives.1 [] (live_plain p t q) refl valid (none_fresh gives.1) gives.2.once) gives.2
+menu_fine : (p t r q : Choices) (words : List Text) (o : Options) → texts p.now ≡ planner_words → texts t.now ≡ tail_words → texts r.now ≡ replies_words → texts q.now ≡ planner_words → WordsGive words o → fault_of (menu p t r q) words ≡ []
+menu_fine p t r q words Check planners tails replies others gives =
+    line_fine p t r q words (codes "check") gives.0 gives.1 (leaf_at 0 p t r q) gives.3.0 (check_enters p t r q) asking_plain (λ rows. refl)
+    (subst (λ xs. AllTaken (leaf_at 0 p t r q) xs []) (sym gives.3.1) tt) gives.2
+menu_fine p t r q words Verify planners tails replies others gives =
+    line_fine p t r q words (codes "verify") gives.0 gives.1 (leaf_at 2 p t r q) gives.3.0 (verify_enters p t r q) asking_plain (λ rows. refl)
+    (subst (λ xs. AllTaken (leaf_at 2 p t r q) xs []) (sym gives.3.1) tt) gives.2
+menu_fine p t r q words (Replay o) planners tails replies others gives =
+    let valid = all_zip _ _ _ (replay_valid p t r q gives.1 o planners tails replies gives.3.2 gives.3.3 gives.3.4) gives.1 gives.3.1 (each_value gives.1 gives.2.once) in
+    line_fine p t r q words (codes "replay") gives.0 gives.1 (leaf_at 1 p t r q) gives.3.0 (replay_enters p t r q) (replay_plain p t r q) (λ rows. refl)
+    (valid_taken (leaf_at 1 p t r q) gives.1 [] (replay_plain p t r q) refl valid (none_fresh gives.1) gives.2.once) gives.2
+menu_fine p t r q words (Live o) planners tails replies others gives =
+    let valid = all_zip _ _ _ (live_valid p t r q gives.1 o others gives.3.2 gives.3.3 gives.3.4) gives.1 gives.3.1 (each_value gives.1 gives.2.once) in
+    line_fine p t r q words (codes "live") gives.0 gives.1 (leaf_at 3 p t r q) gives.3.0 (live_enters p t r q) (live_plain p t r q) (λ rows. refl)
+    (valid_taken (leaf_at 3 p t r q) gives.1 [] (live_plain p t r q) refl valid (none_fresh gives.1) gives.2.once) gives.2
 
 -- words that give options are not refused
 pub given_is_taken : (a : App) (words : List Text) (o : Options) → IsMenu a → WordsGive words o → fault_of a words ≡ []
 given_is_taken a words o m gives =
-    subst (λ (x : App). fault_of x words ≡ []) (sym m.is) (menu_fine m.planners m.tails m.others words o m.planner_texts m.tail_texts m.other_texts gives)
+    subst (λ (x : App). fault_of x words ≡ []) (sym m.is) (menu_fine m.planners m.tails m.replies m.others words o m.planner_texts m.tail_texts m.replies_texts m.other_texts gives)

@@ -9,7 +9,7 @@ use Rattle.clap.specs.Walk.{Row, Rule, Text, answers_to, arg_by_long, first_of, 
 use Rattle.wh_options.specs.Setting.{IsLine, IsSpelled, Setting, value_of}
 use Rattle.wh_options.specs.Options.{GivesFleet, Means, WordsGive}
 use Rattle.wh_options.specs.Reads.{Reads, ReadsFleet}
-use Rattle.wh_options.specs.Menu.{Choices, IsMenu, choice_rule, menu, number_rule, planner_words, tail_words}
+use Rattle.wh_options.specs.Menu.{Choices, IsMenu, choice_rule, menu, number_rule, planner_words, replies_words, tail_words}
 use Rattle.clap.specs.declared.builder.value_parser.ValueParser.TheVariants as vp
 use Rattle.wh_options.specs.declared.chosen.Options.{Options}
 use Rattle.wh_options.specs.declared.chosen.Options.TheVariants.{Check, Replay, Verify, Live}
@@ -19,7 +19,7 @@ use Rattle.wh_options.proofs.Leaf.{ArePlain, IsAsking, IsOption, IsPlainRule}
 use Rattle.wh_options.proofs.Words.{self_same, words_said}
 use Rattle.wh_options.proofs.Rows.{IsTaken, first_given, no_defaults, results}
 use Rattle.wh_options.proofs.Top.{IsMenuApp, level_parts, menu_entered}
-use Rattle.wh_options.proofs.Values.{some_same, no_settings, number_given, only_names, planner_given, tail_given}
+use Rattle.wh_options.proofs.Values.{some_same, no_settings, number_given, only_names, planner_given, replies_given, tail_given}
 
 -- ---- any subcommand
 
@@ -66,10 +66,10 @@ asking_plain = (
   (record { long = refl; aliases = refl; index = refl; defaults = refl; kind = inr asking.1.0 }, tt),
 )
 
-the_menu : (p t q : Choices) → IsMenuApp (built (menu p t q))
-the_menu p t q = record {
+the_menu : (p t r q : Choices) → IsMenuApp (built (menu p t r q))
+the_menu p t r q = record {
   plain = asking_plain;
-  no_options = is_asking (built (menu p t q)).top.rules asking;
+  no_options = is_asking (built (menu p t r q)).top.rules asking;
   required = refl;
   helps = refl;
   no_aliases = (refl, (refl, (refl, (refl, (refl, tt)))));
@@ -87,20 +87,20 @@ find_head p x xs a e = go (p x) e
     go true f = inl (some_same x a f)
     go false f = inr f
 
-abbrev pub leaf_at : ℕ → Choices → Choices → Choices → Shape
-leaf_at k p t q = unwrap_or (slice_get (built (menu p t q)).subs k) (new_shape [])
+abbrev pub leaf_at : ℕ → Choices → Choices → Choices → Choices → Shape
+leaf_at k p t r q = unwrap_or (slice_get (built (menu p t r q)).subs k) (new_shape [])
 
-which_leaf : (p t q : Choices) (test : Shape → Bool) (leaf : Shape) → find test (built (menu p t q)).subs ≡ Some leaf → bytes_eq leaf.name (codes "help") ≡ false
-    → (leaf_at 0 p t q ≡ leaf) ⊎ ((leaf_at 1 p t q ≡ leaf) ⊎ ((leaf_at 2 p t q ≡ leaf) ⊎ (leaf_at 3 p t q ≡ leaf)))
-which_leaf p t q test leaf e not_help = elim (find_head test (leaf_at 0 p t q) (drop 1 (built (menu p t q)).subs) leaf e) [
+which_leaf : (p t r q : Choices) (test : Shape → Bool) (leaf : Shape) → find test (built (menu p t r q)).subs ≡ Some leaf → bytes_eq leaf.name (codes "help") ≡ false
+    → (leaf_at 0 p t r q ≡ leaf) ⊎ ((leaf_at 1 p t r q ≡ leaf) ⊎ ((leaf_at 2 p t r q ≡ leaf) ⊎ (leaf_at 3 p t r q ≡ leaf)))
+which_leaf p t r q test leaf e not_help = elim (find_head test (leaf_at 0 p t r q) (drop 1 (built (menu p t r q)).subs) leaf e) [
   | inl a ↦ inl a
-  | inr f ↦ elim (find_head test (leaf_at 1 p t q) (drop 2 (built (menu p t q)).subs) leaf f) [
+  | inr f ↦ elim (find_head test (leaf_at 1 p t r q) (drop 2 (built (menu p t r q)).subs) leaf f) [
     | inl a ↦ inr (inl a)
-    | inr g ↦ elim (find_head test (leaf_at 2 p t q) (drop 3 (built (menu p t q)).subs) leaf g) [
+    | inr g ↦ elim (find_head test (leaf_at 2 p t r q) (drop 3 (built (menu p t r q)).subs) leaf g) [
       | inl a ↦ inr (inr (inl a))
-      | inr h ↦ elim (find_head test (leaf_at 3 p t q) (drop 4 (built (menu p t q)).subs) leaf h) [
+      | inr h ↦ elim (find_head test (leaf_at 3 p t r q) (drop 4 (built (menu p t r q)).subs) leaf h) [
         | inl a ↦ inr (inr (inr a))
-        | inr i ↦ elim (find_head test (leaf_at 4 p t q) [] leaf i) [
+        | inr i ↦ elim (find_head test (leaf_at 4 p t r q) [] leaf i) [
           | inl a ↦
               let bad : true ≡ false = ap (λ (s : Shape). bytes_eq s.name (codes "help")) a ∙ not_help in
               cc
@@ -134,16 +134,16 @@ fleet_given s rest choices fleet has words says reads = record {
   spares = number_given s.rules says.settings (codes "spares") 0 16 0 fleet.spares (lit< tt) says.taken has.spares.0 has.spares.1 has.spares.2 has.spares.3 _ (says.first (codes "spares")) reads.spares;
 }
 
-replay_fleet : (p t q : Choices) → HasFleet (leaf_at 1 p t q).rules p
-replay_fleet p t q = record {
+replay_fleet : (p t r q : Choices) → HasFleet (leaf_at 1 p t r q).rules p
+replay_fleet p t r q = record {
   planner = (filled (choice_rule (codes "planner") p), refl, refl, refl);
   slots = (filled (number_rule (codes "slots") 2 64), refl, refl, refl);
   bank = (filled (number_rule (codes "bank") 2 65536), refl, refl, refl);
   spares = (filled (number_rule (codes "spares") 0 16), refl, refl, refl);
 }
 
-live_fleet : (p t q : Choices) → HasFleet (leaf_at 3 p t q).rules q
-live_fleet p t q = record {
+live_fleet : (p t r q : Choices) → HasFleet (leaf_at 3 p t r q).rules q
+live_fleet p t r q = record {
   planner = (filled (choice_rule (codes "planner") q), refl, refl, refl);
   slots = (filled (number_rule (codes "slots") 2 64), refl, refl, refl);
   bank = (filled (number_rule (codes "bank") 2 65536), refl, refl, refl);
@@ -155,19 +155,19 @@ other_word a b differ e =
     let same : bytes_eq a b ≡ true = subst (λ c. bytes_eq a c ≡ true) e (self_same a) in
     true≢false (sym same ∙ differ)
 
-check_means : (p t q : Choices) (rest : List Text) (o : Options) (says : LeafSays (leaf_at 0 p t q) rest)
-    → Reads (codes "check") (λ id. first_of id (rows_after (leaf_at 0 p t q).rules [] rest)) o → Means (codes "check") says.settings o
-check_means p t q rest Check says reads = (refl, no_settings (leaf_at 0 p t q).rules says.settings (is_asking (leaf_at 0 p t q).rules asking) says.taken)
-check_means p t q rest (Replay o) says reads = absurd (other_word (codes "check") (codes "replay") refl reads.0)
-check_means p t q rest Verify says reads = absurd (other_word (codes "check") (codes "verify") refl reads)
-check_means p t q rest (Live o) says reads = absurd (other_word (codes "check") (codes "live") refl reads.0)
+check_means : (p t r q : Choices) (rest : List Text) (o : Options) (says : LeafSays (leaf_at 0 p t r q) rest)
+    → Reads (codes "check") (λ id. first_of id (rows_after (leaf_at 0 p t r q).rules [] rest)) o → Means (codes "check") says.settings o
+check_means p t r q rest Check says reads = (refl, no_settings (leaf_at 0 p t r q).rules says.settings (is_asking (leaf_at 0 p t r q).rules asking) says.taken)
+check_means p t r q rest (Replay o) says reads = absurd (other_word (codes "check") (codes "replay") refl reads.0)
+check_means p t r q rest Verify says reads = absurd (other_word (codes "check") (codes "verify") refl reads)
+check_means p t r q rest (Live o) says reads = absurd (other_word (codes "check") (codes "live") refl reads.0)
 
-verify_means : (p t q : Choices) (rest : List Text) (o : Options) (says : LeafSays (leaf_at 2 p t q) rest)
-    → Reads (codes "verify") (λ id. first_of id (rows_after (leaf_at 2 p t q).rules [] rest)) o → Means (codes "verify") says.settings o
-verify_means p t q rest Check says reads = absurd (reads.2 refl)
-verify_means p t q rest (Replay o) says reads = absurd (other_word (codes "verify") (codes "replay") refl reads.0)
-verify_means p t q rest Verify says reads = (refl, no_settings (leaf_at 2 p t q).rules says.settings (is_asking (leaf_at 2 p t q).rules asking) says.taken)
-verify_means p t q rest (Live o) says reads = absurd (other_word (codes "verify") (codes "live") refl reads.0)
+verify_means : (p t r q : Choices) (rest : List Text) (o : Options) (says : LeafSays (leaf_at 2 p t r q) rest)
+    → Reads (codes "verify") (λ id. first_of id (rows_after (leaf_at 2 p t r q).rules [] rest)) o → Means (codes "verify") says.settings o
+verify_means p t r q rest Check says reads = absurd (reads.2 refl)
+verify_means p t r q rest (Replay o) says reads = absurd (other_word (codes "verify") (codes "replay") refl reads.0)
+verify_means p t r q rest Verify says reads = (refl, no_settings (leaf_at 2 p t r q).rules says.settings (is_asking (leaf_at 2 p t r q).rules asking) says.taken)
+verify_means p t r q rest (Live o) says reads = absurd (other_word (codes "verify") (codes "live") refl reads.0)
 
 option_plain : (r : Rule) → r.long ≡ Some r.id → r.aliases ≡ [] → r.index ≡ None → r.defaults ≡ [] → IsOption r → IsPlainRule r
 option_plain r long aliases index defaults opt = record { long = long; aliases = aliases; index = index; defaults = defaults; kind = inl opt }
@@ -178,38 +178,40 @@ number_plain name least most = option_plain _ refl refl refl refl (record { shor
 choice_plain : (name : Text) (choices : Choices) → IsPlainRule (filled (choice_rule name choices))
 choice_plain name choices = option_plain _ refl refl refl refl (record { short = refl; short_aliases = refl; action = refl; least = refl; most = refl; missing = refl })
 
-pub replay_plain : (p t q : Choices) → ArePlain (leaf_at 1 p t q).rules
-replay_plain p t q = (choice_plain (codes "planner") p, (number_plain (codes "slots") 2 64, (number_plain (codes "bank") 2 65536, (number_plain (codes "spares") 0 16, (choice_plain (codes "tail") t, asking_plain)))))
+pub replay_plain : (p t r q : Choices) → ArePlain (leaf_at 1 p t r q).rules
+replay_plain p t r q = (choice_plain (codes "planner") p, (number_plain (codes "slots") 2 64, (number_plain (codes "bank") 2 65536, (number_plain (codes "spares") 0 16, (choice_plain (codes "tail") t, (choice_plain (codes "replies") r, asking_plain))))))
 
-pub live_plain : (p t q : Choices) → ArePlain (leaf_at 3 p t q).rules
-live_plain p t q = (choice_plain (codes "planner") q, (number_plain (codes "slots") 2 64, (number_plain (codes "bank") 2 65536, (number_plain (codes "spares") 0 16, (number_plain (codes "turns") 1 100000, (number_plain (codes "journal") 1 1000000, asking_plain))))))
+pub live_plain : (p t r q : Choices) → ArePlain (leaf_at 3 p t r q).rules
+live_plain p t r q = (choice_plain (codes "planner") q, (number_plain (codes "slots") 2 64, (number_plain (codes "bank") 2 65536, (number_plain (codes "spares") 0 16, (number_plain (codes "turns") 1 100000, (number_plain (codes "journal") 1 1000000, asking_plain))))))
 
-replay_means : (p t q : Choices) (rest : List Text) (o : Options) (says : LeafSays (leaf_at 1 p t q) rest) → texts p.now ≡ planner_words → texts t.now ≡ tail_words
-    → Reads (codes "replay") (λ id. first_of id (rows_after (leaf_at 1 p t q).rules [] rest)) o → Means (codes "replay") says.settings o
-replay_means p t q rest Check says planners tails reads = absurd (reads.0 refl)
-replay_means p t q rest (Replay o) says planners tails reads = (
+replay_means : (p t r q : Choices) (rest : List Text) (o : Options) (says : LeafSays (leaf_at 1 p t r q) rest) → texts p.now ≡ planner_words → texts t.now ≡ tail_words → texts r.now ≡ replies_words
+    → Reads (codes "replay") (λ id. first_of id (rows_after (leaf_at 1 p t r q).rules [] rest)) o → Means (codes "replay") says.settings o
+replay_means p t r q rest Check says planners tails replies reads = absurd (reads.0 refl)
+replay_means p t r q rest (Replay o) says planners tails replies reads = (
   refl,
-  only_names (leaf_at 1 p t q).rules says.settings (replay_plain p t q) says.taken,
-  fleet_given (leaf_at 1 p t q) rest p o.fleet (replay_fleet p t q) planners says reads.1.fleet,
-  tail_given (leaf_at 1 p t q).rules says.settings o.tail says.taken t tails (filled (choice_rule (codes "tail") t)) refl refl refl
-      (first_of (codes "tail") (rows_after (leaf_at 1 p t q).rules [] rest)) (says.first (codes "tail")) reads.1.tail,
+  only_names (leaf_at 1 p t r q).rules says.settings (replay_plain p t r q) says.taken,
+  fleet_given (leaf_at 1 p t r q) rest p o.fleet (replay_fleet p t r q) planners says reads.1.fleet,
+  tail_given (leaf_at 1 p t r q).rules says.settings o.tail says.taken t tails (filled (choice_rule (codes "tail") t)) refl refl refl
+      (first_of (codes "tail") (rows_after (leaf_at 1 p t r q).rules [] rest)) (says.first (codes "tail")) reads.1.tail,
+  replies_given (leaf_at 1 p t r q).rules says.settings o.replies says.taken r replies (filled (choice_rule (codes "replies") r)) refl refl refl
+      (first_of (codes "replies") (rows_after (leaf_at 1 p t r q).rules [] rest)) (says.first (codes "replies")) reads.1.replies,
 )
-replay_means p t q rest Verify says planners tails reads = absurd (other_word (codes "replay") (codes "verify") refl reads)
-replay_means p t q rest (Live o) says planners tails reads = absurd (other_word (codes "replay") (codes "live") refl reads.0)
+replay_means p t r q rest Verify says planners tails replies reads = absurd (other_word (codes "replay") (codes "verify") refl reads)
+replay_means p t r q rest (Live o) says planners tails replies reads = absurd (other_word (codes "replay") (codes "live") refl reads.0)
 
-live_means : (p t q : Choices) (rest : List Text) (o : Options) (says : LeafSays (leaf_at 3 p t q) rest) → texts q.now ≡ planner_words
-    → Reads (codes "live") (λ id. first_of id (rows_after (leaf_at 3 p t q).rules [] rest)) o → Means (codes "live") says.settings o
-live_means p t q rest Check says planners reads = absurd (reads.1 refl)
-live_means p t q rest (Replay o) says planners reads = absurd (other_word (codes "live") (codes "replay") refl reads.0)
-live_means p t q rest Verify says planners reads = absurd (other_word (codes "live") (codes "verify") refl reads)
-live_means p t q rest (Live o) says planners reads = (
+live_means : (p t r q : Choices) (rest : List Text) (o : Options) (says : LeafSays (leaf_at 3 p t r q) rest) → texts q.now ≡ planner_words
+    → Reads (codes "live") (λ id. first_of id (rows_after (leaf_at 3 p t r q).rules [] rest)) o → Means (codes "live") says.settings o
+live_means p t r q rest Check says planners reads = absurd (reads.1 refl)
+live_means p t r q rest (Replay o) says planners reads = absurd (other_word (codes "live") (codes "replay") refl reads.0)
+live_means p t r q rest Verify says planners reads = absurd (other_word (codes "live") (codes "verify") refl reads)
+live_means p t r q rest (Live o) says planners reads = (
   refl,
-  only_names (leaf_at 3 p t q).rules says.settings (live_plain p t q) says.taken,
-  fleet_given (leaf_at 3 p t q) rest q o.fleet (live_fleet p t q) planners says reads.1.fleet,
-  number_given (leaf_at 3 p t q).rules says.settings (codes "turns") 1 100000 64 o.turns (lit< tt) says.taken (filled (number_rule (codes "turns") 1 100000)) refl refl refl
-      (first_of (codes "turns") (rows_after (leaf_at 3 p t q).rules [] rest)) (says.first (codes "turns")) reads.1.turns,
-  number_given (leaf_at 3 p t q).rules says.settings (codes "journal") 1 1000000 10000 o.journal (lit< tt) says.taken (filled (number_rule (codes "journal") 1 1000000)) refl refl refl
-      (first_of (codes "journal") (rows_after (leaf_at 3 p t q).rules [] rest)) (says.first (codes "journal")) reads.1.journal,
+  only_names (leaf_at 3 p t r q).rules says.settings (live_plain p t r q) says.taken,
+  fleet_given (leaf_at 3 p t r q) rest q o.fleet (live_fleet p t r q) planners says reads.1.fleet,
+  number_given (leaf_at 3 p t r q).rules says.settings (codes "turns") 1 100000 64 o.turns (lit< tt) says.taken (filled (number_rule (codes "turns") 1 100000)) refl refl refl
+      (first_of (codes "turns") (rows_after (leaf_at 3 p t r q).rules [] rest)) (says.first (codes "turns")) reads.1.turns,
+  number_given (leaf_at 3 p t r q).rules says.settings (codes "journal") 1 1000000 10000 o.journal (lit< tt) says.taken (filled (number_rule (codes "journal") 1 1000000)) refl refl refl
+      (first_of (codes "journal") (rows_after (leaf_at 3 p t r q).rules [] rest)) (says.first (codes "journal")) reads.1.journal,
 )
 
 -- ---- the whole line
@@ -226,50 +228,50 @@ line_of words rest program name after s says whole first = record {
 abbrev ReadsFrom : Text → Shape → List Text → Options → Type 0
 ReadsFrom name s rest o = Reads name (λ id. first_of id (rows_after s.rules [] rest)) o
 
-given_by : (p t q : Choices) (words after rest : List Text) (program : Text) (o : Options) (leaf : Shape) → texts p.now ≡ planner_words → texts t.now ≡ tail_words → texts q.now ≡ planner_words
+given_by : (p t r q : Choices) (words after rest : List Text) (program : Text) (o : Options) (leaf : Shape) → texts p.now ≡ planner_words → texts t.now ≡ tail_words → texts r.now ≡ replies_words → texts q.now ≡ planner_words
     → words ≡ program ∷ after → after ≡ leaf.name ∷ rest → level_fault leaf [] nothing_held rest false [] ≡ [] → ReadsFrom leaf.name leaf rest o
-    → (leaf_at 0 p t q ≡ leaf) ⊎ ((leaf_at 1 p t q ≡ leaf) ⊎ ((leaf_at 2 p t q ≡ leaf) ⊎ (leaf_at 3 p t q ≡ leaf))) → WordsGive words o
-given_by p t q words after rest program o leaf near tails patient whole first fine reads (inl is) =
-    let says = leaf_says (leaf_at 0 p t q) rest asking_plain refl (subst (λ (s : Shape). level_fault s [] nothing_held rest false [] ≡ []) (sym is) fine) in
-    let read : ReadsFrom (codes "check") (leaf_at 0 p t q) rest o = subst (λ (s : Shape). ReadsFrom s.name s rest o) (sym is) reads in
+    → (leaf_at 0 p t r q ≡ leaf) ⊎ ((leaf_at 1 p t r q ≡ leaf) ⊎ ((leaf_at 2 p t r q ≡ leaf) ⊎ (leaf_at 3 p t r q ≡ leaf))) → WordsGive words o
+given_by p t r q words after rest program o leaf near tails replies patient whole first fine reads (inl is) =
+    let says = leaf_says (leaf_at 0 p t r q) rest asking_plain refl (subst (λ (s : Shape). level_fault s [] nothing_held rest false [] ≡ []) (sym is) fine) in
+    let read : ReadsFrom (codes "check") (leaf_at 0 p t r q) rest o = subst (λ (s : Shape). ReadsFrom s.name s rest o) (sym is) reads in
     let named : after ≡ codes "check" ∷ rest = subst (λ (s : Shape). after ≡ s.name ∷ rest) (sym is) first in
-    (codes "check", says.settings, line_of words rest program (codes "check") after (leaf_at 0 p t q) says whole named, check_means p t q rest o says read)
-given_by p t q words after rest program o leaf near tails patient whole first fine reads (inr (inl is)) =
-    let says = leaf_says (leaf_at 1 p t q) rest (replay_plain p t q) refl (subst (λ (s : Shape). level_fault s [] nothing_held rest false [] ≡ []) (sym is) fine) in
-    let read : ReadsFrom (codes "replay") (leaf_at 1 p t q) rest o = subst (λ (s : Shape). ReadsFrom s.name s rest o) (sym is) reads in
+    (codes "check", says.settings, line_of words rest program (codes "check") after (leaf_at 0 p t r q) says whole named, check_means p t r q rest o says read)
+given_by p t r q words after rest program o leaf near tails replies patient whole first fine reads (inr (inl is)) =
+    let says = leaf_says (leaf_at 1 p t r q) rest (replay_plain p t r q) refl (subst (λ (s : Shape). level_fault s [] nothing_held rest false [] ≡ []) (sym is) fine) in
+    let read : ReadsFrom (codes "replay") (leaf_at 1 p t r q) rest o = subst (λ (s : Shape). ReadsFrom s.name s rest o) (sym is) reads in
     let named : after ≡ codes "replay" ∷ rest = subst (λ (s : Shape). after ≡ s.name ∷ rest) (sym is) first in
-    (codes "replay", says.settings, line_of words rest program (codes "replay") after (leaf_at 1 p t q) says whole named, replay_means p t q rest o says near tails read)
-given_by p t q words after rest program o leaf near tails patient whole first fine reads (inr (inr (inl is))) =
-    let says = leaf_says (leaf_at 2 p t q) rest asking_plain refl (subst (λ (s : Shape). level_fault s [] nothing_held rest false [] ≡ []) (sym is) fine) in
-    let read : ReadsFrom (codes "verify") (leaf_at 2 p t q) rest o = subst (λ (s : Shape). ReadsFrom s.name s rest o) (sym is) reads in
+    (codes "replay", says.settings, line_of words rest program (codes "replay") after (leaf_at 1 p t r q) says whole named, replay_means p t r q rest o says near tails replies read)
+given_by p t r q words after rest program o leaf near tails replies patient whole first fine reads (inr (inr (inl is))) =
+    let says = leaf_says (leaf_at 2 p t r q) rest asking_plain refl (subst (λ (s : Shape). level_fault s [] nothing_held rest false [] ≡ []) (sym is) fine) in
+    let read : ReadsFrom (codes "verify") (leaf_at 2 p t r q) rest o = subst (λ (s : Shape). ReadsFrom s.name s rest o) (sym is) reads in
     let named : after ≡ codes "verify" ∷ rest = subst (λ (s : Shape). after ≡ s.name ∷ rest) (sym is) first in
-    (codes "verify", says.settings, line_of words rest program (codes "verify") after (leaf_at 2 p t q) says whole named, verify_means p t q rest o says read)
-given_by p t q words after rest program o leaf near tails patient whole first fine reads (inr (inr (inr is))) =
-    let says = leaf_says (leaf_at 3 p t q) rest (live_plain p t q) refl (subst (λ (s : Shape). level_fault s [] nothing_held rest false [] ≡ []) (sym is) fine) in
-    let read : ReadsFrom (codes "live") (leaf_at 3 p t q) rest o = subst (λ (s : Shape). ReadsFrom s.name s rest o) (sym is) reads in
+    (codes "verify", says.settings, line_of words rest program (codes "verify") after (leaf_at 2 p t r q) says whole named, verify_means p t r q rest o says read)
+given_by p t r q words after rest program o leaf near tails replies patient whole first fine reads (inr (inr (inr is))) =
+    let says = leaf_says (leaf_at 3 p t r q) rest (live_plain p t r q) refl (subst (λ (s : Shape). level_fault s [] nothing_held rest false [] ≡ []) (sym is) fine) in
+    let read : ReadsFrom (codes "live") (leaf_at 3 p t r q) rest o = subst (λ (s : Shape). ReadsFrom s.name s rest o) (sym is) reads in
     let named : after ≡ codes "live" ∷ rest = subst (λ (s : Shape). after ≡ s.name ∷ rest) (sym is) first in
-    (codes "live", says.settings, line_of words rest program (codes "live") after (leaf_at 3 p t q) says whole named, live_means p t q rest o says patient read)
+    (codes "live", says.settings, line_of words rest program (codes "live") after (leaf_at 3 p t r q) says whole named, live_means p t r q rest o says patient read)
 
 abbrev ReadsWords : App → List Text → Options → Type 0
 ReadsWords a words o = (name : Text) (rows : List Row) → subcommand_of a words ≡ Some (name, rows) → Reads name (λ id. first_of id rows) o
 
-no_words : (p t q : Choices) (o : Options) → fault_of (menu p t q) [] ≡ [] → WordsGive [] o
-no_words p t q o f =
-    let e = menu_entered (built (menu p t q)) [] (the_menu p t q) f in
+no_words : (p t r q : Choices) (o : Options) → fault_of (menu p t r q) [] ≡ [] → WordsGive [] o
+no_words p t r q o f =
+    let e = menu_entered (built (menu p t r q)) [] (the_menu p t r q) f in
     let bad : ◌≡◌ {A = List Text} [] (e.leaf.name ∷ e.rest) = e.words_are in
     cc
 
-menu_given : (p t q : Choices) (words : List Text) (o : Options) → texts p.now ≡ planner_words → texts t.now ≡ tail_words → texts q.now ≡ planner_words
-    → fault_of (menu p t q) words ≡ [] → ReadsWords (menu p t q) words o → WordsGive words o
-menu_given p t q [] o near tails patient f reads = no_words p t q o f
-menu_given p t q (program ∷ after) o near tails patient f reads =
-    let e = menu_entered (built (menu p t q)) after (the_menu p t q) f in
-    let which = which_leaf p t q (λ s. answers_to e.leaf.name (label_of s)) e.leaf e.found e.not_help in
-    given_by p t q (program ∷ after) after e.rest program o e.leaf near tails patient refl e.words_are e.fine (reads e.leaf.name (rows_after e.leaf.rules [] e.rest) e.enters) which
+menu_given : (p t r q : Choices) (words : List Text) (o : Options) → texts p.now ≡ planner_words → texts t.now ≡ tail_words → texts r.now ≡ replies_words → texts q.now ≡ planner_words
+    → fault_of (menu p t r q) words ≡ [] → ReadsWords (menu p t r q) words o → WordsGive words o
+menu_given p t r q [] o near tails replies patient f reads = no_words p t r q o f
+menu_given p t r q (program ∷ after) o near tails replies patient f reads =
+    let e = menu_entered (built (menu p t r q)) after (the_menu p t r q) f in
+    let which = which_leaf p t r q (λ s. answers_to e.leaf.name (label_of s)) e.leaf e.found e.not_help in
+    given_by p t r q (program ∷ after) after e.rest program o e.leaf near tails replies patient refl e.words_are e.fine (reads e.leaf.name (rows_after e.leaf.rules [] e.rest) e.enters) which
 
 -- words that are not refused give the options that are read from them
 pub words_give : (a : App) (words : List Text) (o : Options) → IsMenu a → fault_of a words ≡ [] → ReadsWords a words o → WordsGive words o
 words_give a words o m f reads =
-    menu_given m.planners m.tails m.others words o m.planner_texts m.tail_texts m.other_texts
+    menu_given m.planners m.tails m.replies m.others words o m.planner_texts m.tail_texts m.replies_texts m.other_texts
     (subst (λ (x : App). fault_of x words ≡ []) m.is f)
     (subst (λ (x : App). ReadsWords x words o) m.is reads)

@@ -6,7 +6,7 @@ use Rattle.std.specs.Str.{bytes_eq}
 use Rattle.clap.proofs.WalkLemmas.{both}
 use Rattle.clap.specs.Lexer.{has_byte}
 use Rattle.wh_options.specs.Setting.{Closes, Setting, Text, spelled, value_of}
-use Rattle.wh_options.specs.Options.{GivesFleet, GivesNumber, GivesPlanner, GivesTail, HasOnly, IsWritten, Means, WordsGive, live_names, planner_text, replay_names, tail_text}
+use Rattle.wh_options.specs.Options.{GivesFleet, GivesNumber, GivesPlanner, GivesReplies, GivesTail, HasOnly, IsWritten, Means, WordsGive, live_names, planner_text, replay_names, replies_text, tail_text}
 use Rattle.wh_options.specs.declared.chosen.Options.{Options}
 use Rattle.wh_options.specs.declared.chosen.Options.TheVariants.{Check, Replay, Verify, Live}
 use Rattle.wh_options.specs.declared.chosen.Fleet.{Fleet}
@@ -14,6 +14,8 @@ use Rattle.wh_options.specs.declared.chosen.PlannerKind.{PlannerKind}
 use Rattle.wh_options.specs.declared.chosen.PlannerKind.TheVariants.{Near, Patient}
 use Rattle.wh_options.specs.declared.chosen.Tail.{Tail}
 use Rattle.wh_options.specs.declared.chosen.Tail.TheVariants.{Nothing, Log, Ledger}
+use Rattle.wh_options.specs.declared.chosen.Replies.{Replies}
+use Rattle.wh_options.specs.declared.chosen.Replies.TheVariants.{Short, Full}
 use Rattle.wh_options.proofs.Shapes.{bytes_same, is_equals}
 use Rattle.wh_options.proofs.Spells.{cut_at_equals, has_equals}
 use Rattle.wh_options.proofs.Menus.{other_word}
@@ -171,6 +173,20 @@ tail_once : (xs ys : List Setting) (p q : Tail) → Agree xs ys → GivesTail xs
 tail_once xs ys p q agree a b =
     one_tail (value_of (codes "tail") xs) p q a (subst (λ v. MatchOption v (q ≡ Nothing) (λ text. text ≡ tail_text q)) (sym (agree (codes "tail"))) b)
 
+replies_same : (p q : Replies) → replies_text p ≡ replies_text q → p ≡ q
+replies_same Short Short e = refl
+replies_same Short Full e = absurd (other_word (codes "short") (codes "full") refl e)
+replies_same Full Short e = absurd (other_word (codes "full") (codes "short") refl e)
+replies_same Full Full e = refl
+
+one_replies : (v : Option Text) (p q : Replies) → MatchOption v (p ≡ Short) (λ text. text ≡ replies_text p) → MatchOption v (q ≡ Short) (λ text. text ≡ replies_text q) → p ≡ q
+one_replies None p q a b = a ∙ sym b
+one_replies (Some text) p q a b = replies_same p q (sym a ∙ b)
+
+replies_once : (xs ys : List Setting) (p q : Replies) → Agree xs ys → GivesReplies xs p → GivesReplies ys q → p ≡ q
+replies_once xs ys p q agree a b =
+    one_replies (value_of (codes "replies") xs) p q a (subst (λ v. MatchOption v (q ≡ Short) (λ text. text ≡ replies_text q)) (sym (agree (codes "replies"))) b)
+
 fleet_once : (xs ys : List Setting) (f g : Fleet) → Agree xs ys → GivesFleet xs f → GivesFleet ys g → f ≡ g
 fleet_once xs ys f g agree a b =
     let planner = planner_once xs ys f.planner g.planner agree a.planner b.planner in
@@ -188,7 +204,8 @@ means_once name told xs ys (Replay o) Check is agree m n = absurd (other_word (c
 means_once name told xs ys (Replay o) (Replay p) is agree m n =
     let fleet = fleet_once xs ys o.fleet p.fleet agree m.2 n.2 in
     let tail = tail_once xs ys o.tail p.tail agree m.3 n.3 in
-    λ i. Replay (record { fleet = fleet i; tail = tail i })
+    let replies = replies_once xs ys o.replies p.replies agree m.4 n.4 in
+    λ i. Replay (record { fleet = fleet i; tail = tail i; replies = replies i })
 means_once name told xs ys (Replay o) Verify is agree m n = absurd (other_word (codes "replay") (codes "verify") refl (sym m.0 ∙ is ∙ n.0))
 means_once name told xs ys (Replay o) (Live p) is agree m n = absurd (other_word (codes "replay") (codes "live") refl (sym m.0 ∙ is ∙ n.0))
 means_once name told xs ys Verify Check is agree m n = absurd (other_word (codes "verify") (codes "check") refl (sym m.0 ∙ is ∙ n.0))

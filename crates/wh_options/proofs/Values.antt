@@ -11,13 +11,15 @@ use Rattle.clap.specs.ValueTests.{accepts}
 use Rattle.clap.specs.Walk.{Rule, Text, arg_by_long, takes_values, has_long, texts}
 use Rattle.clap.specs.declared.builder.value_parser.ValueParser.TheVariants as vp
 use Rattle.wh_options.specs.Setting.{Setting, value_of}
-use Rattle.wh_options.specs.Options.{GivesNumber, GivesPlanner, GivesTail, HasOnly, IsWritten, planner_text, tail_text}
-use Rattle.wh_options.specs.Reads.{ReadsNumber, planner_of, tail_of}
-use Rattle.wh_options.specs.Menu.{Choices, planner_words, tail_words}
+use Rattle.wh_options.specs.Options.{GivesNumber, GivesPlanner, GivesReplies, GivesTail, HasOnly, IsWritten, planner_text, replies_text, tail_text}
+use Rattle.wh_options.specs.Reads.{ReadsNumber, planner_of, replies_of, tail_of}
+use Rattle.wh_options.specs.Menu.{Choices, planner_words, replies_words, tail_words}
 use Rattle.wh_options.specs.declared.chosen.PlannerKind.{PlannerKind}
 use Rattle.wh_options.specs.declared.chosen.PlannerKind.TheVariants.{Near}
 use Rattle.wh_options.specs.declared.chosen.Tail.{Tail}
 use Rattle.wh_options.specs.declared.chosen.Tail.TheVariants.{Nothing}
+use Rattle.wh_options.specs.declared.chosen.Replies.{Replies}
+use Rattle.wh_options.specs.declared.chosen.Replies.TheVariants.{Short}
 use Rattle.wh_options.proofs.Shapes.{bytes_same, find_in}
 use Rattle.wh_options.proofs.Leaf.{ArePlain, IsOption, long_plain}
 use Rattle.wh_options.proofs.Turns.{option_takes}
@@ -161,3 +163,23 @@ tail_given c settings tail taken choices words r is case parser o same reads =
         let t = taken_value c settings (codes "tail") text r taken is e in
         let one = one_of_words choices tail_words text words (rw (case, parser) at t) in
         tail_text_is text _ _ _ refl refl refl one ∙ ap tail_text (sym p)
+
+replies_text_is : (text : Text) (short full : Bool) → bytes_eq (codes "short") text ≡ short → bytes_eq (codes "full") text ≡ full
+    → (short || (full || false)) ≡ true → text ≡ replies_text (replies_of (Some text))
+replies_text_is text short true s f e = subst (λ t. t ≡ replies_text (replies_of (Some t))) (bytes_same (codes "full") text f) refl
+replies_text_is text true false s f e = subst (λ t. t ≡ replies_text (replies_of (Some t))) (bytes_same (codes "short") text s) refl
+replies_text_is text false false s f e = cc
+
+pub replies_given : (c : List Rule) (settings : List Setting) (replies : Replies) → AllByRecursion (IsTaken c) settings
+    → (choices : Choices) → texts choices.now ≡ replies_words
+    → (r : Rule) → arg_by_long c (codes "replies") ≡ Some r → r.ignore_case ≡ false → r.parser ≡ Some (vp.Names choices)
+    → (o : Option Text) → o ≡ value_of (codes "replies") settings → replies ≡ replies_of o → GivesReplies settings replies
+replies_given c settings replies taken choices words r is case parser o same reads =
+    go (value_of (codes "replies") settings) refl (reads ∙ ap replies_of same)
+  where
+    go : (v : Option Text) → value_of (codes "replies") settings ≡ v → replies ≡ replies_of v → MatchOption v (replies ≡ Short) (λ text. text ≡ replies_text replies)
+    go None e p = p
+    go (Some text) e p =
+        let t = taken_value c settings (codes "replies") text r taken is e in
+        let one = one_of_words choices replies_words text words (rw (case, parser) at t) in
+        replies_text_is text _ _ refl refl one ∙ ap replies_text (sym p)

@@ -37,15 +37,18 @@ planner_words = codes "near" ∷ codes "patient" ∷ []
 abbrev pub tail_words : List Text
 tail_words = codes "none" ∷ codes "log" ∷ codes "ledger" ∷ []
 
+abbrev pub replies_words : List Text
+replies_words = codes "short" ∷ codes "full" ∷ []
+
 -- the options that say which planners there are
 abbrev pub fleet_app : Text → Choices → App
 fleet_app name planners = with_rule (with_rule (with_rule (with_rule (new_app name)
     (choice_rule (codes "planner") planners)) (number_rule (codes "slots") 2 64))
     (number_rule (codes "bank") 2 65536)) (number_rule (codes "spares") 0 16)
 
-abbrev pub replay_app : Choices → Choices → App
-replay_app planners tails =
-    with_rule (fleet_app (codes "replay") planners) (choice_rule (codes "tail") tails)
+abbrev pub replay_app : Choices → Choices → Choices → App
+replay_app planners tails replies = with_rule (with_rule (fleet_app (codes "replay") planners)
+    (choice_rule (codes "tail") tails)) (choice_rule (codes "replies") replies)
 
 abbrev pub live_app : Choices → App
 live_app planners = with_rule (with_rule (fleet_app (codes "live") planners)
@@ -58,10 +61,11 @@ with_settings a = record a {
 }
 
 -- the whole command
-abbrev pub menu : Choices → Choices → Choices → App
-menu planners tails others = with_subcommand (with_subcommand (with_subcommand (with_subcommand
+abbrev pub menu : Choices → Choices → Choices → Choices → App
+menu planners tails replies others =
+    with_subcommand (with_subcommand (with_subcommand (with_subcommand
     (with_settings (new_app (codes "warehouse")))
-    (new_app (codes "check")).top) (replay_app planners tails).top)
+    (new_app (codes "check")).top) (replay_app planners tails replies).top)
     (new_app (codes "verify")).top) (live_app others).top
 
 -- a command with this shape, and no argument that reaches below it
@@ -77,9 +81,11 @@ pub record IsFleetCommand (c : Command) (name : Text) : Type 0 where
 pub record IsReplayCommand (c : Command) : Type 0 where
   pub planners : Choices
   pub tails : Choices
+  pub replies : Choices
   pub planner_texts : texts planners.now ≡ planner_words
   pub tail_texts : texts tails.now ≡ tail_words
-  pub is : HasShape c (replay_app planners tails)
+  pub replies_texts : texts replies.now ≡ replies_words
+  pub is : HasShape c (replay_app planners tails replies)
 
 pub record IsLiveCommand (c : Command) : Type 0 where
   pub planners : Choices
@@ -90,8 +96,10 @@ pub record IsLiveCommand (c : Command) : Type 0 where
 pub record IsMenu (a : App) : Type 0 where
   pub planners : Choices
   pub tails : Choices
+  pub replies : Choices
   pub others : Choices
   pub planner_texts : texts planners.now ≡ planner_words
   pub tail_texts : texts tails.now ≡ tail_words
+  pub replies_texts : texts replies.now ≡ replies_words
   pub other_texts : texts others.now ≡ planner_words
-  pub is : a ≡ menu planners tails others
+  pub is : a ≡ menu planners tails replies others

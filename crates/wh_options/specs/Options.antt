@@ -8,6 +8,8 @@ use Rattle.wh_options.specs.declared.chosen.PlannerKind.{PlannerKind}
 use Rattle.wh_options.specs.declared.chosen.PlannerKind.TheVariants.{Near, Patient}
 use Rattle.wh_options.specs.declared.chosen.Tail.{Tail}
 use Rattle.wh_options.specs.declared.chosen.Tail.TheVariants.{Nothing, Log, Ledger}
+use Rattle.wh_options.specs.declared.chosen.Replies.{Replies}
+use Rattle.wh_options.specs.declared.chosen.Replies.TheVariants.{Short, Full}
 use Rattle.wh_options.specs.declared.chosen.Fleet.{Fleet}
 use Rattle.wh_options.specs.declared.chosen.Options.{Options}
 use Rattle.wh_options.specs.declared.chosen.Options.TheVariants.{Check, Replay, Verify, Live}
@@ -31,6 +33,10 @@ tail_text Nothing = codes "none"
 tail_text Log = codes "log"
 tail_text Ledger = codes "ledger"
 
+abbrev pub replies_text : Replies → Text
+replies_text Short = codes "short"
+replies_text Full = codes "full"
+
 -- the planner given by its word, or `near`
 abbrev pub GivesPlanner : List Setting → PlannerKind → Type 0
 GivesPlanner settings planner = MatchOption (value_of (codes "planner") settings)
@@ -40,6 +46,11 @@ GivesPlanner settings planner = MatchOption (value_of (codes "planner") settings
 abbrev pub GivesTail : List Setting → Tail → Type 0
 GivesTail settings tail = MatchOption (value_of (codes "tail") settings)
     (tail ≡ Nothing) (λ text. text ≡ tail_text tail)
+
+-- the way to tell replies given by its word, or `short`
+abbrev pub GivesReplies : List Setting → Replies → Type 0
+GivesReplies settings replies = MatchOption (value_of (codes "replies") settings)
+    (replies ≡ Short) (λ text. text ≡ replies_text replies)
 
 -- the settings give these planners
 pub record GivesFleet (settings : List Setting) (fleet : Fleet) : Type 0 where
@@ -57,8 +68,8 @@ abbrev pub fleet_names : List Text
 fleet_names = codes "planner" ∷ codes "slots" ∷ codes "bank" ∷ codes "spares" ∷ []
 
 abbrev pub replay_names : List Text
-replay_names =
-    codes "planner" ∷ codes "slots" ∷ codes "bank" ∷ codes "spares" ∷ codes "tail" ∷ []
+replay_names = codes "planner" ∷ codes "slots" ∷ codes "bank" ∷ codes "spares" ∷ codes "tail"
+    ∷ codes "replies" ∷ []
 
 abbrev pub live_names : List Text
 live_names = codes "planner" ∷ codes "slots" ∷ codes "bank" ∷ codes "spares" ∷ codes "turns"
@@ -68,7 +79,7 @@ live_names = codes "planner" ∷ codes "slots" ∷ codes "bank" ∷ codes "spare
 abbrev pub Means : Text → List Setting → Options → Type 0
 Means name settings Check = (name ≡ codes "check") × (settings ≡ [])
 Means name settings (Replay o) = (name ≡ codes "replay") × HasOnly replay_names settings
-    × GivesFleet settings o.fleet × GivesTail settings o.tail
+    × GivesFleet settings o.fleet × GivesTail settings o.tail × GivesReplies settings o.replies
 Means name settings Verify = (name ≡ codes "verify") × (settings ≡ [])
 Means name settings (Live o) = (name ≡ codes "live") × HasOnly live_names settings
     × GivesFleet settings o.fleet

@@ -7,6 +7,8 @@ use Rattle.wh_options.specs.declared.chosen.PlannerKind.{PlannerKind}
 use Rattle.wh_options.specs.declared.chosen.PlannerKind.TheVariants.{Near, Patient}
 use Rattle.wh_options.specs.declared.chosen.Tail.{Tail}
 use Rattle.wh_options.specs.declared.chosen.Tail.TheVariants.{Nothing, Log, Ledger}
+use Rattle.wh_options.specs.declared.chosen.Replies.{Replies}
+use Rattle.wh_options.specs.declared.chosen.Replies.TheVariants.{Short, Full}
 use Rattle.wh_options.specs.declared.chosen.Fleet.{Fleet}
 use Rattle.wh_options.specs.declared.chosen.ReplayOptions.{ReplayOptions}
 use Rattle.wh_options.specs.declared.chosen.LiveOptions.{LiveOptions}
@@ -29,6 +31,10 @@ tail_of None = Nothing
 tail_of (Some text) = if bytes_eq text (codes "log") then Log
     else (if bytes_eq text (codes "ledger") then Ledger else Nothing)
 
+abbrev pub replies_of : Option Text → Replies
+replies_of None = Short
+replies_of (Some text) = if bytes_eq text (codes "full") then Full else Short
+
 -- the planners read from what was found
 pub record ReadsFleet (given : Text → Option Text) (fleet : Fleet) : Type 0 where
   pub planner : fleet.planner ≡ planner_of (given (codes "planner"))
@@ -39,6 +45,7 @@ pub record ReadsFleet (given : Text → Option Text) (fleet : Fleet) : Type 0 wh
 pub record ReadsReplay (given : Text → Option Text) (o : ReplayOptions) : Type 0 where
   pub fleet : ReadsFleet given o.fleet
   pub tail : o.tail ≡ tail_of (given (codes "tail"))
+  pub replies : o.replies ≡ replies_of (given (codes "replies"))
 
 pub record ReadsLive (given : Text → Option Text) (o : LiveOptions) : Type 0 where
   pub fleet : ReadsFleet given o.fleet

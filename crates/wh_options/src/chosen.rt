@@ -20,6 +20,15 @@ pub enum Tail {
     Ledger,
 }
 
+/// How the replies of a replay tell paths.
+#[derive(Clone, Copy, Debug, PartialEq, Eq)]
+pub enum Replies {
+    /// The end of a path alone.
+    Short,
+    /// In the log's own words, each cell of a path.
+    Full,
+}
+
 /// The planners that a run is given, and the slots that they share.
 #[derive(Clone, Copy, Debug, PartialEq, Eq)]
 pub struct Fleet {
@@ -40,6 +49,8 @@ pub struct ReplayOptions {
     pub fleet: Fleet,
     /// What follows the replies.
     pub tail: Tail,
+    /// How the replies tell paths.
+    pub replies: Replies,
 }
 
 /// The options of `live`.

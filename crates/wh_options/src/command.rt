@@ -13,6 +13,8 @@ static PLANNERS: [&str; 2] = ["near", "patient"];
 
 static TAILS: [&str; 3] = ["none", "log", "ledger"];
 
+static REPLIES: [&str; 2] = ["short", "full"];
+
 // An option whose value is a number from `least` to `most`.
 fn number_arg<'a>(alloc: Global, name: &'a str, least: u64, most: u64, help: &'a str) -> Arg<'a>
     ensures rule { rule_of result ≡ number_rule name.entry.now least most }
@@ -97,8 +99,16 @@ fn replay_command<'a>(alloc: Global) -> Result<Command<'a>, AllocError>
         TAILS.as_slice(),
         "What follows the replies, behind a line %% [default: none]",
     );
+    let replies = choice_arg(
+        alloc,
+        "replies",
+        REPLIES.as_slice(),
+        "How a reply tells a path: short, its end alone; full, each cell [default: short]",
+    );
     let about = "Answers each command of a script (input: map, points, script)";
-    fleet_command(alloc, "replay", about)?.arg(tail)
+    fleet_command(alloc, "replay", about)?
+        .arg(tail)?
+        .arg(replies)
 }
 
 fn live_command<'a>(alloc: Global) -> Result<Command<'a>, AllocError>

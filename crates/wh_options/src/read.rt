@@ -3,9 +3,9 @@ ghost use Rattle.std.specs.Prelude.{◌≡◌, IfErr, IfOk, IsErrAnd, List, Some
 ghost use Rattle.clap.specs.Words.{Row, Text, first_of, first_value, found_of, kind_of, rows_of, subcommand_rows_of};
 ghost use Rattle.wh_options.specs.Options.{WordsGive};
 ghost use Rattle.wh_options.specs.Requests.{AsksBy, IsKind, help_flags, version_flags};
-ghost use Rattle.wh_options.specs.Reads.{Reads, ReadsFleet, ReadsLive, ReadsNumber, ReadsReplay, planner_of, tail_of};
+ghost use Rattle.wh_options.specs.Reads.{Reads, ReadsFleet, ReadsLive, ReadsNumber, ReadsReplay, planner_of, replies_of, tail_of};
 
-use crate::chosen::{Fleet, LiveOptions, Options, PlannerKind, ReplayOptions, Tail};
+use crate::chosen::{Fleet, LiveOptions, Options, PlannerKind, ReplayOptions, Replies, Tail};
 use crate::command::warehouse_command;
 use clap::error::ErrorKind;
 use clap::{ArgMatches, Error};
@@ -53,6 +53,21 @@ fn tail(matches: &ArgMatches<'_>) -> Tail
     }
 }
 
+fn replies(matches: &ArgMatches<'_>) -> Replies
+    ensures { result ≡ replies_of (first_value (found_of matches.now) (codes "replies")) }
+{
+    match matches.get_str("replies") {
+        Some(text) => {
+            if text == "full" {
+                Replies::Full
+            } else {
+                Replies::Short
+            }
+        }
+        None => Replies::Short,
+    }
+}
+
 fn fleet(matches: &ArgMatches<'_>) -> Fleet
     ensures { ReadsFleet (first_value (found_of matches.now)) result }
 {
@@ -70,6 +85,7 @@ fn replay_options(matches: &ArgMatches<'_>) -> ReplayOptions
     ReplayOptions {
         fleet: fleet(matches),
         tail: tail(matches),
+        replies: replies(matches),
     }
 }
 

@@ -7,13 +7,17 @@ use Rattle.wh_options.proofs.command.replay_command.Goals as goal
 pub returns : goal.returns
 returns c =
     let below = c.in_ok-fleet_command.ensures in
-    IfOk-weaker c.arg.result _ _ (λ made added. record {
+    let tail_in = c.in_ok-arg.ensures.shape c.choice_arg-tail.ensures.local
+    ∙ ap₂ with_rule below.is.shape c.choice_arg-tail.ensures.rule in
+    IfOk-weaker c.arg-2.result _ _ (λ made added. record {
       planners = below.planners;
       tails = c.as_slice.result;
+      replies = c.as_slice-2.result;
       planner_texts = below.words;
       tail_texts = search rules;
+      replies_texts = search rules;
       is = record {
-        shape = added.shape c.choice_arg-tail.ensures.local ∙ ap₂ with_rule below.is.shape c.choice_arg-tail.ensures.rule;
+        shape = added.shape c.choice_arg-replies.ensures.local ∙ ap₂ with_rule tail_in c.choice_arg-replies.ensures.rule;
         local = search rules;
       };
-    }) c.arg.ensures
+    }) c.arg-2.ensures

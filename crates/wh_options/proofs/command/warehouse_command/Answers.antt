@@ -20,9 +20,11 @@ returns c =
     IfOk-weaker c.subcommand-4.result _ _ (λ made added. record {
       planners = replay.planners;
       tails = replay.tails;
+      replies = replay.replies;
       others = live.planners;
       planner_texts = replay.planner_texts;
       tail_texts = replay.tail_texts;
+      replies_texts = replay.replies_texts;
       other_texts = live.planner_texts;
       is = added.shape live.is.local ∙ ap₂ with_subcommand verify_in (top_of _ _ live.is.shape);
     }) c.subcommand-4.ensures
