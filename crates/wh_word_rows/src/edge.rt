@@ -1,7 +1,7 @@
 //! Sites and works from outside, and the texts of troubles.
-use wh_edge::*;
 use std::alloc::AllocError;
 use std::test::*;
+use wh_edge::*;
 use wh_event::{Command, LineFault};
 use wh_lines::Lines;
 use wh_points::{Fault, FaultKind};

@@ -1,8 +1,8 @@
 //! Lines and replies from outside, as a user meets them.
-use wh_event::*;
 use arrayvec::ArrayVec;
 use std::alloc::{AllocError, Global};
 use std::test::*;
+use wh_event::*;
 use wh_path::TimedPath;
 use wh_text::Name;
 

@@ -3,14 +3,14 @@
 #![tactic(auto)]
 
 #[cfg(test)]
-mod text;
-#[cfg(test)]
-mod lines;
-#[cfg(test)]
-mod words;
+mod edge;
 #[cfg(test)]
 mod event;
 #[cfg(test)]
+mod lines;
+#[cfg(test)]
 mod log;
 #[cfg(test)]
-mod edge;
+mod text;
+#[cfg(test)]
+mod words;

@@ -1,9 +1,9 @@
 //! Sections and lines from small readers, at hand and byte by byte, with each read failing in turn.
-use wh_lines::*;
 use std::alloc::{AllocError, Global};
 use std::io;
 use std::io::{Error, ErrorKind, Read, Write};
 use std::test::*;
+use wh_lines::*;
 
 /// Gives one byte a call, is interrupted before each, and fails once `left` have been given.
 #[derive(Drop)]

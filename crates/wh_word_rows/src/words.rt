@@ -1,6 +1,6 @@
 //! Lines, words and numerals from outside.
-use wh_words::*;
 use std::test::*;
+use wh_words::*;
 
 #[test]
 fn lines(rt: HostRuntime) {
