@@ -2,7 +2,8 @@
 use clap::error::ErrorKind;
 use std::test::*;
 use wh_options::{
-    Fleet, LiveOptions, Options, PlannerKind, Refusal, ReplayOptions, Tail, options, refusal_of,
+    Fleet, LiveOptions, Options, PlannerKind, Refusal, Replies, ReplayOptions, Tail, options,
+    refusal_of,
 };
 
 const FLEET: Fleet = Fleet {

@@ -48,24 +48,24 @@ commands_append [] ys = refl
 commands_append (x ∷ xs) ys = ap (λ cs. asked (command_of x) ++ cs) (commands_append xs ys) ∙ sym (append_assoc (asked (command_of x)) (commands_of xs) (commands_of ys))
 
 -- one line more in front, whatever it says
-replies_by : (kind : Result (Option Command) LineFault) (xs ys : List (List ℕ)) (os ps : List (Option Entry)) (told : List (List ℕ))
-    → ((ns : List (Option Entry)) → length ns ≡ length (commands_of xs) → replies_to (xs ++ ys) (ns ++ ps) ≡ replies_to xs ns ++ told)
+replies_by : (text : Reply → List ℕ) (kind : Result (Option Command) LineFault) (xs ys : List (List ℕ)) (os ps : List (Option Entry)) (told : List (List ℕ))
+    → ((ns : List (Option Entry)) → length ns ≡ length (commands_of xs) → replies_to text (xs ++ ys) (ns ++ ps) ≡ replies_to text xs ns ++ told)
     → length os ≡ length (asked kind ++ commands_of xs)
-    → answers kind (os ++ ps) ++ replies_to (xs ++ ys) (drop (length (asked kind)) (os ++ ps)) ≡ (answers kind os ++ replies_to xs (drop (length (asked kind)) os)) ++ told
-replies_by (Ok None) xs ys os ps told more e = more os e
-replies_by (Err Form) xs ys os ps told more e = ap (λ rs. codes "refused C1" ∷ rs) (more os e)
-replies_by (Err TooLong) xs ys os ps told more e = ap (λ rs. codes "refused C2" ∷ rs) (more os e)
-replies_by (Ok (Some command)) xs ys [] ps told more e = absurd (omega (arith, e))
-replies_by (Ok (Some command)) xs ys (o ∷ os) ps told more e = ap (λ rs. answers (Ok (Some command)) (o ∷ os) ++ rs) (more os (omega (arith, e)))
+    → answers text kind (os ++ ps) ++ replies_to text (xs ++ ys) (drop (length (asked kind)) (os ++ ps)) ≡ (answers text kind os ++ replies_to text xs (drop (length (asked kind)) os)) ++ told
+replies_by text (Ok None) xs ys os ps told more e = more os e
+replies_by text (Err Form) xs ys os ps told more e = ap (λ rs. codes "refused C1" ∷ rs) (more os e)
+replies_by text (Err TooLong) xs ys os ps told more e = ap (λ rs. codes "refused C2" ∷ rs) (more os e)
+replies_by text (Ok (Some command)) xs ys [] ps told more e = absurd (omega (arith, e))
+replies_by text (Ok (Some command)) xs ys (o ∷ os) ps told more e = ap (λ rs. answers text (Ok (Some command)) (o ∷ os) ++ rs) (more os (omega (arith, e)))
 
-replies_append : (xs ys : List (List ℕ)) (os ps : List (Option Entry)) → length os ≡ length (commands_of xs) → replies_to (xs ++ ys) (os ++ ps) ≡ replies_to xs os ++ replies_to ys ps
-replies_append [] ys [] ps e = refl
-replies_append [] ys (o ∷ os) ps e = absurd (omega (arith, e))
-replies_append (x ∷ xs) ys os ps e = replies_by (command_of x) xs ys os ps (replies_to ys ps) (λ ns d. replies_append xs ys ns ps d) e
+replies_append : (text : Reply → List ℕ) (xs ys : List (List ℕ)) (os ps : List (Option Entry)) → length os ≡ length (commands_of xs) → replies_to text (xs ++ ys) (os ++ ps) ≡ replies_to text xs os ++ replies_to text ys ps
+replies_append text [] ys [] ps e = refl
+replies_append text [] ys (o ∷ os) ps e = absurd (omega (arith, e))
+replies_append text (x ∷ xs) ys os ps e = replies_by text (command_of x) xs ys os ps (replies_to text ys ps) (λ ns d. replies_append text xs ys ns ps d) e
 
-output_join : {X : Type 0} (fits : X → Floor → Bool) (count : X → ℕ) (xs ys : List (List ℕ)) (old : Seen) (spares : List X) (mid : Seen) (left : List X) (new : Seen) (rest : List X)
-    (had more : List (List ℕ)) → IsOutputOf fits count xs old spares mid left had → IsOutputOf fits count ys mid left new rest more → IsOutputOf fits count (xs ++ ys) old spares new rest (had ++ more)
-output_join {X} fits count xs ys old spares mid left new rest had more p q =
+output_join : {X : Type 0} (fits : X → Floor → Bool) (count : X → ℕ) (text : Reply → List ℕ) (xs ys : List (List ℕ)) (old : Seen) (spares : List X) (mid : Seen) (left : List X) (new : Seen) (rest : List X)
+    (had more : List (List ℕ)) → IsOutputOf fits count text xs old spares mid left had → IsOutputOf fits count text ys mid left new rest more → IsOutputOf fits count text (xs ++ ys) old spares new rest (had ++ more)
+output_join {X} fits count text xs ys old spares mid left new rest had more p q =
     let here : Ran fits count old.site 0 (commands_of ys) q.outcomes mid.state left new.state rest =
     subst (λ (t : Site). Ran fits count t 0 (commands_of ys) q.outcomes mid.state left new.state rest) p.site q.ran in
     let ran : Ran fits count old.site 0 (commands_of (xs ++ ys)) (p.outcomes ++ q.outcomes) old.state spares new.state rest =
@@ -74,7 +74,7 @@ output_join {X} fits count xs ys old spares mid left new rest had more p q =
     let long = ran_length fits count old.site 0 (commands_of xs) p.outcomes old.state spares mid.state left p.ran in
     record {
       outcomes = p.outcomes ++ q.outcomes;
-      replies_are = ap (λ rs. rs ++ more) p.replies_are ∙ ap (λ rs. replies_to xs p.outcomes ++ rs) q.replies_are ∙ sym (replies_append xs ys p.outcomes q.outcomes long);
+      replies_are = ap (λ rs. rs ++ more) p.replies_are ∙ ap (λ rs. replies_to text xs p.outcomes ++ rs) q.replies_are ∙ sym (replies_append text xs ys p.outcomes q.outcomes long);
       ran = ran;
       history = q.history ∙ ap (λ es. es ++ entries_of q.outcomes) p.history ∙ append_assoc old.history (entries_of p.outcomes) (entries_of q.outcomes) ∙ ap (λ es. old.history ++ es) (sym (entries_append p.outcomes q.outcomes));
       run = ran-run fits count old.site 0 (commands_of (xs ++ ys)) (p.outcomes ++ q.outcomes) old.state spares new.state rest ran;
@@ -98,28 +98,28 @@ ends_both a b p q more =
 pub lines_more : (a b : List ℕ) → EndsLine a → length (lines_of (a ++ b)) ≡ length (lines_of a) + length (lines_of b)
 lines_more a b p = ap length (p b) ∙ length-append (lines_of a) (lines_of b)
 
-module _ {X : Type 0} (fits : X → Floor → Bool) (count : X → ℕ) where
-  pub serves_nothing : (old : Seen) (spares : List X) → ServesLines fits count old spares old spares [] [] []
+module _ {X : Type 0} (fits : X → Floor → Bool) (count : X → ℕ) (text : Reply → List ℕ) where
+  pub serves_nothing : (old : Seen) (spares : List X) → ServesLines fits count text old spares old spares [] [] []
   serves_nothing old spares = record { whole = λ more. refl; output = gives_nothing fits count (λ outcomes. []) old spares; added_are = sym (append-nil old.history) }
 
   pub serves_join : (old : Seen) (spares : List X) (mid : Seen) (held : List X) (new : Seen) (rest : List X) (a b : List ℕ) (p q : List (List ℕ)) (d e : List Entry)
-      → ServesLines fits count old spares mid held a p d → ServesLines fits count mid held new rest b q e → ServesLines fits count old spares new rest (a ++ b) (p ++ q) (d ++ e)
+      → ServesLines fits count text old spares mid held a p d → ServesLines fits count text mid held new rest b q e → ServesLines fits count text old spares new rest (a ++ b) (p ++ q) (d ++ e)
   serves_join old spares mid held new rest a b p q d e s t = record {
     whole = ends_both a b s.whole t.whole;
-    output = subst (λ ls. IsOutputOf fits count ls old spares new rest (p ++ q)) (sym (s.whole b)) (output_join fits count (lines_of a) (lines_of b) old spares mid held new rest p q s.output t.output);
+    output = subst (λ ls. IsOutputOf fits count text ls old spares new rest (p ++ q)) (sym (s.whole b)) (output_join fits count text (lines_of a) (lines_of b) old spares mid held new rest p q s.output t.output);
     added_are = entries_more old.history mid.history new.history d e s.added_are t.added_are;
   }
 
   -- one line, of which a front is kept
   pub serves_line : (before after : Input) (kept : List ℕ) (old : Seen) (spares : List X) (new : Seen) (rest : List X) (replies : List (List ℕ)) (g : Gathered Whole before after kept)
-      (gives : Gives fits count (asked (said (short_line kept))) (answers (said (short_line kept))) old spares new rest replies)
-      → ServesLines fits count old spares new rest (g.raw ++ 10 ∷ []) replies (entries_of gives.outcomes)
+      (gives : Gives fits count (asked (said (short_line kept))) (answers text (said (short_line kept))) old spares new rest replies)
+      → ServesLines fits count text old spares new rest (g.raw ++ 10 ∷ []) replies (entries_of gives.outcomes)
   serves_line before after kept old spares new rest replies g gives =
-      let here = subst (λ (k : Result (Option Command) LineFault). Gives fits count (asked k) (answers k) old spares new rest replies) (ap said g.says ∙ said_is g.raw) gives in
+      let here = subst (λ (k : Result (Option Command) LineFault). Gives fits count (asked k) (answers text k) old spares new rest replies) (ap said g.says ∙ said_is g.raw) gives in
       record {
         whole = whole_next [] g.raw (λ more. refl) g.plain;
-        output = subst (λ ls. IsOutputOf fits count ls old spares new rest replies) (sym (lines-feed g.raw [] g.plain))
-            (output_push fits count [] (without_cr g.raw) old spares old spares new rest [] replies (gives_nothing fits count (λ outcomes. []) old spares) here);
+        output = subst (λ ls. IsOutputOf fits count text ls old spares new rest replies) (sym (lines-feed g.raw [] g.plain))
+            (output_push fits count text [] (without_cr g.raw) old spares old spares new rest [] replies (gives_nothing fits count (λ outcomes. []) old spares) here);
         added_are = gives.history;
       }
 

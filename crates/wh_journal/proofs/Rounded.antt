@@ -9,6 +9,7 @@ use Rattle.wh_lines.specs.Input.{Input, left, with_failed, Takes}
 use Rattle.wh_grid.specs.Grids.{Floor}
 use Rattle.wh_token.specs.Drafts.{Seen}
 use Rattle.wh_event.specs.declared.entry.Entry.{Entry}
+use Rattle.wh_event.specs.declared.reply.Reply.{Reply}
 use Rattle.wh_log.specs.Spelling.{entry_line}
 use Rattle.wh_log.proofs.Fronts.{text-append}
 use Rattle.wh_replay.specs.Answers.{text_of}
@@ -69,13 +70,13 @@ failed_cause Unwritten after failed n h = tt
 failed_cause Unjournaled after failed n h = h
 failed_cause NoMemory after failed n h = tt
 
-module _ {X : Type 0} (fits : X → Floor → Bool) (count : X → ℕ) where
+module _ {X : Type 0} (fits : X → Floor → Bool) (count : X → ℕ) (text : Reply → List ℕ) where
   -- the reader was told to give no more
   pub journaled_failed : (fault : JournaledFault) (before after now : Input) (old : Seen) (spares : List X) (new : Seen) (rest : List X) (had has journal : Option (List ℕ)) (failed : Bool) (synced holds : Option (List ℕ))
-      → now ≡ with_failed after true → Journaled fits count fault before after old spares new rest had has journal failed synced holds
-      → Journaled fits count fault before now old spares new rest had has journal failed synced holds
+      → now ≡ with_failed after true → Journaled fits count text fault before after old spares new rest had has journal failed synced holds
+      → Journaled fits count text fault before now old spares new rest had has journal failed synced holds
   journaled_failed fault before after now old spares new rest had has journal failed synced holds e j =
-      subst (λ (i : Input). Journaled fits count fault before i old spares new rest had has journal failed synced holds) (sym e) (record {
+      subst (λ (i : Input). Journaled fits count text fault before i old spares new rest had has journal failed synced holds) (sym e) (record {
         read = j.read;
         replies = j.replies;
         added = j.added;
@@ -101,14 +102,14 @@ module _ {X : Type 0} (fits : X → Floor → Bool) (count : X → ℕ) where
   module _ (before after : Input) (old : Seen) (spares : List X) (new : Seen) (rest : List X) (had has journal : Option (List ℕ)) where
     -- nothing was taken
     pub journaled_none : (fault : JournaledFault) (failed : Bool) (synced : Option (List ℕ)) → HasCause fault before failed 0 → synced ≡ journal
-        → Journaled fits count fault before before old spares old spares had had journal failed synced journal
+        → Journaled fits count text fault before before old spares old spares had had journal failed synced journal
     journaled_none fault failed synced cause same = record {
       read = [];
       replies = [];
       added = [];
       mid = old;
       held = spares;
-      serves = serves_nothing fits count old spares;
+      serves = serves_nothing fits count text old spares;
       told = front_none had had [] (Keeps-refl had);
       kept = journal;
       stands = Appends-nil journal;
@@ -116,7 +117,7 @@ module _ {X : Type 0} (fits : X → Floor → Bool) (count : X → ℕ) where
       more = [];
       more_replies = [];
       later = [];
-      serves_more = serves_nothing fits count old spares;
+      serves_more = serves_nothing fits count text old spares;
       behind = front_none journal journal [] (Keeps-refl journal);
       begun = [];
       takes = Consumes-nil (left before);
@@ -124,15 +125,15 @@ module _ {X : Type 0} (fits : X → Floor → Bool) (count : X → ℕ) where
     }
 
     -- the lines were not all gathered, and nothing was told
-    pub round_stopped : (fault : JournaledFault) (failed : Bool) (synced : Option (List ℕ)) → GathersUntil fits count fault before after old spares new rest → Keeps had has → synced ≡ journal
-        → Journaled fits count fault before after old spares new rest had has journal failed synced journal
+    pub round_stopped : (fault : JournaledFault) (failed : Bool) (synced : Option (List ℕ)) → GathersUntil fits count text fault before after old spares new rest → Keeps had has → synced ≡ journal
+        → Journaled fits count text fault before after old spares new rest had has journal failed synced journal
     round_stopped fault failed synced g flushed same = record {
       read = [];
       replies = [];
       added = [];
       mid = old;
       held = spares;
-      serves = serves_nothing fits count old spares;
+      serves = serves_nothing fits count text old spares;
       told = front_none had has [] flushed;
       kept = journal;
       stands = Appends-nil journal;
@@ -147,7 +148,7 @@ module _ {X : Type 0} (fits : X → Floor → Bool) (count : X → ℕ) where
       cause = no_journal_cause fault after failed (length (lines_of g.read)) (0 + length (lines_of g.read)) (omega arith) g.cause;
     }
 
-    module _ (round : Round) (gathered : List ℕ) (entries : List Entry) (mid_has : Option (List ℕ)) (g : Gathers fits count round before after old spares new rest gathered) (flushed : Keeps had mid_has)
+    module _ (round : Round) (gathered : List ℕ) (entries : List Entry) (mid_has : Option (List ℕ)) (g : Gathers fits count text round before after old spares new rest gathered) (flushed : Keeps had mid_has)
         (entries_are : entries ≡ drop (length old.history) new.history) where
       entries_added : entries ≡ g.added
       entries_added = entries_are ∙ ap (λ h. drop (length old.history) h) g.serves.added_are ∙ drop_past old.history g.added
@@ -159,14 +160,14 @@ module _ {X : Type 0} (fits : X → Floor → Bool) (count : X → ℕ) where
       all_told p = subst (λ t. Appends had has t) g.gathered_are (appends_after had mid_has has gathered flushed p)
 
       untold : (fault : JournaledFault) (failed : Bool) (synced holds : Option (List ℕ)) → HasCause fault after failed 0 → WritesFront journal holds (lines_for entries) → Keeps journal synced → has ≡ mid_has
-          → Journaled fits count fault before after old spares new rest had has journal failed synced holds
+          → Journaled fits count text fault before after old spares new rest had has journal failed synced holds
       untold fault failed synced holds cause front stays same = record {
         read = [];
         replies = [];
         added = [];
         mid = old;
         held = spares;
-        serves = serves_nothing fits count old spares;
+        serves = serves_nothing fits count text old spares;
         told = front_none had has [] (subst (λ w. Keeps had w) (sym same) flushed);
         kept = journal;
         stands = Appends-nil journal;
@@ -182,7 +183,7 @@ module _ {X : Type 0} (fits : X → Floor → Bool) (count : X → ℕ) where
       }
 
       pub round_unsettled : (had_synced synced holds : Option (List ℕ)) (failed : Bool) (fault : JournaledFault) → had_synced ≡ journal
-          → Unsettles journal holds had_synced synced failed mid_has has gathered entries fault → Journaled fits count fault before after old spares new rest had has journal failed synced holds
+          → Unsettles journal holds had_synced synced failed mid_has has gathered entries fault → Journaled fits count text fault before after old spares new rest had has journal failed synced holds
       round_unsettled had_synced synced holds failed NoMemory same u = untold NoMemory failed synced holds tt u.0 (subst (λ s. Keeps s synced) same u.1) u.2
       round_unsettled had_synced synced holds failed Unjournaled same u = untold Unjournaled failed synced holds u.3 u.0 (subst (λ s. Keeps s synced) same u.1) u.2
       round_unsettled had_synced synced holds failed Broken same u = absurd u
@@ -201,16 +202,16 @@ module _ {X : Type 0} (fits : X → Floor → Bool) (count : X → ℕ) where
         more = [];
         more_replies = [];
         later = [];
-        serves_more = serves_nothing fits count new rest;
+        serves_more = serves_nothing fits count text new rest;
         behind = front_none holds holds [] (Keeps-refl holds);
         begun = g.begun;
         takes = g.takes;
         cause = tt;
       }
 
-    pub round_settled : (round : Round) (gathered : List ℕ) (entries : List Entry) (mid_has : Option (List ℕ)) → Gathers fits count round before after old spares new rest gathered → Keeps had mid_has
+    pub round_settled : (round : Round) (gathered : List ℕ) (entries : List Entry) (mid_has : Option (List ℕ)) → Gathers fits count text round before after old spares new rest gathered → Keeps had mid_has
         → entries ≡ drop (length old.history) new.history → (synced holds : Option (List ℕ)) → Appends journal holds (lines_for entries) → synced ≡ holds → Appends mid_has has gathered
-        → Rounds fits count before after old spares new rest had has journal synced holds round
+        → Rounds fits count text before after old spares new rest had has journal synced holds round
     round_settled Served gathered entries mid_has g flushed are synced holds stands same told = record {
       read = g.read;
       takes = subst (λ l. Takes before after l) (ap (λ l. g.read ++ l) g.ends.0 ∙ append-nil g.read) g.takes;

@@ -7,6 +7,7 @@ use Rattle.wh_lines.specs.Input.{Input, left, Takes}
 use Rattle.wh_grid.specs.Grids.{Floor}
 use Rattle.wh_token.specs.Drafts.{Seen}
 use Rattle.wh_event.specs.declared.entry.Entry.{Entry}
+use Rattle.wh_event.specs.declared.reply.Reply.{Reply}
 use Rattle.wh_replay.specs.Answers.{text_of}
 use Rattle.wh_replay.specs.Scripts.{WritesFront}
 use Rattle.wh_replay.proofs.Written.{front_after, front_all}
@@ -18,27 +19,27 @@ use Rattle.wh_journal.proofs.Joining.{serves_nothing, serves_join, replies_text,
 use Rattle.wh_journal.proofs.Rounded.{lines_append, more_cause}
 
 -- All that was served is told and stands in the journal, which is synced: one line at least in each round.
-pub record Standing {X : Type 0} (fits : X → Floor → Bool) (count : X → ℕ) (before now : Input) (old : Seen) (spares : List X) (new : Seen) (rest : List X)
+pub record Standing {X : Type 0} (fits : X → Floor → Bool) (count : X → ℕ) (text : Reply → List ℕ) (before now : Input) (old : Seen) (spares : List X) (new : Seen) (rest : List X)
     (had has journal synced holds : Option (List ℕ)) (rounds : ℕ) : Type 0 where
   pub read : List ℕ
   pub takes : Takes before now read
   pub replies : List (List ℕ)
   pub added : List Entry
-  pub serves : ServesLines fits count old spares new rest read replies added
+  pub serves : ServesLines fits count text old spares new rest read replies added
   pub stands : Appends journal holds (lines_for added)
   pub synced_is : synced ≡ holds
   pub told : Appends had has (text_of replies)
   pub many : rounds ≤ length (lines_of read)
 
-module _ {X : Type 0} (fits : X → Floor → Bool) (count : X → ℕ) where
+module _ {X : Type 0} (fits : X → Floor → Bool) (count : X → ℕ) (text : Reply → List ℕ) where
   pub standing_start : (i : Input) (old : Seen) (spares : List X) (had journal synced : Option (List ℕ)) → synced ≡ journal
-      → Standing fits count i i old spares old spares had had journal synced journal 0
+      → Standing fits count text i i old spares old spares had had journal synced journal 0
   standing_start i old spares had journal synced same = record {
     read = [];
     takes = Consumes-nil (left i);
     replies = [];
     added = [];
-    serves = serves_nothing fits count old spares;
+    serves = serves_nothing fits count text old spares;
     stands = Appends-nil journal;
     synced_is = same;
     told = Appends-nil had;
@@ -46,7 +47,7 @@ module _ {X : Type 0} (fits : X → Floor → Bool) (count : X → ℕ) where
   }
 
   module _ (before now after : Input) (old : Seen) (spares : List X) (mid : Seen) (held : List X) (new : Seen) (rest : List X) (had has last journal synced holds : Option (List ℕ)) (rounds : ℕ)
-      (st : Standing fits count before now old spares mid held had has journal synced holds rounds) where
+      (st : Standing fits count text before now old spares mid held had has journal synced holds rounds) where
     lines_stand : (further : Option (List ℕ)) (more : List Entry) → Appends holds further (lines_for more) → Appends journal further (lines_for (st.added ++ more))
     lines_stand further more p = subst (Appends journal further) (sym (lines_append st.added more)) (Appends-trans journal holds further (lines_for st.added) (lines_for more) st.stands p)
 
@@ -56,12 +57,12 @@ module _ {X : Type 0} (fits : X → Floor → Bool) (count : X → ℕ) where
     taken : (more : List ℕ) → Takes now after more → Takes before after (st.read ++ more)
     taken more t = Consumes-trans (left before) (left now) (left after) st.read more st.takes t
 
-    joined : (read : List ℕ) (replies : List (List ℕ)) (added : List Entry) → ServesLines fits count mid held new rest read replies added
-        → ServesLines fits count old spares new rest (st.read ++ read) (st.replies ++ replies) (st.added ++ added)
-    joined read replies added s = serves_join fits count old spares mid held new rest st.read read st.replies replies st.added added st.serves s
+    joined : (read : List ℕ) (replies : List (List ℕ)) (added : List Entry) → ServesLines fits count text mid held new rest read replies added
+        → ServesLines fits count text old spares new rest (st.read ++ read) (st.replies ++ replies) (st.added ++ added)
+    joined read replies added s = serves_join fits count text old spares mid held new rest st.read read st.replies replies st.added added st.serves s
 
-    pub standing_round : (kept further : Option (List ℕ)) → ServesRound fits count now after mid held new rest has last holds kept further
-        → Standing fits count before after old spares new rest had last journal kept further (rounds + 1)
+    pub standing_round : (kept further : Option (List ℕ)) → ServesRound fits count text now after mid held new rest has last holds kept further
+        → Standing fits count text before after old spares new rest had last journal kept further (rounds + 1)
     standing_round kept further r = record {
       read = st.read ++ r.read;
       takes = taken r.read r.takes;
@@ -74,8 +75,8 @@ module _ {X : Type 0} (fits : X → Floor → Bool) (count : X → ℕ) where
       many = omega (arith, st.many, r.some, lines_more st.read r.read st.serves.whole);
     }
 
-    pub standing_end : (kept further : Option (List ℕ)) → ReplaysJournaled fits count now after mid held new rest has last holds kept further
-        → ReplaysJournaled fits count before after old spares new rest had last journal kept further
+    pub standing_end : (kept further : Option (List ℕ)) → ReplaysJournaled fits count text now after mid held new rest has last holds kept further
+        → ReplaysJournaled fits count text before after old spares new rest had last journal kept further
     standing_end kept further r = record {
       read = st.read ++ r.read;
       begun = r.begun;
@@ -91,17 +92,17 @@ module _ {X : Type 0} (fits : X → Floor → Bool) (count : X → ℕ) where
     }
 
   module _ (before now : Input) (old : Seen) (spares : List X) (mid : Seen) (held : List X) (had has journal synced holds : Option (List ℕ)) (rounds : ℕ)
-      (st : Standing fits count before now old spares mid held had has journal synced holds rounds) where
+      (st : Standing fits count text before now old spares mid held had has journal synced holds rounds) where
     pub standing_fault : (after : Input) (new : Seen) (rest : List X) (last kept further : Option (List ℕ)) (failed : Bool) (fault : JournaledFault)
-        → Journaled fits count fault now after mid held new rest has last holds failed kept further
-        → Journaled fits count fault before after old spares new rest had last journal failed kept further
+        → Journaled fits count text fault now after mid held new rest has last holds failed kept further
+        → Journaled fits count text fault before after old spares new rest had last journal failed kept further
     standing_fault after new rest last kept further failed fault j = record {
       read = st.read ++ j.read;
       replies = st.replies ++ j.replies;
       added = st.added ++ j.added;
       mid = j.mid;
       held = j.held;
-      serves = serves_join fits count old spares mid held j.mid j.held st.read j.read st.replies j.replies st.added j.added st.serves j.serves;
+      serves = serves_join fits count text old spares mid held j.mid j.held st.read j.read st.replies j.replies st.added j.added st.serves j.serves;
       told = subst (WritesFront had last) (sym (replies_text st.replies j.replies)) (front_after had has last (text_of st.replies) (text_of j.replies) st.told j.told);
       kept = j.kept;
       stands = subst (Appends journal j.kept) (sym (lines_append st.added j.added)) (Appends-trans journal holds j.kept (lines_for st.added) (lines_for j.added) st.stands j.stands);
@@ -118,7 +119,7 @@ module _ {X : Type 0} (fits : X → Floor → Bool) (count : X → ℕ) where
           (omega (arith, lines_more st.read j.read st.serves.whole)) j.cause;
     }
 
-    pub standing_endless : (after : Input) (failed : Bool) → left after ≡ left now → 18446744073709551615 ≤ rounds → Journaled fits count Endless before after old spares mid held had has journal failed synced holds
+    pub standing_endless : (after : Input) (failed : Bool) → left after ≡ left now → 18446744073709551615 ≤ rounds → Journaled fits count text Endless before after old spares mid held had has journal failed synced holds
     standing_endless after failed same all = record {
       read = st.read;
       replies = st.replies;
@@ -133,7 +134,7 @@ module _ {X : Type 0} (fits : X → Floor → Bool) (count : X → ℕ) where
       more = [];
       more_replies = [];
       later = [];
-      serves_more = serves_nothing fits count mid held;
+      serves_more = serves_nothing fits count text mid held;
       behind = record { count = 0; appends = Appends-nil holds };
       begun = [];
       takes = subst (λ o. Consumes (left before) o (st.read ++ ([] ++ []))) (sym same)

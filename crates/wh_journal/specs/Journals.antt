@@ -8,6 +8,7 @@ use Rattle.wh_lines.specs.Input.{Input, left, Takes}
 use Rattle.wh_grid.specs.Grids.{Floor}
 use Rattle.wh_token.specs.Drafts.{Seen}
 use Rattle.wh_event.specs.declared.entry.Entry.{Entry}
+use Rattle.wh_event.specs.declared.reply.Reply.{Reply}
 use Rattle.wh_log.specs.Spelling.{entry_line}
 use Rattle.wh_replay.specs.Answers.{text_of}
 use Rattle.wh_replay.specs.Scripts.{IsOutputOf, WritesFront}
@@ -22,16 +23,16 @@ abbrev pub lines_for : List Entry → List ℕ
 lines_for entries = lines_text (map entry_line entries)
 
 -- These bytes are whole lines, and were served: these are the replies to them, and by these entries, theirs, the history
--- has grown.
-pub record ServesLines {X : Type 0} (fits : X → Floor → Bool) (count : X → ℕ) (old : Seen) (spares : List X) (new : Seen) (rest : List X)
+-- has grown. Fits and count say what a planner answers; text, here and below, what a reply is told as.
+pub record ServesLines {X : Type 0} (fits : X → Floor → Bool) (count : X → ℕ) (text : Reply → List ℕ) (old : Seen) (spares : List X) (new : Seen) (rest : List X)
     (read : List ℕ) (replies : List (List ℕ)) (added : List Entry) : Type 0 where
   pub whole : EndsLine read
-  pub output : IsOutputOf fits count (lines_of read) old spares new rest replies
+  pub output : IsOutputOf fits count text (lines_of read) old spares new rest replies
   pub added_are : new.history ≡ old.history ++ added
 
 -- A round: at least one whole line was taken and served, the lines of the entries stand in the journal, which is synced, all
 -- replies are written, and no whole line waits.
-pub record ServesRound {X : Type 0} (fits : X → Floor → Bool) (count : X → ℕ) (before after : Input) (old : Seen) (spares : List X) (new : Seen) (rest : List X)
+pub record ServesRound {X : Type 0} (fits : X → Floor → Bool) (count : X → ℕ) (text : Reply → List ℕ) (before after : Input) (old : Seen) (spares : List X) (new : Seen) (rest : List X)
     (had has journal synced holds : Option (List ℕ)) : Type 0 where
   pub read : List ℕ
   pub takes : Takes before after read
@@ -39,14 +40,14 @@ pub record ServesRound {X : Type 0} (fits : X → Floor → Bool) (count : X →
   pub none_waits : IsPlain after.waiting
   pub replies : List (List ℕ)
   pub added : List Entry
-  pub serves : ServesLines fits count old spares new rest read replies added
+  pub serves : ServesLines fits count text old spares new rest read replies added
   pub stands : Appends journal holds (lines_for added)
   pub synced_is : synced ≡ holds
   pub told : Appends had has (text_of replies)
 
 -- All was read to the end. The whole lines were served, the lines of the entries stand in the journal, which is synced, and
 -- all replies are written. What follows the last line feed is no line.
-pub record ReplaysJournaled {X : Type 0} (fits : X → Floor → Bool) (count : X → ℕ) (before after : Input) (old : Seen) (spares : List X) (new : Seen) (rest : List X)
+pub record ReplaysJournaled {X : Type 0} (fits : X → Floor → Bool) (count : X → ℕ) (text : Reply → List ℕ) (before after : Input) (old : Seen) (spares : List X) (new : Seen) (rest : List X)
     (had has journal synced holds : Option (List ℕ)) : Type 0 where
   pub read : List ℕ
   pub begun : List ℕ
@@ -55,26 +56,26 @@ pub record ReplaysJournaled {X : Type 0} (fits : X → Floor → Bool) (count : 
   pub ended : IsAtEnd (left after)
   pub replies : List (List ℕ)
   pub added : List Entry
-  pub serves : ServesLines fits count old spares new rest read replies added
+  pub serves : ServesLines fits count text old spares new rest read replies added
   pub stands : Appends journal holds (lines_for added)
   pub synced_is : synced ≡ holds
   pub told : Appends had has (text_of replies)
 
-abbrev pub Rounds : {X : Type 0} → (X → Floor → Bool) → (X → ℕ) → Input → Input → Seen → List X → Seen → List X → (had has journal synced holds : Option (List ℕ)) → Round → Type 0
-Rounds fits count before after old spares new rest had has journal synced holds Served = ServesRound fits count before after old spares new rest had has journal synced holds
-Rounds fits count before after old spares new rest had has journal synced holds Ended = ReplaysJournaled fits count before after old spares new rest had has journal synced holds
+abbrev pub Rounds : {X : Type 0} → (X → Floor → Bool) → (X → ℕ) → (Reply → List ℕ) → Input → Input → Seen → List X → Seen → List X → (had has journal synced holds : Option (List ℕ)) → Round → Type 0
+Rounds fits count text before after old spares new rest had has journal synced holds Served = ServesRound fits count text before after old spares new rest had has journal synced holds
+Rounds fits count text before after old spares new rest had has journal synced holds Ended = ReplaysJournaled fits count text before after old spares new rest had has journal synced holds
 
 -- Whatever was told, its entries stand in the journal. Whole lines were read and served; their entries were appended to the
 -- journal, and were synced, before a front of the replies was written. Then more whole lines were served, of which nothing
 -- was told: of their entries' lines a front may stand behind what was synced. What was taken behind all these was not served.
-pub record Journaled {X : Type 0} (fits : X → Floor → Bool) (count : X → ℕ) (fault : JournaledFault) (before after : Input) (old : Seen) (spares : List X) (new : Seen) (rest : List X)
+pub record Journaled {X : Type 0} (fits : X → Floor → Bool) (count : X → ℕ) (text : Reply → List ℕ) (fault : JournaledFault) (before after : Input) (old : Seen) (spares : List X) (new : Seen) (rest : List X)
     (had has journal : Option (List ℕ)) (failed : Bool) (synced holds : Option (List ℕ)) : Type 0 where
   pub read : List ℕ
   pub replies : List (List ℕ)
   pub added : List Entry
   pub mid : Seen
   pub held : List X
-  pub serves : ServesLines fits count old spares mid held read replies added
+  pub serves : ServesLines fits count text old spares mid held read replies added
   pub told : WritesFront had has (text_of replies)
   pub kept : Option (List ℕ)
   pub stands : Appends journal kept (lines_for added)
@@ -82,7 +83,7 @@ pub record Journaled {X : Type 0} (fits : X → Floor → Bool) (count : X → �
   pub more : List ℕ
   pub more_replies : List (List ℕ)
   pub later : List Entry
-  pub serves_more : ServesLines fits count mid held new rest more more_replies later
+  pub serves_more : ServesLines fits count text mid held new rest more more_replies later
   pub behind : WritesFront kept holds (lines_for later)
   pub begun : List ℕ
   pub takes : Takes before after (read ++ (more ++ begun))
@@ -94,7 +95,7 @@ EndsBy Served after read begun = (begun ≡ []) × (1 ≤ length (lines_of read)
 EndsBy Ended after read begun = IsPlain begun × IsAtEnd (left after)
 
 -- lines were served, and their replies gathered
-pub record Gathers {X : Type 0} (fits : X → Floor → Bool) (count : X → ℕ) (round : Round) (before after : Input) (old : Seen) (spares : List X) (new : Seen) (rest : List X)
+pub record Gathers {X : Type 0} (fits : X → Floor → Bool) (count : X → ℕ) (text : Reply → List ℕ) (round : Round) (before after : Input) (old : Seen) (spares : List X) (new : Seen) (rest : List X)
     (gathered : List ℕ) : Type 0 where
   pub read : List ℕ
   pub begun : List ℕ
@@ -102,17 +103,17 @@ pub record Gathers {X : Type 0} (fits : X → Floor → Bool) (count : X → ℕ
   pub ends : EndsBy round after read begun
   pub replies : List (List ℕ)
   pub added : List Entry
-  pub serves : ServesLines fits count old spares new rest read replies added
+  pub serves : ServesLines fits count text old spares new rest read replies added
   pub gathered_are : gathered ≡ text_of replies
 
 -- or they were served until a fault, which was none of the journal
-pub record GathersUntil {X : Type 0} (fits : X → Floor → Bool) (count : X → ℕ) (fault : JournaledFault) (before after : Input) (old : Seen) (spares : List X) (new : Seen) (rest : List X) : Type 0 where
+pub record GathersUntil {X : Type 0} (fits : X → Floor → Bool) (count : X → ℕ) (text : Reply → List ℕ) (fault : JournaledFault) (before after : Input) (old : Seen) (spares : List X) (new : Seen) (rest : List X) : Type 0 where
   pub read : List ℕ
   pub begun : List ℕ
   pub takes : Takes before after (read ++ begun)
   pub replies : List (List ℕ)
   pub added : List Entry
-  pub serves : ServesLines fits count old spares new rest read replies added
+  pub serves : ServesLines fits count text old spares new rest read replies added
   pub cause : HasCause fault after false (length (lines_of read))
 
 -- Why not. The journal failed, or memory was wanting, and nothing was written; or the journal is synced, and a front was written.

@@ -4,6 +4,7 @@
 ghost use Rattle.std.specs.Prelude.{◌≡◌, [], true, false, IfOk, IfErr};
 ghost use Rattle.std.specs.Io.KnownBytes.{Keeps};
 ghost use Rattle.wh_text.specs.Lines.{is_line_feed, HasNone};
+ghost use Rattle.wh_log.specs.Told.{told_text};
 ghost use Rattle.wh_journal.specs.Journals.{Gathers, GathersUntil};
 
 use crate::fault::{JournaledFault, read_fault};
@@ -12,6 +13,7 @@ use std::alloc::Global;
 use std::io::{Read, Write};
 use wh_event::Command;
 use wh_lines::{CommandLine, Lines, Next};
+use wh_log::Form;
 use wh_planner::Planner;
 use wh_replay::serve;
 use wh_token::Warehouse;
@@ -28,14 +30,15 @@ fn has_line(bytes: &[u8]) -> bool
 pub(crate) fn gather<R: Read, W: Write, P: Planner>(
     lines: &mut Lines<R>,
     alloc: Global,
+    form: Form,
     writer: &mut W,
     gathered: &mut Vec<u8>,
     warehouse: &mut Warehouse<P>,
     spares: &mut Vec<P>,
 ) -> Result<Round, JournaledFault>
     requires { gathered.old.items ≡ [] }
-    ensures ok { IfOk result (λ round. Gathers P.fits_map P.slot_count round lines.old lines.new warehouse.old.book spares.old.items warehouse.new.book spares.new.items gathered.new.items) }
-    ensures err { IfErr result (λ fault. GathersUntil P.fits_map P.slot_count fault lines.old lines.new warehouse.old.book spares.old.items warehouse.new.book spares.new.items) }
+    ensures ok { IfOk result (λ round. Gathers P.fits_map P.slot_count (told_text form) round lines.old lines.new warehouse.old.book spares.old.items warehouse.new.book spares.new.items gathered.new.items) }
+    ensures err { IfErr result (λ fault. GathersUntil P.fits_map P.slot_count (told_text form) fault lines.old lines.new warehouse.old.book spares.old.items warehouse.new.book spares.new.items) }
     ensures writer { Keeps (W.contents writer.old) (W.contents writer.new) }
 {
     let mut line = CommandLine::new();
@@ -50,7 +53,15 @@ pub(crate) fn gather<R: Read, W: Write, P: Planner>(
             Next::Last => return Ok(Round::Ended),
             Next::End => return Ok(Round::Ended),
         }
-        match serve(&line, &mut command, alloc, gathered, warehouse, spares) {
+        match serve(
+            &line,
+            &mut command,
+            alloc,
+            form,
+            gathered,
+            warehouse,
+            spares,
+        ) {
             Ok(_) => {}
             Err(_) => return Err(JournaledFault::NoMemory),
         }

@@ -3,6 +3,7 @@
 
 ghost use Rattle.std.specs.Prelude.{◌≡◌, true, IfErr, OnOk, OnErr};
 ghost use Rattle.std.specs.Io.KnownBytes.{Keeps};
+ghost use Rattle.wh_log.specs.Told.{told_text};
 ghost use Rattle.wh_journal.specs.Journals.{Journaled, ReplaysJournaled};
 ghost use Rattle.wh_journal.specs.Surviving.{HoldsLog, StaysLog};
 
@@ -12,6 +13,7 @@ use crate::rounds::{Round, serve_round};
 use std::alloc::Global;
 use std::io::{Read, Write};
 use wh_lines::Lines;
+use wh_log::Form;
 use wh_planner::Planner;
 use wh_token::Warehouse;
 
@@ -23,6 +25,7 @@ use wh_token::Warehouse;
 pub fn replay_journaled<R: Read, W: Write, J: Journal, P: Planner>(
     lines: &mut Lines<R>,
     alloc: Global,
+    form: Form,
     journal: &mut J,
     writer: &mut W,
     warehouse: &mut Warehouse<P>,
@@ -31,10 +34,10 @@ pub fn replay_journaled<R: Read, W: Write, J: Journal, P: Planner>(
     requires synced { J.synced journal.old ≡ J.contents journal.old }
     // A journal that tells its bytes is the book's log, but for the end line.
     requires log { HoldsLog (J.contents journal.old) warehouse.old.book }
-    ensures ok { OnOk result (ReplaysJournaled P.fits_map P.slot_count lines.old lines.new warehouse.old.book spares.old.items warehouse.new.book spares.new.items (W.contents writer.old) (W.contents writer.new) (J.contents journal.old) (J.synced journal.new) (J.contents journal.new)) }
+    ensures ok { OnOk result (ReplaysJournaled P.fits_map P.slot_count (told_text form) lines.old lines.new warehouse.old.book spares.old.items warehouse.new.book spares.new.items (W.contents writer.old) (W.contents writer.new) (J.contents journal.old) (J.synced journal.new) (J.contents journal.new)) }
     // It stays so.
     ensures log { OnOk result (StaysLog (J.contents journal.old) (J.contents journal.new) warehouse.new.book) }
-    ensures fault { IfErr result (λ fault. Journaled P.fits_map P.slot_count fault lines.old lines.new warehouse.old.book spares.old.items warehouse.new.book spares.new.items (W.contents writer.old) (W.contents writer.new) (J.contents journal.old) (J.failed journal.new) (J.synced journal.new) (J.contents journal.new)) }
+    ensures fault { IfErr result (λ fault. Journaled P.fits_map P.slot_count (told_text form) fault lines.old lines.new warehouse.old.book spares.old.items warehouse.new.book spares.new.items (W.contents writer.old) (W.contents writer.new) (J.contents journal.old) (J.failed journal.new) (J.synced journal.new) (J.contents journal.new)) }
     // After a fault there is nothing more.
     ensures failed { OnErr result (lines.new.failed ≡ true) }
     ensures again { lines.old.failed ≡ true → (result ≡ Err JournaledFault.Broken) × (lines.new ≡ lines.old) × (warehouse.new.book ≡ warehouse.old.book) × (spares.new.items ≡ spares.old.items) × (journal.new ≡ journal.old) × Keeps (W.contents writer.old) (W.contents writer.new) }
@@ -43,7 +46,7 @@ pub fn replay_journaled<R: Read, W: Write, J: Journal, P: Planner>(
         return Err(JournaledFault::Broken);
     }
     for _ in 0..u64::MAX {
-        match serve_round(lines, alloc, journal, writer, warehouse, spares) {
+        match serve_round(lines, alloc, form, journal, writer, warehouse, spares) {
             Ok(Round::Served) => {}
             Ok(Round::Ended) => return Ok(()),
             Err(fault) => return Err(fault),

@@ -3,6 +3,7 @@
 
 ghost use Rattle.std.specs.Prelude.{◌≡◌, ◌≤◌, true, length, drop, IfOk, IfErr, OnErr};
 ghost use Rattle.std.specs.Io.KnownBytes.{Keeps};
+ghost use Rattle.wh_log.specs.Told.{told_text};
 ghost use Rattle.wh_journal.specs.Journals.{Rounds, Journaled};
 
 use crate::fault::JournaledFault;
@@ -13,6 +14,7 @@ use std::alloc::Global;
 use std::io::{Read, Write};
 use wh_event::Entry;
 use wh_lines::Lines;
+use wh_log::Form;
 use wh_planner::Planner;
 use wh_token::Warehouse;
 
@@ -36,18 +38,19 @@ fn behind(history: &[Entry], kept: usize) -> &[Entry]
 fn round_once<R: Read, W: Write, J: Journal, P: Planner>(
     lines: &mut Lines<R>,
     alloc: Global,
+    form: Form,
     journal: &mut J,
     writer: &mut W,
     warehouse: &mut Warehouse<P>,
     spares: &mut Vec<P>,
 ) -> Result<Round, JournaledFault>
     requires { J.synced journal.old ≡ J.contents journal.old }
-    ensures ok { IfOk result (Rounds P.fits_map P.slot_count lines.old lines.new warehouse.old.book spares.old.items warehouse.new.book spares.new.items (W.contents writer.old) (W.contents writer.new) (J.contents journal.old) (J.synced journal.new) (J.contents journal.new)) }
-    ensures fault { IfErr result (λ fault. Journaled P.fits_map P.slot_count fault lines.old lines.new warehouse.old.book spares.old.items warehouse.new.book spares.new.items (W.contents writer.old) (W.contents writer.new) (J.contents journal.old) (J.failed journal.new) (J.synced journal.new) (J.contents journal.new)) }
+    ensures ok { IfOk result (Rounds P.fits_map P.slot_count (told_text form) lines.old lines.new warehouse.old.book spares.old.items warehouse.new.book spares.new.items (W.contents writer.old) (W.contents writer.new) (J.contents journal.old) (J.synced journal.new) (J.contents journal.new)) }
+    ensures fault { IfErr result (λ fault. Journaled P.fits_map P.slot_count (told_text form) fault lines.old lines.new warehouse.old.book spares.old.items warehouse.new.book spares.new.items (W.contents writer.old) (W.contents writer.new) (J.contents journal.old) (J.failed journal.new) (J.synced journal.new) (J.contents journal.new)) }
 {
     let kept = warehouse.history().len();
     let mut replies: Vec<u8> = Vec::new(alloc);
-    let round = match gather(lines, alloc, writer, &mut replies, warehouse, spares) {
+    let round = match gather(lines, alloc, form, writer, &mut replies, warehouse, spares) {
         Ok(round) => round,
         Err(fault) => return Err(fault),
     };
@@ -68,14 +71,15 @@ fn round_once<R: Read, W: Write, J: Journal, P: Planner>(
 pub fn serve_round<R: Read, W: Write, J: Journal, P: Planner>(
     lines: &mut Lines<R>,
     alloc: Global,
+    form: Form,
     journal: &mut J,
     writer: &mut W,
     warehouse: &mut Warehouse<P>,
     spares: &mut Vec<P>,
 ) -> Result<Round, JournaledFault>
     requires { J.synced journal.old ≡ J.contents journal.old }
-    ensures ok { IfOk result (Rounds P.fits_map P.slot_count lines.old lines.new warehouse.old.book spares.old.items warehouse.new.book spares.new.items (W.contents writer.old) (W.contents writer.new) (J.contents journal.old) (J.synced journal.new) (J.contents journal.new)) }
-    ensures fault { IfErr result (λ fault. Journaled P.fits_map P.slot_count fault lines.old lines.new warehouse.old.book spares.old.items warehouse.new.book spares.new.items (W.contents writer.old) (W.contents writer.new) (J.contents journal.old) (J.failed journal.new) (J.synced journal.new) (J.contents journal.new)) }
+    ensures ok { IfOk result (Rounds P.fits_map P.slot_count (told_text form) lines.old lines.new warehouse.old.book spares.old.items warehouse.new.book spares.new.items (W.contents writer.old) (W.contents writer.new) (J.contents journal.old) (J.synced journal.new) (J.contents journal.new)) }
+    ensures fault { IfErr result (λ fault. Journaled P.fits_map P.slot_count (told_text form) fault lines.old lines.new warehouse.old.book spares.old.items warehouse.new.book spares.new.items (W.contents writer.old) (W.contents writer.new) (J.contents journal.old) (J.failed journal.new) (J.synced journal.new) (J.contents journal.new)) }
     // After a fault there is nothing more.
     ensures failed { OnErr result (lines.new.failed ≡ true) }
     ensures again { lines.old.failed ≡ true → (result ≡ Err JournaledFault.Broken) × (lines.new ≡ lines.old) × (warehouse.new.book ≡ warehouse.old.book) × (spares.new.items ≡ spares.old.items) × (journal.new ≡ journal.old) × Keeps (W.contents writer.old) (W.contents writer.new) }
@@ -83,7 +87,7 @@ pub fn serve_round<R: Read, W: Write, J: Journal, P: Planner>(
     if lines.has_failed() {
         return Err(JournaledFault::Broken);
     }
-    match round_once(lines, alloc, journal, writer, warehouse, spares) {
+    match round_once(lines, alloc, form, journal, writer, warehouse, spares) {
         Ok(round) => Ok(round),
         Err(fault) => {
             lines.fail();

@@ -8,7 +8,7 @@ use wh_claims::{Bank, Claim};
 use wh_grid::Grid;
 use wh_journal::{Journal, JournalFault, Warehouse, replay_journaled};
 use wh_lines::Lines;
-use wh_log::begun_text;
+use wh_log::{Form, begun_text};
 use wh_planners::Patient;
 use wh_points::Points;
 use wh_replay::write_all;
@@ -145,6 +145,7 @@ fn survives(rt: HostRuntime) -> Result<(), Fail> {
         replay_journaled(
             &mut lines,
             alloc,
+            Form::Full,
             &mut journal,
             &mut output,
             &mut warehouse,
@@ -188,6 +189,7 @@ fn survives(rt: HostRuntime) -> Result<(), Fail> {
                     replay_journaled(
                         &mut lines,
                         alloc,
+                        Form::Full,
                         &mut rest,
                         &mut told,
                         &mut again,

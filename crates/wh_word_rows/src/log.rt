@@ -5,7 +5,9 @@ ghost use Rattle.std.proofs.Common.{sym, ◌∙◌};
 use std::alloc::Global;
 use std::test::Fail;
 use wh_event::Entry;
-use wh_log::{Followed, Judge, Log, LogFault, NoMemory, follow, log_text, read_log, written_again};
+use wh_log::{
+    Followed, Form, Judge, Log, LogFault, NoMemory, follow, log_text, read_log, tell, written_again,
+};
 
 const LOG: &[u8] =
     b"wlog 1\nstart 0 slots 4 4\n0 submit x A B = accepted 0\n0 token 0 = took 0 path 0,1 1,1 1,0 1,1 2,1 3,1 3,0\n0 tick = clock 1 picked 0 dropped 0\nend 3\n";
@@ -130,6 +132,40 @@ fn written_as_it_was_read(rt: HostRuntime) -> Result<(), Fail> {
     assert_eq!(rt; log.slots(), [2, 64].as_slice());
     let text = log_text(alloc, log.clock(), log.slots(), log.entries())?;
     assert_eq!(rt; text.as_slice(), ALL);
+    Ok(())
+}
+
+/// The replies of a log in this form, a line for each.
+fn replies(alloc: Global, form: Form, text: &[u8]) -> Result<Vec<u8>, Fail> {
+    let log = read_log(alloc, text)?;
+    let mut told = Vec::new(alloc);
+    for entry in log.entries() {
+        if tell(form, &mut told, &entry.reply).is_err() {
+            return Err("it is told")?;
+        }
+        told.push(b'\n')?;
+    }
+    Ok(told)
+}
+
+#[test]
+fn told_in_few_words_and_in_all(rt: HostRuntime) -> Result<(), Fail> {
+    let alloc = rt.alloc();
+    let short = replies(alloc, Form::Short, LOG)?;
+    assert_eq!(rt;
+        short.as_slice(),
+        b"accepted 0\ntook 0 end 6\nclock 1 picked 0 dropped 0\n".as_slice()
+    );
+    let full = replies(alloc, Form::Full, LOG)?;
+    assert_eq!(rt;
+        full.as_slice(),
+        b"accepted 0\ntook 0 path 0,1 1,1 1,0 1,1 2,1 3,1 3,0\nclock 1 picked 0 dropped 0\n".as_slice()
+    );
+    let full = replies(alloc, Form::Full, ALL)?;
+    assert_eq!(rt;
+        full.as_slice(),
+        b"accepted 999999999\nrested\nrefused E4 999999999\nparked P-1 path 4095,0 4095,0 4094,0\nrefused E5 18446744073709551615\nclock 1000000000 picked 0 dropped 7\nrefused E10\nrefused E9\nreplaced 100\nclosed\nrefused E8\nrefused E1 Z\nrefused E2 P1\nrefused E3\nrefused E6\nrefused E7\n".as_slice()
+    );
     Ok(())
 }
 
