@@ -2,7 +2,7 @@
 use clap::error::ErrorKind;
 use std::test::*;
 use wh_options::{
-    Fleet, LiveOptions, Options, PlannerKind, Refusal, Replies, ReplayOptions, Tail, options,
+    Fleet, LiveOptions, Options, PlannerKind, Refusal, ReplayOptions, Replies, Tail, options,
     refusal_of,
 };
 
