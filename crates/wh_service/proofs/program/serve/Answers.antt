@@ -22,7 +22,7 @@ returns-clause-ok g c =
     (subst (λ (f : Floor). SiteRead c.args.lines.now c.read_site.new.lines f site.layout) (sym c.in_ok-grid-2.ensures.ok) c.in_ok-grid.ensures.ok)
     c.requires.makes c.requires.range
     (equipped_at (ap length c.agents.ensures.value) c.in-Ok.ensures.ok)
-    (ap told_text c.form_of.ensures) c.play.ensures.ok
+    (ap told_text c.form_of-form.ensures) c.play.ensures.ok
 
 pub returns-clause-fault : goal.returns-clause-fault
 returns-clause-fault g c =
@@ -31,7 +31,7 @@ returns-clause-fault g c =
     (subst (λ (f : Floor). SiteRead c.args.lines.now c.read_site.new.lines f site.layout) (sym c.in_ok-grid-2.ensures.ok) c.in_ok-grid.ensures.ok)
     c.requires.makes c.requires.range
     (equipped_at (ap length c.agents.ensures.value) c.in-Ok.ensures.ok)
-    (ap told_text c.form_of.ensures) c.play.ensures.fault
+    (ap told_text c.form_of-form.ensures) c.play.ensures.fault
 
 pub returns-clause-fleet : goal.returns-clause-fleet
 returns-clause-fleet g c =
@@ -39,4 +39,4 @@ returns-clause-fleet g c =
     answer_fleet _ _ _ _ _ c.args.options.now.fleet site c.in-Ok.equipped.0.items c.in-Ok.equipped.1.items c.args.options.now.tail _ _ _ _ _ c.play.result
     (subst (λ (f : Floor). SiteRead c.args.lines.now c.read_site.new.lines f site.layout) (sym c.in_ok-grid-2.ensures.ok) c.in_ok-grid.ensures.ok)
     (equipped_at (ap length c.agents.ensures.value) c.in-Ok.ensures.ok)
-    (ap told_text c.form_of.ensures) c.play.ensures.ok
+    (ap told_text c.form_of-form.ensures) c.play.ensures.ok
