@@ -1,5 +1,5 @@
 -- What a kill leaves is recovered.
-use Rattle.std.proofs.Common.{◌≡◌, ◌≤◌, ◌⊎◌, inl, inr, ℕ, List, [], ◌∷◌, ◌++◌, map, length, drop, refl, sym, ap, ◌∙◌, subst, arith, append_assoc, Some}
+use Rattle.std.proofs.Common.{◌≡◌, inl, inr, ℕ, List, [], ◌∷◌, ◌++◌, length, drop, refl, sym, ap, ◌∙◌, subst, arith, append_assoc, Some}
 use Rattle.wh_words.specs.Lines.{text_of as lines_text}
 use Rattle.wh_points.specs.Points.{Site}
 use Rattle.wh_event.specs.declared.entry.Entry.{Entry}
@@ -9,7 +9,7 @@ use Rattle.wh_log.specs.FirstBad.{Begins}
 use Rattle.wh_log.specs.Torn.{begun_lines, IsUnopened}
 use Rattle.wh_log.proofs.Fronts.{text-append}
 use Rattle.wh_log.proofs.HeadLaws.{head_is_line, start_is_line}
-use Rattle.wh_core.specs.States.{State, opened}
+use Rattle.wh_core.specs.States.{opened}
 use Rattle.wh_journal.specs.Scripts.{WritesFront}
 use Rattle.wh_resume.specs.declared.recovery.Resumed.{Resumed}
 use Rattle.wh_resume.specs.declared.recovery.Recovery.{Recovery}

@@ -1,8 +1,8 @@
 -- What stands in the journal, and what is told, after each round.
-use Rattle.std.proofs.Common.{◌≡◌, ◌≤◌, ◌+◌, ◌-◌, ◌^◌, ◌⊎◌, inl, inr, arith, ℕ, List, [], ◌∷◌, ◌++◌, map, length, drop, take, refl, sym, ap, ◌∙◌, subst, Option, None, Some, append_assoc, append-nil, Bool, true, false}
+use Rattle.std.proofs.Common.{◌≡◌, ◌≤◌, ◌+◌, inl, inr, arith, ℕ, List, [], ◌∷◌, ◌++◌, map, length, drop, refl, sym, ap, ◌∙◌, subst, Option, None, Some, append-nil, Bool, true, false}
 use Rattle.std.proofs.lemmas.List.{map-append}
 use Rattle.std.specs.Io.KnownBytes.{Appends, Keeps}
-use Rattle.std.proofs.KnownBytes.{Keeps-refl, Consumes-nil, Consumes-trans, Appends-nil, Appends-trans, Appends-kept}
+use Rattle.std.proofs.KnownBytes.{Keeps-refl, Consumes-nil, Appends-nil, Appends-kept}
 use Rattle.wh_text.specs.Lines.{lines_of}
 use Rattle.wh_words.specs.Lines.{text_of as lines_text}
 use Rattle.wh_lines.specs.Input.{Input, left, with_failed, Takes}
@@ -14,14 +14,13 @@ use Rattle.wh_log.specs.Spelling.{entry_line}
 use Rattle.wh_log.proofs.Fronts.{text-append}
 use Rattle.wh_replay.specs.Answers.{text_of}
 use Rattle.wh_replay.specs.Scripts.{WritesFront}
-use Rattle.wh_replay.proofs.Written.{front_after, front_all}
 use Rattle.wh_journal.specs.declared.fault.JournaledFault.{JournaledFault}
 use Rattle.wh_journal.specs.declared.fault.JournaledFault.TheVariants.{Broken, Endless, Unwritten, Unjournaled, NoMemory}
 use Rattle.wh_journal.specs.declared.rounds.Round.{Round}
 use Rattle.wh_journal.specs.declared.rounds.Round.TheVariants.{Served, Ended}
 use Rattle.wh_journal.specs.Faults.{HasCause}
-use Rattle.wh_journal.specs.Journals.{lines_for, ServesLines, ServesRound, ReplaysJournaled, Rounds, Journaled, Gathers, GathersUntil, Unsettles}
-use Rattle.wh_journal.proofs.Joining.{serves_nothing, serves_join, replies_text, lines_more}
+use Rattle.wh_journal.specs.Journals.{lines_for, Rounds, Journaled, Gathers, GathersUntil, Unsettles}
+use Rattle.wh_journal.proofs.Joining.{serves_nothing}
 
 -- ---- bytes
 

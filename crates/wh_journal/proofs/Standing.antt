@@ -1,5 +1,5 @@
 -- What stands while rounds are served one after another.
-use Rattle.std.proofs.Common.{◌≡◌, ◌≤◌, ◌+◌, ◌-◌, ◌^◌, ◌⊎◌, inl, inr, arith, ℕ, List, [], ◌∷◌, ◌++◌, length, refl, sym, ap, ◌∙◌, subst, Option, append_assoc, append-nil, Bool}
+use Rattle.std.proofs.Common.{◌≡◌, ◌≤◌, ◌+◌, inr, arith, ℕ, List, [], ◌++◌, length, sym, subst, Option, append_assoc, append-nil, Bool}
 use Rattle.std.specs.Io.KnownBytes.{Appends, Keeps, Consumes}
 use Rattle.std.proofs.KnownBytes.{Keeps-refl, Consumes-nil, Consumes-trans, Appends-nil, Appends-trans}
 use Rattle.wh_text.specs.Lines.{lines_of}
@@ -13,7 +13,6 @@ use Rattle.wh_replay.specs.Scripts.{WritesFront}
 use Rattle.wh_replay.proofs.Written.{front_after, front_all}
 use Rattle.wh_journal.specs.declared.fault.JournaledFault.{JournaledFault}
 use Rattle.wh_journal.specs.declared.fault.JournaledFault.TheVariants.{Endless}
-use Rattle.wh_journal.specs.Faults.{HasCause}
 use Rattle.wh_journal.specs.Journals.{lines_for, ServesLines, ServesRound, ReplaysJournaled, Journaled}
 use Rattle.wh_journal.proofs.Joining.{serves_nothing, serves_join, replies_text, lines_more}
 use Rattle.wh_journal.proofs.Rounded.{lines_append, more_cause}

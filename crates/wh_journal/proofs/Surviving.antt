@@ -1,5 +1,5 @@
 -- What is found in what a kill leaves of a journal.
-use Rattle.std.proofs.Common.{◌≡◌, ◌≤◌, ◌+◌, ◌<◌, ℕ, suc, inl, inr, List, [], ◌∷◌, ◌++◌, map, length, drop, take, refl, sym, ap, ◌∙◌, subst, arith, append_assoc, append-nil, Bool, true, false, Some, length-append, take-append-drop}
+use Rattle.std.proofs.Common.{◌≡◌, ◌≤◌, ◌+◌, ◌<◌, ℕ, inl, inr, List, [], ◌∷◌, ◌++◌, map, length, drop, take, refl, sym, ap, ◌∙◌, subst, arith, append_assoc, Some, length-append, take-append-drop}
 use Rattle.std.proofs.lemmas.Bool.{cases_lt}
 use Rattle.std.proofs.lemmas.List.{map-append}
 use Rattle.wh_words.specs.Lines.{IsLine, text_of as lines_text}
@@ -7,8 +7,8 @@ use Rattle.wh_event.specs.declared.entry.Entry.{Entry}
 use Rattle.wh_log.specs.Spelling.{entry_line}
 use Rattle.wh_log.specs.declared.version.Version.{Version}
 use Rattle.wh_log.specs.declared.version.Version.TheVariants.{Two}
-use Rattle.wh_log.specs.Logs.{Content, Fits}
-use Rattle.wh_log.specs.Torn.{begun_lines, IsRest, Holds}
+use Rattle.wh_log.specs.Logs.{Content}
+use Rattle.wh_log.specs.Torn.{begun_lines, IsRest}
 use Rattle.wh_log.proofs.LineLaws.{not_whole, text_cons}
 use Rattle.wh_log.proofs.Fronts.{text-append}
 use Rattle.wh_log.proofs.Tearing.{cuts_are_found}

@@ -12,7 +12,7 @@ use Rattle.wh_log.specs.declared.version.Version.TheVariants.{Two}
 use Rattle.wh_log.specs.Logs.{Content}
 use Rattle.wh_log.specs.Torn.{begun_lines}
 use Rattle.wh_journal.specs.Journals.{lines_for, ReplaysJournaled}
-use Rattle.wh_journal.specs.Surviving.{grown, told_by, IsLogOfBook, HoldsLog, StaysLog}
+use Rattle.wh_journal.specs.Surviving.{told_by, HoldsLog, StaysLog}
 use Rattle.wh_journal.proofs.Surviving.{begun_grown}
 
 appended : (holds : Option (List ℕ)) (text bs : List ℕ) → Appends (Some text) holds bs → holds ≡ Some (text ++ bs)

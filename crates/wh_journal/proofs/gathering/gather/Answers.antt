@@ -1,4 +1,4 @@
-use Rattle.std.proofs.Common.{◌≡◌, ◌≤◌, ◌+◌, refl, sym, ap, subst, arith, Result, Err, Some}
+use Rattle.std.proofs.Common.{refl, ap, subst, Result, Err, Some}
 use Rattle.std.proofs.KnownBytes.{Keeps-trans}
 use Rattle.wh_lines.specs.Input.{Gathered}
 use Rattle.wh_lines.specs.declared.lines.Next.{Next}

@@ -1,4 +1,4 @@
-use Rattle.std.proofs.Common.{◌≡◌, ap}
+use Rattle.std.proofs.Common.{ap}
 use Rattle.wh_lines.specs.Input.{Input, left}
 use Rattle.wh_log.specs.Told.{told_text}
 use Rattle.wh_journal.specs.declared.fault.JournaledFault.TheVariants.{Broken}
