@@ -23,7 +23,10 @@ use Rattle.wh_live.specs.Works.{requests}
 use Rattle.wh_live.specs.Lives.{Lives, IsWhyDead}
 use Rattle.wh_service.specs.Fleets.{IsMember, IsOfFleet, IsWhyUnclaimed, MakesPlanners}
 use Rattle.wh_service.specs.Hosts.{AreMembers, HaveSpares, IsTeam, ReadsAll, Hosts, HostsTo, IsWhyUnhosted}
+use Rattle.wh_core.specs.States.{opened}
+use Rattle.wh_core.proofs.Ways.{none_is_refused_a_path}
 use Rattle.wh_service.proofs.Logged.{logged}
+use Rattle.wh_service.proofs.Openings.{opening_read}
 use Rattle.wh_service.proofs.Played.{Gives, slots_each, tied_slots}
 
 -- the commands of one more client
@@ -68,6 +71,7 @@ hosts fits count gives options site scripts planners works old new text reads ma
     tied_slots count planners lives.slots lives.tied.seats lives.tied.counts
     ∙ slots_each fits count gives options.fleet site.grid team.bank planners (length site.layout.agents) makes range team.planners_are.many_is each in
     let few = few_works gives options site.grid (length site.layout.agents) scripts planners works team reads.clients_read.few in
+    let begins = opening_read old reads.between site lives.slots reads.site_read (sym lives.tied.seats ∙ team.planners_are.many_is) in
     record {
       site = site;
       scripts = scripts;
@@ -76,6 +80,8 @@ hosts fits count gives options site scripts planners works old new text reads ma
       works = works;
       team = team;
       lives = lives;
+      is_opening = begins;
+      served = λ formed. none_is_refused_a_path site lives.history lives.state formed (record { opening = opened site.layout 0 lives.slots; is_opening = begins; run = lives.worked.run });
       slots = slots_are;
       is_log = logged fits count gives options site scripts planners works old new text reads makes range team few lives slots_are;
     }

@@ -6,6 +6,7 @@ use Rattle.std.specs.Prelude.{slice_get, slice_index}
 use Rattle.std.specs.Io.KnownBytes.{Appends, Keeps}
 use Rattle.std.proofs.KnownBytes.{Appends-trans}
 use Rattle.std.specs.declared.alloc.AllocError.{AllocError}
+use Rattle.std.proofs.lemmas.List.{length-replicate}
 use Rattle.std.proofs.lemmas.List.Elements.{All-push, recursion_from_All}
 use Rattle.std.proofs.lemmas.Option.{get_or_from_slice_get, slice_get_within}
 use Rattle.wh_text.specs.Lines.{lines_of}
@@ -33,7 +34,8 @@ use Rattle.wh_service.specs.Fleets.{IsEquipped, IsForPlanner, IsMember, IsOfFlee
 use Rattle.wh_service.specs.declared.parts.PlannerParts.{PlannerParts}
 use Rattle.wh_service.specs.Plays.{IsOpened, Plays, PlaysThrough, PlaysUntil, PlaysWithoutTail, IsWhyUnplayed}
 use Rattle.wh_service.specs.Tails.{IsWhyNoTail, tail_after}
-use Rattle.wh_service.specs.Serves.{RanFrom, opening, Operates, Finishes, Serves, ServesUntil, ServesWithoutTail, IsWhyUnserved}
+use Rattle.wh_service.specs.Serves.{RanFrom, opening, Operates, Finishes, Serves, ServesByFleet, ServesUntil, ServesWithoutTail, IsWhyUnserved}
+use Rattle.wh_service.proofs.Openings.{opening_read}
 use Rattle.wh_service.proofs.Replayed.{replay_logged}
 use Rattle.wh_service.proofs.Spared.{ran_from}
 
@@ -169,6 +171,7 @@ finishes fits count gives fleet site planners spares old between new had has fin
       between = between;
       site = site;
       site_read = at;
+      is_opening = opening_read old between site (replicate (length site.layout.agents) fleet.slots) at (length-replicate (length site.layout.agents) fleet.slots);
       script = p.replays.read;
       takes = p.replays.takes;
       ended = p.replays.ended;
@@ -216,6 +219,7 @@ serves_until fits count gives fleet site planners spares fault old between new h
   between = between;
   site = site;
   site_read = at;
+  is_opening = opening_read old between site (replicate (length site.layout.agents) fleet.slots) at (length-replicate (length site.layout.agents) fleet.slots);
   read = p.stops.read;
   begun = p.stops.begun;
   takes = p.stops.takes;
@@ -269,3 +273,12 @@ pub answer_unserved : {X : Type 0} (fits : X → Floor → Bool) (count : X → 
 answer_unserved fits count gives fleet site planners spares tail old between new had has answer at makes range e plays =
     IfErr-weaker answer (λ told. IsWhyUnplayed fits count site planners spares tail told between new had has) (λ told. IsWhyUnserved fleet tail told old new had has)
     (λ told p. unserved fits count gives fleet site planners spares tail old between new had has told at makes range e p) plays
+
+-- and by which planners
+pub answer_fleet : {X : Type 0} (fits : X → Floor → Bool) (count : X → ℕ) (gives : Gives X) (fleet : Fleet) (site : Site) (planners spares : List X) (tail : Tail) (old between new : Input)
+    (had has : Option (List ℕ)) (answer : Result Replayed Trouble)
+    → SiteRead old between site.grid site.layout → IsEquipped gives fleet site.grid (length site.layout.agents) planners spares
+    → IfOk answer (λ r. Plays fits count site planners spares tail between new had has r.replies) → IfOk answer (λ r. ServesByFleet fits count gives fleet tail old new had has r.replies)
+answer_fleet fits count gives fleet site planners spares tail old between new had has answer at e plays =
+    IfOk-weaker answer (λ r. Plays fits count site planners spares tail between new had has r.replies) (λ r. ServesByFleet fits count gives fleet tail old new had has r.replies)
+    (λ r p. record { between = between; site = site; site_read = at; planners = planners; spares = spares; equipped = e; plays = p }) plays

@@ -5,7 +5,11 @@ use Rattle.std.specs.Io.KnownBytes.{Appends, Keeps}
 use Rattle.wh_lines.specs.Input.{Input}
 use Rattle.wh_grid.specs.Grids.{Floor}
 use Rattle.wh_points.specs.Points.{Site}
+use Rattle.wh_points.specs.Formed.{IsFormed}
 use Rattle.wh_event.specs.declared.event.Command.{Command}
+use Rattle.wh_core.specs.Laws.{IsOpening}
+use Rattle.wh_core.specs.States.{opened}
+use Rattle.wh_verify.specs.Drafts.{AllServed}
 use Rattle.wh_claims.specs.Bank.{bank_total}
 use Rattle.wh_log.specs.Logs.{IsLogText}
 use Rattle.wh_claims.specs.declared.bank.Bank.{Bank}
@@ -51,7 +55,8 @@ pub record ReadsAll (old new : Input) (site : Site) (scripts : List (List Comman
 
 -- A site and its clients were read, and the team did its works; each agent's planner had the fleet's slots at the opening.
 -- The text is the log of all that was done: it has no more entries than the journal of the options has positions, and
--- where these are fewer than 1,000,000,000 it is of the format, so that it is read back as what was done.
+-- where these are fewer than 1,000,000,000 it is of the format, so that it is read back as what was done. The run is from an
+-- opening state, so that each law of runs is one of it; on a well-formed site no request is refused for want of a path.
 pub record Hosts {X : Type 0} (fits : X → Floor → Bool) (count : X → ℕ) (gives : PlannerParts → Result X AllocError → Type 0) (options : LiveOptions)
     (old new : Input) (text : List ℕ) : Type 0 where
   pub site : Site
@@ -61,6 +66,8 @@ pub record Hosts {X : Type 0} (fits : X → Floor → Bool) (count : X → ℕ) 
   pub works : List (Work X)
   pub team : IsTeam gives options site.grid (length site.layout.agents) scripts planners works
   pub lives : Lives fits count site planners works options.journal text
+  pub is_opening : IsOpening site (opened site.layout 0 lives.slots)
+  pub served : IsFormed site → AllServed lives.history
   pub slots : lives.slots ≡ replicate (length site.layout.agents) options.fleet.slots
   pub is_log : options.journal < 10 ^ 9 → IsLogText (record { clock = 0; slots = lives.slots; entries = lives.history }) text
 

@@ -1,5 +1,6 @@
 -- What a whole run of `replay` does.
 use Rattle.std.specs.Prelude.{◌≡◌, ◌⊎◌, ◌<◌, ◌^◌, ℕ, Bool, true, false, List, ◌++◌, length, replicate, Option, Result, Ok, Err}
+use Rattle.std.specs.declared.alloc.AllocError.{AllocError}
 use Rattle.std.specs.Io.KnownBytes.{Appends, Keeps, IsAtEnd}
 use Rattle.wh_text.specs.Lines.{lines_of}
 use Rattle.wh_lines.specs.Input.{Input, left, Takes}
@@ -8,6 +9,7 @@ use Rattle.wh_points.specs.Points.{Site}
 use Rattle.wh_points.specs.Formed.{IsFormed}
 use Rattle.wh_event.specs.declared.event.Command.{Command}
 use Rattle.wh_event.specs.declared.entry.Entry.{Entry}
+use Rattle.wh_core.specs.Laws.{IsOpening}
 use Rattle.wh_core.specs.States.{State, opened}
 use Rattle.wh_core.specs.Steps.{Run}
 use Rattle.wh_verify.specs.Drafts.{AllServed}
@@ -26,9 +28,10 @@ use Rattle.wh_log.specs.Logs.{IsLogText}
 use Rattle.wh_replay.specs.Answers.{commands_of, replies_to, text_of}
 use Rattle.wh_replay.specs.Scripts.{WritesUntil}
 use Rattle.wh_replay.specs.declared.script.ReplayFault.{ReplayFault}
-use Rattle.wh_service.specs.Fleets.{IsWhyUnclaimed}
-use Rattle.wh_service.specs.Plays.{trouble_of}
+use Rattle.wh_service.specs.Fleets.{IsEquipped, IsWhyUnclaimed}
+use Rattle.wh_service.specs.Plays.{Plays, trouble_of}
 use Rattle.wh_service.specs.Tails.{IsWhyNoTail, tail_after, tail_text}
+use Rattle.wh_service.specs.declared.parts.PlannerParts.{PlannerParts}
 
 -- how the program ends where its words give no options: help that was shown ends well
 abbrev pub ended_by : Refusal → Bool → Result Status Trouble
@@ -59,12 +62,14 @@ pub record Operates (fleet : Fleet) (site : Site) (lines : List (List ℕ)) (rep
   -- on a well-formed site no request is refused for want of a path
   pub served : IsFormed site → AllServed (entries_of outcomes)
 
--- A site was read, all that followed was read to the end, and these are the replies to its lines. The log of the entries, where
--- they are fewer than 1,000,000,000, is of the format, so that it is read back as what was done.
+-- A site was read, all that followed was read to the end, and these are the replies to its lines. The run is from an opening
+-- state, so that each law of runs is one of it. The log of the entries, where they are fewer than 1,000,000,000, is of the
+-- format, so that it is read back as what was done.
 pub record Finishes (fleet : Fleet) (old new : Input) : Type 0 where
   pub between : Input
   pub site : Site
   pub site_read : SiteRead old between site.grid site.layout
+  pub is_opening : IsOpening site (opening fleet site)
   pub script : List ℕ
   pub takes : Takes between new script
   pub ended : IsAtEnd (left new)
@@ -96,12 +101,25 @@ pub record ServesUntil (fleet : Fleet) (fault : ReplayFault) (old new : Input) (
   pub between : Input
   pub site : Site
   pub site_read : SiteRead old between site.grid site.layout
+  pub is_opening : IsOpening site (opening fleet site)
   pub read : List ℕ
   pub begun : List ℕ
   pub takes : Takes between new (read ++ begun)
   pub replies : List (List ℕ)
   pub operates : Operates fleet site (lines_of read) replies
   pub writes : WritesUntil fault had has (text_of replies)
+
+-- A site was read, planners were made for its agents and to stand by, all of the fleet's kind and with their claims on one
+-- bank, which has as many slots in all as the options name; and with these a warehouse served the script.
+pub record ServesByFleet {X : Type 0} (fits : X → Floor → Bool) (count : X → ℕ) (gives : PlannerParts → Result X AllocError → Type 0) (fleet : Fleet) (tail : Tail)
+    (old new : Input) (had has : Option (List ℕ)) (written : ℕ) : Type 0 where
+  pub between : Input
+  pub site : Site
+  pub site_read : SiteRead old between site.grid site.layout
+  pub planners : List X
+  pub spares : List X
+  pub equipped : IsEquipped gives fleet site.grid (length site.layout.agents) planners spares
+  pub plays : Plays fits count site planners spares tail between new had has written
 
 -- a site was read, and there it ended: a planner got no slots, or memory was wanting
 pub record EndsAtFleet (fleet : Fleet) (told : Trouble) (old new : Input) : Type 0 where

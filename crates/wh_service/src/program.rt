@@ -5,7 +5,7 @@ ghost use Rattle.wh_points.specs.Points.{IsLayout};
 ghost use Rattle.wh_replay.specs.Fleet.{AllFit};
 ghost use Rattle.wh_service.specs.Fleets.{IsOfFleet, MakesPlanners};
 ghost use Rattle.wh_service.specs.Plays.{Plays, IsWhyUnplayed, trouble_of};
-ghost use Rattle.wh_service.specs.Serves.{Serves, IsWhyUnserved, ended_by};
+ghost use Rattle.wh_service.specs.Serves.{Serves, ServesByFleet, IsWhyUnserved, ended_by};
 
 use crate::fleet::equip;
 use crate::parts::PlannerParts;
@@ -83,6 +83,7 @@ pub fn serve<R: Read, W: Write, P: Planner, F: Fn(PlannerParts) -> Result<P, All
     requires callable { F.IsAlwaysCallable make }
     requires makes { MakesPlanners P.fits_map P.slot_count (F.post make) }
     ensures ok { IfOk result (λ r. Serves options.now.fleet options.now.tail lines.old lines.new (W.contents output.old) (W.contents output.new) r.replies) }
+    ensures fleet { IfOk result (λ r. ServesByFleet P.fits_map P.slot_count (F.post make) options.now.fleet options.now.tail lines.old lines.new (W.contents output.old) (W.contents output.new) r.replies) }
     ensures fault { IfErr result (λ told. IsWhyUnserved options.now.fleet options.now.tail told lines.old lines.new (W.contents output.old) (W.contents output.new)) }
 {
     let Site { grid, points } = read_site(lines, alloc)?;
