@@ -8,7 +8,7 @@ use std::io::{Read, Write};
 use std::test::Fail;
 use wh_edge::Trouble;
 use wh_lines::Lines;
-use wh_options::{Fleet, PlannerKind, Replies, ReplayOptions, Tail};
+use wh_options::{Fleet, PlannerKind, ReplayOptions, Replies, Tail};
 use wh_planner::Planner;
 use wh_planners::{Patient, Sharing};
 use wh_service::{PlannerParts, serve};
@@ -23,12 +23,13 @@ pub const POINTS: &str =
 /// The agents stand on the parkings.
 pub const AGENTS: &str = "agent P0\nagent P1\n";
 
-/// Serves an input with boxed planners of a kind, of 4 slots each on a bank of 1024, and so many spare ones; the tail
-/// follows the replies. Some: what stopped it.
+/// Serves an input with boxed planners of a kind, of 4 slots each on a bank of 1024, and so many spare ones; the replies are
+/// told so, and the tail follows them. Some: what stopped it.
 pub fn served<R: Read + Drop, W: Write>(
     alloc: Global,
     kind: PlannerKind,
     spares: u32,
+    replies: Replies,
     tail: Tail,
     reader: R,
     writer: &mut W,
@@ -59,7 +60,7 @@ pub fn served<R: Read + Drop, W: Write>(
     let options = ReplayOptions {
         fleet,
         tail,
-        replies: Replies::Short,
+        replies,
     };
     let mut lines = Lines::new(reader);
     match serve(alloc, &mut lines, writer, &options, make) {
@@ -77,7 +78,8 @@ pub fn answers(
     input: &[u8],
 ) -> Result<Vec<u8>, Fail> {
     let mut shown = Vec::new(alloc);
-    if let Some(trouble) = served(alloc, kind, spares, tail, input, &mut shown) {
+    let replies = Replies::Short;
+    if let Some(trouble) = served(alloc, kind, spares, replies, tail, input, &mut shown) {
         shown.extend_from_slice(trouble.text().as_slice())?;
     }
     Ok(shown)

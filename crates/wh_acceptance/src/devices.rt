@@ -9,9 +9,9 @@ use std::test::*;
 use wh_claims::Bank;
 use wh_edge::{Site, Trouble, read_site};
 use wh_lines::Lines;
-use wh_options::{PlannerKind, Tail};
+use wh_options::{PlannerKind, Replies, Tail};
 use wh_planners::Patient;
-use wh_service::{ReplayFault, Warehouse, claim, replay};
+use wh_service::{Form, ReplayFault, Warehouse, claim, replay};
 
 const SCRIPT: &str = "submit x A B\nsubmit x A P1\ntick\nclose\ntick\n";
 
@@ -96,6 +96,7 @@ fn readers(rt: HostRuntime) -> Result<(), Fail> {
             rt.alloc(),
             PlannerKind::Near,
             0,
+            Replies::Short,
             Tail::Nothing,
             source,
             &mut written,
@@ -123,6 +124,7 @@ fn writers(rt: HostRuntime) -> Result<(), Fail> {
             rt.alloc(),
             PlannerKind::Near,
             0,
+            Replies::Short,
             Tail::Nothing,
             input.as_bytes(),
             &mut sink,
@@ -195,6 +197,7 @@ fn entries_stand_after_a_fault(rt: HostRuntime) -> Result<(), Fail> {
         let replayed = replay(
             &mut lines,
             rt.alloc(),
+            Form::Short,
             &mut sink,
             &mut warehouse,
             &mut spares,

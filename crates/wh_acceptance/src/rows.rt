@@ -1,8 +1,8 @@
 //! Worked rows: a script on a small map, and what is answered to it.
 
-use crate::answers::{AGENTS, MAP, POINTS, answers};
+use crate::answers::{AGENTS, MAP, POINTS, answers, served};
 use std::test::*;
-use wh_options::{PlannerKind, Tail};
+use wh_options::{PlannerKind, Replies, Tail};
 
 /// A script for the tree, with the points' first lines and their last ones.
 struct Row {
@@ -200,6 +200,30 @@ fn worked_rows(rt: HostRuntime) -> Result<(), Fail> {
         let shown = answers(rt.alloc(), row.kind, 0, Tail::Nothing, input.as_bytes())?;
         assert!(rt; shown.as_slice() == row.wanted.as_bytes(), "{}", row.name);
     }
+    Ok(())
+}
+
+/// Each cell of a path is told: off the delivery to the parking, and to the delivery once the middle is free.
+#[test]
+fn full_replies(rt: HostRuntime) -> Result<(), Fail> {
+    let agents = "agent A\nagent C\n";
+    let input = format!(in rt.alloc();
+        "{MAP}%%\n{POINTS}{agents}%%\n{PARKED_OFF}token 0\nnothing\n"
+    )?;
+    let wanted =
+        "accepted 0\nparked P0 path 1,0 1,1 0,1\ntook 0 path 1,2 1,2 1,1 1,0\nclock 1 picked 0 dropped 0\nclock 2 picked 0 dropped 0\nclock 3 picked 0 dropped 1\nclock 4 picked 0 dropped 0\nrested\nrefused C1\n";
+    let mut told = Vec::new(rt.alloc());
+    let trouble = served(
+        rt.alloc(),
+        NEAR,
+        0,
+        Replies::Full,
+        Tail::Nothing,
+        input.as_bytes(),
+        &mut told,
+    );
+    assert!(rt; trouble == None);
+    assert!(rt; told.as_slice() == wanted.as_bytes());
     Ok(())
 }
 

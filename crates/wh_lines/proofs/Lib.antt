@@ -3,3 +3,4 @@ pub mod ReadCounts
 pub mod Cuts
 pub mod Parts
 pub mod Collecting
+pub mod Written

@@ -1,4 +1,5 @@
-//! A line reader over any reader: whole sections, and single lines that are gathered in a fixed room.
+//! A line reader over any reader: whole sections, and single lines that are gathered in a fixed room. And bytes for any
+//! writer.
 //!
 //! A text may come in any pieces: [`Lines`] keeps what was read and not yet taken in a buffer of 64 KB. A section is
 //! read whole into memory, up to a limit. A single line, however long, takes no memory: a [`CommandLine`] keeps its
@@ -9,9 +10,11 @@ mod command_line;
 mod ends;
 mod lines;
 mod next;
+mod output;
 mod sections;
 
 pub use command_line::CommandLine;
 pub use lines::{Lines, Next, ReadFault};
 pub use next::LineFault;
+pub use output::{WriteFault, write_all};
 pub use sections::SectionFault;

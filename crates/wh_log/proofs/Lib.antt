@@ -16,3 +16,4 @@ pub mod Following
 pub mod LogLaws
 pub mod Tearing
 pub mod Collected
+pub mod Telling

@@ -8,15 +8,15 @@ use Rattle.wh_log.specs.Ranges.{Keeps}
 use Rattle.wh_log.specs.declared.version.Version.{Version}
 use Rattle.wh_log.specs.declared.front_log.Front.{Front}
 use Rattle.wh_log.specs.declared.front_log.Front.TheVariants.{Whole, Unopened, Bad}
-use Rattle.wh_log.specs.Logs.{Content, head_line, most_stops, start_line, end_line, log_lines, Opens, Fits, IsLogText}
+use Rattle.wh_log.specs.Logs.{Content, head_line, most_stops, start_line, end_line, log_lines, Opens, Fits}
 use Rattle.wh_log.specs.FirstBad.{IsLogOf, IsFirstBad, Begins}
 use Rattle.wh_log.specs.Places.{IsNeither, IsNoHead, IsNoStart, Lacks}
-use Rattle.wh_log.specs.Judges.{Refuses, RefusesOpening, IsAccepted, CanOpen, Leads}
-use Rattle.wh_log.specs.Torn.{begun_lines, IsRest, Holds, Recovers, HasLines, LacksHead, LacksStart, CutsAreFound, CutsBegin}
+use Rattle.wh_log.specs.Judges.{Refuses, RefusesOpening, IsAccepted, CanOpen}
+use Rattle.wh_log.specs.Torn.{begun_lines, IsRest, Recovers, HasLines, LacksHead, LacksStart, CutsAreFound, CutsBegin}
 use Rattle.wh_log.proofs.EntryLaws.{entry_is_line, one_entry}
 use Rattle.wh_log.proofs.HeadLaws.{head_is_line, start_is_line, end_is_line, one_version, one_start, end_differs}
 use Rattle.wh_log.proofs.LineLaws.{one_line, not_whole, line_or_none, one_text, text_cons}
-use Rattle.wh_log.proofs.Fronts.{AreKept, front_lines, content_of, front_is_lines, all_append, text-append, entries_are_lines}
+use Rattle.wh_log.proofs.Fronts.{AreKept, front_lines, content_of, front_is_lines, all_append, text-append}
 use Rattle.wh_log.proofs.Continuing.{after_end, text_behind}
 use Rattle.wh_log.proofs.Following.{Behind, one_more, front_length, ends_no_head, ends_no_start, ends_unopened, ends_wrong, ends_after, ends_refused}
 

@@ -11,3 +11,4 @@ pub mod ReadEvents
 pub mod ReadReplies
 pub mod Heads
 pub mod Places
+pub mod Told

@@ -1,7 +1,11 @@
 //! Laws on logs and their first bad lines.
 
 ghost use Rattle.std.specs.Prelude.{◌≡◌, ℕ, List};
+ghost use Rattle.wh_words.specs.Lines.{IsLine};
+ghost use Rattle.wh_event.specs.declared.reply.Reply.{Reply};
 ghost use Rattle.wh_log.specs.Logs.{Content, IsLogText};
+ghost use Rattle.wh_log.specs.Ranges.{ReplyKeeps};
+ghost use Rattle.wh_log.specs.Told.{full_text};
 ghost use Rattle.wh_log.specs.Collecting.{Any};
 ghost use Rattle.wh_log.specs.FirstBad.{IsFirstBad, IsLogOf};
 ghost use Rattle.wh_log.specs.Torn.{CutsAreFound, CutsBegin};
@@ -22,4 +26,12 @@ pub fn cuts_are_found()
     ensures found { CutsAreFound }
     // It begins a log, so it is never bad.
     ensures begin { CutsBegin }
+{}
+
+/// What full texts of replies are. No function calls this.
+pub fn replies_are()
+    // They have no line feed.
+    ensures lines { (reply : Reply) → ReplyKeeps reply → IsLine (full_text reply) }
+    // A text tells one reply.
+    ensures one { (a b : Reply) → ReplyKeeps a → ReplyKeeps b → full_text a ≡ full_text b → a ≡ b }
 {}

@@ -1,10 +1,12 @@
-//! The log of a warehouse: its history as a strict text, written, read back and told to a judge entry by entry.
+//! The log of a warehouse: its history as a strict text, written, read back and told to a judge entry by entry. And how
+//! a reply is told, in the log's own words too.
 #![tactic(auto)]
 
 mod entry_fault;
 mod entry_lines;
 mod fault;
 mod follow_log;
+mod form;
 mod front_log;
 mod head;
 mod heads;
@@ -25,9 +27,10 @@ mod writer;
 pub use entry_lines::entries_are;
 pub use fault::NoMemory;
 pub use follow_log::{Followed, follow};
+pub use form::{Form, tell};
 pub use front_log::{Front, follow_front};
 pub use judge::Judge;
-pub use laws::{cuts_are_found, logs_are};
+pub use laws::{cuts_are_found, logs_are, replies_are};
 pub use log::Log;
 pub use reader::{LogFault, read_log};
 pub use version::Version;

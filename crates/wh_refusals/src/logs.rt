@@ -12,7 +12,7 @@ use wh_edge::Site;
 use wh_lines::Lines;
 use wh_log::log_text;
 use wh_planner::Planner;
-use wh_service::{PlannerParts, Verified, Warehouse, replay, verify};
+use wh_service::{Form, PlannerParts, Verified, Warehouse, replay, verify};
 
 const SCRIPT: &[u8] = b"submit x A B\ntoken 0\ntick\n";
 
@@ -69,6 +69,7 @@ fn serve<R: Print, P: Planner>(
     match replay(
         &mut lines,
         alloc,
+        Form::Short,
         &mut io::writer(rt),
         warehouse,
         &mut spares,

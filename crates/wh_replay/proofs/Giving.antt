@@ -13,15 +13,15 @@ use Rattle.wh_book.proofs.Kept.{run-served}
 use Rattle.wh_token.specs.Runs.{Ran, RunsOne, entries_of}
 use Rattle.wh_token.proofs.Runs.{ran-run}
 use Rattle.wh_event.specs.CommandLines.{command_of}
-use Rattle.wh_event.specs.ReplyTexts.{reply_text}
+use Rattle.wh_lines.specs.declared.output.WriteFault.{WriteFault}
 use Rattle.wh_event.specs.declared.event.Command.{Command}
 use Rattle.wh_event.specs.declared.entry.Entry.{Entry}
 use Rattle.wh_event.specs.declared.reply.Reply.{Reply}
 use Rattle.wh_event.specs.declared.reply.Refusal.{Refusal}
 use Rattle.wh_event.specs.declared.fault.LineFault.{LineFault}
 use Rattle.wh_event.specs.declared.fault.LineFault.TheVariants.{Form, TooLong}
-use Rattle.wh_replay.specs.Answers.{asked, commands_of, answers, replies_to}
-use Rattle.wh_replay.specs.Scripts.{Gives, IsOutputOf}
+use Rattle.wh_replay.specs.Answers.{asked, commands_of, outcome_text, answers, replies_to, reply_line}
+use Rattle.wh_replay.specs.Scripts.{Gives, IsOutputOf, Tells}
 
 -- ---- runs
 
@@ -55,21 +55,21 @@ commands_push [] line = append-nil (asked (command_of line))
 commands_push (l ∷ lines) line = ap (λ cs. asked (command_of l) ++ cs) (commands_push lines line) ∙ sym (append_assoc (asked (command_of l)) (commands_of lines) (asked (command_of line)))
 
 -- one line more in front, whatever it says
-replies_by : (kind : Result (Option Command) LineFault) (lines : List (List ℕ)) (line : List ℕ) (os ps : List (Option Entry)) (told : List (List ℕ))
-    → ((ns : List (Option Entry)) → length ns ≡ length (commands_of lines) → replies_to (lines ++ line ∷ []) (ns ++ ps) ≡ replies_to lines ns ++ told)
+replies_by : (text : Reply → List ℕ) (kind : Result (Option Command) LineFault) (lines : List (List ℕ)) (line : List ℕ) (os ps : List (Option Entry)) (told : List (List ℕ))
+    → ((ns : List (Option Entry)) → length ns ≡ length (commands_of lines) → replies_to text (lines ++ line ∷ []) (ns ++ ps) ≡ replies_to text lines ns ++ told)
     → length os ≡ length (asked kind ++ commands_of lines)
-    → answers kind (os ++ ps) ++ replies_to (lines ++ line ∷ []) (drop (length (asked kind)) (os ++ ps)) ≡ (answers kind os ++ replies_to lines (drop (length (asked kind)) os)) ++ told
-replies_by (Ok None) lines line os ps told more e = more os e
-replies_by (Err Form) lines line os ps told more e = ap (λ rs. codes "refused C1" ∷ rs) (more os e)
-replies_by (Err TooLong) lines line os ps told more e = ap (λ rs. codes "refused C2" ∷ rs) (more os e)
-replies_by (Ok (Some command)) lines line [] ps told more e = absurd (omega (arith, e))
-replies_by (Ok (Some command)) lines line (o ∷ os) ps told more e = ap (λ rs. answers (Ok (Some command)) (o ∷ os) ++ rs) (more os (omega (arith, e)))
+    → answers text kind (os ++ ps) ++ replies_to text (lines ++ line ∷ []) (drop (length (asked kind)) (os ++ ps)) ≡ (answers text kind os ++ replies_to text lines (drop (length (asked kind)) os)) ++ told
+replies_by text (Ok None) lines line os ps told more e = more os e
+replies_by text (Err Form) lines line os ps told more e = ap (λ rs. codes "refused C1" ∷ rs) (more os e)
+replies_by text (Err TooLong) lines line os ps told more e = ap (λ rs. codes "refused C2" ∷ rs) (more os e)
+replies_by text (Ok (Some command)) lines line [] ps told more e = absurd (omega (arith, e))
+replies_by text (Ok (Some command)) lines line (o ∷ os) ps told more e = ap (λ rs. answers text (Ok (Some command)) (o ∷ os) ++ rs) (more os (omega (arith, e)))
 
-replies_push : (lines : List (List ℕ)) (line : List ℕ) (os ps : List (Option Entry)) → length os ≡ length (commands_of lines)
-    → replies_to (lines ++ line ∷ []) (os ++ ps) ≡ replies_to lines os ++ answers (command_of line) ps
-replies_push [] line [] ps e = append-nil (answers (command_of line) ps)
-replies_push [] line (o ∷ os) ps e = absurd (omega (arith, e))
-replies_push (l ∷ lines) line os ps e = replies_by (command_of l) lines line os ps (answers (command_of line) ps) (λ ns d. replies_push lines line ns ps d) e
+replies_push : (text : Reply → List ℕ) (lines : List (List ℕ)) (line : List ℕ) (os ps : List (Option Entry)) → length os ≡ length (commands_of lines)
+    → replies_to text (lines ++ line ∷ []) (os ++ ps) ≡ replies_to text lines os ++ answers text (command_of line) ps
+replies_push text [] line [] ps e = append-nil (answers text (command_of line) ps)
+replies_push text [] line (o ∷ os) ps e = absurd (omega (arith, e))
+replies_push text (l ∷ lines) line os ps e = replies_by text (command_of l) lines line os ps (answers text (command_of line) ps) (λ ns d. replies_push text lines line ns ps d) e
 
 -- ---- what is given
 
@@ -87,10 +87,10 @@ gives_nothing fits count told old spares = record {
 }
 
 -- what comes after at the same site
-pub output_push : {X : Type 0} (fits : X → Floor → Bool) (count : X → ℕ) (lines : List (List ℕ)) (line : List ℕ) (old : Seen) (spares : List X) (mid : Seen) (left : List X) (new : Seen) (rest : List X)
-    (had more : List (List ℕ)) → IsOutputOf fits count lines old spares mid left had → Gives fits count (asked (command_of line)) (answers (command_of line)) mid left new rest more
-    → IsOutputOf fits count (lines ++ line ∷ []) old spares new rest (had ++ more)
-output_push {X} fits count lines line old spares mid left new rest had more p q =
+pub output_push : {X : Type 0} (fits : X → Floor → Bool) (count : X → ℕ) (text : Reply → List ℕ) (lines : List (List ℕ)) (line : List ℕ) (old : Seen) (spares : List X) (mid : Seen) (left : List X) (new : Seen) (rest : List X)
+    (had more : List (List ℕ)) → IsOutputOf fits count text lines old spares mid left had → Gives fits count (asked (command_of line)) (answers text (command_of line)) mid left new rest more
+    → IsOutputOf fits count text (lines ++ line ∷ []) old spares new rest (had ++ more)
+output_push {X} fits count text lines line old spares mid left new rest had more p q =
     let here : Ran fits count old.site 0 (asked (command_of line)) q.outcomes mid.state left new.state rest =
     subst (λ (t : Site). Ran fits count t 0 (asked (command_of line)) q.outcomes mid.state left new.state rest) p.site q.ran in
     let ran : Ran fits count old.site 0 (commands_of (lines ++ line ∷ [])) (p.outcomes ++ q.outcomes) old.state spares new.state rest =
@@ -99,7 +99,7 @@ output_push {X} fits count lines line old spares mid left new rest had more p q 
     let long = ran_length fits count old.site 0 (commands_of lines) p.outcomes old.state spares mid.state left p.ran in
     record {
       outcomes = p.outcomes ++ q.outcomes;
-      replies_are = ap (λ rs. rs ++ more) p.replies_are ∙ ap (λ rs. replies_to lines p.outcomes ++ rs) q.replies_are ∙ sym (replies_push lines line p.outcomes q.outcomes long);
+      replies_are = ap (λ rs. rs ++ more) p.replies_are ∙ ap (λ rs. replies_to text lines p.outcomes ++ rs) q.replies_are ∙ sym (replies_push text lines line p.outcomes q.outcomes long);
       ran = ran;
       history = q.history ∙ ap (λ es. es ++ entries_of q.outcomes) p.history ∙ append_assoc old.history (entries_of p.outcomes) (entries_of q.outcomes) ∙ ap (λ es. old.history ++ es) (sym (entries_append p.outcomes q.outcomes));
       run = ran-run fits count old.site 0 (commands_of (lines ++ line ∷ [])) (p.outcomes ++ q.outcomes) old.state spares new.state rest ran;
@@ -109,27 +109,25 @@ output_push {X} fits count lines line old spares mid left new rest had more p q 
       opening = q.opening ∙ p.opening;
     }
 
--- what is told of one command's outcome
-told_one : (command : Command) (outcome : Option Entry) (added : Bool) (had has : List Entry) (text : List ℕ)
+-- what was told of one command's outcome
+pub tells_outcome : (text : Reply → List ℕ) (outcome : Option Entry) (added : Bool) (had has : List Entry) (result : Result ℕ WriteFault) (before after : Option (List ℕ))
     → is_some outcome ≡ added → has ≡ had ++ entries_of (outcome ∷ [])
-    → (added ≡ false → text ≡ codes "refused E90")
-    → (added ≡ true → (front : List Entry) (entry : Entry) → has ≡ front ++ entry ∷ [] → text ≡ reply_text entry.reply)
-    → text ∷ [] ≡ answers (Ok (Some command)) (outcome ∷ [])
-told_one command None added had has text is e none some = ap (λ t. t ∷ []) (none (sym is))
-told_one command (Some entry) added had has text is e none some = ap (λ t. t ∷ []) (some (sym is) had entry e)
+    → (added ≡ false → Tells result before after (reply_line (codes "refused E90")))
+    → (added ≡ true → (front : List Entry) (entry : Entry) → has ≡ front ++ entry ∷ [] → Tells result before after (reply_line (text entry.reply)))
+    → Tells result before after (reply_line (outcome_text text outcome))
+tells_outcome text None added had has result before after is e none some = none (sym is)
+tells_outcome text (Some entry) added had has result before after is e none some = some (sym is) had entry e
 
-pub gives_one : {X : Type 0} (fits : X → Floor → Bool) (count : X → ℕ) (command : Command) (old : Seen) (spares : List X) (new : Seen) (rest : List X) (added : Bool) (text : List ℕ)
+pub gives_one : {X : Type 0} (fits : X → Floor → Bool) (count : X → ℕ) (text : Reply → List ℕ) (command : Command) (old : Seen) (spares : List X) (new : Seen) (rest : List X) (added : Bool)
     → IsOpening old.site old.opening → Run old.site old.opening old.history old.state
-    → RunsOne fits count 0 command added old spares new rest
-    → (added ≡ false → text ≡ codes "refused E90")
-    → (added ≡ true → (front : List Entry) (entry : Entry) → new.history ≡ front ++ entry ∷ [] → text ≡ reply_text entry.reply)
-    → Gives fits count (command ∷ []) (answers (Ok (Some command))) old spares new rest (text ∷ [])
-gives_one fits count command old spares new rest added text is_opening before one none some =
+    → (one : RunsOne fits count 0 command added old spares new rest)
+    → Gives fits count (command ∷ []) (answers text (Ok (Some command))) old spares new rest (outcome_text text one.outcome ∷ [])
+gives_one fits count text command old spares new rest added is_opening before one =
     let ran : Ran fits count old.site 0 (command ∷ []) (one.outcome ∷ []) old.state spares new.state rest = (new.state, rest, one.moves, (refl, refl)) in
     let run = ran-run fits count old.site 0 (command ∷ []) (one.outcome ∷ []) old.state spares new.state rest ran in
     record {
       outcomes = one.outcome ∷ [];
-      replies_are = told_one command one.outcome added old.history new.history text one.added_is one.history none some;
+      replies_are = refl;
       ran = ran;
       history = one.history;
       run = run;

@@ -1,4 +1,5 @@
 pub mod Returns
-pub mod Written
 pub mod Giving
 pub mod Serving
+-- handed on, for the crates above
+pub use Rattle.wh_lines.proofs.Written

@@ -1,7 +1,7 @@
 -- A script that is served line by line.
-use Rattle.std.proofs.Common.{◌≡◌, ◌+◌, ℕ, List, [], ◌∷◌, ◌++◌, refl, sym, ap, ◌∙◌, arith, subst, Option, append_assoc, append-nil, Bool, Result}
+use Rattle.std.proofs.Common.{◌≡◌, ◌+◌, ◌≤◌, ℕ, List, [], ◌∷◌, ◌++◌, refl, sym, ap, ◌∙◌, arith, subst, Option, append_assoc, append-nil, Bool, Result, Ok, Err}
 use Rattle.std.proofs.lemmas.List.{length-append}
-use Rattle.std.specs.Prelude.{IfSome}
+use Rattle.std.specs.Prelude.{IfSome, IfOk, OnErr}
 use Rattle.std.specs.Io.KnownBytes.{Appends, Keeps}
 use Rattle.std.proofs.KnownBytes.{Consumes-whole, Keeps-refl, Consumes-nil, Consumes-trans, Appends-nil, Appends-trans, Appends-kept}
 use Rattle.wh_text.specs.Lines.{lines_of, without_cr}
@@ -15,13 +15,15 @@ use Rattle.wh_grid.specs.Grids.{Floor}
 use Rattle.wh_book.specs.Drafts.{Seen}
 use Rattle.wh_event.specs.CommandLines.{command_of}
 use Rattle.wh_event.specs.declared.event.Command.{Command}
+use Rattle.wh_event.specs.declared.reply.Reply.{Reply}
 use Rattle.wh_event.specs.declared.fault.LineFault.{LineFault}
+use Rattle.wh_lines.specs.declared.output.WriteFault.{WriteFault}
 use Rattle.wh_replay.specs.declared.script.ReplayFault.{ReplayFault}
 use Rattle.wh_replay.specs.declared.script.ReplayFault.TheVariants.{Broken, Endless, Unwritten}
 use Rattle.wh_replay.specs.Answers.{asked, answers, reply_line, text_of, said}
-use Rattle.wh_replay.specs.Scripts.{Gives, IsOutputOf, WritesFront, Serves, ServesUnwritten, Follows, Replays, Outputs, Stops, WritesUntil}
+use Rattle.wh_replay.specs.Scripts.{Gives, IsOutputOf, Tells, WritesFront, Serves, ServesUnwritten, Follows, Replays, Outputs, Stops, WritesUntil}
 use Rattle.wh_replay.proofs.Returns.{said_is}
-use Rattle.wh_replay.proofs.Written.{front_after, front_all}
+use Rattle.wh_lines.proofs.Written.{front_after, front_all, both_parts, in_first, in_second}
 use Rattle.wh_replay.proofs.Giving.{gives_nothing, output_push}
 
 text_append : (xs ys : List (List ℕ)) → text_of (xs ++ ys) ≡ text_of xs ++ text_of ys
@@ -34,8 +36,8 @@ texts_more a b c d xs ys p k q = subst (Appends a d) (sym (text_append xs ys)) (
 texts_front : (a b c d : Option (List ℕ)) (xs ys : List (List ℕ)) → Appends a b (text_of xs) → Keeps b c → WritesFront c d (text_of ys) → WritesFront a d (text_of (xs ++ ys))
 texts_front a b c d xs ys p k q = subst (WritesFront a d) (sym (text_append xs ys)) (front_after a c d (text_of xs) (text_of ys) (Appends-kept a b c (text_of xs) p k) q)
 
-module _ {X : Type 0} (fits : X → Floor → Bool) (count : X → ℕ) where
-  pub follows_start : (i : Input) (old : Seen) (spares : List X) (had : Option (List ℕ)) → Follows fits count i i old spares old spares had had 0
+module _ {X : Type 0} (fits : X → Floor → Bool) (count : X → ℕ) (text : Reply → List ℕ) where
+  pub follows_start : (i : Input) (old : Seen) (spares : List X) (had : Option (List ℕ)) → Follows fits count text i i old spares old spares had had 0
   follows_start i old spares had = record {
     read = [];
     takes = Consumes-nil (left i);
@@ -48,48 +50,48 @@ module _ {X : Type 0} (fits : X → Floor → Bool) (count : X → ℕ) where
 
   -- what a line gives of which a front is kept
   gives_front : (raw kept : List ℕ) (old : Seen) (spares : List X) (new : Seen) (rest : List X) (replies : List (List ℕ)) → short_line kept ≡ short_line raw
-      → Gives fits count (asked (said (short_line kept))) (answers (said (short_line kept))) old spares new rest replies
-      → Gives fits count (asked (command_of (without_cr raw))) (answers (command_of (without_cr raw))) old spares new rest replies
+      → Gives fits count (asked (said (short_line kept))) (answers text (said (short_line kept))) old spares new rest replies
+      → Gives fits count (asked (command_of (without_cr raw))) (answers text (command_of (without_cr raw))) old spares new rest replies
   gives_front raw kept old spares new rest replies e h =
-      subst (λ (k : Result (Option Command) LineFault). Gives fits count (asked k) (answers k) old spares new rest replies) (ap said e ∙ said_is raw) h
+      subst (λ (k : Result (Option Command) LineFault). Gives fits count (asked k) (answers text k) old spares new rest replies) (ap said e ∙ said_is raw) h
 
   module _ (i j k : Input) (old : Seen) (spares : List X) (mid : Seen) (held : List X) (new : Seen) (rest : List X) (a b c d : Option (List ℕ)) (n : ℕ) (kept : List ℕ)
-      (f : Follows fits count i j old spares mid held a b n) (flushed : Keeps b c) where
+      (f : Follows fits count text i j old spares mid held a b n) (flushed : Keeps b c) where
     -- the output of the lines with one more, a whole one or the last one
-    output_line : (text raw : List ℕ) (replies : List (List ℕ)) → lines_of text ≡ without_cr raw ∷ [] → short_line kept ≡ short_line raw
-        → Gives fits count (asked (said (short_line kept))) (answers (said (short_line kept))) mid held new rest replies
-        → IsOutputOf fits count (lines_of (f.read ++ text)) old spares new rest (f.replies ++ replies)
-    output_line text raw replies one says gives =
-        subst (λ ls. IsOutputOf fits count ls old spares new rest (f.replies ++ replies)) (sym (f.whole text ∙ ap (λ l. lines_of f.read ++ l) one))
-        (output_push fits count (lines_of f.read) (without_cr raw) old spares mid held new rest f.replies replies f.output (gives_front raw kept mid held new rest replies says gives))
+    output_line : (bytes raw : List ℕ) (replies : List (List ℕ)) → lines_of bytes ≡ without_cr raw ∷ [] → short_line kept ≡ short_line raw
+        → Gives fits count (asked (said (short_line kept))) (answers text (said (short_line kept))) mid held new rest replies
+        → IsOutputOf fits count text (lines_of (f.read ++ bytes)) old spares new rest (f.replies ++ replies)
+    output_line bytes raw replies one says gives =
+        subst (λ ls. IsOutputOf fits count text ls old spares new rest (f.replies ++ replies)) (sym (f.whole bytes ∙ ap (λ l. lines_of f.read ++ l) one))
+        (output_push fits count text (lines_of f.read) (without_cr raw) old spares mid held new rest f.replies replies f.output (gives_front raw kept mid held new rest replies says gives))
 
-    pub follows_line : (written m : ℕ) → Gathered Whole j k kept → Serves fits count (said (short_line kept)) mid held new rest c d written → m ≡ n + written
-        → Follows fits count i k old spares new rest a d m
+    pub follows_line : (written m : ℕ) → Gathered Whole j k kept → Serves fits count text (said (short_line kept)) mid held new rest c d written → m ≡ n + written
+        → Follows fits count text i k old spares new rest a d m
     follows_line written m g s e =
-        let text = g.raw ++ 10 ∷ [] in
+        let bytes = g.raw ++ 10 ∷ [] in
         record {
-          read = f.read ++ text;
-          takes = Consumes-trans (left i) (left j) (left k) f.read text f.takes g.ends;
+          read = f.read ++ bytes;
+          takes = Consumes-trans (left i) (left j) (left k) f.read bytes f.takes g.ends;
           whole = whole_next f.read g.raw f.whole g.plain;
           replies = f.replies ++ s.replies;
-          output = output_line text g.raw s.replies (lines-feed g.raw [] g.plain) g.says s.gives;
+          output = output_line bytes g.raw s.replies (lines-feed g.raw [] g.plain) g.says s.gives;
           appends = texts_more a b c d f.replies s.replies f.appends flushed s.appends;
           written_is = omega (arith, e, f.written_is, s.written_is, length-append f.replies s.replies);
         }
 
-    pub stops_line : Gathered Whole j k kept → ServesUnwritten fits count (said (short_line kept)) mid held new rest c d → Stops fits count Unwritten i k old spares new rest a d
+    pub stops_line : Gathered Whole j k kept → ServesUnwritten fits count text (said (short_line kept)) mid held new rest c d → Stops fits count text Unwritten i k old spares new rest a d
     stops_line g s =
-        let text = g.raw ++ 10 ∷ [] in
+        let bytes = g.raw ++ 10 ∷ [] in
         record {
-          read = f.read ++ text;
+          read = f.read ++ bytes;
           begun = [];
-          takes = subst (λ l. Takes i k l) (sym (append-nil (f.read ++ text))) (Consumes-trans (left i) (left j) (left k) f.read text f.takes g.ends);
+          takes = subst (λ l. Takes i k l) (sym (append-nil (f.read ++ bytes))) (Consumes-trans (left i) (left j) (left k) f.read bytes f.takes g.ends);
           replies = f.replies ++ s.replies;
-          output = output_line text g.raw s.replies (lines-feed g.raw [] g.plain) g.says s.gives;
+          output = output_line bytes g.raw s.replies (lines-feed g.raw [] g.plain) g.says s.gives;
           writes = texts_front a b c d f.replies s.replies f.appends flushed s.writes;
         }
 
-    pub stops_last : Gathered Last j k kept → ServesUnwritten fits count (said (short_line kept)) mid held new rest c d → Stops fits count Unwritten i k old spares new rest a d
+    pub stops_last : Gathered Last j k kept → ServesUnwritten fits count text (said (short_line kept)) mid held new rest c d → Stops fits count text Unwritten i k old spares new rest a d
     stops_last g s = record {
       read = f.read ++ g.raw;
       begun = [];
@@ -99,8 +101,8 @@ module _ {X : Type 0} (fits : X → Floor → Bool) (count : X → ℕ) where
       writes = texts_front a b c d f.replies s.replies f.appends flushed s.writes;
     }
 
-    pub replays_last : (written m : ℕ) (e : Option (List ℕ)) → Gathered Last j k kept → Serves fits count (said (short_line kept)) mid held new rest c d written → Keeps d e → m ≡ n + written
-        → Replays fits count i k old spares new rest a e m
+    pub replays_last : (written m : ℕ) (e : Option (List ℕ)) → Gathered Last j k kept → Serves fits count text (said (short_line kept)) mid held new rest c d written → Keeps d e → m ≡ n + written
+        → Replays fits count text i k old spares new rest a e m
     replays_last written m e g s kept_after m_is = record {
       read = f.read ++ g.raw;
       takes = Consumes-trans (left i) (left j) (left k) f.read g.raw f.takes g.ends.0;
@@ -112,8 +114,8 @@ module _ {X : Type 0} (fits : X → Floor → Bool) (count : X → ℕ) where
     }
 
     -- the last line was served, and the writer could not be flushed
-    pub stops_flush : (written : ℕ) (e : Option (List ℕ)) → Gathered Last j k kept → Serves fits count (said (short_line kept)) mid held new rest c d written → Keeps d e
-        → Stops fits count Unwritten i k old spares new rest a e
+    pub stops_flush : (written : ℕ) (e : Option (List ℕ)) → Gathered Last j k kept → Serves fits count text (said (short_line kept)) mid held new rest c d written → Keeps d e
+        → Stops fits count text Unwritten i k old spares new rest a e
     stops_flush written e g s kept_after =
         let r = replays_last written (n + written) e g s kept_after refl in
         record {
@@ -126,22 +128,22 @@ module _ {X : Type 0} (fits : X → Floor → Bool) (count : X → ℕ) where
         }
 
     -- a line whose reply was not written to the end, be it the last one or not
-    pub stops_served : (next : Next) → ¬ (next ≡ End) → Gathered next j k kept → ServesUnwritten fits count (said (short_line kept)) mid held new rest c d
-        → Stops fits count Unwritten i k old spares new rest a d
+    pub stops_served : (next : Next) → ¬ (next ≡ End) → Gathered next j k kept → ServesUnwritten fits count text (said (short_line kept)) mid held new rest c d
+        → Stops fits count text Unwritten i k old spares new rest a d
     stops_served Whole some g s = stops_line g s
     stops_served Last some g s = stops_last g s
     stops_served End some g s = absurd (some refl)
 
     -- a line that was served, and is not the last one
     pub follows_served : (next : Next) → ¬ (next ≡ End) → ¬ (next ≡ Last) → (written m : ℕ) → Gathered next j k kept
-        → Serves fits count (said (short_line kept)) mid held new rest c d written → m ≡ n + written → Follows fits count i k old spares new rest a d m
+        → Serves fits count text (said (short_line kept)) mid held new rest c d written → m ≡ n + written → Follows fits count text i k old spares new rest a d m
     follows_served Whole some more written m g s e = follows_line written m g s e
     follows_served Last some more written m g s e = absurd (more refl)
     follows_served End some more written m g s e = absurd (some refl)
 
   module _ (i j k : Input) (old : Seen) (spares : List X) (mid : Seen) (held : List X) (a b c : Option (List ℕ)) (n : ℕ)
-      (f : Follows fits count i j old spares mid held a b n) (flushed : Keeps b c) where
-    pub replays_end : (kept : List ℕ) → Gathered End j k kept → Replays fits count i k old spares mid held a c n
+      (f : Follows fits count text i j old spares mid held a b n) (flushed : Keeps b c) where
+    pub replays_end : (kept : List ℕ) → Gathered End j k kept → Replays fits count text i k old spares mid held a c n
     replays_end kept g = record {
       read = f.read;
       takes = subst (λ l. Takes i k l) (ap (λ l. f.read ++ l) g.ends.1 ∙ append-nil f.read) (Consumes-trans (left i) (left j) (left k) f.read g.raw f.takes g.ends.0);
@@ -158,7 +160,7 @@ module _ {X : Type 0} (fits : X → Floor → Bool) (count : X → ℕ) where
     writes_until Endless = Appends-kept a b c (text_of f.replies) f.appends flushed
 
     -- no next line
-    pub stops_between : (fault : ReplayFault) → Taken j k → Stops fits count fault i k old spares mid held a c
+    pub stops_between : (fault : ReplayFault) → Taken j k → Stops fits count text fault i k old spares mid held a c
     stops_between fault t = record {
       read = f.read;
       begun = t.bytes;
@@ -170,37 +172,48 @@ module _ {X : Type 0} (fits : X → Floor → Bool) (count : X → ℕ) where
 
   -- nothing more was taken
   pub stops_now : (i j : Input) (old : Seen) (spares : List X) (mid : Seen) (held : List X) (a b : Option (List ℕ)) (n : ℕ) (fault : ReplayFault)
-      → Follows fits count i j old spares mid held a b n → Stops fits count fault i j old spares mid held a b
+      → Follows fits count text i j old spares mid held a b n → Stops fits count text fault i j old spares mid held a b
   stops_now i j old spares mid held a b n fault f = stops_between i j j old spares mid held a b b n f (Keeps-refl b) fault (record { bytes = []; takes = Consumes-nil (left j) })
 
   -- a reader that tells its bytes has given them all
   pub outputs_of : (i j : Input) (old : Seen) (spares : List X) (new : Seen) (rest : List X) (had has : Option (List ℕ)) (n : ℕ)
-      → Replays fits count i j old spares new rest had has n → IfSome (left i) (λ script. Outputs fits count script old spares new rest had has n)
+      → Replays fits count text i j old spares new rest had has n → IfSome (left i) (λ script. Outputs fits count text script old spares new rest had has n)
   outputs_of i j old spares new rest had has n r =
-      Consumes-whole (left i) (left j) r.read (λ script. Outputs fits count script old spares new rest had has n) r.takes r.ended
+      Consumes-whole (left i) (left j) r.read (λ script. Outputs fits count text script old spares new rest had has n) r.takes r.ended
       (record { replies = r.replies; output = r.output; appends = r.appends; written_is = r.written_is })
 
 -- ---- one line
 
-pub serves_none : {X : Type 0} (fits : X → Floor → Bool) (count : X → ℕ) (line kind : Result (Option Command) LineFault) (old : Seen) (spares : List X) (new : Seen) (rest : List X) (had : Option (List ℕ))
-    → line ≡ kind → Gives fits count (asked line) (answers line) old spares new rest [] → Serves fits count kind old spares new rest had had 0
-serves_none fits count line kind old spares new rest had e gives = record {
-  replies = [];
-  gives = subst (λ (k : Result (Option Command) LineFault). Gives fits count (asked k) (answers k) old spares new rest []) e gives;
-  appends = Appends-nil had;
-  written_is = refl;
-}
+module _ {X : Type 0} (fits : X → Floor → Bool) (count : X → ℕ) (text : Reply → List ℕ) (kind : Result (Option Command) LineFault) (old : Seen) (spares : List X) (new : Seen) (rest : List X) where
+  -- a line that asks for nothing, or is no command
+  pub gives_none : (said : Result (Option Command) LineFault) → asked said ≡ [] → kind ≡ said → Gives fits count (asked kind) (answers text kind) old spares old spares (answers text said [])
+  gives_none said none e =
+      subst (λ (k : Result (Option Command) LineFault). Gives fits count (asked k) (answers text k) old spares old spares (answers text said [])) (sym e)
+      (subst (λ (cs : List Command). Gives fits count cs (answers text said) old spares old spares (answers text said [])) (sym none) (gives_nothing fits count (answers text said) old spares))
 
-module _ {X : Type 0} (fits : X → Floor → Bool) (count : X → ℕ) (line kind : Result (Option Command) LineFault) (old : Seen) (spares : List X) (new : Seen) (rest : List X) (had has : Option (List ℕ))
-    (reply bytes : List ℕ) (said_so : line ≡ kind) (gives : Gives fits count (asked line) (answers line) old spares new rest (reply ∷ [])) (is_line : bytes ≡ reply ++ 10 ∷ []) where
-  gives_kind : Gives fits count (asked kind) (answers kind) old spares new rest (reply ∷ [])
-  gives_kind = subst (λ (k : Result (Option Command) LineFault). Gives fits count (asked k) (answers k) old spares new rest (reply ∷ [])) said_so gives
+  pub serves_none : (had : Option (List ℕ)) → Gives fits count (asked kind) (answers text kind) old spares new rest [] → Serves fits count text kind old spares new rest had had 0
+  serves_none had gives = record { replies = []; gives = gives; appends = Appends-nil had; written_is = refl }
 
-  is_text : bytes ≡ text_of (reply ∷ [])
-  is_text = is_line ∙ sym (append-nil (reply_line reply))
+  module _ (had has : Option (List ℕ)) (reply : List ℕ) (gives : Gives fits count (asked kind) (answers text kind) old spares new rest (reply ∷ [])) where
+    is_text : reply_line reply ≡ text_of (reply ∷ [])
+    is_text = sym (append-nil (reply_line reply))
 
-  pub serves_one : Appends had has bytes → Serves fits count kind old spares new rest had has 1
-  serves_one p = record { replies = reply ∷ []; gives = gives_kind; appends = subst (Appends had has) is_text p; written_is = refl }
+    pub serves_one : (result : Result ℕ WriteFault) → Tells result had has (reply_line reply) → IfOk result (λ n. Serves fits count text kind old spares new rest had has n)
+    serves_one (Ok n) p = record { replies = reply ∷ []; gives = gives; appends = subst (Appends had has) is_text p.0; written_is = p.1 }
+    serves_one (Err f) p = tt
 
-  pub serves_begun : WritesFront had has bytes → ServesUnwritten fits count kind old spares new rest had has
-  serves_begun p = record { replies = reply ∷ []; gives = gives_kind; writes = subst (WritesFront had has) is_text p }
+    pub serves_begun : (result : Result ℕ WriteFault) → Tells result had has (reply_line reply) → OnErr result (ServesUnwritten fits count text kind old spares new rest had has)
+    serves_begun (Ok n) p = tt
+    serves_begun (Err f) p = record { replies = reply ∷ []; gives = gives; writes = subst (WritesFront had has) is_text p }
+
+pub tells_few : (result : Result ℕ WriteFault) (had has : Option (List ℕ)) (line : List ℕ) → Tells result had has line → IfOk result (λ n. n ≤ 1)
+tells_few (Ok n) had has line p = omega (arith, p.1)
+tells_few (Err f) had has line p = tt
+
+-- a reply was written, and then its line's end
+pub tells_rest : (result : Result ℕ WriteFault) (a b c : Option (List ℕ)) (reply : List ℕ) → Appends a b reply → Tells result b c (10 ∷ []) → Tells result a c (reply_line reply)
+tells_rest (Ok n) a b c reply p q = (both_parts a b c reply (10 ∷ []) (reply_line reply) refl p q.0, q.1)
+tells_rest (Err f) a b c reply p q = in_second a b c reply (10 ∷ []) (reply_line reply) refl p q
+
+pub tells_begun : (a b : Option (List ℕ)) (reply : List ℕ) → WritesFront a b reply → WritesFront a b (reply_line reply)
+tells_begun a b reply w = in_first a b reply (10 ∷ []) (reply_line reply) refl w

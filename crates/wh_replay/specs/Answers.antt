@@ -1,9 +1,9 @@
 -- what lines of a script are answered
 use Rattle.std.specs.Prelude.{ℕ, List, [], ◌∷◌, ◌++◌, length, drop, codes, flat_map, Option, Some, None, Result, Ok, Err}
 use Rattle.wh_event.specs.CommandLines.{command_of}
-use Rattle.wh_event.specs.ReplyTexts.{reply_text}
 use Rattle.wh_event.specs.declared.event.Command.{Command}
 use Rattle.wh_event.specs.declared.entry.Entry.{Entry}
+use Rattle.wh_event.specs.declared.reply.Reply.{Reply}
 use Rattle.wh_event.specs.declared.fault.LineFault.{LineFault}
 use Rattle.wh_event.specs.declared.fault.LineFault.TheVariants.{Form, TooLong}
 
@@ -18,25 +18,25 @@ abbrev pub commands_of : List (List ℕ) → List Command
 commands_of [] = []
 commands_of (line ∷ lines) = asked (command_of line) ++ commands_of lines
 
--- what a command is answered: one that added no entry was refused for want of memory
-abbrev pub outcome_text : Option Entry → List ℕ
-outcome_text None = codes "refused E90"
-outcome_text (Some entry) = reply_text entry.reply
+-- What a command is answered: one that added no entry was refused for want of memory. Text says what a reply is told as.
+abbrev pub outcome_text : (Reply → List ℕ) → Option Entry → List ℕ
+outcome_text text None = codes "refused E90"
+outcome_text text (Some entry) = text entry.reply
 
 -- What a line is answered. A line that asks for nothing is answered nothing, and one that is no command its fault; for a
 -- command it is told by the first outcome.
-abbrev pub answers : Result (Option Command) LineFault → List (Option Entry) → List (List ℕ)
-answers (Ok None) outcomes = []
-answers (Err Form) outcomes = codes "refused C1" ∷ []
-answers (Err TooLong) outcomes = codes "refused C2" ∷ []
-answers (Ok (Some command)) [] = []
-answers (Ok (Some command)) (outcome ∷ outcomes) = outcome_text outcome ∷ []
+abbrev pub answers : (Reply → List ℕ) → Result (Option Command) LineFault → List (Option Entry) → List (List ℕ)
+answers text (Ok None) outcomes = []
+answers text (Err Form) outcomes = codes "refused C1" ∷ []
+answers text (Err TooLong) outcomes = codes "refused C2" ∷ []
+answers text (Ok (Some command)) [] = []
+answers text (Ok (Some command)) (outcome ∷ outcomes) = outcome_text text outcome ∷ []
 
 -- the replies to lines, line by line, where their commands have these outcomes
-abbrev pub replies_to : List (List ℕ) → List (Option Entry) → List (List ℕ)
-replies_to [] outcomes = []
-replies_to (line ∷ lines) outcomes =
-    answers (command_of line) outcomes ++ replies_to lines (drop (length (asked (command_of line))) outcomes)
+abbrev pub replies_to : (Reply → List ℕ) → List (List ℕ) → List (Option Entry) → List (List ℕ)
+replies_to text [] outcomes = []
+replies_to text (line ∷ lines) outcomes =
+    answers text (command_of line) outcomes ++ replies_to text lines (drop (length (asked (command_of line))) outcomes)
 
 -- a reply with its line feed
 abbrev pub reply_line : List ℕ → List ℕ

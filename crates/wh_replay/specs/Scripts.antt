@@ -1,9 +1,10 @@
 -- what a script gives, and what a beginning of it gives
-use Rattle.std.specs.Prelude.{◌≡◌, ℕ, Bool, List, ◌++◌, length, take, Option, Result}
+use Rattle.std.specs.Prelude.{◌≡◌, ℕ, Bool, List, ◌++◌, length, Option, Result, Ok, Err}
 use Rattle.std.specs.Io.KnownBytes.{Appends, IsAtEnd}
 use Rattle.wh_text.specs.Lines.{lines_of}
 use Rattle.wh_lines.specs.Text.{EndsLine}
 use Rattle.wh_lines.specs.Input.{Input, left, Takes}
+use Rattle.wh_lines.specs.declared.output.WriteFault.{WriteFault}
 use Rattle.wh_grid.specs.Grids.{Floor}
 use Rattle.wh_points.specs.Formed.{IsFormed}
 use Rattle.wh_core.specs.Steps.{Run}
@@ -11,6 +12,7 @@ use Rattle.wh_book.specs.Drafts.{Seen, AllServed}
 use Rattle.wh_token.specs.Runs.{Ran, entries_of}
 use Rattle.wh_event.specs.declared.event.Command.{Command}
 use Rattle.wh_event.specs.declared.entry.Entry.{Entry}
+use Rattle.wh_event.specs.declared.reply.Reply.{Reply}
 use Rattle.wh_event.specs.declared.fault.LineFault.{LineFault}
 use Rattle.wh_lines.specs.declared.next.LineFault.{LineFault as NoLine}
 use Rattle.wh_lines.specs.declared.next.LineFault.TheVariants.{Read, Flush}
@@ -18,9 +20,12 @@ use Rattle.wh_lines.specs.declared.lines.ReadFault.TheVariants as reads
 use Rattle.wh_replay.specs.declared.script.ReplayFault.{ReplayFault}
 use Rattle.wh_replay.specs.declared.script.ReplayFault.TheVariants.{Broken, Endless, Unwritten}
 use Rattle.wh_replay.specs.Answers.{asked, commands_of, answers, replies_to, text_of}
+-- handed on, for the crates above
+pub use Rattle.wh_lines.specs.Output.{WritesFront}
 
 -- The commands, all of caller 0, have run one after another and had these outcomes, which tell the replies. The history
--- has grown by the entries, and by nothing else. Fits and count say what a planner answers.
+-- has grown by the entries, and by nothing else. Fits and count say what a planner answers; text, here and below, what a
+-- reply is told as.
 pub record Gives {X : Type 0} (fits : X → Floor → Bool) (count : X → ℕ) (commands : List Command) (told : List (Option Entry) → List (List ℕ))
     (old : Seen) (spares : List X) (new : Seen) (rest : List X) (replies : List (List ℕ)) : Type 0 where
   pub outcomes : List (Option Entry)
@@ -35,56 +40,56 @@ pub record Gives {X : Type 0} (fits : X → Floor → Bool) (count : X → ℕ) 
 
 -- The output of lines: in their order nothing for a line that is skipped, `refused C1` or `refused C2` for one that is no
 -- command, `refused E90` for some commands, and for the others the replies of one run.
-abbrev pub IsOutputOf : {X : Type 0} → (X → Floor → Bool) → (X → ℕ) → List (List ℕ) → Seen → List X → Seen → List X → List (List ℕ) → Type 0
-IsOutputOf fits count lines old spares new rest replies = Gives fits count (commands_of lines) (replies_to lines) old spares new rest replies
+abbrev pub IsOutputOf : {X : Type 0} → (X → Floor → Bool) → (X → ℕ) → (Reply → List ℕ) → List (List ℕ) → Seen → List X → Seen → List X → List (List ℕ) → Type 0
+IsOutputOf fits count text lines old spares new rest replies = Gives fits count (commands_of lines) (replies_to text lines) old spares new rest replies
 
--- a front of the bytes was written
-pub record WritesFront (had has : Option (List ℕ)) (bytes : List ℕ) : Type 0 where
-  pub count : ℕ
-  pub appends : Appends had has (take count bytes)
+-- a line was written, or a front of it
+abbrev pub Tells : Result ℕ WriteFault → Option (List ℕ) → Option (List ℕ) → List ℕ → Type 0
+Tells (Ok count) had has line = Appends had has line × (count ≡ 1)
+Tells (Err fault) had has line = WritesFront had has line
 
 -- one line was served: what it is answered was written
-pub record Serves {X : Type 0} (fits : X → Floor → Bool) (count : X → ℕ) (line : Result (Option Command) LineFault) (old : Seen) (spares : List X) (new : Seen) (rest : List X)
+pub record Serves {X : Type 0} (fits : X → Floor → Bool) (count : X → ℕ) (text : Reply → List ℕ) (line : Result (Option Command) LineFault) (old : Seen) (spares : List X) (new : Seen) (rest : List X)
     (had has : Option (List ℕ)) (written : ℕ) : Type 0 where
   pub replies : List (List ℕ)
-  pub gives : Gives fits count (asked line) (answers line) old spares new rest replies
+  pub gives : Gives fits count (asked line) (answers text line) old spares new rest replies
   pub appends : Appends had has (text_of replies)
   pub written_is : written ≡ length replies
 
 -- one line was served, and its reply was not written to the end
-pub record ServesUnwritten {X : Type 0} (fits : X → Floor → Bool) (count : X → ℕ) (line : Result (Option Command) LineFault) (old : Seen) (spares : List X) (new : Seen) (rest : List X)
+pub record ServesUnwritten {X : Type 0} (fits : X → Floor → Bool) (count : X → ℕ) (text : Reply → List ℕ) (line : Result (Option Command) LineFault) (old : Seen) (spares : List X) (new : Seen) (rest : List X)
     (had has : Option (List ℕ)) : Type 0 where
   pub replies : List (List ℕ)
-  pub gives : Gives fits count (asked line) (answers line) old spares new rest replies
+  pub gives : Gives fits count (asked line) (answers text line) old spares new rest replies
   pub writes : WritesFront had has (text_of replies)
 
 -- whole lines were read and served
-pub record Follows {X : Type 0} (fits : X → Floor → Bool) (count : X → ℕ) (before after : Input) (old : Seen) (spares : List X) (new : Seen) (rest : List X)
+pub record Follows {X : Type 0} (fits : X → Floor → Bool) (count : X → ℕ) (text : Reply → List ℕ) (before after : Input) (old : Seen) (spares : List X) (new : Seen) (rest : List X)
     (had has : Option (List ℕ)) (written : ℕ) : Type 0 where
   pub read : List ℕ
   pub takes : Takes before after read
   pub whole : EndsLine read
   pub replies : List (List ℕ)
-  pub output : IsOutputOf fits count (lines_of read) old spares new rest replies
+  pub output : IsOutputOf fits count text (lines_of read) old spares new rest replies
   pub appends : Appends had has (text_of replies)
   pub written_is : written ≡ length replies
 
 -- All was read to the end, and what was written is the output of what was read, in so many lines.
-pub record Replays {X : Type 0} (fits : X → Floor → Bool) (count : X → ℕ) (before after : Input) (old : Seen) (spares : List X) (new : Seen) (rest : List X)
+pub record Replays {X : Type 0} (fits : X → Floor → Bool) (count : X → ℕ) (text : Reply → List ℕ) (before after : Input) (old : Seen) (spares : List X) (new : Seen) (rest : List X)
     (had has : Option (List ℕ)) (written : ℕ) : Type 0 where
   pub read : List ℕ
   pub takes : Takes before after read
   pub ended : IsAtEnd (left after)
   pub replies : List (List ℕ)
-  pub output : IsOutputOf fits count (lines_of read) old spares new rest replies
+  pub output : IsOutputOf fits count text (lines_of read) old spares new rest replies
   pub appends : Appends had has (text_of replies)
   pub written_is : written ≡ length replies
 
 -- these bytes were served, all of them
-pub record Outputs {X : Type 0} (fits : X → Floor → Bool) (count : X → ℕ) (script : List ℕ) (old : Seen) (spares : List X) (new : Seen) (rest : List X)
+pub record Outputs {X : Type 0} (fits : X → Floor → Bool) (count : X → ℕ) (text : Reply → List ℕ) (script : List ℕ) (old : Seen) (spares : List X) (new : Seen) (rest : List X)
     (had has : Option (List ℕ)) (written : ℕ) : Type 0 where
   pub replies : List (List ℕ)
-  pub output : IsOutputOf fits count (lines_of script) old spares new rest replies
+  pub output : IsOutputOf fits count text (lines_of script) old spares new rest replies
   pub appends : Appends had has (text_of replies)
   pub written_is : written ≡ length replies
 
@@ -96,13 +101,13 @@ WritesUntil Endless had has bytes = Appends had has bytes
 
 -- A beginning of the script was served: the events of its commands stand, also one whose reply was not written to the
 -- end. What follows it in the bytes that were taken is part of a line that was not served.
-pub record Stops {X : Type 0} (fits : X → Floor → Bool) (count : X → ℕ) (fault : ReplayFault) (before after : Input) (old : Seen) (spares : List X) (new : Seen) (rest : List X)
+pub record Stops {X : Type 0} (fits : X → Floor → Bool) (count : X → ℕ) (text : Reply → List ℕ) (fault : ReplayFault) (before after : Input) (old : Seen) (spares : List X) (new : Seen) (rest : List X)
     (had has : Option (List ℕ)) : Type 0 where
   pub read : List ℕ
   pub begun : List ℕ
   pub takes : Takes before after (read ++ begun)
   pub replies : List (List ℕ)
-  pub output : IsOutputOf fits count (lines_of read) old spares new rest replies
+  pub output : IsOutputOf fits count text (lines_of read) old spares new rest replies
   pub writes : WritesUntil fault had has (text_of replies)
 
 -- the fault of a script whose next line did not come

@@ -1,64 +1,103 @@
 //! What one line of a script is answered.
 
-ghost use Rattle.std.specs.Prelude.{◌≡◌, ◌<◌, ◌≤◌, ℕ, List, [], ◌∷◌, ◌++◌, length, codes, true, false, Ok, Some, MatchBool};
+ghost use Rattle.std.specs.Prelude.{◌≡◌, ◌<◌, ◌≤◌, ℕ, List, [], ◌∷◌, ◌++◌, length, codes, true, false, Ok, Some, IfOk, OnErr};
 ghost use Rattle.wh_lines.specs.Text.{short_line};
 ghost use Rattle.wh_event.specs.Reading.{Reads};
 ghost use Rattle.wh_event.specs.ReplyTexts.{reply_text};
 ghost use Rattle.wh_event.specs.declared.entry.Entry.{Entry as Line};
-ghost use Rattle.wh_replay.specs.Answers.{asked, answers, said};
-ghost use Rattle.wh_replay.specs.Scripts.{Gives};
+ghost use Rattle.wh_log.specs.Told.{full_text, told_text};
+ghost use Rattle.wh_replay.specs.Answers.{reply_line, said};
+ghost use Rattle.wh_replay.specs.Scripts.{Tells, Serves, ServesUnwritten};
 
 use arrayvec::ArrayVec;
 use std::alloc::Global;
-use wh_event::{Command, Entry, LineFault, put, put_reply, read_line_into};
-use wh_lines::CommandLine;
+use std::io::Write;
+use wh_event::{Command, Entry, LineFault, Reply, put, put_reply, read_line_into};
+use wh_lines::{CommandLine, WriteFault, write_all};
+use wh_log::{Form, tell};
 use wh_planner::Planner;
 use wh_token::Warehouse;
 
 /// The caller of each event of a script.
 const CALLER: u32 = 0;
 
-/// Writes what the last entry of a history answers.
-fn put_last(reply: &mut ArrayVec<u8, 64>, history: &[Entry])
-    requires empty { reply.old.items ≡ [] }
-    ensures text { (front : List Line) → (entry : Line) → history.now ≡ front ++ entry ∷ [] → reply.new.items ≡ reply_text entry.reply }
-    ensures short { length reply.new.items ≤ 53 }
+/// Writes a line, the line feed at its end too, at once.
+fn write_line<W: Write>(writer: &mut W, line: &[u8]) -> Result<u64, WriteFault>
+    ensures { Tells result (W.contents writer.old) (W.contents writer.new) line.now }
+{
+    match write_all(writer, line) {
+        Ok(()) => Ok(1),
+        Err(fault) => Err(fault),
+    }
+}
+
+/// Tells a reply in few words, as a line, at once.
+fn tell_short<W: Write>(writer: &mut W, reply: &Reply) -> Result<u64, WriteFault>
+    ensures { Tells result (W.contents writer.old) (W.contents writer.new) (reply_line (reply_text reply.now)) }
+{
+    let mut line = ArrayVec::new();
+    put_reply(&mut line, reply);
+    put(&mut line, b"\n");
+    write_line(writer, line.as_slice())
+}
+
+/// Tells a reply as the log has it, as a line.
+fn tell_full<W: Write>(writer: &mut W, reply: &Reply) -> Result<u64, WriteFault>
+    ensures { Tells result (W.contents writer.old) (W.contents writer.new) (reply_line (full_text reply.now)) }
+{
+    match tell(Form::Full, writer, reply) {
+        Ok(()) => write_line(writer, b"\n"),
+        Err(fault) => Err(fault),
+    }
+}
+
+/// Tells what the last entry of a history answers, as a line.
+fn tell_last<W: Write>(form: Form, writer: &mut W, history: &[Entry]) -> Result<u64, WriteFault>
+    ensures { (front : List Line) → (entry : Line) → history.now ≡ front ++ entry ∷ [] → Tells result (W.contents writer.old) (W.contents writer.new) (reply_line (told_text form entry.reply)) }
 {
     match history {
-        [.., entry] => put_reply(reply, &entry.reply),
-        [] => {}
+        [.., entry] => match form {
+            Form::Short => tell_short(writer, &entry.reply),
+            Form::Full => tell_full(writer, &entry.reply),
+        },
+        [] => Ok(0),
     }
 }
 
-/// Writes what a command is answered: the reply of the entry that it added; with none it was refused for want of memory.
-fn put_outcome(reply: &mut ArrayVec<u8, 64>, added: bool, history: &[Entry])
-    requires empty { reply.old.items ≡ [] }
-    ensures starved { added ≡ false → reply.new.items ≡ codes "refused E90" }
-    ensures text { added ≡ true → (front : List Line) → (entry : Line) → history.now ≡ front ++ entry ∷ [] → reply.new.items ≡ reply_text entry.reply }
-    ensures short { length reply.new.items ≤ 53 }
+/// Tells what a command is answered, as a line: the reply of the entry that it added; with none it was refused for want of
+/// memory.
+fn tell_outcome<W: Write>(
+    form: Form,
+    writer: &mut W,
+    added: bool,
+    history: &[Entry],
+) -> Result<u64, WriteFault>
+    ensures starved { added ≡ false → Tells result (W.contents writer.old) (W.contents writer.new) (reply_line (codes "refused E90")) }
+    ensures text { added ≡ true → (front : List Line) → (entry : Line) → history.now ≡ front ++ entry ∷ [] → Tells result (W.contents writer.old) (W.contents writer.new) (reply_line (told_text form entry.reply)) }
 {
     if added {
-        put_last(reply, history);
+        tell_last(form, writer, history)
     } else {
-        put(reply, b"refused E90");
+        write_line(writer, b"refused E90\n")
     }
 }
 
-/// Runs a command, and writes its reply.
-fn obey<P: Planner>(
-    reply: &mut ArrayVec<u8, 64>,
+/// Runs a command, and tells its reply.
+fn obey<W: Write, P: Planner>(
     command: &Command,
     alloc: Global,
+    form: Form,
+    writer: &mut W,
     warehouse: &mut Warehouse<P>,
     spares: &mut Vec<P>,
-)
-    requires empty { reply.old.items ≡ [] }
-    ensures gives { Gives P.fits_map P.slot_count (command.now ∷ []) (answers (Ok (Some command.now))) warehouse.old.book spares.old.items warehouse.new.book spares.new.items (reply.new.items ∷ []) }
-    ensures short { length reply.new.items ≤ 53 }
+) -> Result<u64, WriteFault>
+    ensures ok { IfOk result (λ count. Serves P.fits_map P.slot_count (told_text form) (Ok (Some command.now)) warehouse.old.book spares.old.items warehouse.new.book spares.new.items (W.contents writer.old) (W.contents writer.new) count) }
+    ensures few { IfOk result (λ count. count ≤ 1) }
+    ensures err { OnErr result (ServesUnwritten P.fits_map P.slot_count (told_text form) (Ok (Some command.now)) warehouse.old.book spares.old.items warehouse.new.book spares.new.items (W.contents writer.old) (W.contents writer.new)) }
 {
     let _before = warehouse.history();
     let added = warehouse.run_event(alloc, CALLER, command, spares);
-    put_outcome(reply, added, warehouse.history());
+    tell_outcome(form, writer, added, warehouse.history())
 }
 
 /// Reads a line, of which a front is kept, into a room: whether it asks for a command, which then stands there.
@@ -71,35 +110,25 @@ fn read_kept(line: &CommandLine, command: &mut Command) -> Result<bool, LineFaul
     }
 }
 
-/// Writes the reply to a line, of which a front is kept: whether it has one. A line that is skipped has none. The command
-/// is a room for what the line asks.
-pub(crate) fn answer<P: Planner>(
-    reply: &mut ArrayVec<u8, 64>,
+/// Answers a line, of which a front is kept. How many replies it got: one, or none where it is skipped. The command is a
+/// room for what the line asks.
+pub(crate) fn answer<W: Write, P: Planner>(
     line: &CommandLine,
     command: &mut Command,
     alloc: Global,
+    form: Form,
+    writer: &mut W,
     warehouse: &mut Warehouse<P>,
     spares: &mut Vec<P>,
-) -> bool
-    requires empty { reply.old.items ≡ [] }
-    ensures gives { MatchBool result
-        (Gives P.fits_map P.slot_count (asked (said (short_line line.now))) (answers (said (short_line line.now))) warehouse.old.book spares.old.items warehouse.new.book spares.new.items (reply.new.items ∷ []))
-        (Gives P.fits_map P.slot_count (asked (said (short_line line.now))) (answers (said (short_line line.now))) warehouse.old.book spares.old.items warehouse.new.book spares.new.items []) }
-    ensures short { length reply.new.items ≤ 53 }
+) -> Result<u64, WriteFault>
+    ensures ok { IfOk result (λ count. Serves P.fits_map P.slot_count (told_text form) (said (short_line line.now)) warehouse.old.book spares.old.items warehouse.new.book spares.new.items (W.contents writer.old) (W.contents writer.new) count) }
+    ensures few { IfOk result (λ count. count ≤ 1) }
+    ensures err { OnErr result (ServesUnwritten P.fits_map P.slot_count (told_text form) (said (short_line line.now)) warehouse.old.book spares.old.items warehouse.new.book spares.new.items (W.contents writer.old) (W.contents writer.new)) }
 {
     match read_kept(line, command) {
-        Ok(true) => {
-            obey(reply, command, alloc, warehouse, spares);
-            true
-        }
-        Ok(false) => false,
-        Err(LineFault::Form) => {
-            put(reply, b"refused C1");
-            true
-        }
-        Err(LineFault::TooLong) => {
-            put(reply, b"refused C2");
-            true
-        }
+        Ok(true) => obey(command, alloc, form, writer, warehouse, spares),
+        Ok(false) => Ok(0),
+        Err(LineFault::Form) => write_line(writer, b"refused C1\n"),
+        Err(LineFault::TooLong) => write_line(writer, b"refused C2\n"),
     }
 }

@@ -2,11 +2,11 @@
 #![tactic(auto)]
 
 mod answer;
-mod output;
 mod script;
 
-pub use output::{WriteFault, write_all};
 pub use script::{ReplayFault, Replayed, replay, serve};
 
 // handed on, for callers: what the items below take, return and speak of
+pub use wh_lines::{WriteFault, write_all};
+pub use wh_log::Form;
 pub use wh_token::{Committed, NoMemory, OpenFault, ResumeFault, Warehouse};

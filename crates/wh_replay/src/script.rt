@@ -4,16 +4,16 @@ ghost use Rattle.std.specs.Prelude.{◌≡◌, ◌≤◌, IfOk, IfSome, IfErr, O
 ghost use Rattle.std.specs.Io.KnownBytes.{Keeps};
 ghost use Rattle.wh_lines.specs.Text.{short_line};
 ghost use Rattle.wh_lines.specs.Input.{left};
+ghost use Rattle.wh_log.specs.Told.{told_text};
 ghost use Rattle.wh_replay.specs.Answers.{said};
 ghost use Rattle.wh_replay.specs.Scripts.{fault_of, Serves, ServesUnwritten, Replays, Outputs, Stops};
 
 use crate::answer::answer;
-use crate::output::write_all;
-use arrayvec::ArrayVec;
 use std::alloc::Global;
 use std::io::{Read, Write};
-use wh_event::{Command, put};
+use wh_event::Command;
 use wh_lines::{CommandLine, LineFault, Lines, Next, ReadFault};
+use wh_log::Form;
 use wh_planner::Planner;
 use wh_token::Warehouse;
 
@@ -49,22 +49,18 @@ pub fn serve<W: Write, P: Planner>(
     line: &CommandLine,
     command: &mut Command,
     alloc: Global,
+    form: Form,
     writer: &mut W,
     warehouse: &mut Warehouse<P>,
     spares: &mut Vec<P>,
 ) -> Result<u64, ReplayFault>
-    ensures ok { IfOk result (λ count. Serves P.fits_map P.slot_count (said (short_line line.now)) warehouse.old.book spares.old.items warehouse.new.book spares.new.items (W.contents writer.old) (W.contents writer.new) count) }
+    ensures ok { IfOk result (λ count. Serves P.fits_map P.slot_count (told_text form) (said (short_line line.now)) warehouse.old.book spares.old.items warehouse.new.book spares.new.items (W.contents writer.old) (W.contents writer.new) count) }
     ensures few { IfOk result (λ count. count ≤ 1) }
-    ensures err { OnErr result (ServesUnwritten P.fits_map P.slot_count (said (short_line line.now)) warehouse.old.book spares.old.items warehouse.new.book spares.new.items (W.contents writer.old) (W.contents writer.new)) }
+    ensures err { OnErr result (ServesUnwritten P.fits_map P.slot_count (told_text form) (said (short_line line.now)) warehouse.old.book spares.old.items warehouse.new.book spares.new.items (W.contents writer.old) (W.contents writer.new)) }
     ensures fault { IfErr result (λ fault. fault ≡ ReplayFault.Unwritten) }
 {
-    let mut reply = ArrayVec::new();
-    if !answer(&mut reply, line, command, alloc, warehouse, spares) {
-        return Ok(0);
-    }
-    put(&mut reply, b"\n");
-    match write_all(writer, reply.as_slice()) {
-        Ok(()) => Ok(1),
+    match answer(line, command, alloc, form, writer, warehouse, spares) {
+        Ok(count) => Ok(count),
         Err(_) => Err(ReplayFault::Unwritten),
     }
 }
@@ -72,12 +68,13 @@ pub fn serve<W: Write, P: Planner>(
 fn serve_all<R: Read, W: Write, P: Planner>(
     lines: &mut Lines<R>,
     alloc: Global,
+    form: Form,
     writer: &mut W,
     warehouse: &mut Warehouse<P>,
     spares: &mut Vec<P>,
 ) -> Result<Replayed, ReplayFault>
-    ensures ok { IfOk result (λ r. Replays P.fits_map P.slot_count lines.old lines.new warehouse.old.book spares.old.items warehouse.new.book spares.new.items (W.contents writer.old) (W.contents writer.new) r.replies) }
-    ensures fault { IfErr result (λ fault. Stops P.fits_map P.slot_count fault lines.old lines.new warehouse.old.book spares.old.items warehouse.new.book spares.new.items (W.contents writer.old) (W.contents writer.new)) }
+    ensures ok { IfOk result (λ r. Replays P.fits_map P.slot_count (told_text form) lines.old lines.new warehouse.old.book spares.old.items warehouse.new.book spares.new.items (W.contents writer.old) (W.contents writer.new) r.replies) }
+    ensures fault { IfErr result (λ fault. Stops P.fits_map P.slot_count (told_text form) fault lines.old lines.new warehouse.old.book spares.old.items warehouse.new.book spares.new.items (W.contents writer.old) (W.contents writer.new)) }
 {
     let mut line = CommandLine::new();
     let mut command = Command::Close;
@@ -90,7 +87,7 @@ fn serve_all<R: Read, W: Write, P: Planner>(
         if let Next::End = next {
             return Ok(Replayed { replies });
         }
-        match serve(&line, &mut command, alloc, writer, warehouse, spares) {
+        match serve(&line, &mut command, alloc, form, writer, warehouse, spares) {
             Ok(count) => replies += count,
             Err(fault) => return Err(fault),
         }
@@ -105,7 +102,7 @@ fn serve_all<R: Read, W: Write, P: Planner>(
 }
 
 /// Serves the script that is left in the reader, to the reader's end. Each line that is a command is an event of caller
-/// 0, and its reply is written with a line feed; a line that is none is answered `refused C1` or `refused C2`, and a
+/// 0, and its reply is written in this form with a line feed; a line that is none is answered `refused C1` or `refused C2`, and a
 /// command that is refused for want of memory `refused E90`; an empty line and a comment are answered nothing. A Replace
 /// of a known agent takes the last spare. The writer is flushed before each read, and at the end.
 ///
@@ -113,16 +110,17 @@ fn serve_all<R: Read, W: Write, P: Planner>(
 pub fn replay<R: Read, W: Write, P: Planner>(
     lines: &mut Lines<R>,
     alloc: Global,
+    form: Form,
     writer: &mut W,
     warehouse: &mut Warehouse<P>,
     spares: &mut Vec<P>,
 ) -> Result<Replayed, ReplayFault>
     // What was written is the output of what was read, and the history has grown by its run.
-    ensures ok { IfOk result (λ r. Replays P.fits_map P.slot_count lines.old lines.new warehouse.old.book spares.old.items warehouse.new.book spares.new.items (W.contents writer.old) (W.contents writer.new) r.replies) }
+    ensures ok { IfOk result (λ r. Replays P.fits_map P.slot_count (told_text form) lines.old lines.new warehouse.old.book spares.old.items warehouse.new.book spares.new.items (W.contents writer.old) (W.contents writer.new) r.replies) }
     // Where the reader tells its bytes, these are the script.
-    ensures output { IfOk result (λ r. IfSome (left lines.old) (λ script. Outputs P.fits_map P.slot_count script warehouse.old.book spares.old.items warehouse.new.book spares.new.items (W.contents writer.old) (W.contents writer.new) r.replies)) }
+    ensures output { IfOk result (λ r. IfSome (left lines.old) (λ script. Outputs P.fits_map P.slot_count (told_text form) script warehouse.old.book spares.old.items warehouse.new.book spares.new.items (W.contents writer.old) (W.contents writer.new) r.replies)) }
     // On a fault this holds of a beginning of the script, and of a front of what was to be written.
-    ensures fault { IfErr result (λ fault. Stops P.fits_map P.slot_count fault lines.old lines.new warehouse.old.book spares.old.items warehouse.new.book spares.new.items (W.contents writer.old) (W.contents writer.new)) }
+    ensures fault { IfErr result (λ fault. Stops P.fits_map P.slot_count (told_text form) fault lines.old lines.new warehouse.old.book spares.old.items warehouse.new.book spares.new.items (W.contents writer.old) (W.contents writer.new)) }
     // After a fault there is nothing more.
     ensures failed { OnErr result (lines.new.failed ≡ true) }
     ensures again { lines.old.failed ≡ true → (result ≡ Err ReplayFault.Broken) × (lines.new ≡ lines.old) × (warehouse.new.book ≡ warehouse.old.book) × (spares.new.items ≡ spares.old.items) × Keeps (W.contents writer.old) (W.contents writer.new) }
@@ -130,7 +128,7 @@ pub fn replay<R: Read, W: Write, P: Planner>(
     if lines.has_failed() {
         return Err(ReplayFault::Broken);
     }
-    match serve_all(lines, alloc, writer, warehouse, spares) {
+    match serve_all(lines, alloc, form, writer, warehouse, spares) {
         Ok(replayed) => Ok(replayed),
         Err(fault) => {
             lines.fail();

@@ -16,6 +16,7 @@ use Rattle.wh_points.specs.Points.{Site}
 use Rattle.wh_points.specs.Formed.{IsFormed}
 use Rattle.wh_claims.specs.declared.bank.Bank.{Bank}
 use Rattle.wh_event.specs.declared.entry.Entry.{Entry}
+use Rattle.wh_event.specs.declared.reply.Reply.{Reply}
 use Rattle.wh_core.specs.States.{State, opened}
 use Rattle.wh_core.specs.Steps.{Run}
 use Rattle.wh_verify.specs.Drafts.{Seen}
@@ -126,12 +127,12 @@ opening_is fits count gives fleet site planners spares book makes range e o =
     o.opening ∙ ap (opened site.layout 0) (tied_slots count planners o.slots o.tied.seats o.tied.counts ∙ seats_are)
 
 -- the replies of a fleet's warehouse
-abbrev operates : {X : Type 0} (fits : X → Floor → Bool) (count : X → ℕ) (gives : Gives X) (fleet : Fleet) (site : Site) (planners spares : List X) (lines : List (List ℕ))
+abbrev operates : {X : Type 0} (fits : X → Floor → Bool) (count : X → ℕ) (text : Reply → List ℕ) (gives : Gives X) (fleet : Fleet) (site : Site) (planners spares : List X) (lines : List (List ℕ))
     (book final : Seen) (rest : List X) (replies : List (List ℕ))
     → MakesPlanners fits count gives → IsOfFleet fleet → IsEquipped gives fleet site.grid (length site.layout.agents) planners spares
-    → IsOpened fits count site planners book → IsOutputOf fits count lines book spares final rest replies
-    → Operates fleet site lines replies
-operates fits count gives fleet site planners spares lines book final rest replies makes range e o g =
+    → IsOpened fits count site planners book → IsOutputOf fits count text lines book spares final rest replies
+    → Operates text fleet site lines replies
+operates fits count text gives fleet site planners spares lines book final rest replies makes range e o g =
     let apart = recursion_from_All (IsMember gives fleet site.grid e.bank) spares e.spares_are in
     let spares_are = slots_each fits count gives fleet site.grid e.bank spares fleet.spares makes range e.stands_by apart in
     let start = o.state ∙ opening_is fits count gives fleet site planners spares book makes range e o in
@@ -150,23 +151,23 @@ operates fits count gives fleet site planners spares lines book final rest repli
     }
 
 -- what follows the replies of it
-tail_is : {X : Type 0} (fits : X → Floor → Bool) (count : X → ℕ) (gives : Gives X) (fleet : Fleet) (site : Site) (planners spares : List X) (tail : Tail) (lines : List (List ℕ))
+tail_is : {X : Type 0} (fits : X → Floor → Bool) (count : X → ℕ) (text : Reply → List ℕ) (gives : Gives X) (fleet : Fleet) (site : Site) (planners spares : List X) (tail : Tail) (lines : List (List ℕ))
     (book final : Seen) (rest : List X) (replies : List (List ℕ))
     → MakesPlanners fits count gives → IsOfFleet fleet → IsEquipped gives fleet site.grid (length site.layout.agents) planners spares
-    → IsOpened fits count site planners book → (g : IsOutputOf fits count lines book spares final rest replies)
+    → IsOpened fits count site planners book → (g : IsOutputOf fits count text lines book spares final rest replies)
     → tail_after tail final.opening final.history final.state ≡ tail_after tail (opening fleet site) (entries_of g.outcomes) final.state
-tail_is fits count gives fleet site planners spares tail lines book final rest replies makes range e o g =
+tail_is fits count text gives fleet site planners spares tail lines book final rest replies makes range e o g =
     let opens = g.opening ∙ opening_is fits count gives fleet site planners spares book makes range e o in
     let grew = g.history ∙ ap (λ (h : List Entry). h ++ entries_of g.outcomes) o.history in
     ap (λ (s : State). tail_after tail s final.history final.state) opens ∙ ap (λ (h : List Entry). tail_after tail (opening fleet site) h final.state) grew
 
-abbrev finishes : {X : Type 0} (fits : X → Floor → Bool) (count : X → ℕ) (gives : Gives X) (fleet : Fleet) (site : Site) (planners spares : List X) (old between new : Input)
+abbrev finishes : {X : Type 0} (fits : X → Floor → Bool) (count : X → ℕ) (text : Reply → List ℕ) (gives : Gives X) (fleet : Fleet) (site : Site) (planners spares : List X) (old between new : Input)
     (had has : Option (List ℕ)) (final : Seen) (written : ℕ)
     → SiteRead old between site.grid site.layout
     → MakesPlanners fits count gives → IsOfFleet fleet → IsEquipped gives fleet site.grid (length site.layout.agents) planners spares
-    → PlaysThrough fits count site planners spares between new had has final written → Finishes fleet old new
-finishes fits count gives fleet site planners spares old between new had has final written at makes range e p =
-    let done = operates fits count gives fleet site planners spares (lines_of p.replays.read) p.book final p.rest p.replays.replies makes range e p.opened p.replays.output in
+    → PlaysThrough fits count text site planners spares between new had has final written → Finishes text fleet old new
+finishes fits count text gives fleet site planners spares old between new had has final written at makes range e p =
+    let done = operates fits count text gives fleet site planners spares (lines_of p.replays.read) p.book final p.rest p.replays.replies makes range e p.opened p.replays.output in
     record {
       between = between;
       site = site;
@@ -177,45 +178,45 @@ finishes fits count gives fleet site planners spares old between new had has fin
       ended = p.replays.ended;
       replies = p.replays.replies;
       operates = done;
-      is_log = replay_logged fleet site old between (lines_of p.replays.read) p.replays.replies at range done;
+      is_log = replay_logged text fleet site old between (lines_of p.replays.read) p.replays.replies at range done;
     }
 
-pub serves : {X : Type 0} (fits : X → Floor → Bool) (count : X → ℕ) (gives : Gives X) (fleet : Fleet) (site : Site) (planners spares : List X) (tail : Tail) (old between new : Input)
+pub serves : {X : Type 0} (fits : X → Floor → Bool) (count : X → ℕ) (text : Reply → List ℕ) (gives : Gives X) (fleet : Fleet) (site : Site) (planners spares : List X) (tail : Tail) (old between new : Input)
     (had has : Option (List ℕ)) (written : ℕ)
     → SiteRead old between site.grid site.layout
     → MakesPlanners fits count gives → IsOfFleet fleet → IsEquipped gives fleet site.grid (length site.layout.agents) planners spares
-    → Plays fits count site planners spares tail between new had has written → Serves fleet tail old new had has written
-serves fits count gives fleet site planners spares tail old between new had has written at makes range e p =
+    → Plays fits count text site planners spares tail between new had has written → Serves text fleet tail old new had has written
+serves fits count text gives fleet site planners spares tail old between new had has written at makes range e p =
     let q = p.plays in
-    let same = tail_is fits count gives fleet site planners spares tail (lines_of q.replays.read) q.book p.final q.rest q.replays.replies makes range e q.opened q.replays.output in
+    let same = tail_is fits count text gives fleet site planners spares tail (lines_of q.replays.read) q.book p.final q.rest q.replays.replies makes range e q.opened q.replays.output in
     record {
-      run = finishes fits count gives fleet site planners spares old between new had p.replied p.final written at makes range e q;
+      run = finishes fits count text gives fleet site planners spares old between new had p.replied p.final written at makes range e q;
       appends = subst (λ (t : List ℕ). Appends had has (text_of q.replays.replies ++ t)) same
           (Appends-trans had p.replied has (text_of q.replays.replies) (tail_after tail p.final.opening p.final.history p.final.state) q.replays.appends p.follows);
       written_is = q.replays.written_is;
     }
 
-serves_without : {X : Type 0} (fits : X → Floor → Bool) (count : X → ℕ) (gives : Gives X) (fleet : Fleet) (site : Site) (planners spares : List X) (tail : Tail) (told : Trouble)
+serves_without : {X : Type 0} (fits : X → Floor → Bool) (count : X → ℕ) (text : Reply → List ℕ) (gives : Gives X) (fleet : Fleet) (site : Site) (planners spares : List X) (tail : Tail) (told : Trouble)
     (old between new : Input) (had has : Option (List ℕ))
     → SiteRead old between site.grid site.layout
     → MakesPlanners fits count gives → IsOfFleet fleet → IsEquipped gives fleet site.grid (length site.layout.agents) planners spares
-    → PlaysWithoutTail fits count site planners spares tail told between new had has → ServesWithoutTail fleet tail told old new had has
-serves_without fits count gives fleet site planners spares tail told old between new had has at makes range e p =
+    → PlaysWithoutTail fits count text site planners spares tail told between new had has → ServesWithoutTail text fleet tail told old new had has
+serves_without fits count text gives fleet site planners spares tail told old between new had has at makes range e p =
     let q = p.plays in
-    let same = tail_is fits count gives fleet site planners spares tail (lines_of q.replays.read) q.book p.final q.rest q.replays.replies makes range e q.opened q.replays.output in
+    let same = tail_is fits count text gives fleet site planners spares tail (lines_of q.replays.read) q.book p.final q.rest q.replays.replies makes range e q.opened q.replays.output in
     record {
-      run = finishes fits count gives fleet site planners spares old between new had p.replied p.final p.written at makes range e q;
+      run = finishes fits count text gives fleet site planners spares old between new had p.replied p.final p.written at makes range e q;
       replied = p.replied;
       appends = q.replays.appends;
       why = subst (λ (t : List ℕ). IsWhyNoTail told p.replied has t) same p.why;
     }
 
-serves_until : {X : Type 0} (fits : X → Floor → Bool) (count : X → ℕ) (gives : Gives X) (fleet : Fleet) (site : Site) (planners spares : List X) (fault : ReplayFault)
+serves_until : {X : Type 0} (fits : X → Floor → Bool) (count : X → ℕ) (text : Reply → List ℕ) (gives : Gives X) (fleet : Fleet) (site : Site) (planners spares : List X) (fault : ReplayFault)
     (old between new : Input) (had has : Option (List ℕ))
     → SiteRead old between site.grid site.layout
     → MakesPlanners fits count gives → IsOfFleet fleet → IsEquipped gives fleet site.grid (length site.layout.agents) planners spares
-    → PlaysUntil fits count site planners spares fault between new had has → ServesUntil fleet fault old new had has
-serves_until fits count gives fleet site planners spares fault old between new had has at makes range e p = record {
+    → PlaysUntil fits count text site planners spares fault between new had has → ServesUntil text fleet fault old new had has
+serves_until fits count text gives fleet site planners spares fault old between new had has at makes range e p = record {
   between = between;
   site = site;
   site_read = at;
@@ -224,17 +225,17 @@ serves_until fits count gives fleet site planners spares fault old between new h
   begun = p.stops.begun;
   takes = p.stops.takes;
   replies = p.stops.replies;
-  operates = operates fits count gives fleet site planners spares (lines_of p.stops.read) p.book p.final p.rest p.stops.replies makes range e p.opened p.stops.output;
+  operates = operates fits count text gives fleet site planners spares (lines_of p.stops.read) p.book p.final p.rest p.stops.replies makes range e p.opened p.stops.output;
   writes = p.stops.writes;
 }
 
 -- why it was not served
-pub unserved : {X : Type 0} (fits : X → Floor → Bool) (count : X → ℕ) (gives : Gives X) (fleet : Fleet) (site : Site) (planners spares : List X) (tail : Tail) (old between new : Input)
+pub unserved : {X : Type 0} (fits : X → Floor → Bool) (count : X → ℕ) (text : Reply → List ℕ) (gives : Gives X) (fleet : Fleet) (site : Site) (planners spares : List X) (tail : Tail) (old between new : Input)
     (had has : Option (List ℕ)) (told : Trouble)
     → SiteRead old between site.grid site.layout
     → MakesPlanners fits count gives → IsOfFleet fleet → IsEquipped gives fleet site.grid (length site.layout.agents) planners spares
-    → IsWhyUnplayed fits count site planners spares tail told between new had has → IsWhyUnserved fleet tail told old new had has
-unserved fits count gives fleet site planners spares tail old between new had has told at makes range e why = elim why [
+    → IsWhyUnplayed fits count text site planners spares tail told between new had has → IsWhyUnserved text fleet tail told old new had has
+unserved fits count text gives fleet site planners spares tail old between new had has told at makes range e why = elim why [
   | inl before ↦
       inr (inl (
         record {
@@ -246,39 +247,42 @@ unserved fits count gives fleet site planners spares tail old between new had ha
       ))
   | inr later ↦
       elim later [
-        | inl during ↦ inr (inr (inl (during.0, during.1, serves_until fits count gives fleet site planners spares during.0 old between new had has at makes range e during.2)))
-        | inr behind ↦ inr (inr (inr (serves_without fits count gives fleet site planners spares tail told old between new had has at makes range e behind)))
+        | inl during ↦ inr (inr (inl (during.0, during.1, serves_until fits count text gives fleet site planners spares during.0 old between new had has at makes range e during.2)))
+        | inr behind ↦ inr (inr (inr (serves_without fits count text gives fleet site planners spares tail told old between new had has at makes range e behind)))
       ]
 ]
 
-pub unequipped : (fleet : Fleet) (site : Site) (tail : Tail) (old new : Input) (had has : Option (List ℕ)) (told : Trouble)
-    → SiteRead old new site.grid site.layout → IsWhyUnclaimed fleet.slots told → Keeps had has → IsWhyUnserved fleet tail told old new had has
-unequipped fleet site tail old new had has told at why kept = inr (inl (record { site = site; site_read = at; why = why }, kept))
+pub unequipped : (text : Reply → List ℕ) (fleet : Fleet) (site : Site) (tail : Tail) (old new : Input) (had has : Option (List ℕ)) (told : Trouble)
+    → SiteRead old new site.grid site.layout → IsWhyUnclaimed fleet.slots told → Keeps had has → IsWhyUnserved text fleet tail told old new had has
+unequipped text fleet site tail old new had has told at why kept = inr (inl (record { site = site; site_read = at; why = why }, kept))
 
 -- the same of an answer
-pub answer_serves : {X : Type 0} (fits : X → Floor → Bool) (count : X → ℕ) (gives : Gives X) (fleet : Fleet) (site : Site) (planners spares : List X) (tail : Tail) (old between new : Input)
+pub answer_serves : {X : Type 0} (fits : X → Floor → Bool) (count : X → ℕ) (text used : Reply → List ℕ) (gives : Gives X) (fleet : Fleet) (site : Site) (planners spares : List X) (tail : Tail) (old between new : Input)
     (had has : Option (List ℕ)) (answer : Result Replayed Trouble)
     → SiteRead old between site.grid site.layout
     → MakesPlanners fits count gives → IsOfFleet fleet → IsEquipped gives fleet site.grid (length site.layout.agents) planners spares
-    → IfOk answer (λ r. Plays fits count site planners spares tail between new had has r.replies) → IfOk answer (λ r. Serves fleet tail old new had has r.replies)
-answer_serves fits count gives fleet site planners spares tail old between new had has answer at makes range e plays =
-    IfOk-weaker answer (λ r. Plays fits count site planners spares tail between new had has r.replies) (λ r. Serves fleet tail old new had has r.replies)
-    (λ r p. serves fits count gives fleet site planners spares tail old between new had has r.replies at makes range e p) plays
+    → used ≡ text → IfOk answer (λ r. Plays fits count used site planners spares tail between new had has r.replies) → IfOk answer (λ r. Serves text fleet tail old new had has r.replies)
+answer_serves fits count text used gives fleet site planners spares tail old between new had has answer at makes range e same plays =
+    IfOk-weaker answer (λ r. Plays fits count text site planners spares tail between new had has r.replies) (λ r. Serves text fleet tail old new had has r.replies)
+    (λ r p. serves fits count text gives fleet site planners spares tail old between new had has r.replies at makes range e p)
+    (subst (λ (u : Reply → List ℕ). IfOk answer (λ r. Plays fits count u site planners spares tail between new had has r.replies)) same plays)
 
-pub answer_unserved : {X : Type 0} (fits : X → Floor → Bool) (count : X → ℕ) (gives : Gives X) (fleet : Fleet) (site : Site) (planners spares : List X) (tail : Tail) (old between new : Input)
+pub answer_unserved : {X : Type 0} (fits : X → Floor → Bool) (count : X → ℕ) (text used : Reply → List ℕ) (gives : Gives X) (fleet : Fleet) (site : Site) (planners spares : List X) (tail : Tail) (old between new : Input)
     (had has : Option (List ℕ)) (answer : Result Replayed Trouble)
     → SiteRead old between site.grid site.layout
     → MakesPlanners fits count gives → IsOfFleet fleet → IsEquipped gives fleet site.grid (length site.layout.agents) planners spares
-    → IfErr answer (λ told. IsWhyUnplayed fits count site planners spares tail told between new had has) → IfErr answer (λ told. IsWhyUnserved fleet tail told old new had has)
-answer_unserved fits count gives fleet site planners spares tail old between new had has answer at makes range e plays =
-    IfErr-weaker answer (λ told. IsWhyUnplayed fits count site planners spares tail told between new had has) (λ told. IsWhyUnserved fleet tail told old new had has)
-    (λ told p. unserved fits count gives fleet site planners spares tail old between new had has told at makes range e p) plays
+    → used ≡ text → IfErr answer (λ told. IsWhyUnplayed fits count used site planners spares tail told between new had has) → IfErr answer (λ told. IsWhyUnserved text fleet tail told old new had has)
+answer_unserved fits count text used gives fleet site planners spares tail old between new had has answer at makes range e same plays =
+    IfErr-weaker answer (λ told. IsWhyUnplayed fits count text site planners spares tail told between new had has) (λ told. IsWhyUnserved text fleet tail told old new had has)
+    (λ told p. unserved fits count text gives fleet site planners spares tail old between new had has told at makes range e p)
+    (subst (λ (u : Reply → List ℕ). IfErr answer (λ told. IsWhyUnplayed fits count u site planners spares tail told between new had has)) same plays)
 
 -- and by which planners
-pub answer_fleet : {X : Type 0} (fits : X → Floor → Bool) (count : X → ℕ) (gives : Gives X) (fleet : Fleet) (site : Site) (planners spares : List X) (tail : Tail) (old between new : Input)
+pub answer_fleet : {X : Type 0} (fits : X → Floor → Bool) (count : X → ℕ) (text used : Reply → List ℕ) (gives : Gives X) (fleet : Fleet) (site : Site) (planners spares : List X) (tail : Tail) (old between new : Input)
     (had has : Option (List ℕ)) (answer : Result Replayed Trouble)
     → SiteRead old between site.grid site.layout → IsEquipped gives fleet site.grid (length site.layout.agents) planners spares
-    → IfOk answer (λ r. Plays fits count site planners spares tail between new had has r.replies) → IfOk answer (λ r. ServesByFleet fits count gives fleet tail old new had has r.replies)
-answer_fleet fits count gives fleet site planners spares tail old between new had has answer at e plays =
-    IfOk-weaker answer (λ r. Plays fits count site planners spares tail between new had has r.replies) (λ r. ServesByFleet fits count gives fleet tail old new had has r.replies)
-    (λ r p. record { between = between; site = site; site_read = at; planners = planners; spares = spares; equipped = e; plays = p }) plays
+    → used ≡ text → IfOk answer (λ r. Plays fits count used site planners spares tail between new had has r.replies) → IfOk answer (λ r. ServesByFleet fits count text gives fleet tail old new had has r.replies)
+answer_fleet fits count text used gives fleet site planners spares tail old between new had has answer at e same plays =
+    IfOk-weaker answer (λ r. Plays fits count text site planners spares tail between new had has r.replies) (λ r. ServesByFleet fits count text gives fleet tail old new had has r.replies)
+    (λ r p. record { between = between; site = site; site_read = at; planners = planners; spares = spares; equipped = e; plays = p })
+    (subst (λ (u : Reply → List ℕ). IfOk answer (λ r. Plays fits count u site planners spares tail between new had has r.replies)) same plays)

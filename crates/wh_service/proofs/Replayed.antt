@@ -10,6 +10,7 @@ use Rattle.wh_points.specs.Points.{Site}
 use Rattle.wh_event.specs.CommandLines.{command_of}
 use Rattle.wh_event.specs.declared.entry.Entry.{Entry}
 use Rattle.wh_event.specs.declared.event.Event.{Event}
+use Rattle.wh_event.specs.declared.reply.Reply.{Reply}
 use Rattle.wh_event.specs.declared.event.Spare.{Spare}
 use Rattle.wh_event.specs.declared.event.Command.{Command}
 use Rattle.wh_event.specs.declared.fault.LineFault.{LineFault}
@@ -93,11 +94,11 @@ few_of zero slots few = tt
 few_of (suc n) slots few = (few, few_of n slots few)
 
 -- the log of a replay is of the format
-pub replay_logged : (fleet : Fleet) (site : Site) (old between : Input) (lines replies : List (List ℕ)) → SiteRead old between site.grid site.layout → IsOfFleet fleet
-    → (done : Operates fleet site lines replies) → length (entries_of done.outcomes) < 10 ^ 9
+pub replay_logged : (text : Reply → List ℕ) (fleet : Fleet) (site : Site) (old between : Input) (lines replies : List (List ℕ)) → SiteRead old between site.grid site.layout → IsOfFleet fleet
+    → (done : Operates text fleet site lines replies) → length (entries_of done.outcomes) < 10 ^ 9
     → IsLogText (record { clock = 0; slots = replicate (length site.layout.agents) fleet.slots; entries = entries_of done.outcomes })
     (tail_text Log (opening fleet site) (entries_of done.outcomes) done.final)
-replay_logged fleet site old between lines replies read range done short =
+replay_logged text fleet site old between lines replies read range done short =
     let slots : List ℕ = replicate (length site.layout.agents) fleet.slots in
     let content : Content = record { clock = 0; slots = slots; entries = entries_of done.outcomes } in
     let most = range.1 in

@@ -9,6 +9,12 @@ use Rattle.wh_verify.specs.Drafts.{Seen}
 use Rattle.wh_replay.specs.Fleet.{IsTied}
 use Rattle.wh_edge.specs.declared.trouble.Trouble.{Trouble}
 use Rattle.wh_edge.specs.declared.trouble.Trouble.TheVariants as trouble
+use Rattle.wh_event.specs.declared.reply.Reply.{Reply}
+use Rattle.wh_log.specs.Told.{told_text}
+use Rattle.wh_log.specs.declared.form.Form.{Form}
+use Rattle.wh_log.specs.declared.form.Form.TheVariants as form
+use Rattle.wh_options.specs.declared.chosen.Replies.{Replies}
+use Rattle.wh_options.specs.declared.chosen.Replies.TheVariants as replies
 use Rattle.wh_options.specs.declared.chosen.Tail.{Tail}
 use Rattle.wh_replay.specs.Scripts.{Replays, Stops}
 use Rattle.wh_replay.specs.declared.script.ReplayFault.{ReplayFault}
@@ -21,6 +27,15 @@ trouble_of replay.Broken = trouble.Broken
 trouble_of replay.Endless = trouble.Endless
 trouble_of replay.Unwritten = trouble.Unwritten
 
+-- the form in which replies are told
+abbrev pub form_of : Replies → Form
+form_of replies.Short = form.Short
+form_of replies.Full = form.Full
+
+-- what a reply is told as
+abbrev pub text_by : Replies → Reply → List ℕ
+text_by told = told_text (form_of told)
+
 -- the book of a warehouse that was opened at clock 0 with these planners, in the agents' order
 pub record IsOpened {X : Type 0} (fits : X → Floor → Bool) (count : X → ℕ) (site : Site) (planners : List X) (book : Seen) : Type 0 where
   pub site_is : book.site ≡ site
@@ -30,44 +45,44 @@ pub record IsOpened {X : Type 0} (fits : X → Floor → Bool) (count : X → �
   pub state : book.state ≡ book.opening
   pub history : book.history ≡ []
 
--- a warehouse was opened, and served the script to its end
-pub record PlaysThrough {X : Type 0} (fits : X → Floor → Bool) (count : X → ℕ) (site : Site) (planners spares : List X)
+-- A warehouse was opened, and served the script to its end. Text, here and below, says what a reply is told as.
+pub record PlaysThrough {X : Type 0} (fits : X → Floor → Bool) (count : X → ℕ) (text : Reply → List ℕ) (site : Site) (planners spares : List X)
     (before after : Input) (had has : Option (List ℕ)) (final : Seen) (written : ℕ) : Type 0 where
   pub book : Seen
   pub opened : IsOpened fits count site planners book
   pub rest : List X
-  pub replays : Replays fits count before after book spares final rest had has written
+  pub replays : Replays fits count text before after book spares final rest had has written
 
 -- and what is to follow the replies follows them
-pub record Plays {X : Type 0} (fits : X → Floor → Bool) (count : X → ℕ) (site : Site) (planners spares : List X) (tail : Tail)
+pub record Plays {X : Type 0} (fits : X → Floor → Bool) (count : X → ℕ) (text : Reply → List ℕ) (site : Site) (planners spares : List X) (tail : Tail)
     (before after : Input) (had has : Option (List ℕ)) (written : ℕ) : Type 0 where
   pub final : Seen
   pub replied : Option (List ℕ)
-  pub plays : PlaysThrough fits count site planners spares before after had replied final written
+  pub plays : PlaysThrough fits count text site planners spares before after had replied final written
   pub follows : Appends replied has (tail_after tail final.opening final.history final.state)
 
 -- or it does not follow
-pub record PlaysWithoutTail {X : Type 0} (fits : X → Floor → Bool) (count : X → ℕ) (site : Site) (planners spares : List X) (tail : Tail)
+pub record PlaysWithoutTail {X : Type 0} (fits : X → Floor → Bool) (count : X → ℕ) (text : Reply → List ℕ) (site : Site) (planners spares : List X) (tail : Tail)
     (told : Trouble) (before after : Input) (had has : Option (List ℕ)) : Type 0 where
   pub final : Seen
   pub replied : Option (List ℕ)
   pub written : ℕ
-  pub plays : PlaysThrough fits count site planners spares before after had replied final written
+  pub plays : PlaysThrough fits count text site planners spares before after had replied final written
   pub why : IsWhyNoTail told replied has (tail_after tail final.opening final.history final.state)
 
 -- a warehouse was opened, and served a beginning of the script
-pub record PlaysUntil {X : Type 0} (fits : X → Floor → Bool) (count : X → ℕ) (site : Site) (planners spares : List X)
+pub record PlaysUntil {X : Type 0} (fits : X → Floor → Bool) (count : X → ℕ) (text : Reply → List ℕ) (site : Site) (planners spares : List X)
     (fault : ReplayFault) (before after : Input) (had has : Option (List ℕ)) : Type 0 where
   pub book : Seen
   pub opened : IsOpened fits count site planners book
   pub final : Seen
   pub rest : List X
-  pub stops : Stops fits count fault before after book spares final rest had has
+  pub stops : Stops fits count text fault before after book spares final rest had has
 
 -- Why a script was not played to its end: memory was wanting to open the warehouse, or the reader or the writer failed, or what
 -- is to follow the replies does not.
-abbrev pub IsWhyUnplayed : {X : Type 0} → (X → Floor → Bool) → (X → ℕ) → Site → List X → List X → Tail → Trouble → Input → Input → Option (List ℕ) → Option (List ℕ) → Type 0
-IsWhyUnplayed fits count site planners spares tail told before after had has =
+abbrev pub IsWhyUnplayed : {X : Type 0} → (X → Floor → Bool) → (X → ℕ) → (Reply → List ℕ) → Site → List X → List X → Tail → Trouble → Input → Input → Option (List ℕ) → Option (List ℕ) → Type 0
+IsWhyUnplayed fits count text site planners spares tail told before after had has =
     ((told ≡ trouble.NoMemory) × (after ≡ before) × Keeps had has)
-    ⊎ ((fault : ReplayFault) × (told ≡ trouble_of fault) × PlaysUntil fits count site planners spares fault before after had has)
-    ⊎ PlaysWithoutTail fits count site planners spares tail told before after had has
+    ⊎ ((fault : ReplayFault) × (told ≡ trouble_of fault) × PlaysUntil fits count text site planners spares fault before after had has)
+    ⊎ PlaysWithoutTail fits count text site planners spares tail told before after had has

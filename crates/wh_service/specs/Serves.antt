@@ -9,6 +9,7 @@ use Rattle.wh_points.specs.Points.{Site}
 use Rattle.wh_points.specs.Formed.{IsFormed}
 use Rattle.wh_event.specs.declared.event.Command.{Command}
 use Rattle.wh_event.specs.declared.entry.Entry.{Entry}
+use Rattle.wh_event.specs.declared.reply.Reply.{Reply}
 use Rattle.wh_core.specs.Laws.{IsOpening}
 use Rattle.wh_core.specs.States.{State, opened}
 use Rattle.wh_core.specs.Steps.{Run}
@@ -50,12 +51,13 @@ abbrev pub RanFrom : Site → State → List ℕ → List Command → List (Opti
 RanFrom site old spares commands outcomes new rest =
     Ran (λ (slots : ℕ) (grid : Floor). true) (λ (slots : ℕ). slots) site 0 commands outcomes old spares new rest
 
--- These replies answer the lines: their commands ran from the opening state, with the fleet's spare planners.
-pub record Operates (fleet : Fleet) (site : Site) (lines : List (List ℕ)) (replies : List (List ℕ)) : Type 0 where
+-- These replies answer the lines: their commands ran from the opening state, with the fleet's spare planners. Text, here and
+-- below, says what a reply is told as.
+pub record Operates (text : Reply → List ℕ) (fleet : Fleet) (site : Site) (lines : List (List ℕ)) (replies : List (List ℕ)) : Type 0 where
   pub outcomes : List (Option Entry)
   pub final : State
   pub rest : List ℕ
-  pub replies_are : replies ≡ replies_to lines outcomes
+  pub replies_are : replies ≡ replies_to text lines outcomes
   pub ran : RanFrom site (opening fleet site) (replicate fleet.spares fleet.slots) (commands_of lines) outcomes final rest
   -- the entries are one run of the abstract warehouse
   pub run : Run site (opening fleet site) (entries_of outcomes) final
@@ -65,7 +67,7 @@ pub record Operates (fleet : Fleet) (site : Site) (lines : List (List ℕ)) (rep
 -- A site was read, all that followed was read to the end, and these are the replies to its lines. The run is from an opening
 -- state, so that each law of runs is one of it. The log of the entries, where they are fewer than 1,000,000,000, is of the
 -- format, so that it is read back as what was done.
-pub record Finishes (fleet : Fleet) (old new : Input) : Type 0 where
+pub record Finishes (text : Reply → List ℕ) (fleet : Fleet) (old new : Input) : Type 0 where
   pub between : Input
   pub site : Site
   pub site_read : SiteRead old between site.grid site.layout
@@ -74,30 +76,30 @@ pub record Finishes (fleet : Fleet) (old new : Input) : Type 0 where
   pub takes : Takes between new script
   pub ended : IsAtEnd (left new)
   pub replies : List (List ℕ)
-  pub operates : Operates fleet site (lines_of script) replies
+  pub operates : Operates text fleet site (lines_of script) replies
   pub is_log : length (entries_of operates.outcomes) < 10 ^ 9 → IsLogText
       (record { clock = 0; slots = replicate (length site.layout.agents) fleet.slots; entries = entries_of operates.outcomes })
       (tail_text Log (opening fleet site) (entries_of operates.outcomes) operates.final)
 
 -- what is to follow the replies: the log of its entries, or the ledger of its last state
-abbrev pub follows : {fleet : Fleet} {old new : Input} → Tail → Finishes fleet old new → List ℕ
-follows {fleet} tail run = tail_after tail (opening fleet run.site) (entries_of run.operates.outcomes) run.operates.final
+abbrev pub follows : {text : Reply → List ℕ} {fleet : Fleet} {old new : Input} → Tail → Finishes text fleet old new → List ℕ
+follows {text} {fleet} tail run = tail_after tail (opening fleet run.site) (entries_of run.operates.outcomes) run.operates.final
 
 -- All was served, and the replies and what is to follow them stand behind what was written.
-pub record Serves (fleet : Fleet) (tail : Tail) (old new : Input) (had has : Option (List ℕ)) (written : ℕ) : Type 0 where
-  pub run : Finishes fleet old new
+pub record Serves (text : Reply → List ℕ) (fleet : Fleet) (tail : Tail) (old new : Input) (had has : Option (List ℕ)) (written : ℕ) : Type 0 where
+  pub run : Finishes text fleet old new
   pub appends : Appends had has (text_of run.replies ++ follows tail run)
   pub written_is : written ≡ length run.replies
 
 -- All was served, the replies stand behind what was written, and what is to follow them does not.
-pub record ServesWithoutTail (fleet : Fleet) (tail : Tail) (told : Trouble) (old new : Input) (had has : Option (List ℕ)) : Type 0 where
-  pub run : Finishes fleet old new
+pub record ServesWithoutTail (text : Reply → List ℕ) (fleet : Fleet) (tail : Tail) (told : Trouble) (old new : Input) (had has : Option (List ℕ)) : Type 0 where
+  pub run : Finishes text fleet old new
   pub replied : Option (List ℕ)
   pub appends : Appends had replied (text_of run.replies)
   pub why : IsWhyNoTail told replied has (follows tail run)
 
 -- A site was read, and a beginning of what followed was served. After a write fault a front of the replies was written.
-pub record ServesUntil (fleet : Fleet) (fault : ReplayFault) (old new : Input) (had has : Option (List ℕ)) : Type 0 where
+pub record ServesUntil (text : Reply → List ℕ) (fleet : Fleet) (fault : ReplayFault) (old new : Input) (had has : Option (List ℕ)) : Type 0 where
   pub between : Input
   pub site : Site
   pub site_read : SiteRead old between site.grid site.layout
@@ -106,12 +108,12 @@ pub record ServesUntil (fleet : Fleet) (fault : ReplayFault) (old new : Input) (
   pub begun : List ℕ
   pub takes : Takes between new (read ++ begun)
   pub replies : List (List ℕ)
-  pub operates : Operates fleet site (lines_of read) replies
+  pub operates : Operates text fleet site (lines_of read) replies
   pub writes : WritesUntil fault had has (text_of replies)
 
 -- A site was read, planners were made for its agents and to stand by, all of the fleet's kind and with their claims on one
 -- bank, which has as many slots in all as the options name; and with these a warehouse served the script.
-pub record ServesByFleet {X : Type 0} (fits : X → Floor → Bool) (count : X → ℕ) (gives : PlannerParts → Result X AllocError → Type 0) (fleet : Fleet) (tail : Tail)
+pub record ServesByFleet {X : Type 0} (fits : X → Floor → Bool) (count : X → ℕ) (text : Reply → List ℕ) (gives : PlannerParts → Result X AllocError → Type 0) (fleet : Fleet) (tail : Tail)
     (old new : Input) (had has : Option (List ℕ)) (written : ℕ) : Type 0 where
   pub between : Input
   pub site : Site
@@ -119,7 +121,7 @@ pub record ServesByFleet {X : Type 0} (fits : X → Floor → Bool) (count : X �
   pub planners : List X
   pub spares : List X
   pub equipped : IsEquipped gives fleet site.grid (length site.layout.agents) planners spares
-  pub plays : Plays fits count site planners spares tail between new had has written
+  pub plays : Plays fits count text site planners spares tail between new had has written
 
 -- a site was read, and there it ended: a planner got no slots, or memory was wanting
 pub record EndsAtFleet (fleet : Fleet) (told : Trouble) (old new : Input) : Type 0 where
@@ -128,9 +130,9 @@ pub record EndsAtFleet (fleet : Fleet) (told : Trouble) (old new : Input) : Type
   pub why : IsWhyUnclaimed fleet.slots told
 
 -- Why a script was not served to its end, or what is to follow the replies does not. Before the script nothing is written.
-abbrev pub IsWhyUnserved : Fleet → Tail → Trouble → Input → Input → Option (List ℕ) → Option (List ℕ) → Type 0
-IsWhyUnserved fleet tail told old new had has =
+abbrev pub IsWhyUnserved : (Reply → List ℕ) → Fleet → Tail → Trouble → Input → Input → Option (List ℕ) → Option (List ℕ) → Type 0
+IsWhyUnserved text fleet tail told old new had has =
     (SiteFault told old new × Keeps had has)
     ⊎ (EndsAtFleet fleet told old new × Keeps had has)
-    ⊎ ((fault : ReplayFault) × (told ≡ trouble_of fault) × ServesUntil fleet fault old new had has)
-    ⊎ ServesWithoutTail fleet tail told old new had has
+    ⊎ ((fault : ReplayFault) × (told ≡ trouble_of fault) × ServesUntil text fleet fault old new had has)
+    ⊎ ServesWithoutTail text fleet tail told old new had has

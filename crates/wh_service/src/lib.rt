@@ -21,5 +21,5 @@ pub use verified::judge_log;
 
 // handed on, for callers: what the items below take, return and speak of
 pub use wh_live::{Cells, Desk, DeskFault, DeskName, Pass, Publisher, Receipt, Viewer};
-pub use wh_replay::{Committed, NoMemory, OpenFault, ReplayFault, Warehouse, replay};
+pub use wh_replay::{Committed, Form, NoMemory, OpenFault, ReplayFault, Warehouse, replay};
 pub use wh_verify::{Book, Verified, verify};

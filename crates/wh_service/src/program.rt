@@ -2,9 +2,10 @@
 
 ghost use Rattle.std.specs.Prelude.{◌≡◌, IfErr, IfOk, length};
 ghost use Rattle.wh_points.specs.Points.{IsLayout};
+ghost use Rattle.wh_log.specs.Told.{told_text};
 ghost use Rattle.wh_replay.specs.Fleet.{AllFit};
 ghost use Rattle.wh_service.specs.Fleets.{IsOfFleet, MakesPlanners};
-ghost use Rattle.wh_service.specs.Plays.{Plays, IsWhyUnplayed, trouble_of};
+ghost use Rattle.wh_service.specs.Plays.{Plays, IsWhyUnplayed, form_of, text_by, trouble_of};
 ghost use Rattle.wh_service.specs.Serves.{Serves, ServesByFleet, IsWhyUnserved, ended_by};
 
 use crate::fleet::equip;
@@ -16,7 +17,8 @@ use std::sync::Arc;
 use wh_edge::{Site, Status, Trouble, read_site};
 use wh_grid::Grid;
 use wh_lines::Lines;
-use wh_options::{Refusal, ReplayOptions, Tail};
+use wh_log::Form;
+use wh_options::{Refusal, ReplayOptions, Replies, Tail};
 use wh_planner::Planner;
 use wh_points::Points;
 use wh_replay::{OpenFault, ReplayFault, Replayed, Warehouse, replay};
@@ -32,12 +34,23 @@ fn trouble_of(fault: ReplayFault) -> Trouble
     }
 }
 
+/// The form in which replies are told.
+fn form_of(replies: Replies) -> Form
+    ensures { result ≡ form_of replies }
+{
+    match replies {
+        Replies::Short => Form::Short,
+        Replies::Full => Form::Full,
+    }
+}
+
 /// Opens the warehouse at clock 0 with one planner for each agent, serves the script, and writes what is to follow the
 /// replies.
 pub fn play<R: Read, W: Write, P: Planner>(
     alloc: Global,
     lines: &mut Lines<R>,
     output: &mut W,
+    form: Form,
     grid: Arc<Grid>,
     points: Points,
     planners: Vec<P>,
@@ -47,9 +60,9 @@ pub fn play<R: Read, W: Write, P: Planner>(
     requires layout { IsLayout grid.value points }
     requires count { length planners.items ≡ length points.agents }
     requires fit { AllFit P.fits_map grid.value planners.items }
-    ensures ok { IfOk result (λ r. Plays P.fits_map P.slot_count (record { grid = grid.value; layout = points }) planners.items spares.items tail
+    ensures ok { IfOk result (λ r. Plays P.fits_map P.slot_count (told_text form) (record { grid = grid.value; layout = points }) planners.items spares.items tail
         lines.old lines.new (W.contents output.old) (W.contents output.new) r.replies) }
-    ensures fault { IfErr result (λ told. IsWhyUnplayed P.fits_map P.slot_count (record { grid = grid.value; layout = points }) planners.items spares.items tail
+    ensures fault { IfErr result (λ told. IsWhyUnplayed P.fits_map P.slot_count (told_text form) (record { grid = grid.value; layout = points }) planners.items spares.items tail
         told lines.old lines.new (W.contents output.old) (W.contents output.new)) }
 {
     let mut warehouse = match Warehouse::open(alloc, grid, points, planners, 0) {
@@ -57,7 +70,7 @@ pub fn play<R: Read, W: Write, P: Planner>(
         Err(OpenFault::NoMemory) => return Err(Trouble::NoMemory),
         Err(OpenFault::WrongCount | OpenFault::Foreign { .. }) => unreachable!(),
     };
-    let replayed = match replay(lines, alloc, output, &mut warehouse, &mut spares) {
+    let replayed = match replay(lines, alloc, form, output, &mut warehouse, &mut spares) {
         Ok(replayed) => replayed,
         Err(fault) => return Err(trouble_of(fault)),
     };
@@ -82,9 +95,9 @@ pub fn serve<R: Read, W: Write, P: Planner, F: Fn(PlannerParts) -> Result<P, All
     requires range { IsOfFleet options.now.fleet }
     requires callable { F.IsAlwaysCallable make }
     requires makes { MakesPlanners P.fits_map P.slot_count (F.post make) }
-    ensures ok { IfOk result (λ r. Serves options.now.fleet options.now.tail lines.old lines.new (W.contents output.old) (W.contents output.new) r.replies) }
-    ensures fleet { IfOk result (λ r. ServesByFleet P.fits_map P.slot_count (F.post make) options.now.fleet options.now.tail lines.old lines.new (W.contents output.old) (W.contents output.new) r.replies) }
-    ensures fault { IfErr result (λ told. IsWhyUnserved options.now.fleet options.now.tail told lines.old lines.new (W.contents output.old) (W.contents output.new)) }
+    ensures ok { IfOk result (λ r. Serves (text_by options.now.replies) options.now.fleet options.now.tail lines.old lines.new (W.contents output.old) (W.contents output.new) r.replies) }
+    ensures fleet { IfOk result (λ r. ServesByFleet P.fits_map P.slot_count (text_by options.now.replies) (F.post make) options.now.fleet options.now.tail lines.old lines.new (W.contents output.old) (W.contents output.new) r.replies) }
+    ensures fault { IfErr result (λ told. IsWhyUnserved (text_by options.now.replies) options.now.fleet options.now.tail told lines.old lines.new (W.contents output.old) (W.contents output.new)) }
 {
     let Site { grid, points } = read_site(lines, alloc)?;
     let grid = Arc::new(alloc, grid)?;
@@ -98,8 +111,11 @@ pub fn serve<R: Read, W: Write, P: Planner, F: Fn(PlannerParts) -> Result<P, All
         Ok(equipped) => equipped,
         Err(trouble) => return Err(trouble),
     };
+    let form = form_of(options.replies);
     let tail = options.tail;
-    play(alloc, lines, output, grid, points, planners, spares, tail)
+    play(
+        alloc, lines, output, form, grid, points, planners, spares, tail,
+    )
 }
 
 /// How the program ends where its words give no options, by whether their text was shown.

@@ -1,10 +1,31 @@
-use Rattle.std.proofs.Common.{◌∙◌}
-use Rattle.wh_replay.proofs.Giving.{gives_one}
+use Rattle.std.proofs.Common.{◌≡◌, ◌∙◌, Ok, Some, List, ◌∷◌, []}
+use Rattle.wh_log.specs.Told.{told_text}
+use Rattle.wh_replay.specs.Answers.{reply_line, outcome_text}
+use Rattle.wh_replay.specs.Scripts.{Tells}
+use Rattle.wh_replay.proofs.Giving.{gives_one, tells_outcome}
+use Rattle.wh_replay.proofs.Serving.{serves_one, serves_begun, tells_few}
 use Rattle.wh_replay.proofs.answer.obey.Goals as goal
 
-pub returns-clause-gives : goal.returns-clause-gives
-returns-clause-gives g c =
-    gives_one g.P.Planner.fits_map g.P.Planner.slot_count c.args.command.now c.args.warehouse.now.book c.args.spares.now.items _ _
-    c.run_event-added.result c.put_outcome.new.reply.items c.history-before.ensures.opening
-    c.history-before.ensures.run c.run_event-added.ensures.runs c.put_outcome.ensures.starved
-    (λ yes front entry is. c.put_outcome.ensures.text yes front entry (c.history.ensures.value ∙ is))
+pub returns-clause-ok : goal.returns-clause-ok
+returns-clause-ok g c =
+    let one = c.run_event-added.ensures.runs in
+    let gives = gives_one g.P.Planner.fits_map g.P.Planner.slot_count (told_text c.args.form) c.args.command.now c.args.warehouse.now.book c.args.spares.now.items _ _
+    c.run_event-added.result c.history-before.ensures.opening c.history-before.ensures.run one in
+    let told = tells_outcome (told_text c.args.form) one.outcome c.run_event-added.result _ _ c.tell_outcome.result _ _ one.added_is one.history c.tell_outcome.ensures.starved
+    (λ yes front entry is. c.tell_outcome.ensures.text yes front entry (c.history.ensures.value ∙ is)) in
+    serves_one _ _ _ _ _ _ _ _ _ _ _ gives c.tell_outcome.result told
+
+pub returns-clause-few : goal.returns-clause-few
+returns-clause-few g c =
+    let one = c.run_event-added.ensures.runs in
+    tells_few c.tell_outcome.result _ _ _ (tells_outcome (told_text c.args.form) one.outcome c.run_event-added.result _ _ c.tell_outcome.result _ _ one.added_is one.history c.tell_outcome.ensures.starved
+    (λ yes front entry is. c.tell_outcome.ensures.text yes front entry (c.history.ensures.value ∙ is)))
+
+pub returns-clause-err : goal.returns-clause-err
+returns-clause-err g c =
+    let one = c.run_event-added.ensures.runs in
+    let gives = gives_one g.P.Planner.fits_map g.P.Planner.slot_count (told_text c.args.form) c.args.command.now c.args.warehouse.now.book c.args.spares.now.items _ _
+    c.run_event-added.result c.history-before.ensures.opening c.history-before.ensures.run one in
+    let told = tells_outcome (told_text c.args.form) one.outcome c.run_event-added.result _ _ c.tell_outcome.result _ _ one.added_is one.history c.tell_outcome.ensures.starved
+    (λ yes front entry is. c.tell_outcome.ensures.text yes front entry (c.history.ensures.value ∙ is)) in
+    serves_begun _ _ _ _ _ _ _ _ _ _ _ gives c.tell_outcome.result told

@@ -2,7 +2,7 @@
 
 ghost use Rattle.std.specs.Prelude.{IfOk, OnOk, OnErr, length, take, ◌≤◌};
 ghost use Rattle.std.specs.Io.KnownBytes.{Appends, Keeps};
-ghost use Rattle.wh_replay.specs.Scripts.{WritesFront};
+ghost use Rattle.wh_lines.specs.Output.{WritesFront};
 
 use std::io::{ErrorKind, Write};
 

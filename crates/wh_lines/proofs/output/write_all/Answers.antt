@@ -1,5 +1,5 @@
-use Rattle.wh_replay.proofs.Written.{wrote_rest, rest_long}
-use Rattle.wh_replay.proofs.output.write_all.Goals as goal
+use Rattle.wh_lines.proofs.Written.{wrote_rest, rest_long}
+use Rattle.wh_lines.proofs.output.write_all.Goals as goal
 
 pub loop-preserved : goal.loop-preserved
 loop-preserved g c = record {

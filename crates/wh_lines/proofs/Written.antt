@@ -1,10 +1,11 @@
 -- Bytes that are written in parts.
-use Rattle.std.proofs.Common.{◌≡◌, ◌≤◌, ◌+◌, ℕ, List, [], ◌∷◌, ◌++◌, length, take, drop, ◌-◌, refl, sym, ap, arith, subst, Option, zero, suc}
+use Rattle.std.proofs.Common.{Result, Ok, Err, ◌≡◌, ◌≤◌, ◌+◌, ℕ, List, [], ◌∷◌, ◌++◌, length, take, drop, ◌-◌, refl, sym, ap, arith, subst, Option, zero, suc}
+use Rattle.std.specs.Prelude.{OnErr}
 use Rattle.std.specs.Io.KnownBytes.{Appends, Keeps}
 use Rattle.std.proofs.KnownBytes.{Appends-trans, Appends-kept}
 use Rattle.std.proofs.lemmas.List.{take_all, length-drop}
 use Rattle.wh_lines.proofs.Room.{take_past}
-use Rattle.wh_replay.specs.Scripts.{WritesFront}
+use Rattle.wh_lines.specs.Output.{WritesFront}
 
 take_two : (xs : List ℕ) (d n k : ℕ) → k ≡ d + n → take d xs ++ take n (drop d xs) ≡ take k xs
 take_two xs zero n k e = (let same : n ≡ k = omega arith in ap (λ m. take m xs) same)
@@ -37,3 +38,28 @@ front_after a b c xs ys p w = record { count = length xs + w.count; appends = su
 -- all of it is a front of it
 pub front_all : (a b : Option (List ℕ)) (xs : List ℕ) → Appends a b xs → WritesFront a b xs
 front_all a b xs p = record { count = length xs; appends = subst (Appends a b) (sym (take_all (length xs) xs (omega arith))) p }
+
+-- ---- two parts
+
+-- a front of the first part is a front of both
+take_first : (n : ℕ) (xs ys : List ℕ) → take (length (take n xs)) (xs ++ ys) ≡ take n xs
+take_first zero xs ys = refl
+take_first (suc n) [] ys = refl
+take_first (suc n) (x ∷ xs) ys = ap (λ l. x ∷ l) (take_first n xs ys)
+
+pub front_first : (a b : Option (List ℕ)) (xs ys : List ℕ) → WritesFront a b xs → WritesFront a b (xs ++ ys)
+front_first a b xs ys w = record { count = length (take w.count xs); appends = subst (Appends a b) (sym (take_first w.count xs ys)) w.appends }
+
+pub on_err_of : {T E P : Type 0} (r : Result T E) → P → OnErr r P
+on_err_of (Ok x) p = tt
+on_err_of (Err e) p = p
+
+-- two parts that make the text
+pub both_parts : (a b c : Option (List ℕ)) (xs ys text : List ℕ) → text ≡ xs ++ ys → Appends a b xs → Appends b c ys → Appends a c text
+both_parts a b c xs ys text e p q = subst (Appends a c) (sym e) (Appends-trans a b c xs ys p q)
+
+pub in_first : (a b : Option (List ℕ)) (xs ys text : List ℕ) → text ≡ xs ++ ys → WritesFront a b xs → WritesFront a b text
+in_first a b xs ys text e w = subst (WritesFront a b) (sym e) (front_first a b xs ys w)
+
+pub in_second : (a b c : Option (List ℕ)) (xs ys text : List ℕ) → text ≡ xs ++ ys → Appends a b xs → WritesFront b c ys → WritesFront a c text
+in_second a b c xs ys text e p w = subst (WritesFront a c) (sym e) (front_after a b c xs ys p w)
