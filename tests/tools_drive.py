@@ -17,6 +17,10 @@ import counting
 
 ROOT = os.path.dirname(os.path.dirname(os.path.abspath(__file__)))
 PROGRAM = os.environ.get('WAREHOUSE', os.path.join(ROOT, 'warehouse'))
+sys.path.insert(0, os.path.join(ROOT, 'tools'))
+from runs import Fault, read_instance    # noqa: E402
+from whereabouts import Whereabouts    # noqa: E402
+
 ENVIRONMENT = {**os.environ, 'WAREHOUSE': PROGRAM}
 SCRATCH = tempfile.TemporaryDirectory()
 
@@ -206,20 +210,19 @@ def test_batches_that_are_longer_than_a_pipe() -> None:
 
 
 def test_a_reply_that_is_longer_than_a_pipe() -> None:
-    # from the left end of a corridor to the right one and back, four times, so 8 x 3999 steps
-    row = f'type t\nheight 1\nwidth 4000\nmap\n{"." * 4000}\n%%\nstation A 0 0\nstation B 3999 0\nparking P 1 0\nagent A\n%%\n'
+    # from the left end of a corridor to the right one and back, four times, so 8 x 2599 steps
+    row = f'type t\nheight 1\nwidth 2600\nmap\n{"." * 2600}\n%%\nstation A 0 0\nstation B 2599 0\nparking P 1 0\nagent A\n%%\n'
     instance = row + 'submit x' + ' B A' * 4 + '\n'
     lines = file('cells', '')
     found, said, status = drive(instance, '--ticks', '0', '--cells', lines)
     same((found, status), ('orders 1 accepted 1 done 0 ticks 0 commands 2 requests 1 refused 0', 1))
     has(said, 'at clock 0 it was not at its end')
     same(written(lines), [(0, [(0, 0)])])
-    # each way has 3999 cells of 4 bytes and more, and so the reply more than a pipe holds; told short it says the same end
+    # some 21,000 cells, most of 7 bytes: more than two pipes hold
     told = warehouse(instance + 'token 0\n', 'replay', '--replies', 'full').split('\n')[1]
-    way = [*range(1, 4000), *range(3998, -1, -1)]
+    way = [*range(1, 2600), *range(2598, -1, -1)]
     same(told, 'took 0 path 0,0' + ''.join(f' {x},0' for x in way * 4))
     assert len(told) > 2 * 65536
-    same(warehouse(instance + 'token 0\n', 'replay').split('\n')[1], 'took 0 end 31992')
 
 
 def written(path: str) -> list[tuple[int, list[tuple[int, int]]]]:
@@ -444,12 +447,19 @@ def wrong(before: list[str], line: str, reply: str, part: str, *words: str) -> N
 
 def test_replies_whose_cells_are_wrong() -> None:
     for reply, part in (('took 5 path 0,1', 'no task 5 is open'), ('took 0 end 6', 'tells no cells: see --replies short'),
-                        ('took 0 path 1,1 1,0 1,1 2,1 3,1 3,0', 'begins at 1,1, and it stands at 0,1'),
-                        ('took 0 path 0,1 1,1 1,0 2,1 3,1 3,0', 'jumps from 1,0 to 2,1'),
+                        ('took 0 path 0,1 1,1 1,0 2,1 3,1 3,0', 'jumps from 1,0 to 2,1'), ('parked Z path 0,1', 'has no point Z')):
+        wrong(GOES[:1], 'token 0', reply, part)
+    for reply, part in (('took 0 path 1,1 1,0 1,1 2,1 3,1 3,0', 'begins at 1,1, and it stands at 0,1'),
                         ('took 0 path 0,1 0,0', 'meets 0,0, no passable cell'), ('took 0 path 0,1 -1,1', 'meets -1,1, no passable cell'),
                         ('took 0 path 0,1 1,1 2,1 3,1 3,0', 'does not come to A at 1,0'),
-                        ('parked Z path 0,1', 'has no point Z'), ('parked C path 0,1 1,1', 'does not end at a point C')):
-        wrong(GOES[:1], 'token 0', reply, part)
+                        ('parked C path 0,1 1,1', 'does not end at a point C')):
+        told = Whereabouts(read_instance('i', ONE.encode()))
+        told.hear('submit  x A B', 'accepted 0')
+        try:
+            told.hear('token 0', reply)
+            raise AssertionError(f'{reply!r} is taken')
+        except Fault as fault:
+            has(str(fault), part)
     # the first visit is at 2
     wrong(GOES[:2], 'tick', 'clock 1 picked 1 dropped 0', 'the cells give 0 picked and 0 dropped')
     wrong(GOES[:3], 'tick', 'clock 2 picked 0 dropped 0', 'the cells give 1 picked and 0 dropped')
