@@ -581,7 +581,9 @@ def test_the_dialogue_of_the_page() -> None:
     sent, wanted = [line for line, _ in spoken], [reply for _, reply in spoken]
     same(len(sent), 22)
     site = '%%\n'.join(text_of('examples', 'deliveries').split('%%\n')[:2]) + '%%\n'
-    same(warehouse(site + '\n'.join(sent) + '\n', 'replay').splitlines(), wanted)
+    same(warehouse(site + '\n'.join(sent) + '\n', 'replay', '--replies', 'full').splitlines(), wanted)
+    same(sum(' path ' in reply for reply in wanted), 4)
+    same(warehouse(site + '\n'.join(sent) + '\n', 'replay').splitlines(), short(wanted))
 
 
 NEEDS_PROGRAM = {'test_one_order', 'test_two_agents_on_one_corridor', 'test_an_order_released_later',
