@@ -586,7 +586,20 @@ def test_the_dialogue_of_the_page() -> None:
     same(warehouse(site + '\n'.join(sent) + '\n', 'replay').splitlines(), short(wanted))
 
 
-NEEDS_PROGRAM = {'test_one_order', 'test_two_agents_on_one_corridor', 'test_an_order_released_later',
+def test_full_replies_are_the_log() -> None:
+    instance = text_of('examples', 'deliveries')
+    asked = [line for line in instance.split('%%\n')[2].splitlines() if not line.startswith('#')]
+    told = warehouse(instance, 'replay', '--replies=full').splitlines()
+    same(len(told), len(asked))
+    entries = [f'0 {line} = {reply}' for line, reply in zip(asked, told)]
+    made = '\n'.join(['wlog 2', 'start 0 slots 4 4', *entries, f'end {len(entries)}', ''])
+    same(warehouse(instance, 'replay', '--tail', 'log').split('%%\n')[1], made)
+    # what was told up to a kill is a run too
+    cut = '\n'.join(['wlog 2', 'start 0 slots 4 4', *entries[:7], 'end 7', ''])
+    same(warehouse('%%\n'.join(instance.split('%%\n')[:2]) + '%%\n' + cut, 'verify'), 'run 7\n')
+
+
+NEEDS_PROGRAM = {'test_full_replies_are_the_log', 'test_one_order', 'test_two_agents_on_one_corridor', 'test_an_order_released_later',
                  'test_an_order_that_waits_for_another', 'test_no_path_now', 'test_no_path_ever',
                  'test_an_order_of_three_stops_that_nobody_may_take', 'test_a_bound_on_ticks', 'test_a_shift_that_ends_with_an_open_order',
                  'test_refused_orders_are_left_out', 'test_batches_that_are_longer_than_a_pipe', 'test_the_program_refuses_the_points',
