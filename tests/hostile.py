@@ -32,6 +32,7 @@ EVENT = (rf'(submit {NAME}( {NAME}){{2,8}}|token {NUMBER}|tick|close'
          rf'|replace {NUMBER} (none|foreign|fits {NUMBER}))')
 ANSWER = (rf'(accepted {NUMBER}|took {NUMBER} {PATH}|rested|parked {NAME} {PATH}'
           rf'|clock {NUMBER} picked {NUMBER} dropped {NUMBER}|replaced {NUMBER}|closed|{REFUSAL})')
+FULL_REPLY = re.compile(ANSWER)
 LOG = re.compile(rf'(wlog 2|start {NUMBER} slots {NUMBER}( {NUMBER})*|{NUMBER} {EVENT} = {ANSWER}|end {NUMBER})')
 VERDICT = re.compile(rf'(formed|few parkings {NUMBER} {NUMBER}|cut {NAME} {NAME})')
 VERIFIED = re.compile(rf'(run {NUMBER}|bad {NUMBER})')
@@ -125,13 +126,19 @@ def fleet_words(chance):
 def wrong_words(chance):
     return chance.choice([[], ['go'], ['replay', '--slots', '1'], ['replay', '--slots=65'], ['replay', 'x'],
                           ['check', '--slots', '4'], ['replay', '--slots', '4', '--slots', '4'],
-                          ['verify', '--tail', 'log'], ['live', '--turns', '0'], ['replay', '--bank', '-0']])
+                          ['verify', '--tail', 'log'], ['live', '--turns', '0'], ['replay', '--bank', '-0'],
+                          ['replay', '--replies', 'long'], ['live', '--replies=full']])
 
 
 def is_text_of(form, text):
     if text and not text.endswith('\n'):
         return False
     return all(form.fullmatch(line) for line in text.split('\n')[:-1])
+
+
+def reply_form(words):
+    """What a reply is, by the words of `replay`."""
+    return FULL_REPLY if '--replies full' in ' '.join(words).replace('=', ' ') else REPLY
 
 
 def is_output(words, status, text):
@@ -145,7 +152,7 @@ def is_output(words, status, text):
     if kind == 'live':
         return is_text_of(LOG, text)
     replies, mark, tail = text.partition('%%\n')
-    return is_text_of(REPLY, replies) and is_text_of(LEDGER if '--tail=ledger' in words else LOG, tail)
+    return is_text_of(reply_form(words), replies) and is_text_of(LEDGER if '--tail=ledger' in words else LOG, tail)
 
 
 def is_error(words, status, text):
@@ -174,6 +181,7 @@ def one_run(program, seed, kinds, limit):
         words = ['check']
     else:
         words = ['replay'] + fleet_words(chance) + chance.choice([[], [f'--tail={kind}'] if kind != 'replay' else []])
+        words += chance.choice([[], ['--replies=full'], ['--replies', 'short']])
     parts = [level, points, commands]
     if chance.random() < 0.7:
         parts[chance.randrange(3)] = None    # this section alone is spoiled

@@ -4,8 +4,8 @@
     tests/tools_drive.py            all; what runs the program takes it from WAREHOUSE, else ./warehouse
     tests/tools_drive.py --no-program
 
-A stand-in for the program has a tape of commands and replies: it ends with status 9 at a command that is not the tape's,
-so a tape also tells what drive.py sends, and when. The last line is `N passed, M failed`; status 1 where one failed.
+tests/tools_replies.py has those that need no program but a stand-in. The last line is `N passed, M failed`; status 1 where
+one failed.
 """
 import os
 import re
@@ -24,37 +24,8 @@ SCRATCH = tempfile.TemporaryDirectory()
 MAP = 'type t\nheight 3\nwidth 5\nmap\n@.@.@\n.....\n@.@.@\n%%\n'
 POINTS = 'parking P0 0 1\nparking P1 4 1\nstation A 1 0\nstation B 3 0\nstation C 1 2\nstation D 3 2\n'
 ONE, TWO = MAP + POINTS + 'agent P0\n%%\n', MAP + POINTS + 'agent P0\nagent P1\n%%\n'
-LONG = ONE.replace('agent P0', '# floor\n' * 20000 + 'agent P0')
 # The one least path of agent 0 from P0 by A to B: 2 steps to A, 4 from there.
 A_TO_B = '0,1 1,1 1,0 1,1 2,1 3,1 3,0'
-
-STAND_IN = '''
-import sys, time
-tape, log, status = sys.argv[1:4]
-cut = 0
-while cut < 2:
-    line = sys.stdin.readline()
-    if not line:
-        sys.exit(8)
-    cut += line == '%%\\n'
-for row in open(tape):
-    wanted, reply = row.rstrip('\\n').split(' = ')
-    line = sys.stdin.readline().rstrip('\\n')
-    if line != wanted:
-        sys.stderr.write('stand-in: ' + repr(line) + ' came in place of ' + repr(wanted) + '\\n')
-        sys.exit(9)
-    if reply == 'GONE':
-        sys.exit(3)
-    if reply == 'SILENT':
-        time.sleep(30)
-    print(reply, flush=True)
-more = sys.stdin.readline()
-if more:
-    sys.stderr.write('stand-in: ' + repr(more) + ' came behind the tape\\n')
-    sys.exit(9)
-sys.stdout.write(open(log).read())
-sys.exit(int(status))
-'''
 
 
 def file(name: str, text: str) -> str:
@@ -205,6 +176,89 @@ def test_batches_that_are_longer_than_a_pipe() -> None:
     same((found, status), ('orders 2500 accepted 2500 done 0 ticks 0 commands 2501 requests 1 refused 0', 1))
 
 
+def test_a_reply_that_is_longer_than_a_pipe() -> None:
+    # from the left end of a corridor to the right one and back, four times, so 8 x 2599 steps
+    row = f'type t\nheight 1\nwidth 2600\nmap\n{"." * 2600}\n%%\nstation A 0 0\nstation B 2599 0\nparking P 1 0\nagent A\n%%\n'
+    instance = row + 'submit x' + ' B A' * 4 + '\n'
+    lines = file('cells', '')
+    found, said, status = drive(instance, '--ticks', '0', '--cells', lines)
+    same((found, status), ('orders 1 accepted 1 done 0 ticks 0 commands 2 requests 1 refused 0', 1))
+    has(said, 'at clock 0 it was not at its end')
+    same(written(lines), [(0, [(0, 0)])])
+    # some 21,000 cells, most of 7 bytes: more than two pipes hold
+    told = warehouse(instance + 'token 0\n', 'replay', '--replies', 'full').split('\n')[1]
+    way = [*range(1, 2600), *range(2598, -1, -1)]
+    same(told, 'took 0 path 0,0' + ''.join(f' {x},0' for x in way * 4))
+    assert len(told) > 2 * 65536
+
+
+def written(path: str) -> list[tuple[int, list[tuple[int, int]]]]:
+    """What --cells wrote: of each line the clock and the cells."""
+    lines = []
+    with open(path) as text:
+        for line in text:
+            assert re.fullmatch(r'\d+( \d+,\d+)+\n', line), line
+            clock, *cells = line.split()
+            lines.append((int(clock), [tuple(map(int, cell.split(','))) for cell in cells]))
+    same([clock for clock, _ in lines], list(range(len(lines))))
+    return lines
+
+
+def are_lawful(lines: list[tuple[int, list[tuple[int, int]]]], rows: list[str]) -> None:
+    """Each agent on a passable cell, no two on one; in each step to a neighbour or none, and no two exchange cells."""
+    for clock, cells in lines:
+        same(len(set(cells)), len(cells))
+        assert all(rows[y][x] == '.' for x, y in cells), (clock, cells)
+    for (clock, old), (_, new) in zip(lines, lines[1:]):
+        assert all(abs(x - u) + abs(y - v) <= 1 for (x, y), (u, v) in zip(old, new)), clock
+        went = {(a, b) for a, b in zip(old, new) if a != b}
+        assert not any((b, a) in went for a, b in went), clock
+
+
+def test_the_cells_of_the_example() -> None:
+    lines = file('cells', '')
+    out, said, status = tool('drive.py', os.path.join(ROOT, 'examples', 'deliveries'), '--cells', lines)
+    same((said, status), ('', 0))
+    cells = written(lines)
+    are_lawful(cells, MAP.split('\n')[4:7])
+    same(len(cells), 10)
+    # agent 0 has one least path, by A to B, and stays there
+    same([row[0] for _, row in cells[:7]], [tuple(map(int, cell.split(','))) for cell in A_TO_B.split()])
+    same({row[0] for _, row in cells[6:]}, {(3, 0)})
+    # agent 1 is at D at 2, out of the way at 5, where agent 0 is at 3,1, and at C at 9, by one way since 6
+    same([cells[clock][1][1] for clock in (0, 1, 2)], [(4, 1), (3, 1), (3, 2)])
+    assert cells[5][1][1] in ((3, 2), (4, 1))
+    same([row[1] for _, row in cells[6:]], [(3, 1), (2, 1), (1, 1), (1, 2)])
+    # the same on the standard output, before the figures
+    on_output, said, _ = tool('drive.py', os.path.join(ROOT, 'examples', 'deliveries'), '--cells', '-')
+    with open(lines) as text:
+        same(on_output.split('orders ')[0], text.read())
+    same((said, on_output.splitlines()[10:-1]), ('', out.splitlines()[:-1]))
+
+
+def test_the_cells_where_one_makes_way() -> None:
+    # Agent 0 stands at the delivery, A, and goes to P0, the nearest parking. Agent 1 is at the pickup, C; at 1 agent 0 is
+    # at 1,1, so agent 1 is there at 2 and at A at 3.
+    instance = TWO.replace('agent P0\nagent P1', 'agent A\nagent C') + 'submit x C A\n'
+    lines = file('cells', '')
+    wanted = 'orders 1 accepted 1 done 1 makespan 3 service_mean 3.00 service_p95 3 per100 33.33 ticks 3 commands 6 requests 2 refused 0'
+    same(drive(instance, '--cells', lines), (wanted, '', 0))
+    with open(lines) as text:
+        same(text.read(), '0 1,0 1,2\n1 1,1 1,2\n2 0,1 1,1\n3 0,1 1,0\n')
+    # a program that tells no cells gives the same figures
+    same(drive(instance, '--replies', 'short'), (wanted, '', 0))
+
+
+def test_the_cells_of_the_shelves() -> None:
+    lines = file('cells', '')
+    out, said, status = tool('drive.py', os.path.join(ROOT, 'examples', 'shelves'), '--batch', '1000', '--cells', lines)
+    same((said, status), ('', 0))
+    cells = written(lines)
+    same(len(cells), int(re.search(r'^ticks (\d+)$', out, re.MULTILINE)[1]) + 1)
+    assert len(cells) > 500 and all(len(row) == 20 for _, row in cells)
+    are_lawful(cells, text_of('examples', 'shelves').split('\n')[4:44])
+
+
 def test_the_program_refuses_the_points() -> None:
     instance = ONE.replace('%%\nparking', '%%\nparking P9 1 0\nparking')    # the cell of A
     _, said, status = drive(instance + 'submit x A B\n')
@@ -212,7 +266,7 @@ def test_the_program_refuses_the_points() -> None:
     has(said, 'refused P5 line 4', 'the program ended with status 1 and gave no reply to `submit x A B`')
 
 
-# ----------------------------------------------------------------------------------------- with the stand-in
+# ------------------------------------------------------------------------------------------ texts of a run
 
 def log_of(*entries: str, agents: int = 1) -> str:
     return '\n'.join(['%%', 'wlog 2', 'start 0 slots' + ' 4' * agents, *('0 ' + entry for entry in entries), f'end {len(entries)}', ''])
@@ -223,140 +277,9 @@ def ticks(first: int, last: int, picked: int = 0, dropped: int = 0) -> list[str]
     return [f'tick = clock {now} picked {int(now == picked)} dropped {int(now == dropped)}' for now in range(first, last + 1)]
 
 
-def taped(tape: list[str], log: str = '', *words: str, instance: str = ONE + 'submit x A B\n', status: int = 0) -> tuple[str, str, int]:
-    stand_in = [sys.executable, file('stand_in.py', STAND_IN), file('tape', '\n'.join(tape) + '\n'), file('tail', log), str(status)]
-    return drive(instance, '--program', ' '.join(stand_in), *words)
-
-
-def replies(entries: list[str]) -> list[str]:
-    """Entries of a log as commands and replies: a path is told by its last index."""
+def short(entries: list[str]) -> list[str]:
+    """Entries of a log as commands and short replies: a path is told by its last index."""
     return [re.sub(r' path (.*)', lambda path: f' end {path[1].count(" ")}', entry) for entry in entries]
-
-
-GOES = ['submit x A B = accepted 0', f'token 0 = took 0 path {A_TO_B}', *ticks(1, 6, 2, 6)]
-
-
-def test_the_stand_in_is_driven_to_the_end() -> None:
-    wanted = figures(1, 6, '6.00', 6, '16.67', 6, 8, 1)
-    same(taped(replies(GOES), log_of(*GOES)), (wanted, '', 0))
-    # a program that ends with another status has not ended well
-    found, said, status = taped(replies(GOES), log_of(*GOES), status=4)
-    same((found, status), (wanted, 2))
-    has(said, 'status 4')
-
-
-def test_e6_is_asked_again_after_a_tick() -> None:
-    entries = ['submit x A B = accepted 0', 'token 0 = refused E6', 'tick = clock 1 picked 0 dropped 0', f'token 0 = took 0 path {A_TO_B}',
-               *ticks(2, 7, 3, 7)]
-    same(taped(replies(entries), log_of(*entries)), (figures(1, 7, '7.00', 7, '14.29', 7, 10, 2, 1), '', 0))
-
-
-def test_e6_twice_is_not_asked_until_something_changes() -> None:
-    orders = 'submit x A B\nsubmit y D C\n# @4\nsubmit z D C\n'
-    entries = ['submit x A B = accepted 0', 'submit y D C = accepted 1', f'token 0 = took 0 path {A_TO_B}', 'token 1 = refused E6',
-               *ticks(1, 1), 'token 1 = refused E6', *ticks(2, 4, 2), 'submit z D C = accepted 2', 'token 1 = refused E6',
-               *ticks(5, 5), 'token 1 = refused E6', *ticks(6, 6, 0, 6), 'token 0 = rested']
-    found, said, status = taped(replies(entries), log_of(*entries, agents=2), instance=TWO + orders)
-    # nothing is left that could change an answer, and two orders are open
-    same((found, status), ('orders 3 accepted 3 done 1 makespan 6 service_mean 6.00 service_p95 6 per100 16.67 ticks 6 commands 15 '
-                           'requests 6 refused 4', 1))
-    has(said, 'at clock 6 all agents stand, 2 orders are open')
-
-
-def test_a_rest_lasts_until_a_path_is_taken_up() -> None:
-    # agent 0 rests; agent 1 parks, so agent 0 is asked once more; then nobody until agent 1 has made its two steps
-    entries = ['submit x A B = accepted 0', 'token 0 = rested', 'token 1 = parked D path 4,1 3,1 3,2', 'token 0 = rested', *ticks(1, 2),
-               'token 1 = rested']
-    found, said, status = taped(replies(entries), log_of(*entries, agents=2), instance=TWO + 'submit x A B\n')
-    same((found, status), ('orders 1 accepted 1 done 0 ticks 2 commands 7 requests 4 refused 0', 1))
-    has(said, 'at clock 2 all agents stand')
-
-
-def test_a_path_of_no_steps_is_at_its_end_at_once() -> None:
-    # the agent starts at A and has two orders there; no tick counts them, and no tick is sent
-    instance = ONE.replace('agent P0', 'agent A') + 'submit x A A\nsubmit x A A\n'
-    entries = ['submit x A A = accepted 0', 'submit x A A = accepted 1', 'token 0 = took 0 path 1,0', 'token 0 = took 1 path 1,0']
-    wanted = 'orders 2 accepted 2 done 2 makespan 0 service_mean 0.00 service_p95 0 ticks 0 commands 4 requests 2 refused 0'
-    same(taped(replies(entries), log_of(*entries), instance=instance), (wanted, '', 0))
-
-
-def test_a_delivery_before_the_path_ends() -> None:
-    # The path is at B at 6, which is the last visit, makes way and comes back at 8: no reply tells it, the log does.
-    entries = [GOES[0], GOES[1] + ' 3,1 3,0', *ticks(1, 8, 2, 6)]
-    same(taped(replies(entries), log_of(*entries)), (figures(1, 6, '6.00', 6, '16.67', 8, 10, 1), '', 0))
-
-
-def test_refusals_that_end_the_run() -> None:
-    log = file('log', 'old')
-    for reply in ('C1', 'C2', 'E90', 'E8', 'E7', 'E4 0', 'E5 3', 'E11', 'X1', 'E10'):
-        entries = GOES[:2] + ticks(1, 1)
-        found, said, status = taped(replies(entries) + [f'tick = refused {reply}'], log_of(*entries), '--log', log)
-        # what was done until then is told, and its log kept
-        same((found, status), ('orders 1 accepted 1 done 0 ticks 1 commands 4 requests 1 refused 1', 2))
-        has(said, f'`refused {reply}` came to `tick`: ')
-        same(said.count('\n'), 1)
-        with open(log) as made:
-            same(made.read(), log_of(*entries)[3:])
-
-
-def test_a_closed_pipe() -> None:
-    for tape, line in ((['submit x A B = GONE'], 'submit x A B'), (replies(GOES[:1]) + ['token 0 = GONE'], 'token 0'),
-                       (replies(GOES[:2]) + ['tick = GONE'], 'tick')):
-        _, said, status = taped(tape)
-        same(status, 2)
-        has(said, f'the program ended with status 3 and gave no reply to `{line}`', 'no log came')
-    # it ends while the site is written still
-    _, said, status = drive(LONG + 'submit x A B\n', '--program', 'sh -c "exit 5"')
-    same(status, 2)
-    has(said, 'the program ended with status 5 and gave no reply to `submit x A B`')
-
-
-def test_a_program_that_says_more_than_it_was_asked() -> None:
-    # the site is longer than a pipe, and the first two do not read it
-    assert len(LONG) > 2 * 65536
-    for words in ('yes y', 'cat /dev/zero', 'cat'):
-        _, said, status = drive(LONG + 'submit x A B\n', '--program', f'sh -c "{words}"')
-        same((status, said.count('\n')), (2, 2))
-        has(said, 'the program says more than it was asked: ')
-
-
-def test_silence() -> None:
-    _, said, status = taped(replies(GOES[:1]) + ['token 0 = SILENT'], '', '--wait', '0.5')
-    same(status, 2)
-    has(said, 'nothing came from the program for 0.5 seconds')
-
-
-def test_wrong_replies() -> None:
-    for before, line, reply in ((0, 'submit x A B', 'accepted 1'), (0, 'submit x A B', 'rested'), (1, 'token 0', 'clock 1 picked 0 dropped 0'),
-                                (1, 'token 0', 'took 5 end 3'), (1, 'token 0', 'took 0 end x'), (1, 'token 0', 'took 0 end'),
-                                (1, 'token 0', 'parked Z end 3'), (1, 'token 0', ''), (1, 'token 0', 'refused'), (1, 'token 0', 'refused Q1'),
-                                (2, 'tick', 'clock 2 picked 0 dropped 0'), (2, 'tick', 'clock 1 picked 0'), (2, 'tick', 'accepted 1')):
-        _, said, status = taped(replies(GOES[:before]) + [f'{line} = {reply}'])
-        same(status, 2)
-        has(said, f'`{reply}`', f'to `{line}`', 'no log came')
-        same(said.count('\n'), 2)
-
-
-def test_a_log_that_is_not_of_the_run() -> None:
-    for log, part in ((log_of(*GOES[:-1]), 'it is not of this run, with 1 tasks and clock 5'), (log_of(*GOES)[:-7], 'it has no end line'),
-                      (log_of(*GOES).replace('picked 1', 'picked 0'), 'at clock 2 it counts 0 picked and 0 dropped'),
-                      (log_of(*GOES).replace(' 3,0', ' 3,2'), 'does not come to B')):
-        _, said, status = taped(replies(GOES), log)
-        same(status, 2)
-        has(said, part)
-
-
-def test_words_that_are_wrong() -> None:
-    instance = file('i', ONE + 'submit x A B\n')
-    for words, part in ((['--program', '/none/such'], '/none/such: No such file'), (['--program', ' '], 'no word'), (['--program', "'"], '--program'),
-                        (['--batch', '0'], '1 to 1000'), (['--batch', '1001'], '1 to 1000'), (['--wait', '0'], 'above 0'),
-                        (['--log', '/none/such'], '/none/such: No such file'), (['/none/such'], '/none/such: No such file')):
-        out, said, status = tool('drive.py', instance, *words)
-        same((out, status, said.count('\n')), ('', 2, 1))
-        has(said, part)
-    out, said, status = tool('drive.py', file('j', ONE.removesuffix('%%\n')))
-    same((out, status), ('', 2))
-    has(said, 'no script')
 
 
 # --------------------------------------------------------------------------------------------- the next shift
@@ -431,14 +354,30 @@ def test_the_dialogue_of_the_page() -> None:
     sent, wanted = [line for line, _ in spoken], [reply for _, reply in spoken]
     same(len(sent), 22)
     site = '%%\n'.join(text_of('examples', 'deliveries').split('%%\n')[:2]) + '%%\n'
-    same(warehouse(site + '\n'.join(sent) + '\n', 'replay').splitlines(), wanted)
+    same(warehouse(site + '\n'.join(sent) + '\n', 'replay', '--replies', 'full').splitlines(), wanted)
+    same(sum(' path ' in reply for reply in wanted), 4)
+    same(warehouse(site + '\n'.join(sent) + '\n', 'replay').splitlines(), short(wanted))
 
 
-NEEDS_PROGRAM = {'test_one_order', 'test_two_agents_on_one_corridor', 'test_an_order_released_later',
+def test_full_replies_are_the_log() -> None:
+    instance = text_of('examples', 'deliveries')
+    asked = [line for line in instance.split('%%\n')[2].splitlines() if not line.startswith('#')]
+    told = warehouse(instance, 'replay', '--replies=full').splitlines()
+    same(len(told), len(asked))
+    entries = [f'0 {line} = {reply}' for line, reply in zip(asked, told)]
+    made = '\n'.join(['wlog 2', 'start 0 slots 4 4', *entries, f'end {len(entries)}', ''])
+    same(warehouse(instance, 'replay', '--tail', 'log').split('%%\n')[1], made)
+    # what was told up to a kill is a run too
+    cut = '\n'.join(['wlog 2', 'start 0 slots 4 4', *entries[:7], 'end 7', ''])
+    same(warehouse('%%\n'.join(instance.split('%%\n')[:2]) + '%%\n' + cut, 'verify'), 'run 7\n')
+
+
+NEEDS_PROGRAM = {'test_full_replies_are_the_log', 'test_one_order', 'test_two_agents_on_one_corridor', 'test_an_order_released_later',
                  'test_an_order_that_waits_for_another', 'test_no_path_now', 'test_no_path_ever',
                  'test_an_order_of_three_stops_that_nobody_may_take', 'test_a_bound_on_ticks', 'test_a_shift_that_ends_with_an_open_order',
                  'test_refused_orders_are_left_out', 'test_batches_that_are_longer_than_a_pipe', 'test_the_program_refuses_the_points',
-                 'test_the_next_shift_is_run', 'test_the_dialogue_of_the_page'}
+                 'test_the_next_shift_is_run', 'test_the_dialogue_of_the_page', 'test_a_reply_that_is_longer_than_a_pipe',
+                 'test_the_cells_of_the_example', 'test_the_cells_where_one_makes_way', 'test_the_cells_of_the_shelves'}
 
 
 def main() -> None:

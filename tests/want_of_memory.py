@@ -17,7 +17,7 @@ import subprocess
 import sys
 import tempfile
 
-from hostile import LEDGER, LOG, REPLY, ROOT, is_text_of
+from hostile import LEDGER, LOG, ROOT, is_text_of, reply_form
 
 REFUSED = 'refused E90\n'
 
@@ -34,22 +34,22 @@ def run(program, words, text, shim, number, on, count):
     return done.returncode, done.stdout.decode(errors='replace'), done.stderr.decode(errors='replace')
 
 
-def follows(answer, row):
+def follows(answer, row, reply):
     """Up to the first line that found no memory the answer is the row; from there on its lines are of the formats."""
     before, mark, behind = answer.partition(REFUSED)
     if not mark:
         return answer == row
     replies, _, tail = behind.partition('%%\n')
-    return row.startswith(before) and is_text_of(REPLY, replies) and (is_text_of(LOG, tail) or is_text_of(LEDGER, tail))
+    return row.startswith(before) and is_text_of(reply, replies) and (is_text_of(LOG, tail) or is_text_of(LEDGER, tail))
 
 
-def fault(outcome, row):
+def fault(outcome, row, reply):
     """What is wrong with the outcome of a run in which memory was refused (None: nothing)."""
     (status, answer, errors), (due, whole, told) = outcome, row
     if status == 4 and due != 4:
-        good = errors == REFUSED and (whole.startswith(answer) or REFUSED in answer and follows(answer, whole))
+        good = errors == REFUSED and (whole.startswith(answer) or REFUSED in answer and follows(answer, whole, reply))
     else:
-        good = (status, errors) == (due, told) and follows(answer, whole)
+        good = (status, errors) == (due, told) and follows(answer, whole, reply)
     return None if good else f'status {status}, {errors!r}, {answer!r}'
 
 
@@ -113,7 +113,7 @@ def main():
             requests = int.from_bytes(open(count, 'rb').read(), sys.byteorder)
             for number in range(1, requests + 1):
                 for on in (False, True):
-                    wrong = fault(run(options.program, words, text, shim, number, on, None), row)
+                    wrong = fault(run(options.program, words, text, shim, number, on, None), row, reply_form(words))
                     if wrong:
                         failed += 1
                         print(f'{case}, request {number} of {requests}{" and all later" if on else ""}: {wrong}')

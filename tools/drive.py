@@ -3,6 +3,7 @@
 
     drive.py INSTANCE                            the orders are those of INSTANCE's third section
     drive.py INSTANCE SCRIPT --log run.log       the orders are those of SCRIPT
+    drive.py INSTANCE --cells cells              where each agent is at each clock
     drive.py INSTANCE --program 'ssh host warehouse/warehouse replay'
 
 At each clock it hands in the orders that are due, asks the token for the agents that have no steps left, and ticks: a
@@ -13,14 +14,27 @@ N on, and ends when nobody moves: tools/next_shift.py takes such a log with the 
 An order is a line `submit ..`, released at clock T where a line `# @T` stands before it, else at the clock at which it
 stands (the number of `tick` lines before it). The other lines of the script are left out.
 
-`took N end K` and `parked P end K` mean that the agent has no steps left when the clock is K higher; with K = 0 at once.
-So it asks when it is due, and only where an order is open. After `rested` it asks again when an order has come in or
+`took N path X,Y X,Y ..` and `parked P path X,Y ..` tell the agent's cell at each clock from now on: cell k of the path at
+clock T + k. With the last index K it has no steps left when the clock is K higher; with K = 0 at once. So it asks when it
+is due, and only where an order is open. After `rested` it asks again when an order has come in or
 another agent has taken up a path; before, the answer would be the same. `refused E6` (no path now) is asked again after
 the next tick, and then likewise. After `refused E1`, `E2` or `E3` the order is left out, and told. Any other refusal, a
 wrong reply and a program that ends end the run, with the line that was sent.
 
-To --program's words `--tail log` is added, unless they name `--tail`. When an order is delivered no reply tells (a path
-may come by its last stop before its end): so that is worked out at the end, from the log, as tools/stats.py does.
+What the replies tell is judged as they come, with no log: a path begins where the agent stands, each next cell is a
+neighbour or the same, all are passable; a task's stops are visited in turn, a parking is where its path ends; each tick
+counts the visits that the cells give; and before a tick is sent, no two agents come to one cell, none exchange cells, and
+under `rule nofollow` none follows another. Where one of these is not so the run ends, and says which.
+
+With --cells FILE a line `CLOCK X,Y X,Y ..` is written for each clock, agent by agent: the line of clock 0 at once, each
+other one before the tick to its clock is sent. So it says where the vehicles must be before that tick; a controller that
+moves vehicles would wait there until they are.
+
+With --replies short `took N end K` and `parked P end K` tell K and no cell: for a program that knows no `--replies`.
+
+To --program's words `--tail log` and, but with --replies short, `--replies full` are added, unless they name these options.
+The figures of deliveries are worked out at the end, from the log, as tools/stats.py does; its paths must be those that the
+replies told.
 
 It prints a name and a number a line:
 
@@ -33,7 +47,7 @@ It prints a name and a number a line:
     commands        lines that were sent and answered
     requests        those of them that ask for the token; `refused`, how many of all were refused
     wall_us         microseconds of wall time a request, from sending to having the reply, measured in this script:
-                    the pipe is in it, and with --batch above 1 a batch shares its time evenly
+                    the pipe and the cells of a full reply are in it, and with --batch above 1 a batch shares its time evenly
 
 Figures of an order's delivery stand only where a log came. Status 0: all delivered, or the shift ended; 1: the run ended
 before that, or an order was refused, which is told; 2: it could not be driven to an end.
@@ -55,10 +69,13 @@ import runs
 from due_script import releases
 from explain import SENTENCES
 from sections import fail, lines_of, program, read_file, sections_of
+from whereabouts import Whereabouts
 
-# A reply fits 64 bytes, so those to a batch fit a pipe of 65,536 even while nobody reads.
+# A short reply fits 64 bytes, so those to a batch fit a pipe of 65,536 even while nobody reads. A full one is as long as
+# its path: here replies are read while commands are written.
 MOST_IN_BATCH = 1000
 PIECE = 65536
+MOST_IN_REPLY = 1 << 26    # bytes, some six million cells
 ENDING = 10    # seconds that a program has to end once its pipe is closed
 
 
@@ -83,6 +100,8 @@ class Program:
         os.set_blocking(self.back, False)
         self.wait = wait
         self.came = bytearray()    # read, and not looked at yet
+        self.whole = 0             # how many lines of that are whole
+        self.begun = 0             # how many bytes stand behind them
         self.ended = False         # its output has ended
 
     def turn(self, left: memoryview) -> memoryview:
@@ -94,6 +113,8 @@ class Program:
             piece = os.read(self.back, PIECE)
             self.ended = not piece
             self.came += piece
+            self.whole += piece.count(b'\n')
+            self.begun = len(piece) - 1 - piece.rfind(b'\n') + (0 if b'\n' in piece else self.begun)
         if writable:
             try:
                 return left[os.write(self.to, left[:PIECE]):]
@@ -106,12 +127,13 @@ class Program:
     def send(self, text: bytes, lines: int = 0) -> list[str]:
         """Writes all and reads so many lines; fewer where its output ends before, and more is none of its business."""
         left = memoryview(text)
-        while (left or self.came.count(b'\n') < lines) and not self.ended:
+        while (left or self.whole < lines) and not self.ended:
             left = self.turn(left)
-            if self.came.count(b'\n') > lines or len(self.came) > 2 * PIECE:
+            if self.whole > lines or self.begun > (MOST_IN_REPLY if self.whole < lines else 2 * PIECE):
                 raise Stop(f'the program says more than it was asked: {bytes(self.came[:40])!r}')
         said = self.came.decode('latin-1').split('\n')[:-1]
         self.came.clear()
+        self.whole = self.begun = 0
         return said
 
     def ask(self, commands: list[str]) -> list[str]:
@@ -142,10 +164,11 @@ class Program:
 
 
 class Fleet:
-    """The orders, and of each agent what the replies have told."""
+    """The orders, and of each agent what the replies have told; with whereabouts they are full ones, else short."""
 
-    def __init__(self, to: Program, site: runs.Site, orders: list[tuple[int, str]], batch: int):
-        self.program, self.site, self.batch = to, site, batch
+    def __init__(self, to: Program, site: runs.Site, orders: list[tuple[int, str]], batch: int,
+                 whereabouts: Whereabouts | None = None):
+        self.program, self.site, self.batch, self.whereabouts = to, site, batch, whereabouts
         self.waiting = list(reversed(orders))
         agents = len(site.starts)
         self.clock = 0
@@ -183,6 +206,7 @@ class Fleet:
             due.append(self.waiting.pop())
         for (clock, _), (line, reply) in zip(due, self.ask([line for _, line in due])):
             if reply == f'accepted {len(self.accepted)}':
+                self.hear(line, reply)
                 self.open.add(len(self.accepted))
                 self.accepted.append(clock)
                 self.changes += 1
@@ -201,9 +225,23 @@ class Fleet:
             for agent, (line, reply) in zip(agents, self.ask([f'token {agent}' for agent in agents])):
                 self.told(agent, line, reply)
 
+    def hear(self, line: str, reply: str) -> None:
+        """Has the cells judged, where replies tell them."""
+        if self.whereabouts:
+            try:
+                self.whereabouts.hear(line, reply)
+            except runs.Fault as fault:
+                raise Stop(f'`{shortened(reply)}` came to `{line}`, and {fault}') from None
+
+    def steps(self, words: list[str]) -> int | None:
+        """The last index of the path that a reply tells; None where it is not of the form."""
+        if self.whereabouts:
+            return len(words) - 4 if words[2:3] == ['path'] and len(words) > 3 else None
+        return runs.number(words[3]) if words[2:3] == ['end'] and len(words) == 4 else None
+
     def told(self, agent: int, line: str, reply: str) -> None:
         words = reply.split(' ')
-        number = runs.number(words[-1])
+        steps = self.steps(words)
         if reply == 'rested':
             self.rested[agent] = self.changes
         elif reply == 'refused E6':
@@ -211,16 +249,20 @@ class Fleet:
             self.again[agent] = self.clock + 1
             self.rested[agent] = self.changes if self.barred[agent] == self.changes else None
             self.barred[agent] = self.changes
-        elif words[:1] == ['took'] and words[2:3] == ['end'] and len(words) == 4 and number is not None:
+        elif words[0] == 'took' and steps is not None:
             task = runs.number(words[1])
             if task not in self.open:
-                raise Stop(f'`{reply}` came to `{line}`, and no task {words[1]} is open')
+                raise Stop(f'`{shortened(reply)}` came to `{line}`, and no task {words[1]} is open')
+            self.hear(line, reply)
             self.open.remove(task)
-            self.goes(agent, number)
-        elif words[:1] == ['parked'] and words[2:3] == ['end'] and len(words) == 4 and number is not None:
+            self.goes(agent, steps)
+        elif words[0] == 'parked' and steps is not None:
             if words[1] not in self.site.by_name:
-                raise Stop(f'`{reply}` came to `{line}`, and the instance has no point {words[1]}')
-            self.goes(agent, number)
+                raise Stop(f'`{shortened(reply)}` came to `{line}`, and the instance has no point {words[1]}')
+            self.hear(line, reply)
+            self.goes(agent, steps)
+        elif words[0] in ('took', 'parked') and words[2:3] == ['end'] and self.whereabouts:
+            raise Stop(f'`{shortened(reply)}` came to `{line}`, and tells no cells: see --replies short')
         else:
             stop_at(line, reply)
 
@@ -229,10 +271,16 @@ class Fleet:
         self.changes += 1
 
     def tick(self) -> None:
+        if self.whereabouts:
+            try:
+                self.whereabouts.step()
+            except runs.Fault as fault:
+                raise Stop(f'no tick is sent: {fault}') from None
         (line, reply), = self.ask(['tick'])
         words = reply.split(' ')
         if words[:2] != ['clock', str(self.clock + 1)] or words[2:5:2] != ['picked', 'dropped'] or len(words) != 6:
             stop_at(line, reply)
+        self.hear(line, reply)
         self.clock += 1
 
     def under_way(self) -> int:
@@ -246,12 +294,16 @@ class Fleet:
         return not self.waiting and not self.under_way() and all(told == self.changes for told in self.rested)
 
 
+def shortened(reply: str) -> str:
+    return reply if len(reply) <= 60 else reply[:60] + '..'
+
+
 def stop_at(line: str, reply: str) -> NoReturn:
     """Ends the run at a reply that is no answer, or a refusal after which there is no going on."""
     words = reply.split(' ')
     if words[0] == 'refused' and words[1:] and words[1] in SENTENCES:
         raise Stop(f'`{reply}` came to `{line}`: {SENTENCES[words[1]]}', sound=True)
-    raise Stop(f'`{reply[:60]}` is no reply to `{line}`')
+    raise Stop(f'`{shortened(reply)}` is no reply to `{line}`')
 
 
 def drive(fleet: Fleet, most: int, shift: int | None) -> str:
@@ -302,6 +354,8 @@ def read_log(fleet: Fleet, log: bytes, name: str, whole: bool) -> runs.Run | Non
     if whole and (read.cut or (len(read.tasks), read.clock) != (len(fleet.accepted), fleet.clock)):
         raise runs.Fault(f'{name}: {"it has no end line" if read.cut else "it is not of this run"}, with {len(read.tasks)} '
                          f'tasks and clock {read.clock}; the replies told {len(fleet.accepted)} and {fleet.clock}')
+    if whole and fleet.whereabouts and read.ways != fleet.whereabouts.run.ways:
+        raise runs.Fault(f'{name}: it is not of this run, since its paths are not those that the replies told')
     return read
 
 
@@ -311,6 +365,8 @@ def words_of_options() -> argparse.Namespace:
     parser.add_argument('script', metavar='SCRIPT', nargs='?', help="orders, in place of INSTANCE's third section")
     parser.add_argument('--program', metavar="'WORDS'", default=shlex.join([program(), 'replay']),
                         help='the program and its words (%(default)s)')
+    parser.add_argument('--replies', choices=('full', 'short'), default='full', help='whether replies tell cells (%(default)s)')
+    parser.add_argument('--cells', metavar='FILE', help="write each agent's cell at each clock there; - is the standard output")
     parser.add_argument('--batch', type=int, default=1, metavar='N', help=f'commands sent at once, 1 to {MOST_IN_BATCH} (1)')
     parser.add_argument('--ticks', type=int, default=1_000_000, metavar='N', help='end at this clock (%(default)s)')
     parser.add_argument('--shift', type=int, metavar='N', help='from clock N on ask no more, and end when nobody moves')
@@ -320,19 +376,23 @@ def words_of_options() -> argparse.Namespace:
     options = parser.parse_args()
     if not 1 <= options.batch <= MOST_IN_BATCH:
         fail(f'--batch {options.batch}: 1 to {MOST_IN_BATCH} commands can be sent at once')
+    if options.cells is not None and options.replies == 'short':
+        fail('--cells: short replies tell no cells')
     if options.wait is not None and not 0 < options.wait < 1e6:
         fail(f'--wait {options.wait:g}: a time above 0 is wanted')
     return options
 
 
-def program_words(text: str) -> list[str]:
+def program_words(text: str, replies: str) -> list[str]:
     try:
         words = shlex.split(text)
     except ValueError as error:
         fail(f'--program: {error}')
     if not words:
         fail('--program: no word stands there')
-    return words if any(word.split('=')[0] == '--tail' for word in words) else words + ['--tail', 'log']
+    named = {word.split('=')[0] for word in words}
+    added = [('--tail', 'log')] + ([('--replies', 'full')] if replies == 'full' else [])
+    return words + [word for pair in added if pair[0] not in named for word in pair]
 
 
 def orders_of(options: argparse.Namespace, data: bytes) -> list[tuple[int, str]]:
@@ -382,7 +442,10 @@ def main() -> None:
     site = runs.read_instance(options.instance, data)
     orders = orders_of(options, data)
     file = open(options.log, 'wb') if options.log else None    # a run is not lost to a path that cannot be written
-    fleet = Fleet(Program(program_words(options.program), options.wait), site, orders, options.batch)
+    words = program_words(options.program, options.replies)
+    lines = sys.stdout if options.cells == '-' else open(options.cells, 'w') if options.cells else None
+    whereabouts = Whereabouts(site, lines) if options.replies == 'full' else None
+    fleet = Fleet(Program(words, options.wait), site, orders, options.batch, whereabouts)
     log, why, status = run(options, fleet)
     signal.signal(signal.SIGPIPE, signal.SIG_DFL)    # `| head` ends it quietly
     if file:
