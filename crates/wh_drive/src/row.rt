@@ -40,6 +40,12 @@ impl Row {
     {
         self.cells[agent as usize]
     }
+
+    pub(crate) fn cells(&self) -> &[Cell]
+        ensures { result.now ≡ self.now }
+    {
+        &self.cells
+    }
 }
 
 /// Whether no cell stands twice among these.
