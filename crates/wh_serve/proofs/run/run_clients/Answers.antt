@@ -1,7 +1,6 @@
 use Rattle.std.proofs.Common.{◌≡◌, ℕ, List, Result, Ok, Err, IfOk, ap, ◌∙◌, subst}
 use Rattle.wh_words.specs.Lines.{text_of}
 use Rattle.wh_points.specs.Points.{Site}
-use Rattle.wh_event.specs.declared.entry.Entry.{Entry}
 use Rattle.wh_core.specs.States.{State}
 use Rattle.wh_desk.specs.Fleet.{IsTied}
 use Rattle.wh_log.specs.Logs.{log_lines}
