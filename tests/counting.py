@@ -18,3 +18,13 @@ def run(names: dict, left_out=()) -> int:
             traceback.print_exc(file=sys.stdout)
     print(f'{passed} passed, {failed} failed')
     return int(failed != 0)
+
+
+def main(names: dict, needs_program, scratch) -> None:
+    """Runs them as a script: with `--no-program` those that need the program are left out, other words print the script's page.
+    The scratch folder goes at the end."""
+    if sys.argv[1:] not in ([], ['--no-program']):
+        sys.exit(names['__doc__'])
+    status = run(names, needs_program if sys.argv[1:] else ())
+    scratch.cleanup()
+    sys.exit(status)

@@ -380,13 +380,5 @@ NEEDS_PROGRAM = {'test_full_replies_are_the_log', 'test_one_order', 'test_two_ag
                  'test_the_cells_of_the_example', 'test_the_cells_where_one_makes_way', 'test_the_cells_of_the_shelves'}
 
 
-def main() -> None:
-    if sys.argv[1:] not in ([], ['--no-program']):
-        sys.exit(__doc__)
-    status = counting.run(globals(), NEEDS_PROGRAM if sys.argv[1:] else ())
-    SCRATCH.cleanup()
-    sys.exit(status)
-
-
 if __name__ == '__main__':
-    main()
+    counting.main(globals(), NEEDS_PROGRAM, SCRATCH)

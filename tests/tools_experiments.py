@@ -272,14 +272,6 @@ def guarded(test):
     return call
 
 
-def main() -> None:
-    if sys.argv[1:] not in ([], ['--no-program']):
-        sys.exit(__doc__)
-    tests = {name: guarded(test) for name, test in globals().items() if name.startswith('test_')}
-    status = counting.run(tests, NEEDS_PROGRAM if sys.argv[1:] else ())
-    SCRATCH.cleanup()
-    sys.exit(status)
-
-
 if __name__ == '__main__':
-    main()
+    guarded_tests = {name: guarded(test) for name, test in globals().items() if name.startswith('test_')}
+    counting.main({'__doc__': __doc__, **guarded_tests}, NEEDS_PROGRAM, SCRATCH)

@@ -245,13 +245,5 @@ def test_examples() -> None:
 NEEDS_PROGRAM = {'test_made_instances_are_formed', 'test_a_written_script_asks_only_where_an_agent_is_due', 'test_examples'}
 
 
-def main() -> None:
-    if sys.argv[1:] not in ([], ['--no-program']):
-        sys.exit(__doc__)
-    status = counting.run(globals(), NEEDS_PROGRAM if sys.argv[1:] else ())
-    SCRATCH.cleanup()
-    sys.exit(status)
-
-
 if __name__ == '__main__':
-    main()
+    counting.main(globals(), NEEDS_PROGRAM, SCRATCH)
