@@ -1,5 +1,5 @@
 #!/usr/bin/env python3
-"""Tests of tools/drive.py and tools/next_shift.py, with expected values worked out by hand.
+"""Tests of tools/drive.py, with expected values worked out by hand.
 
     tests/tools_drive.py            all; what runs the program takes it from WAREHOUSE, else ./warehouse
     tests/tools_drive.py --no-program
@@ -282,62 +282,6 @@ def short(entries: list[str]) -> list[str]:
     return [re.sub(r' path (.*)', lambda path: f' end {path[1].count(" ")}', entry) for entry in entries]
 
 
-# --------------------------------------------------------------------------------------------- the next shift
-
-SHIFT = MAP + 'agent_line' + '# floor\nrule nofollow\n' + POINTS + '%%\n'
-SHIFT = SHIFT.replace('agent_line', 'parking P2 2 1\nagent P2\n') + 'submit never A B\n'
-# P2 is at 2,1: the agent goes 1 step to 1,1, up to A at 2, and by 1,1 2,1 3,1 to B at 6
-SERVED = ['submit x A B = accepted 0', 'token 0 = took 0 path 2,1 1,1 1,0 1,1 2,1 3,1 3,0', *ticks(1, 2, 2), 'submit y D C A = accepted 1',
-          'submit z P2 A = refused E2 P2', *ticks(3, 6, 0, 6)]
-
-
-def next_shift(log: str, instance: str = SHIFT) -> tuple[str, str, int]:
-    return tool('next_shift.py', file('log', log), file('instance', instance))
-
-
-def test_next_shift() -> None:
-    wanted = MAP + 'parking P2 2 1\n# floor\nrule nofollow\n' + POINTS + ('agent B\n%%\n'
-              '# task 1 of the shift before, handed in at its clock 2\nsubmit y D C A\n')
-    same(next_shift(log_of(*SERVED)), (wanted, '', 0))
-    # replies may stand before the log, and a log may stand alone
-    same(next_shift('accepted 0\n' + log_of(*SERVED)), (wanted, '', 0))
-    same(next_shift(log_of(*SERVED)[3:], SHIFT.replace('\n', '\r\n')), (wanted, '', 0))
-
-
-def test_next_shift_while_a_task_is_under_way() -> None:
-    for entries, part in ((SERVED[:3], 'task 0 is assigned at clock 1: agent 0 has it, with 5 steps left'),
-                          (SERVED[:4], 'task 0 is carried at clock 2: agent 0 has it, with 4 steps left'),
-                          (SERVED + ['token 0 = took 1 path 3,0 3,1 3,2 3,1 2,1 1,1 1,2 1,1 1,0'], 'task 1 is assigned at clock 6: agent 0 has it, with 8')):
-        out, said, status = next_shift(log_of(*entries))
-        same((out, status, said.count('\n')), ('', 2, 1))
-        has(said, part)
-
-
-def test_next_shift_of_an_agent_that_is_on_its_way() -> None:
-    parks = ['token 0 = parked P0 path 2,1 1,1 1,2 1,1 0,1', *ticks(1, 2)]
-    out, said, status = next_shift(log_of(*parks[:2]))
-    same((out, status, said.count('\n')), ('', 2, 1))
-    has(said, 'agent 0 stands at no point but at 1,1, with 3 steps left')
-    out, said, status = next_shift(log_of(*parks))
-    same((out.split('%%\n')[1].splitlines()[-1], status), ('agent C', 0))
-    has(said, 'agent 0 starts at C, where it comes by, with 2 steps left')
-
-
-def test_next_shift_refuses_other_texts() -> None:
-    for log, instance, part in ((log_of(*SERVED)[:-7], SHIFT, 'no end line'), ('closed\n', SHIFT, 'no log is in it'),
-                                (log_of(*SERVED, agents=2), SHIFT, '2 agents'), (log_of(*SERVED), 'type t\n', 'no line `%%`')):
-        out, said, status = next_shift(log, instance)
-        same((out, status, said.count('\n')), ('', 2, 1))
-        has(said, part)
-
-
-def test_the_next_shift_is_run() -> None:
-    shift, _, _ = next_shift(log_of(*SERVED))
-    same(warehouse('%%\n'.join(shift.split('%%\n')[:2]), 'check').split(' ')[0], 'cut')    # P2 is in the corridor
-    # from B by 3,1 to D at 2, by 3,1 2,1 1,1 to C at 6, by 1,1 to A at 8
-    same(drive(shift)[::2], (figures(1, 8, '8.00', 8, '12.50', 8, 10, 1), 0))
-
-
 # ---------------------------------------------------------------------------------------------------- the page
 
 def test_the_page_names_every_refusal() -> None:
@@ -376,8 +320,8 @@ NEEDS_PROGRAM = {'test_full_replies_are_the_log', 'test_one_order', 'test_two_ag
                  'test_an_order_that_waits_for_another', 'test_no_path_now', 'test_no_path_ever',
                  'test_an_order_of_three_stops_that_nobody_may_take', 'test_a_bound_on_ticks', 'test_a_shift_that_ends_with_an_open_order',
                  'test_refused_orders_are_left_out', 'test_batches_that_are_longer_than_a_pipe', 'test_the_program_refuses_the_points',
-                 'test_the_next_shift_is_run', 'test_the_dialogue_of_the_page', 'test_a_reply_that_is_longer_than_a_pipe',
-                 'test_the_cells_of_the_example', 'test_the_cells_where_one_makes_way', 'test_the_cells_of_the_shelves'}
+                 'test_the_dialogue_of_the_page', 'test_a_reply_that_is_longer_than_a_pipe', 'test_the_cells_of_the_example',
+                 'test_the_cells_where_one_makes_way', 'test_the_cells_of_the_shelves'}
 
 
 if __name__ == '__main__':

@@ -1,65 +1,108 @@
 #!/usr/bin/env python3
-"""Writes the instance of the next shift: the same map and points, the agents where they now are, the tasks still open.
+"""Writes the instance of the next shift: the same map and points, the agents where they now rest, the tasks still open.
 
     ./warehouse replay --tail log < shift1 > shift1.out
     next_shift.py shift1.out shift1 > shift2
 
-LOG is a log or the output of `replay --tail log`; `-` is the standard input. Of INSTANCE map and points are taken, and
-the `agent` lines are written anew: agent N starts at the point where its path had brought it by the last clock of LOG.
-Then each open task is a `submit` line, with its client and its stops, in the order in which they were handed in. Numbers
-of tasks and the clock begin at 0 again. Orders that were never handed in are in no log: put them behind what this writes.
+LOG is a log or the output of `replay --tail log`, of a run on INSTANCE; `-` is the standard input. The map is INSTANCE's,
+byte for byte, and so are the points but for the `agent` lines: agent N starts at the point where it rests at LOG's end.
+These lines stay in their places and in their order; one whose point is defined only further down moves behind that
+line, and those after it with it. Then each open task is a `submit` line, with its client and its stops, in the order in
+which they were handed in. Other sections of INSTANCE are not looked at.
 
-It refuses, and writes nothing, where a task is under way (its number is told: an agent has it and has not made its last
-visit), where an agent stands at no point, and where the log has no end line, since what came then is not known. An
-agent that is on its way without a task, and is at a point by chance, starts there; that is told. LOG is believed:
-`./warehouse verify` judges it (tools/log_input.py).
+Numbers of tasks and the clock begin at 0 again; a comment tells each task's number and clock of before. Orders that were
+refused or never handed in are not in it: put those that are still wanted behind what this writes.
+
+It refuses, with one line on standard error, status 1 and nothing on standard output,
+
+    where a task is under way (assigned or carried), or an agent has steps left: how many ticks more, with no token,
+    bring all agents to rest is told (docs/FLEET.md says how to end a shift)
+    where an agent rests at no point, or two at one
+    where LOG has no end line, is no log, or does not fit INSTANCE: its agents, stations, paths, or counts of visits
+
+More of LOG is not judged: `./warehouse verify` does that (tools/log_input.py).
 """
 import argparse
 import signal
 import sys
 
 import runs
-from sections import fail, is_skipped, sections_of, words_of
+from sections import sections_of
 
 
-def under_way(run: runs.Run) -> None:
-    """Refuses where an agent has a task."""
+def steps_left(run: runs.Run, agent: int) -> int:
+    way = run.ways[agent][-1]
+    return max(0, way.clock + len(way.cells) - 1 - run.clock)
+
+
+def judge_counts(name: str, run: runs.Run) -> None:
+    """Refuses a log that is cut, or counts visits that its paths do not make on this instance."""
+    if run.cut:
+        raise runs.Fault(f'{name}: the log has no end line, and what came then is not known')
+    for clock, told, found in run.differences()[:1]:
+        raise runs.Fault(f'{name}: at clock {clock} it counts {told[0]} picked and {told[1]} dropped, its paths give '
+                         f'{found[0]} and {found[1]}; {runs.OTHER_PAIR}')
+
+
+def judge_rest(run: runs.Run) -> None:
+    """Refuses where a task is under way or an agent has steps left."""
+    left = [steps_left(run, agent) for agent in range(len(run.ways))]
+    remedy = f'{max(left)} more ticks, with no token, bring all agents to rest'
     for number, task in enumerate(run.tasks):
-        if task.phase(run.clock) in ('assigned', 'carried'):
-            left = run.way(task.agent, run.clock)
-            steps = left.clock + len(left.cells) - 1 - run.clock
-            fail(f'task {number} is {task.phase(run.clock)} at clock {run.clock}: agent {task.agent} has it, with {steps} steps left')
+        phase = task.phase(run.clock)
+        if phase in ('assigned', 'carried'):
+            raise runs.Fault(f'task {number} is {phase} at clock {run.clock}: agent {task.agent} has it, '
+                             f'with {left[task.agent]} steps left; {remedy}')
+    for agent, steps in enumerate(left):
+        if steps:
+            x, y = run.place(agent, run.clock)
+            raise runs.Fault(f'agent {agent} is at {x},{y} at clock {run.clock}, with {steps} steps left; {remedy}')
 
 
 def places(run: runs.Run) -> list[str]:
-    """Of each agent the name of the point where it stands."""
+    """Of each agent the name of the point where it rests."""
     points = {point.cell: point.name for point in run.site.points}
-    names = []
+    resting: dict[str, int] = {}
     for agent in range(len(run.ways)):
         x, y = run.place(agent, run.clock)
-        way = run.way(agent, run.clock)
-        left = way.clock + len(way.cells) - 1 - run.clock
-        told = f', with {left} steps left' if left > 0 else ''
         if (x, y) not in points:
-            fail(f'agent {agent} stands at no point but at {x},{y}{told}: it cannot start there')
-        if left > 0:
-            print(f'next_shift.py: agent {agent} starts at {points[x, y]}, where it comes by{told}', file=sys.stderr)
-        names.append(points[x, y])
-    return names
+            raise runs.Fault(f'agent {agent} rests at {x},{y}, where no point is: it cannot start there')
+        other = resting.setdefault(points[x, y], agent)
+        if other != agent:
+            raise runs.Fault(f'agents {other} and {agent} both rest at {points[x, y]}, {x},{y}: this is the log of no run')
+    return list(resting)
 
 
-def instance(data: bytes, run: runs.Run) -> str:
-    level, points = sections_of(data)[:2]
-    lines = level.lines + ['%%']
-    lines += [line for line in points.lines if is_skipped(line) or words_of(line)[0] != 'agent']
-    # behind all points, since a line `agent` names one that stands before it
-    lines += [f'agent {name}' for name in places(run)]
-    lines.append('%%')
+def with_starts(lines: list[str], names: list[str]) -> list[str]:
+    """The points' lines, each with the CR that may end it, and with these starts of the agents in place of theirs."""
+    made: list[str] = []
+    ends: list[str] = []    # of the agent lines met, what ends them
+    defined: set[str] = set()
+    placed = 0
+    for line in lines:
+        words = line.split()
+        if words[:1] == ['agent']:
+            ends.append('\r' if line.endswith('\r') else '')
+        else:
+            made.append(line)
+            defined.update(words[1:2] if words[:1] in (['station'], ['parking']) else [])
+        # an agent line names a point that stands before it
+        while placed < len(ends) and names[placed] in defined:
+            made.append(f'agent {names[placed]}{ends[placed]}')
+            placed += 1
+    return made
+
+
+def instance(data: bytes, run: runs.Run) -> bytes:
+    points = sections_of(data)[1]
+    lines = data.decode('latin-1').split('\n')    # a CR at the end of a line stays
+    first = points.first - 1
+    made = lines[:first] + with_starts(lines[first:first + len(points.lines)], places(run)) + ['%%']
     for number, task in enumerate(run.tasks):
         if task.agent is None:
-            lines.append(f'# task {number} of the shift before, handed in at its clock {task.submitted}')
-            lines.append(' '.join(['submit', task.client, *(run.site.points[stop].name for stop in task.stops)]))
-    return ''.join(line + '\n' for line in lines)
+            made.append(f'# task {number} of the shift before, handed in at its clock {task.submitted}')
+            made.append(' '.join(['submit', task.client, *(run.site.points[stop].name for stop in task.stops)]))
+    return ''.join(line + '\n' for line in made).encode('latin-1')
 
 
 def main() -> None:
@@ -71,12 +114,12 @@ def main() -> None:
         data = runs.read_file(options.instance)
         site = runs.read_instance(options.instance, data)
         run = runs.read_log(site, options.log, runs.read_file(options.log))
+        judge_counts(options.log, run)
+        judge_rest(run)
+        made = instance(data, run)
     except runs.Fault as fault:
-        fail(str(fault))
-    if run.cut:
-        fail(f'{options.log}: the log has no end line, and what came then is not known')
-    under_way(run)
-    sys.stdout.buffer.write(instance(data, run).encode('latin-1'))
+        sys.exit(f'next_shift.py: {fault}')
+    sys.stdout.buffer.write(made)
 
 
 if __name__ == '__main__':
