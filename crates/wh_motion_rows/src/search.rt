@@ -90,33 +90,71 @@ fn visits_several_stops(rt: HostRuntime) -> Result<(), Fail> {
     Ok(())
 }
 
+/// From the left cell: beyond the other nobody parks, at its own cell it does at once, and else at the nearest.
+fn parks_nearest<R: Abort + AllocGlobal>(
+    rt: &R,
+    grid: &Grid,
+    others: &Reservations,
+    allowed: &[Cell],
+) -> Result<(), Fail> {
+    let loc = at(0);
+    assert!(rt; grid.passable(loc));
+    assert!(rt; others.may_rest(loc, 0));
+    let beyond = park(rt.alloc(), grid, others, loc, &[at(4)]);
+    assert_eq!(rt; last(rt, beyond)?, None);
+    let here = park(rt.alloc(), grid, others, loc, &[at(0)]);
+    assert_eq!(rt; last(rt, here)?, Some(0));
+    let nearest = park(rt.alloc(), grid, others, loc, allowed);
+    assert_eq!(rt; last(rt, nearest)?, Some(2));
+    Ok(())
+}
+
+/// The plain search by layers says the same.
+fn parks_by_layers<R: Abort + AllocGlobal>(
+    rt: &R,
+    grid: &Grid,
+    others: &Reservations,
+    allowed: &[Cell],
+) -> Result<(), Fail> {
+    let loc = at(0);
+    assert!(rt; grid.passable(loc));
+    assert!(rt; others.may_rest(loc, 0));
+    let beyond = layers::park(rt.alloc(), grid, others, loc, &[at(4)]);
+    assert_eq!(rt; last(rt, beyond)?, None);
+    let nearest = layers::park(rt.alloc(), grid, others, loc, allowed);
+    assert_eq!(rt; last(rt, nearest)?, Some(2));
+    Ok(())
+}
+
+/// So does a second search in the memory of a first one, of which what so short a search took is kept.
+fn parks_in_memory<R: Abort + AllocGlobal>(
+    rt: &R,
+    memory: &mut SearchMemory,
+    grid: &Grid,
+    others: &Reservations,
+    allowed: &[Cell],
+) -> Result<(), Fail> {
+    let loc = at(0);
+    assert!(rt; grid.passable(loc));
+    assert!(rt; others.may_rest(loc, 0));
+    let beyond = park_in(rt.alloc(), memory, grid, others, loc, &[at(4)]);
+    assert_eq!(rt; last(rt, beyond)?, None);
+    assert!(rt; memory.room() >= 1024);
+    let nearest = park_in(rt.alloc(), memory, grid, others, loc, allowed);
+    assert_eq!(rt; last(rt, nearest)?, Some(2));
+    Ok(())
+}
+
 #[test]
 fn parks(rt: HostRuntime) -> Result<(), Fail> {
     let grid = small_floor(&rt)?;
     let paths = [path(&rt, &[(0, 0)])?, path(&rt, &[(2, 0)])?];
     let others = Reservations::build(rt.alloc(), &paths, 0, false)?;
-    let loc = at(0);
-    assert!(&rt; grid.passable(loc));
-    assert!(&rt; others.may_rest(loc, 0));
-    let beyond = park(rt.alloc(), &grid, &others, loc, &[at(4)]);
-    assert_eq!(&rt; last(&rt, beyond)?, None);
-    let plain = layers::park(rt.alloc(), &grid, &others, loc, &[at(4)]);
-    assert_eq!(&rt; last(&rt, plain)?, None);
-    let here = park(rt.alloc(), &grid, &others, loc, &[at(0)]);
-    assert_eq!(&rt; last(&rt, here)?, Some(0));
     let allowed = [at(4), Cell { x: 1, y: 1 }];
-    let nearest = park(rt.alloc(), &grid, &others, loc, &allowed);
-    assert_eq!(&rt; last(&rt, nearest)?, Some(2));
+    parks_nearest(&rt, &grid, &others, &allowed)?;
+    parks_by_layers(&rt, &grid, &others, &allowed)?;
     let mut memory = SearchMemory::empty(rt.alloc());
-    let first = park_in(rt.alloc(), &mut memory, &grid, &others, loc, &[at(4)]);
-    assert_eq!(&rt; last(&rt, first)?, None);
-    // what so short a search took is kept
-    assert!(&rt; memory.room() >= 1024);
-    let again = park_in(rt.alloc(), &mut memory, &grid, &others, loc, &allowed);
-    assert_eq!(&rt; last(&rt, again)?, Some(2));
-    let plainly = layers::park(rt.alloc(), &grid, &others, loc, &allowed);
-    assert_eq!(&rt; last(&rt, plainly)?, Some(2));
-    Ok(())
+    parks_in_memory(&rt, &mut memory, &grid, &others, &allowed)
 }
 
 #[test]

@@ -195,6 +195,25 @@ fn stops_that_repeat(rt: HostRuntime) -> Result<(), Fail> {
     Ok(())
 }
 
+/// Agent 0 is at both stops of task 0, and agent 1 goes to the first stop of task 2.
+fn take_two<R: AllocGlobal + Abort>(rt: &R, alloc: Global, floor: &mut Floor) -> Result<(), Fail> {
+    take(rt, alloc, floor, 0, 0, &[at(1, 0)])?;
+    assert_eq!(rt; load(rt, floor, 0), Load::None);
+    assert!(rt; visits_are(rt, floor, 0, &[0, 0]));
+    take(rt, alloc, floor, 1, 2, &[at(4, 1), at(3, 1), at(3, 0)])?;
+    Ok(())
+}
+
+/// How many tasks are open, assigned, carried and done.
+fn counts(open_tasks: u32, assigned: u32, carried: u32, done: u32) -> Counts {
+    Counts {
+        open_tasks,
+        assigned,
+        carried,
+        done,
+    }
+}
+
 #[test]
 fn visited_at_once(rt: HostRuntime) -> Result<(), Fail> {
     let alloc = rt.alloc();
@@ -202,33 +221,11 @@ fn visited_at_once(rt: HostRuntime) -> Result<(), Fail> {
     submit(&rt, alloc, &mut floor, &[at(1, 0), at(1, 0)])?;
     submit(&rt, alloc, &mut floor, &[at(3, 0), at(1, 2)])?;
     submit(&rt, alloc, &mut floor, &[at(3, 0), at(1, 2)])?;
-    take(&rt, alloc, &mut floor, 0, 0, &[at(1, 0)])?;
-    assert_eq!(rt; load(&rt, &floor, 0), Load::None);
-    assert!(rt; visits_are(&rt, &floor, 0, &[0, 0]));
-    take(
-        &rt,
-        alloc,
-        &mut floor,
-        1,
-        2,
-        &[at(4, 1), at(3, 1), at(3, 0)],
-    )?;
-    let counts = Counts {
-        open_tasks: 1,
-        assigned: 1,
-        carried: 0,
-        done: 1,
-    };
-    assert_eq!(rt; floor.tasks().counts(), counts);
+    take_two(&rt, alloc, &mut floor)?;
+    assert_eq!(rt; floor.tasks().counts(), counts(1, 1, 0, 1));
     assert_eq!(rt; tick(&rt, &mut floor), (0, 0));
     assert_eq!(rt; tick(&rt, &mut floor), (1, 0));
-    let counts = Counts {
-        open_tasks: 1,
-        assigned: 0,
-        carried: 1,
-        done: 1,
-    };
-    assert_eq!(rt; floor.tasks().counts(), counts);
+    assert_eq!(rt; floor.tasks().counts(), counts(1, 0, 1, 1));
     assert!(rt; floor.tasks().delivers_at(at(1, 2)));
     assert!(rt; !floor.tasks().delivers_at(at(1, 0)));
     Ok(())

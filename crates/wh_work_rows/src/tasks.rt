@@ -6,12 +6,16 @@ use std::test::Fail;
 use wh_field::LazyField;
 use wh_grid::{Cell, Grid};
 use wh_tasks::{
-    Arrived, Counts, Distances, Foretold, Load, PathEnds, Phase, Places, TaskSet, Visit, arrive,
-    foretell, laws,
+    Arrived, Counts, Distances, EndSet, Foretold, Load, PathEnds, Phase, Places, TaskSet, Visit,
+    arrive, foretell, laws,
 };
 use wh_text::Name;
 
-// On the map `@.@.@`, `.....`, `@.@.@`.
+/// Which cells of the map `@.@.@`, `.....`, `@.@.@` are passable.
+const MAP: [bool; 15] = [
+    false, true, false, true, false, true, true, true, true, true, false, true, false, true, false,
+];
+
 const A: Cell = Cell { x: 1, y: 0 };
 
 const B: Cell = Cell { x: 3, y: 0 };
@@ -55,13 +59,15 @@ fn phase<R: Abort>(rt: &R, set: &TaskSet, n: u32) -> Phase {
     set.phase(n)
 }
 
+/// Where another rests at a stop of the nearest task, the next one is taken.
+fn nearest_is_barred<R: Abort>(rt: &R, set: &mut TaskSet, lazy: &mut LazyField, ends: &EndSet<'_>) {
+    assert!(rt; set.eligible(0, ends) && !set.eligible(1, ends) && !set.eligible(3, ends));
+    assert_eq!(rt; set.nearest(lazy, ends), Some(2));
+}
+
 #[test]
 fn nearest_task_first(rt: HostRuntime) -> Result<(), Fail> {
-    let rows = vec![in rt.alloc();
-        false, true, false, true, false, true, true, true, true, true, false, true, false, true,
-        false,
-    ]?;
-    let grid = Grid::new(5, 3, rows);
+    let grid = Grid::new(5, 3, MAP.to_vec(rt.alloc())?);
     let mut lazy = LazyField::from(rt.alloc(), &grid, LEFT)?;
     let mut all = PathEnds::of(rt.alloc(), 5, 3, &[A, RIGHT])?;
     let mut set = TaskSet::new(rt.alloc(), 5, 3)?;
@@ -72,10 +78,19 @@ fn nearest_task_first(rt: HostRuntime) -> Result<(), Fail> {
     submit(&rt, &mut set, Places::of(&[C, D]))?;
     assert_eq!(rt; set.nearest(&mut lazy, &all.but(0)), Some(1));
     all.set(1, B);
-    let ends = all.but(0);
-    assert!(rt; set.eligible(0, &ends) && !set.eligible(1, &ends) && !set.eligible(3, &ends));
-    assert_eq!(rt; set.nearest(&mut lazy, &ends), Some(2));
-    all.set(1, RIGHT);
+    nearest_is_barred(&rt, &mut set, &mut lazy, &all.but(0));
+    Ok(())
+}
+
+#[test]
+fn nearest_of_the_open_ones(rt: HostRuntime) -> Result<(), Fail> {
+    let grid = Grid::new(5, 3, MAP.to_vec(rt.alloc())?);
+    let mut lazy = LazyField::from(rt.alloc(), &grid, LEFT)?;
+    let all = PathEnds::of(rt.alloc(), 5, 3, &[A, RIGHT])?;
+    let mut set = TaskSet::new(rt.alloc(), 5, 3)?;
+    submit(&rt, &mut set, Places::of(&[D, C]))?;
+    submit(&rt, &mut set, Places::of(&[A, B]))?;
+    submit(&rt, &mut set, Places::of(&[C, D]))?;
     assign(&rt, &mut set, 1);
     lazy.turn(rt.alloc(), &grid, RIGHT)?;
     assert_eq!(rt; set.nearest(&mut lazy, &all.but(0)), Some(0));
