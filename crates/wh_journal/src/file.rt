@@ -1,0 +1,277 @@
+//! A journal in a file.
+#![tactic(auto)]
+
+ghost use Rattle.std.specs.Prelude.{◌≡◌, false};
+
+use crate::journal::{Journal, JournalFault};
+use crate::log_file::{LogFile, LogFileFault};
+use std::alloc::Global;
+use std::fs::{File, Files, OpenOptions};
+use std::io;
+use std::io::{ErrorKind, Read, Seek, SeekFrom};
+use std::path::Path;
+use wh_replay::write_all;
+
+/// A file that is open and locked, at whose end each write goes.
+#[derive(Drop)]
+struct OpenLog {
+    file: File,
+    length: u64,
+    /// So many bytes of it were synced.
+    safe: u64,
+    /// Whether it was cut: before that nothing is written.
+    is_cut: bool,
+}
+
+/// What is known of what stands at a path.
+#[derive(Drop)]
+enum Standing {
+    Unread,
+    Missing,
+    Found(OpenLog),
+}
+
+/// A journal in the file at a path, at whose end it writes. Of a file's bytes no contract can say anything.
+///
+/// `text` opens what stands there, never empties it, and locks it before a byte is read; one that another has locked, or that
+/// is no regular file, is `Unread`, and is left as it is. Where nothing stands, nothing is made, and the text is empty.
+/// `cut` makes the file where nothing stood, sets its length, and syncs it and its folder. It fails, and touches nothing, where
+/// `text` told no text before, where the text had fewer bytes, and where another made the file or changed its length since.
+///
+/// After a sync that failed, a later one may succeed although bytes were lost, so from the first fault on each call fails and
+/// no byte is written. On the first fault of `append` or `sync` the file is set back to its length at the last sync, where
+/// that can be done: it then holds what was synced, and nothing behind it.
+#[derive(Drop)]
+pub struct FileJournal<'a, R> {
+    files: &'a R,
+    path: Path<'a>,
+    standing: Standing,
+    has_failed: bool,
+}
+
+/// Locks a file, where no other has it and it is a regular one.
+fn lock(file: &File) -> io::Result<()> {
+    file.try_lock()?;
+    if !file.metadata()?.is_file() {
+        return Err(io::Error::from(ErrorKind::InvalidInput));
+    }
+    Ok(())
+}
+
+/// Opens what stands at a path, where something does, and makes nothing.
+fn open_standing<R: Files<File = File>>(files: &R, path: Path<'_>) -> io::Result<Option<File>> {
+    match OpenOptions::new().read(true).append(true).open(files, path) {
+        Ok(file) => Ok(Some(file)),
+        Err(error) if error.kind() == ErrorKind::NotFound => Ok(None),
+        Err(error) => Err(error),
+    }
+}
+
+/// All bytes of a file.
+fn read_whole(alloc: Global, file: &mut File) -> io::Result<Vec<u8>> {
+    let mut text: Vec<u8> = Vec::new(alloc);
+    file.seek(SeekFrom::Start(0))?;
+    file.read_to_end(&mut text)?;
+    Ok(text)
+}
+
+/// Locks a file, and reads it.
+fn lock_and_read(alloc: Global, file: &mut File) -> io::Result<Vec<u8>> {
+    lock(file)?;
+    read_whole(alloc, file)
+}
+
+/// Makes a file where nothing stands, and locks it.
+fn make<R: Files<File = File>>(files: &R, path: Path<'_>) -> io::Result<File> {
+    let file = OpenOptions::new()
+        .read(true)
+        .append(true)
+        .create_new(true)
+        .open(files, path)?;
+    match lock(&file) {
+        Ok(()) => Ok(file),
+        Err(error) => Err(error),
+    }
+}
+
+/// Syncs the folder that a path names, so that the file's name outlives a cut of the power.
+fn sync_folder<R: Files<File = File>>(files: &R, path: Path<'_>) -> io::Result<()> {
+    let folder = match path.parent() {
+        Some(folder) if !folder.as_os_str().is_empty() => folder,
+        _ => Path::new("."),
+    };
+    let folder = File::open(files, folder)?;
+    folder.sync_all()
+}
+
+impl OpenLog {
+    fn new(file: File, length: u64) -> OpenLog {
+        OpenLog {
+            file,
+            length,
+            safe: length,
+            is_cut: false,
+        }
+    }
+
+    fn append(&mut self, bytes: &[u8]) -> Result<(), JournalFault> {
+        if !self.is_cut {
+            return Err(JournalFault);
+        }
+        if write_all(&mut self.file, bytes).is_err() {
+            self.set_back();
+            return Err(JournalFault);
+        }
+        self.length = self.length.saturating_add(bytes.len() as u64);
+        Ok(())
+    }
+
+    fn sync(&mut self) -> Result<(), JournalFault> {
+        if !self.is_cut {
+            return Err(JournalFault);
+        }
+        if self.file.sync_data().is_err() {
+            self.set_back();
+            return Err(JournalFault);
+        }
+        self.safe = self.length;
+        Ok(())
+    }
+
+    /// Lets go what was not synced, where that can be done.
+    fn set_back(&mut self) {
+        drop(self.file.set_len(self.safe));
+    }
+
+    /// Cuts the file to a length, where it still is as long as it was, and syncs it and its folder.
+    fn cut<R: Files<File = File>>(
+        &mut self,
+        files: &R,
+        path: Path<'_>,
+        length: u64,
+    ) -> io::Result<()> {
+        let now = self.file.metadata()?.len();
+        if now != self.length || length > self.length {
+            return Err(io::Error::from(ErrorKind::InvalidInput));
+        }
+        self.file.set_len(length)?;
+        self.file.sync_all()?;
+        sync_folder(files, path)?;
+        self.length = length;
+        self.safe = length;
+        self.is_cut = true;
+        Ok(())
+    }
+}
+
+impl<'a, R> FileJournal<'a, R> {
+    /// The journal of the file at a path. Nothing is opened yet.
+    pub fn new(files: &'a R, path: Path<'a>) -> FileJournal<'a, R>
+        ensures { ⟦<FileJournal<'a, R> as Journal>⟧.failed result ≡ false }
+    {
+        FileJournal {
+            files,
+            path,
+            standing: Standing::Unread,
+            has_failed: false,
+        }
+    }
+
+    /// Whether a call has failed.
+    pub fn has_failed(&self) -> bool
+        ensures { result ≡ ⟦<FileJournal<'a, R> as Journal>⟧.failed self.now }
+    {
+        self.has_failed
+    }
+}
+
+impl<'a, R: Files<File = File>> FileJournal<'a, R> {
+    /// Reads what stands at the path, as it was opened before or anew.
+    fn read(&mut self, alloc: Global) -> io::Result<Vec<u8>>
+        ensures { self.new.has_failed ≡ self.old.has_failed }
+    {
+        if let Standing::Found(log) = &mut self.standing {
+            if log.is_cut {
+                return read_whole(alloc, &mut log.file);
+            }
+        }
+        // lets go of a lock of its own
+        self.standing = Standing::Unread;
+        let Some(mut file) = open_standing(self.files, self.path)? else {
+            self.standing = Standing::Missing;
+            return Ok(Vec::new(alloc));
+        };
+        match lock_and_read(alloc, &mut file) {
+            Ok(text) => {
+                self.standing = Standing::Found(OpenLog::new(file, text.len() as u64));
+                Ok(text)
+            }
+            Err(error) => Err(error),
+        }
+    }
+
+    /// Makes the file where nothing stood.
+    fn make_missing(&mut self)
+        ensures { self.new.has_failed ≡ self.old.has_failed }
+    {
+        if let Standing::Missing = &self.standing {
+            if let Ok(file) = make(self.files, self.path) {
+                self.standing = Standing::Found(OpenLog::new(file, 0));
+            }
+        }
+    }
+}
+
+impl<'a, R> Journal for FileJournal<'a, R> {
+    ghost failed = { λ j. j.has_failed };
+
+    fn append(&mut self, bytes: &[u8]) -> Result<(), JournalFault> {
+        if self.has_failed {
+            return Err(JournalFault);
+        }
+        if let Standing::Found(log) = &mut self.standing {
+            if log.append(bytes).is_ok() {
+                return Ok(());
+            }
+        }
+        self.has_failed = true;
+        Err(JournalFault)
+    }
+
+    fn sync(&mut self) -> Result<(), JournalFault> {
+        if self.has_failed {
+            return Err(JournalFault);
+        }
+        if let Standing::Found(log) = &mut self.standing {
+            if log.sync().is_ok() {
+                return Ok(());
+            }
+        }
+        self.has_failed = true;
+        Err(JournalFault)
+    }
+}
+
+impl<'a, R: Files<File = File>> LogFile for FileJournal<'a, R> {
+    fn text(&mut self, alloc: Global) -> Result<Vec<u8>, LogFileFault> {
+        match self.read(alloc) {
+            Ok(text) => Ok(text),
+            Err(error) if error.kind() == ErrorKind::OutOfMemory => Err(LogFileFault::NoMemory),
+            Err(_) => Err(LogFileFault::Unread),
+        }
+    }
+
+    fn cut(&mut self, bytes: usize) -> Result<(), JournalFault> {
+        if self.has_failed {
+            return Err(JournalFault);
+        }
+        self.make_missing();
+        if let Standing::Found(log) = &mut self.standing {
+            if log.cut(self.files, self.path, bytes as u64).is_ok() {
+                return Ok(());
+            }
+        }
+        self.has_failed = true;
+        Err(JournalFault)
+    }
+}
