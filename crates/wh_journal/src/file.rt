@@ -40,7 +40,8 @@ enum Standing {
 ///
 /// After a sync that failed, a later one may succeed although bytes were lost, so from the first fault on each call fails and
 /// no byte is written. On the first fault of `append` or `sync` the file is set back to its length at the last sync, where
-/// that can be done: it then holds what was synced, and nothing behind it.
+/// that can be done: it then holds what was synced, and nothing behind it. That may be less than a journal that tells its
+/// bytes says it holds then, and is no less than was synced.
 #[derive(Drop)]
 pub struct FileJournal<'a, R> {
     files: &'a R,
