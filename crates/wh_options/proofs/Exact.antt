@@ -1,14 +1,14 @@
 -- Words that give options are not refused.
-use Rattle.std.proofs.Common.{◌≡◌, ◌⊎◌, ◌≤◌, ◌<◌, ◌^◌, ℕ, List, [], ◌∷◌, ◌++◌, length, map, refl, sym, ap, ◌∙◌, Bool, true, false, cond, None, Some, Option, subst, inl, inr, codes, arith, ◌==◌, ◌||◌, ◌&&◌, nat_lt, lt-ltb, le-leb, lit<, true≢false, is_some, option_map, eqb-true}
-use Rattle.std.specs.Prelude.{MatchOption, find, fold}
+use Rattle.std.proofs.Common.{◌≡◌, ◌⊎◌, ◌≤◌, ◌<◌, ◌^◌, ℕ, List, [], ◌∷◌, ◌++◌, length, map, refl, sym, ap, ◌∙◌, Bool, true, false, cond, None, Some, Option, subst, inl, inr, codes, arith, ◌==◌, ◌||◌, ◌&&◌, nat_lt, lt-ltb, le-leb, lit<, true≢false, is_some, option_map}
+use Rattle.std.specs.Prelude.{◌≢◌, MatchOption, find, fold}
 use Rattle.std.specs.List.{AllByRecursion, IsDistinct, flat_map, list_all, list_any}
 use Rattle.std.specs.Char.{digit_value}
 use Rattle.std.specs.Str.{bytes_eq}
-use Rattle.std.specs.Str.Parse.{AllDigits, IsNumeral, digits_value, without_leading_plus}
+use Rattle.std.specs.Str.Parse.{AllDigits, digits_value, without_leading_plus}
 use Rattle.clap.proofs.WalkLemmas.{list_any-map}
 use Rattle.clap.proofs.FaultLemmas.{stopped_fault}
 use Rattle.clap.specs.Facts.{parser_of_value}
-use Rattle.clap.specs.Lexer.{has_byte, strip_byte}
+use Rattle.clap.specs.Lexer.{has_byte}
 use Rattle.clap.specs.Kinds.{Kinds, or_else, range_kinds}
 use Rattle.clap.specs.Values.{refused_kind}
 use Rattle.clap.specs.ValueTests.{accepts}
@@ -16,9 +16,9 @@ use Rattle.clap.specs.Walk.{Held, Names, Row, Rule, Text, Walk, action_of, answe
 use Rattle.clap.specs.Faults.{action_fault, built_fault, check_fault, default_fault, defaults_fault, entered_fault, fault_of, level_fault, repeat_fault, set_fault, settle_fault, turn_fault, use_fault, values_fault, walk_fault}
 use Rattle.clap.specs.Simple.{App, Shape, built, entered, filled, label_of, names_of}
 use Rattle.clap.specs.declared.builder.value_parser.ValueParser.TheVariants as vp
-use Rattle.wh_options.specs.Setting.{IsLine, Setting, spelled, value_of}
-use Rattle.wh_options.specs.Options.{GivesFleet, GivesNumber, GivesPlanner, GivesReplies, GivesTail, IsWritten, WordsGive, live_names, planner_text, replay_names, replies_text, tail_text}
-use Rattle.wh_options.specs.Menu.{Choices, IsMenu, choice_rule, menu, number_rule, planner_words, replies_words, tail_words}
+use Rattle.wh_options.specs.Setting.{IsLine, Setting, StandsFree, has_some, spelled, value_of}
+use Rattle.wh_options.specs.Options.{GivesFleet, GivesLog, GivesNumber, GivesPlanner, GivesReplies, GivesTail, IsWritten, WordsGive, live_names, log_of, planner_text, replay_names, replies_text, tail_text}
+use Rattle.wh_options.specs.Menu.{Choices, IsMenu, choice_rule, file_rule, menu, number_rule, planner_words, replies_words, tail_words}
 use Rattle.wh_options.specs.declared.chosen.Options.{Options}
 use Rattle.wh_options.specs.declared.chosen.Options.TheVariants.{Check, Replay, Verify, Live}
 use Rattle.wh_options.specs.declared.chosen.Fleet.{Fleet}
@@ -72,7 +72,7 @@ pub record IsValid (s : Shape) (x : Setting) : Type 0 where
   pub others : Text
   pub named : x.name ≡ first ∷ others
   pub no_equals : has_byte 61 x.name ≡ false
-  pub no_flag : strip_byte 45 x.value ≡ None
+  pub free : StandsFree x
 
 abbrev Fresh : List Row → List Setting → Type 0
 Fresh rows = AllByRecursion (λ (x : Setting). has_row x.name rows ≡ false)
@@ -101,7 +101,7 @@ valid_taken s (x ∷ xs) rows all never valid fresh once =
     let apart : AllByRecursion (λ y. bytes_eq r.id y ≡ false) (map (λ (x : Setting). x.name) xs) = subst (λ n. AllByRecursion (λ y. bytes_eq n y ≡ false) (map (λ (x : Setting). x.name) xs)) (sym id) once.0 in
     let more : AllTaken s xs (rows ++ r ∷ []) = valid_taken s xs (rows ++ r ∷ []) all never valid.1 (fresh_join rows r xs fresh.1 apart) once.1 in
     record {
-      now = record { rule = v.rule; found = v.found; option = v.option; passes = passes; first = v.first; others = v.others; named = v.named; no_equals = v.no_equals; no_flag = v.no_flag };
+      now = record { rule = v.rule; found = v.found; option = v.option; passes = passes; first = v.first; others = v.others; named = v.named; no_equals = v.no_equals; free = v.free };
       later = subst (AllTaken s xs) (sym makes) more;
     }
 
@@ -222,37 +222,26 @@ number_taken text least most n fits is low high =
     both_true _ _ (both_true _ _ (lt-ltb 0 (length ds) is.0.0) (digits_pass ds is.0.1))
     (both_true _ _ (lt-ltb (digits_value 10 ds) (2 ^ 64) small) (both_true _ _ (le-leb least (digits_value 10 ds) from) (le-leb (digits_value 10 ds) most upto)))
 
-number_is_no_flag : (text : Text) → IsNumeral 10 (without_leading_plus text) → strip_byte 45 text ≡ None
-number_is_no_flag [] is = refl
-number_is_no_flag (x ∷ xs) is = go (x == 45) refl
-  where
-    go : (b : Bool) → (x == 45) ≡ b → cond b (Some xs) None ≡ None
-    go false e = refl
-    go true e =
-        let at : x ≡ 45 = eqb-true x 45 e in
-        let bad : IsNumeral 10 (without_leading_plus (45 ∷ xs)) = subst (λ k. IsNumeral 10 (without_leading_plus (k ∷ xs))) at is in
-        absurd (omega (arith, bad.1.0))
-
 word_taken : (choices : Choices) (words : List Text) (text : Text) → texts choices.now ≡ words → list_any (λ w. bytes_eq w text) words ≡ true → accepts false (vp.Names choices) text ≡ true
 word_taken choices words text is e = list_any-map (λ w. bytes_eq w text) (λ s. s.now) choices.now ∙ subst (λ ws. list_any (λ w. bytes_eq w text) ws ≡ true) (sym is) e
 
-planner_listed : (planner : PlannerKind) → (list_any (λ w. bytes_eq w (planner_text planner)) planner_words ≡ true) × (strip_byte 45 (planner_text planner) ≡ None)
-planner_listed Near = (refl, refl)
-planner_listed Patient = (refl, refl)
+planner_listed : (planner : PlannerKind) → list_any (λ w. bytes_eq w (planner_text planner)) planner_words ≡ true
+planner_listed Near = refl
+planner_listed Patient = refl
 
-tail_listed : (tail : Tail) → (list_any (λ w. bytes_eq w (tail_text tail)) tail_words ≡ true) × (strip_byte 45 (tail_text tail) ≡ None)
-tail_listed Nothing = (refl, refl)
-tail_listed Log = (refl, refl)
-tail_listed Ledger = (refl, refl)
+tail_listed : (tail : Tail) → list_any (λ w. bytes_eq w (tail_text tail)) tail_words ≡ true
+tail_listed Nothing = refl
+tail_listed Log = refl
+tail_listed Ledger = refl
 
-replies_listed : (replies : Replies) → (list_any (λ w. bytes_eq w (replies_text replies)) replies_words ≡ true) × (strip_byte 45 (replies_text replies) ≡ None)
-replies_listed Short = (refl, refl)
-replies_listed Full = (refl, refl)
+replies_listed : (replies : Replies) → list_any (λ w. bytes_eq w (replies_text replies)) replies_words ≡ true
+replies_listed Short = refl
+replies_listed Full = refl
 
--- a text that is not empty
-abbrev has_some : Text → Bool
-has_some [] = false
-has_some (b ∷ bs) = true
+-- a file's name
+name_taken : (text : Text) → Some text ≢ Some [] → accepts false vp.NonEmptyString text ≡ true
+name_taken [] named = absurd (named refl)
+name_taken (b ∷ bs) named = lt-ltb 0 (length (b ∷ bs)) (omega arith)
 
 parts_of : (t : Text) → has_some t ≡ true → (b : ℕ) × (bs : Text) × (t ≡ b ∷ bs)
 parts_of [] e = cc
@@ -260,8 +249,8 @@ parts_of (b ∷ bs) e = (b, bs, refl)
 
 -- a setting of a known option whose value the option takes
 valid_setting : (s : Shape) (x : Setting) (name : Text) (r : Rule) → x.name ≡ name → arg_by_long s.rules name ≡ Some r → IsOption r → has_some name ≡ true → has_byte 61 name ≡ false
-    → accepts r.ignore_case (parser_of_value r.parser) x.value ≡ true → strip_byte 45 x.value ≡ None → IsValid s x
-valid_setting s x name r is found opt some plain taken no_flag =
+    → accepts r.ignore_case (parser_of_value r.parser) x.value ≡ true → StandsFree x → IsValid s x
+valid_setting s x name r is found opt some plain taken free =
     let cut = parts_of name some in
     record {
       rule = r;
@@ -272,7 +261,7 @@ valid_setting s x name r is found opt some plain taken no_flag =
       others = cut.1;
       named = is ∙ cut.2;
       no_equals = ap (has_byte 61) is ∙ plain;
-      no_flag = no_flag;
+      free = free;
     }
 
 number_option : (name : Text) (least most : ℕ) → IsOption (filled (number_rule name least most))
@@ -281,43 +270,57 @@ number_option name least most = record { short = refl; short_aliases = refl; act
 choice_option : (name : Text) (choices : Choices) → IsOption (filled (choice_rule name choices))
 choice_option name choices = record { short = refl; short_aliases = refl; action = refl; least = refl; most = refl; missing = refl }
 
+file_option : (name : Text) → IsOption (filled (file_rule name))
+file_option name = record { short = refl; short_aliases = refl; action = refl; least = refl; most = refl; missing = refl }
+
+-- the setting is the one that its name gives
+abbrev IsGiven : List Setting → Setting → Type 0
+IsGiven settings x = (value_of x.name settings ≡ Some x.value) × StandsFree x
+
+each_given : (settings : List Setting) → IsDistinct bytes_eq (map (λ (x : Setting). x.name) settings) → AllByRecursion StandsFree settings → AllByRecursion (IsGiven settings) settings
+each_given settings once free = all_zip _ _ _ (λ x value stands. (value, stands)) settings (each_value settings once) free
+
 value_at : (settings : List Setting) (x : Setting) (name : Text) → x.name ≡ name → value_of x.name settings ≡ Some x.value → value_of name settings ≡ Some x.value
 value_at settings x name is e = ap (λ n. value_of n settings) (sym is) ∙ e
 
-valid_number : (s : Shape) (settings : List Setting) (x : Setting) (name : Text) (least most default n : ℕ) → x.name ≡ name → value_of x.name settings ≡ Some x.value
+valid_number : (s : Shape) (settings : List Setting) (x : Setting) (name : Text) (least most default n : ℕ) → x.name ≡ name → IsGiven settings x
     → arg_by_long s.rules name ≡ Some (filled (number_rule name least most)) → has_some name ≡ true → has_byte 61 name ≡ false → most < 2 ^ 32
     → GivesNumber settings name default least most n → IsValid s x
 valid_number s settings x name least most default n is value found some plain fits gives =
-    let given : IsWritten n x.value × (least ≤ n) × (n ≤ most) = subst (λ o. MatchOption o (n ≡ default) (λ text. IsWritten n text × (least ≤ n) × (n ≤ most))) (value_at settings x name is value) gives in
+    let given : IsWritten n x.value × (least ≤ n) × (n ≤ most) = subst (λ o. MatchOption o (n ≡ default) (λ text. IsWritten n text × (least ≤ n) × (n ≤ most))) (value_at settings x name is value.0) gives in
     valid_setting s x name (filled (number_rule name least most)) is found (number_option name least most) some plain
-    (number_taken x.value least most n fits given.0 given.1 given.2) (number_is_no_flag x.value given.0.0)
+    (number_taken x.value least most n fits given.0 given.1 given.2) value.1
 
-valid_planner : (s : Shape) (settings : List Setting) (x : Setting) (choices : Choices) (planner : PlannerKind) → x.name ≡ codes "planner" → value_of x.name settings ≡ Some x.value
+valid_planner : (s : Shape) (settings : List Setting) (x : Setting) (choices : Choices) (planner : PlannerKind) → x.name ≡ codes "planner" → IsGiven settings x
     → arg_by_long s.rules (codes "planner") ≡ Some (filled (choice_rule (codes "planner") choices)) → texts choices.now ≡ planner_words → GivesPlanner settings planner → IsValid s x
 valid_planner s settings x choices planner is value found words gives =
-    let given : x.value ≡ planner_text planner = subst (λ o. MatchOption o (planner ≡ Near) (λ text. text ≡ planner_text planner)) (value_at settings x (codes "planner") is value) gives in
-    let listed = planner_listed planner in
+    let given : x.value ≡ planner_text planner = subst (λ o. MatchOption o (planner ≡ Near) (λ text. text ≡ planner_text planner)) (value_at settings x (codes "planner") is value.0) gives in
     valid_setting s x (codes "planner") (filled (choice_rule (codes "planner") choices)) is found (choice_option (codes "planner") choices) refl refl
-    (word_taken choices planner_words x.value words (subst (λ t. list_any (λ w. bytes_eq w t) planner_words ≡ true) (sym given) listed.0))
-    (ap (strip_byte 45) given ∙ listed.1)
+    (word_taken choices planner_words x.value words (subst (λ t. list_any (λ w. bytes_eq w t) planner_words ≡ true) (sym given) (planner_listed planner)))
+    value.1
 
-valid_tail : (s : Shape) (settings : List Setting) (x : Setting) (choices : Choices) (tail : Tail) → x.name ≡ codes "tail" → value_of x.name settings ≡ Some x.value
+valid_tail : (s : Shape) (settings : List Setting) (x : Setting) (choices : Choices) (tail : Tail) → x.name ≡ codes "tail" → IsGiven settings x
     → arg_by_long s.rules (codes "tail") ≡ Some (filled (choice_rule (codes "tail") choices)) → texts choices.now ≡ tail_words → GivesTail settings tail → IsValid s x
 valid_tail s settings x choices tail is value found words gives =
-    let given : x.value ≡ tail_text tail = subst (λ o. MatchOption o (tail ≡ Nothing) (λ text. text ≡ tail_text tail)) (value_at settings x (codes "tail") is value) gives in
-    let listed = tail_listed tail in
+    let given : x.value ≡ tail_text tail = subst (λ o. MatchOption o (tail ≡ Nothing) (λ text. text ≡ tail_text tail)) (value_at settings x (codes "tail") is value.0) gives in
     valid_setting s x (codes "tail") (filled (choice_rule (codes "tail") choices)) is found (choice_option (codes "tail") choices) refl refl
-    (word_taken choices tail_words x.value words (subst (λ t. list_any (λ w. bytes_eq w t) tail_words ≡ true) (sym given) listed.0))
-    (ap (strip_byte 45) given ∙ listed.1)
+    (word_taken choices tail_words x.value words (subst (λ t. list_any (λ w. bytes_eq w t) tail_words ≡ true) (sym given) (tail_listed tail)))
+    value.1
 
-valid_replies : (s : Shape) (settings : List Setting) (x : Setting) (choices : Choices) (replies : Replies) → x.name ≡ codes "replies" → value_of x.name settings ≡ Some x.value
+valid_replies : (s : Shape) (settings : List Setting) (x : Setting) (choices : Choices) (replies : Replies) → x.name ≡ codes "replies" → IsGiven settings x
     → arg_by_long s.rules (codes "replies") ≡ Some (filled (choice_rule (codes "replies") choices)) → texts choices.now ≡ replies_words → GivesReplies settings replies → IsValid s x
 valid_replies s settings x choices replies is value found words gives =
-    let given : x.value ≡ replies_text replies = subst (λ o. MatchOption o (replies ≡ Short) (λ text. text ≡ replies_text replies)) (value_at settings x (codes "replies") is value) gives in
-    let listed = replies_listed replies in
+    let given : x.value ≡ replies_text replies = subst (λ o. MatchOption o (replies ≡ Short) (λ text. text ≡ replies_text replies)) (value_at settings x (codes "replies") is value.0) gives in
     valid_setting s x (codes "replies") (filled (choice_rule (codes "replies") choices)) is found (choice_option (codes "replies") choices) refl refl
-    (word_taken choices replies_words x.value words (subst (λ t. list_any (λ w. bytes_eq w t) replies_words ≡ true) (sym given) listed.0))
-    (ap (strip_byte 45) given ∙ listed.1)
+    (word_taken choices replies_words x.value words (subst (λ t. list_any (λ w. bytes_eq w t) replies_words ≡ true) (sym given) (replies_listed replies)))
+    value.1
+
+valid_log : (s : Shape) (settings : List Setting) (x : Setting) (log : Option Text) → x.name ≡ codes "log" → IsGiven settings x
+    → arg_by_long s.rules (codes "log") ≡ Some (filled (file_rule (codes "log"))) → GivesLog settings log → IsValid s x
+valid_log s settings x log is value found gives =
+    let given : log ≡ Some x.value = gives.is ∙ value_at settings x (codes "log") is value.0 in
+    valid_setting s x (codes "log") (filled (file_rule (codes "log"))) is found (file_option (codes "log")) refl refl
+    (name_taken x.value (λ empty. gives.named (given ∙ empty))) value.1
 
 -- ---- the settings of a subcommand
 
@@ -330,7 +333,7 @@ Found s name least most = arg_by_long s.rules name ≡ Some (filled (number_rule
 
 fleet_valid : (s : Shape) (settings : List Setting) (choices : Choices) (fleet : Fleet) (others : List Text) → texts choices.now ≡ planner_words → GivesFleet settings fleet
     → arg_by_long s.rules (codes "planner") ≡ Some (filled (choice_rule (codes "planner") choices)) → Found s (codes "slots") 2 64 → Found s (codes "bank") 2 65536 → Found s (codes "spares") 0 16
-    → (x : Setting) → value_of x.name settings ≡ Some x.value → (list_any (bytes_eq x.name) others ≡ true → IsValid s x)
+    → (x : Setting) → IsGiven settings x → (list_any (bytes_eq x.name) others ≡ true → IsValid s x)
     → list_any (bytes_eq x.name) (codes "planner" ∷ codes "slots" ∷ codes "bank" ∷ codes "spares" ∷ others) ≡ true → IsValid s x
 fleet_valid s settings choices fleet others words gives planner slots bank spares x value rest e = elim (either_true _ _ e) [
   | inl is ↦ valid_planner s settings x choices fleet.planner (bytes_same _ _ is) value planner words gives.planner
@@ -346,21 +349,24 @@ fleet_valid s settings choices fleet others words gives planner slots bank spare
   ]
 ]
 
-replay_valid : (p t r q : Choices) (settings : List Setting) (o : ReplayOptions) → texts p.now ≡ planner_words → texts t.now ≡ tail_words → texts r.now ≡ replies_words → GivesFleet settings o.fleet → GivesTail settings o.tail → GivesReplies settings o.replies
-    → (x : Setting) → list_any (bytes_eq x.name) replay_names ≡ true → value_of x.name settings ≡ Some x.value → IsValid (leaf_at 1 p t r q) x
-replay_valid p t r q settings o planners tails words fleet tail replies x listed value =
-    fleet_valid (leaf_at 1 p t r q) settings p o.fleet (codes "tail" ∷ codes "replies" ∷ []) planners fleet refl refl refl refl x value
+replay_valid : (p t r q : Choices) (settings : List Setting) (o : ReplayOptions) → texts p.now ≡ planner_words → texts t.now ≡ tail_words → texts r.now ≡ replies_words → GivesFleet settings o.fleet → GivesTail settings o.tail → GivesReplies settings o.replies → GivesLog settings (log_of o)
+    → (x : Setting) → list_any (bytes_eq x.name) replay_names ≡ true → IsGiven settings x → IsValid (leaf_at 1 p t r q) x
+replay_valid p t r q settings o planners tails words fleet tail replies log x listed value =
+    fleet_valid (leaf_at 1 p t r q) settings p o.fleet (codes "tail" ∷ codes "replies" ∷ codes "log" ∷ []) planners fleet refl refl refl refl x value
     (λ e. elim (either_true _ _ e) [
       | inl is ↦ valid_tail (leaf_at 1 p t r q) settings x t o.tail (bytes_same _ _ is) value refl tails tail
       | inr f ↦ elim (either_true _ _ f) [
         | inl is ↦ valid_replies (leaf_at 1 p t r q) settings x r o.replies (bytes_same _ _ is) value refl words replies
-        | inr none ↦ absurd (true≢false (sym none))
+        | inr g ↦ elim (either_true _ _ g) [
+          | inl is ↦ valid_log (leaf_at 1 p t r q) settings x (log_of o) (bytes_same _ _ is) value refl log
+          | inr none ↦ absurd (true≢false (sym none))
+        ]
       ]
     ]) listed
 
 live_valid : (p t r q : Choices) (settings : List Setting) (o : LiveOptions) → texts q.now ≡ planner_words → GivesFleet settings o.fleet
     → GivesNumber settings (codes "turns") 64 1 100000 o.turns → GivesNumber settings (codes "journal") 10000 1 1000000 o.journal
-    → (x : Setting) → list_any (bytes_eq x.name) live_names ≡ true → value_of x.name settings ≡ Some x.value → IsValid (leaf_at 3 p t r q) x
+    → (x : Setting) → list_any (bytes_eq x.name) live_names ≡ true → IsGiven settings x → IsValid (leaf_at 3 p t r q) x
 live_valid p t r q settings o planners fleet turns journal x listed value =
     fleet_valid (leaf_at 3 p t r q) settings q o.fleet (codes "turns" ∷ codes "journal" ∷ []) planners fleet refl refl refl refl x value
     (λ e. elim (either_true _ _ e) [
@@ -391,11 +397,11 @@ menu_fine p t r q words Verify planners tails replies others gives =
     line_fine p t r q words (codes "verify") gives.0 gives.1 (leaf_at 2 p t r q) gives.3.0 (verify_enters p t r q) asking_plain (λ rows. refl)
     (subst (λ xs. AllTaken (leaf_at 2 p t r q) xs []) (sym gives.3.1) tt) gives.2
 menu_fine p t r q words (Replay o) planners tails replies others gives =
-    let valid = all_zip _ _ _ (replay_valid p t r q gives.1 o planners tails replies gives.3.2 gives.3.3 gives.3.4) gives.1 gives.3.1 (each_value gives.1 gives.2.once) in
+    let valid = all_zip _ _ _ (replay_valid p t r q gives.1 o planners tails replies gives.3.2 gives.3.3 gives.3.4 gives.3.5) gives.1 gives.3.1 (each_given gives.1 gives.2.once gives.2.spelling.free) in
     line_fine p t r q words (codes "replay") gives.0 gives.1 (leaf_at 1 p t r q) gives.3.0 (replay_enters p t r q) (replay_plain p t r q) (λ rows. refl)
     (valid_taken (leaf_at 1 p t r q) gives.1 [] (replay_plain p t r q) refl valid (none_fresh gives.1) gives.2.once) gives.2
 menu_fine p t r q words (Live o) planners tails replies others gives =
-    let valid = all_zip _ _ _ (live_valid p t r q gives.1 o others gives.3.2 gives.3.3 gives.3.4) gives.1 gives.3.1 (each_value gives.1 gives.2.once) in
+    let valid = all_zip _ _ _ (live_valid p t r q gives.1 o others gives.3.2 gives.3.3 gives.3.4) gives.1 gives.3.1 (each_given gives.1 gives.2.once gives.2.spelling.free) in
     line_fine p t r q words (codes "live") gives.0 gives.1 (leaf_at 3 p t r q) gives.3.0 (live_enters p t r q) (live_plain p t r q) (λ rows. refl)
     (valid_taken (leaf_at 3 p t r q) gives.1 [] (live_plain p t r q) refl valid (none_fresh gives.1) gives.2.once) gives.2
 

@@ -1,6 +1,7 @@
 -- The lemmas of the crate.
 pub mod Shapes
 pub mod Leaf
+pub mod Flags
 pub mod Turns
 pub mod Words
 pub mod Rows

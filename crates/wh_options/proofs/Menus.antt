@@ -7,9 +7,9 @@ use Rattle.clap.specs.Faults.{fault_of, is_simple_and_free, level_fault}
 use Rattle.clap.specs.Simple.{App, Shape, built, filled, help_rule, is_simple, label_of, new_shape, subcommand_of, version_rule}
 use Rattle.clap.specs.Walk.{Row, Rule, Text, answers_to, arg_by_long, first_of, nothing_held, rows_after, settled, texts, walk, has_long}
 use Rattle.wh_options.specs.Setting.{IsLine, IsSpelled, Setting, value_of}
-use Rattle.wh_options.specs.Options.{GivesFleet, Means, WordsGive}
+use Rattle.wh_options.specs.Options.{GivesFleet, Means, WordsGive, log_of}
 use Rattle.wh_options.specs.Reads.{Reads, ReadsFleet}
-use Rattle.wh_options.specs.Menu.{Choices, IsMenu, choice_rule, menu, number_rule, planner_words, replies_words, tail_words}
+use Rattle.wh_options.specs.Menu.{Choices, IsMenu, choice_rule, file_rule, menu, number_rule, planner_words, replies_words, tail_words}
 use Rattle.clap.specs.declared.builder.value_parser.ValueParser.TheVariants as vp
 use Rattle.wh_options.specs.declared.chosen.Options.{Options}
 use Rattle.wh_options.specs.declared.chosen.Options.TheVariants.{Check, Replay, Verify, Live}
@@ -19,7 +19,7 @@ use Rattle.wh_options.proofs.Leaf.{ArePlain, IsAsking, IsOption, IsPlainRule}
 use Rattle.wh_options.proofs.Words.{self_same, words_said}
 use Rattle.wh_options.proofs.Rows.{IsTaken, first_given, no_defaults, results}
 use Rattle.wh_options.proofs.Top.{IsMenuApp, level_parts, menu_entered}
-use Rattle.wh_options.proofs.Values.{some_same, no_settings, number_given, only_names, planner_given, replies_given, tail_given}
+use Rattle.wh_options.proofs.Values.{some_same, log_given, no_settings, number_given, only_names, planner_given, replies_given, tail_given}
 
 -- ---- any subcommand
 
@@ -178,8 +178,11 @@ number_plain name least most = option_plain _ refl refl refl refl (record { shor
 choice_plain : (name : Text) (choices : Choices) → IsPlainRule (filled (choice_rule name choices))
 choice_plain name choices = option_plain _ refl refl refl refl (record { short = refl; short_aliases = refl; action = refl; least = refl; most = refl; missing = refl })
 
+file_plain : (name : Text) → IsPlainRule (filled (file_rule name))
+file_plain name = option_plain _ refl refl refl refl (record { short = refl; short_aliases = refl; action = refl; least = refl; most = refl; missing = refl })
+
 pub replay_plain : (p t r q : Choices) → ArePlain (leaf_at 1 p t r q).rules
-replay_plain p t r q = (choice_plain (codes "planner") p, (number_plain (codes "slots") 2 64, (number_plain (codes "bank") 2 65536, (number_plain (codes "spares") 0 16, (choice_plain (codes "tail") t, (choice_plain (codes "replies") r, asking_plain))))))
+replay_plain p t r q = (choice_plain (codes "planner") p, (number_plain (codes "slots") 2 64, (number_plain (codes "bank") 2 65536, (number_plain (codes "spares") 0 16, (choice_plain (codes "tail") t, (choice_plain (codes "replies") r, (file_plain (codes "log"), asking_plain)))))))
 
 pub live_plain : (p t r q : Choices) → ArePlain (leaf_at 3 p t r q).rules
 live_plain p t r q = (choice_plain (codes "planner") q, (number_plain (codes "slots") 2 64, (number_plain (codes "bank") 2 65536, (number_plain (codes "spares") 0 16, (number_plain (codes "turns") 1 100000, (number_plain (codes "journal") 1 1000000, asking_plain))))))
@@ -195,6 +198,8 @@ replay_means p t r q rest (Replay o) says planners tails replies reads = (
       (first_of (codes "tail") (rows_after (leaf_at 1 p t r q).rules [] rest)) (says.first (codes "tail")) reads.1.tail,
   replies_given (leaf_at 1 p t r q).rules says.settings o.replies says.taken r replies (filled (choice_rule (codes "replies") r)) refl refl refl
       (first_of (codes "replies") (rows_after (leaf_at 1 p t r q).rules [] rest)) (says.first (codes "replies")) reads.1.replies,
+  log_given (leaf_at 1 p t r q).rules says.settings (log_of o) says.taken (filled (file_rule (codes "log"))) refl refl
+      (first_of (codes "log") (rows_after (leaf_at 1 p t r q).rules [] rest)) (says.first (codes "log")) reads.1.log,
 )
 replay_means p t r q rest Verify says planners tails replies reads = absurd (other_word (codes "replay") (codes "verify") refl reads)
 replay_means p t r q rest (Live o) says planners tails replies reads = absurd (other_word (codes "replay") (codes "live") refl reads.0)

@@ -6,7 +6,7 @@ use Rattle.std.specs.Str.{bytes_eq}
 use Rattle.clap.proofs.WalkLemmas.{both}
 use Rattle.clap.specs.Lexer.{has_byte}
 use Rattle.wh_options.specs.Setting.{Closes, Setting, Text, spelled, value_of}
-use Rattle.wh_options.specs.Options.{GivesFleet, GivesNumber, GivesPlanner, GivesReplies, GivesTail, HasOnly, IsWritten, Means, WordsGive, live_names, planner_text, replay_names, replies_text, tail_text}
+use Rattle.wh_options.specs.Options.{AreSame, GivesFleet, GivesNumber, GivesPlanner, GivesReplies, GivesTail, HasOnly, IsWritten, Means, WordsGive, live_names, planner_text, replay_names, replies_text, tail_text}
 use Rattle.wh_options.specs.declared.chosen.Options.{Options}
 use Rattle.wh_options.specs.declared.chosen.Options.TheVariants.{Check, Replay, Verify, Live}
 use Rattle.wh_options.specs.declared.chosen.Fleet.{Fleet}
@@ -195,7 +195,7 @@ fleet_once xs ys f g agree a b =
     let spares = number_once xs ys (codes "spares") 0 0 16 f.spares g.spares agree a.spares b.spares in
     λ i. record { planner = planner i; slots = slots i; bank = bank i; spares = spares i }
 
-means_once : (name told : Text) (xs ys : List Setting) (o p : Options) → name ≡ told → Agree xs ys → Means name xs o → Means told ys p → o ≡ p
+means_once : (name told : Text) (xs ys : List Setting) (o p : Options) → name ≡ told → Agree xs ys → Means name xs o → Means told ys p → AreSame o p
 means_once name told xs ys Check Check is agree m n = refl
 means_once name told xs ys Check (Replay p) is agree m n = absurd (other_word (codes "check") (codes "replay") refl (sym m.0 ∙ is ∙ n.0))
 means_once name told xs ys Check Verify is agree m n = absurd (other_word (codes "check") (codes "verify") refl (sym m.0 ∙ is ∙ n.0))
@@ -205,7 +205,7 @@ means_once name told xs ys (Replay o) (Replay p) is agree m n =
     let fleet = fleet_once xs ys o.fleet p.fleet agree m.2 n.2 in
     let tail = tail_once xs ys o.tail p.tail agree m.3 n.3 in
     let replies = replies_once xs ys o.replies p.replies agree m.4 n.4 in
-    λ i. Replay (record { fleet = fleet i; tail = tail i; replies = replies i })
+    (fleet, tail, replies, m.5.is ∙ agree (codes "log") ∙ sym n.5.is)
 means_once name told xs ys (Replay o) Verify is agree m n = absurd (other_word (codes "replay") (codes "verify") refl (sym m.0 ∙ is ∙ n.0))
 means_once name told xs ys (Replay o) (Live p) is agree m n = absurd (other_word (codes "replay") (codes "live") refl (sym m.0 ∙ is ∙ n.0))
 means_once name told xs ys Verify Check is agree m n = absurd (other_word (codes "verify") (codes "check") refl (sym m.0 ∙ is ∙ n.0))
@@ -222,7 +222,7 @@ means_once name told xs ys (Live o) (Live p) is agree m n =
     λ i. Live (record { fleet = fleet i; turns = turns i; journal = journal i })
 
 -- words give at most one set of options
-pub given_once : (words : List Text) (o p : Options) → WordsGive words o → WordsGive words p → o ≡ p
+pub given_once : (words : List Text) (o p : Options) → WordsGive words o → WordsGive words p → AreSame o p
 given_once words o p a b =
     let heads : a.2.program ∷ a.0 ∷ a.2.after ≡ b.2.program ∷ b.0 ∷ b.2.after = sym a.2.words_are ∙ b.2.words_are in
     let name : a.0 ≡ b.0 = ap (λ ws. first_or (drop 1 ws)) heads in

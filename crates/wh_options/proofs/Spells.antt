@@ -1,14 +1,15 @@
 -- The other way: settings that a command's options take are not refused.
-use Rattle.std.proofs.Common.{◌≡◌, ℕ, List, [], ◌∷◌, ◌++◌, take, drop, refl, sym, ap, ap₂, Bool, true, false, cond, None, Some, Option, subst, inl, inr, codes, suc, arith, ◌==◌, ◌||◌, not, ◌+◌, append_assoc}
+use Rattle.std.proofs.Common.{◌≡◌, ℕ, List, [], ◌∷◌, ◌++◌, take, drop, refl, sym, ap, ap₂, ◌∙◌, Bool, true, false, cond, None, Some, Option, subst, inl, inr, codes, suc, arith, ◌==◌, ◌||◌, not, ◌+◌, append_assoc}
 use Rattle.std.specs.List.{after_first, before_first, flat_map, position_or_len}
 use Rattle.std.specs.Option.{option_map_or}
-use Rattle.std.specs.Str.{bytes_eq}
-use Rattle.clap.specs.Lexer.{has_byte, long_of, name_and_value, short_of, strip_byte}
+use Rattle.std.specs.Str.{bytes_eq, chars}
+use Rattle.clap.specs.Lexer.{has_byte, long_of, name_and_value, short_of}
 use Rattle.clap.specs.Kinds.{Kinds, or_else}
-use Rattle.clap.specs.Walk.{Held, Row, Rule, Step, Text, Walk, after_flag, after_step, arg_by_id, arg_by_long, idle, long_met, long_or_other, option, settled, short_or_plain, trailing, used, walked}
+use Rattle.clap.specs.Walk.{Held, Outcome, Row, Rule, Step, Text, Walk, after_flag, after_step, arg_by_id, arg_by_long, bundle, idle, long_met, long_or_other, option, plain_word, settled, short_or_plain, trailing, used, walked}
 use Rattle.clap.specs.Faults.{bundle_fault, flag_word_fault, long_fault, settle_fault, step_fault, turn_fault, use_fault, walk_fault}
 use Rattle.clap.specs.Simple.{Shape}
-use Rattle.wh_options.specs.Setting.{Closes, Setting, spelled}
+use Rattle.wh_options.specs.Setting.{Closes, Setting, StandsFree, is_flag, spelled}
+use Rattle.wh_options.proofs.Flags.{silent, unflagged}
 use Rattle.wh_options.proofs.Shapes.{before_whole, is_equals}
 use Rattle.wh_options.proofs.Leaf.{ArePlain, IsOption}
 use Rattle.wh_options.proofs.Turns.{given_after, held, idle_at, option_at, option_takes}
@@ -64,21 +65,6 @@ apart_word : (x : ℕ) (xs : List ℕ) → has_byte 61 (x ∷ xs) ≡ false → 
 apart_word x xs e =
     let pair : ◌≡◌ {A = List ℕ × Option (List ℕ)} (name_and_value (x ∷ xs)) (x ∷ xs, None) = rw e (ap (λ a. (a, None)) (before_whole (x ∷ xs) e)) in
     ap (λ p. Some p) pair
-
--- a word that does not begin with a hyphen is no flag
-strip_none : (x : ℕ) (xs : List ℕ) (b : Bool) → (x == 45) ≡ b → cond b (Some xs) None ≡ None → b ≡ false
-strip_none x xs true e h = cc
-strip_none x xs false e h = refl
-
-plain_is_no_end : (v : List ℕ) → strip_byte 45 v ≡ None → bytes_eq v (codes "--") ≡ false
-plain_is_no_end [] e = refl
-plain_is_no_end (x ∷ xs) e = rw (strip_none x xs (x == 45) refl e) refl
-
-plain_is_not_long : (v : List ℕ) → strip_byte 45 v ≡ None → long_of v ≡ None
-plain_is_not_long v e = rw e refl
-
-plain_is_not_short : (v : List ℕ) → strip_byte 45 v ≡ None → short_of v ≡ None
-plain_is_not_short v e = rw e refl
 
 -- ---- turns
 
@@ -151,16 +137,28 @@ OptionGoes s rows id pos v after d l =
     (or_else (cond d [] (flag_word_fault s.rules s.args_override_self l v h)) (step_fault s pos stepped.0 stepped.1) ≡ [])
     × (after_step s.rules v (option_at rows id pos) stepped.0 stepped.1 ≡ after)
 
-value_turn : (s : Shape) (rows : List Row) (pos : ℕ) (v : Text) (a : Rule) → strip_byte 45 v ≡ None → arg_by_id s.rules a.id ≡ Some a → IsOption a
+-- short flags without a character are a value as any
+short_goes : (s : Shape) (rows : List Row) (pos : ℕ) (v : Text) (a : Rule) (sh : Option Text) → ((flags : Text) → sh ≡ Some flags → chars flags ≡ []) → arg_by_id s.rules a.id ≡ Some a → IsOption a
+    → ShortGoes s rows a.id pos v (idle_at rows (Some (a.id, v ∷ [])) pos) sh
+short_goes s rows pos v a None none found opt = (refl, given_after s rows a.id pos v a opt (self_same a.id) found)
+short_goes s rows pos v a (Some flags) none found opt =
+    let h = held rows (Some (a.id, [])) in
+    let quiet = silent s.rules s.args_override_self flags h (none flags refl) in
+    let same : after_flag s.rules (option a.id) v (bundle s.rules flags h).0 (bundle s.rules flags h).1 ≡ plain_word s.rules (option a.id) v h =
+    ap (λ (p : Held × Outcome). after_flag s.rules (option a.id) v p.0 p.1) quiet.1 in (
+      none_both _ _ quiet.0 (subst (λ (p : Held × Step). step_fault s pos p.0 p.1 ≡ []) (sym same) refl),
+      ap (λ (p : Held × Step). after_step s.rules v (option_at rows a.id pos) p.0 p.1) same ∙ given_after s rows a.id pos v a opt (self_same a.id) found,
+    )
+
+value_turn : (s : Shape) (rows : List Row) (pos : ℕ) (v : Text) (a : Rule) → is_flag v ≡ false → arg_by_id s.rules a.id ≡ Some a → IsOption a
     → (turn_fault s [] (option_at rows a.id pos) v ≡ []) × (walked s.rules [] (option_at rows a.id pos) v ≡ idle_at rows (Some (a.id, v ∷ [])) pos)
 unfolding walked
 value_turn s rows pos v a plain found opt =
     let after = idle_at rows (Some (a.id, v ∷ [])) pos in
-    let short : ShortGoes s rows a.id pos v after None = (refl, given_after s rows a.id pos v a opt (self_same a.id) found) in
-    let shorter : ShortGoes s rows a.id pos v after (short_of v) = subst (λ o. ShortGoes s rows a.id pos v after o) (sym (plain_is_not_short v plain)) short in
-    let none : OptionGoes s rows a.id pos v after false None = shorter in
-    subst (λ b. OptionGoes s rows a.id pos v after b (long_of v)) (sym (plain_is_no_end v plain))
-    (subst (λ l. OptionGoes s rows a.id pos v after false l) (sym (plain_is_not_long v plain)) none)
+    let u = unflagged v plain in
+    let none : OptionGoes s rows a.id pos v after false None = short_goes s rows pos v a (short_of v) u.no_short found opt in
+    subst (λ b. OptionGoes s rows a.id pos v after b (long_of v)) (sym u.no_end)
+    (subst (λ l. OptionGoes s rows a.id pos v after false l) (sym u.no_long) none)
 
 -- ---- many settings
 
@@ -174,7 +172,7 @@ pub record CanTake (s : Shape) (x : Setting) (rows : List Row) : Type 0 where
   pub others : Text
   pub named : x.name ≡ first ∷ others
   pub no_equals : has_byte 61 x.name ≡ false
-  pub no_flag : strip_byte 45 x.value ≡ None
+  pub free : StandsFree x
 
 pub record TakesAll (s : Shape) (x : Setting) (rows : List Row) (Rest : List Row → Type 0) : Type 0 where
   pub now : CanTake s x rows
@@ -215,7 +213,7 @@ setting_fine s rest name value false xs all ih rows pending pos settles t later 
     let found : arg_by_long s.rules (t.first ∷ t.others) ≡ Some t.rule = subst (λ n. arg_by_long s.rules n ≡ Some t.rule) t.named t.found in
     let opens = opens_turn s rows pending pos t.first t.others t.rule plain found t.option settles in
     let at = by_id s t.rule name all t.found in
-    let gives = value_turn s now pos value t.rule t.no_flag at t.option in
+    let gives = value_turn s now pos value t.rule (t.free refl) at t.option in
     let pends : settle_fault s.rules s.args_override_self (held now (Some (t.rule.id, value ∷ []))) ≡ [] = rw at t.passes in
     let rows_are : (settled s.rules (held now (Some (t.rule.id, value ∷ [])))).rows ≡ used t.rule (value ∷ []) now = rw at refl in
     let told : AllTaken s xs (settled s.rules (held now (Some (t.rule.id, value ∷ [])))).rows = subst (AllTaken s xs) (sym rows_are) later in

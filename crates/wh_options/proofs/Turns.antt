@@ -9,6 +9,8 @@ use Rattle.clap.specs.Kinds.{Kinds, or_else, range_kinds}
 use Rattle.clap.specs.Walk.{Held, Row, Rule, Step, Text, Waiting, Walk, action_of, after_flag, after_step, arg_by_id, arg_by_long, arg_by_short, bundle, bundle_met, bundle_step, idle, long_met, long_or_other, most_values, option, plain, plain_word, settled, short_or_plain, takes_values, trailing, used, value, values_or_missing, walked}
 use Rattle.clap.specs.Faults.{bundle_fault, bundle_step_fault, flag_word_fault, flags_fault, long_fault, action_fault, option_fault, react_fault, settle_fault, short_fault, step_fault, stray_fault, turn_fault, use_fault}
 use Rattle.clap.specs.Simple.{Shape}
+use Rattle.wh_options.specs.Setting.{is_flag}
+use Rattle.wh_options.proofs.Flags.{is_no_flag}
 use Rattle.wh_options.proofs.Shapes.{IsLong, bytes_same, long_is}
 use Rattle.wh_options.proofs.Leaf.{ArePlain, IsAsking, IsOption, IsPlainRule, both_empty, long_plain, no_position, short_help}
 
@@ -80,6 +82,16 @@ bundle_plain c again (b ∷ bs) h all e = go (slice_get (chars (b ∷ bs)) 0) e
         → bundle_step c o (b ∷ bs) 0 plain h (bundle_met c (length bs)) ≡ (h, plain)
     go None f = refl
     go (Some x) f = absurd (short_fails c again (arg_by_short c x) _ h _ (λ a found. short_help c x a all found) f)
+
+-- nor has it a character
+no_characters : (c : List Rule) (again : Bool) (flags : Text) (h : Held) → ArePlain c → flags_fault c again (length flags) flags 0 h ≡ [] → chars flags ≡ []
+unfolding flags_fault chars
+no_characters c again [] h all e = refl
+no_characters c again (b ∷ bs) h all e = go (chars (b ∷ bs)) e
+  where
+    go : (cs : Text) → bundle_step_fault c again (slice_get cs 0) (b ∷ bs) 0 h (flags_fault c again (length bs)) ≡ [] → cs ≡ []
+    go [] f = refl
+    go (x ∷ xs) f = absurd (short_fails c again (arg_by_short c x) _ h _ (λ a found. short_help c x a all found) f)
 
 -- ---- what is taken
 
@@ -217,6 +229,7 @@ empty_fails s rows id a o found e =
 -- the word is the option's value
 pub record Gives (rows : List Row) (id : Text) (pos : ℕ) (word : Text) (after : Walk) : Type 0 where
   pub after_is : after ≡ idle_at rows (Some (id, word ∷ [])) pos
+  pub no_flag : is_flag word ≡ false
 
 pub record Ends (rows : List Row) (id : Text) (pos : ℕ) (after : Walk) : Type 0 where
   pub after_is : after ≡ trail_at (held rows (Some (id, []))) (option id) pos
@@ -238,28 +251,39 @@ pub given_after : (s : Shape) (rows : List Row) (id : Text) (pos : ℕ) (word : 
     ≡ idle_at rows (Some (id, word ∷ [])) pos
 given_after s rows id pos word a o is found = rw (found, is, o.most) refl
 
+-- a word that is not refused has no short flag
+flag_has_none : (s : Shape) (rows : List Row) (pending : Option (Text × List Text)) (word : Text) → ArePlain s.rules
+    → flag_word_fault s.rules s.args_override_self None word (held rows pending) ≡ [] → (flags : Text) → short_of word ≡ Some flags → chars flags ≡ []
+flag_has_none s rows pending word all e flags is =
+    let f : bundle_fault s.rules s.args_override_self flags (held rows pending) ≡ [] =
+    subst (λ o. option_map_or (λ fs. bundle_fault s.rules s.args_override_self fs (held rows pending)) o [] ≡ []) is e in
+    no_characters s.rules s.args_override_self flags (held rows pending) all f
+
 option_other : (s : Shape) (rows : List Row) (id : Text) (pos : ℕ) (word : Text) (a : Rule) (l : Option (Text × Option Text))
-    → ArePlain s.rules → IsOption a → bytes_eq id a.id ≡ true → arg_by_id s.rules id ≡ Some a → long_of word ≡ l
+    → ArePlain s.rules → IsOption a → bytes_eq id a.id ≡ true → arg_by_id s.rules id ≡ Some a → bytes_eq word (codes "--") ≡ false → long_of word ≡ l
     → flag_word_fault s.rules s.args_override_self l word (held rows (Some (id, []))) ≡ []
     → Gives rows id pos word (after_step s.rules word (option_at rows id pos) (long_or_other s.rules (option id) word l (held rows (Some (id, [])))).0
     (long_or_other s.rules (option id) word l (held rows (Some (id, [])))).1)
-option_other s rows id pos word a (Some p) all opt same_id found is e = absurd (long_after_fails s rows id p.0 p.1 a (arg_by_long s.rules p.0) all opt found refl e)
-option_other s rows id pos word a None all opt same_id found is e =
+option_other s rows id pos word a (Some p) all opt same_id found other is e = absurd (long_after_fails s rows id p.0 p.1 a (arg_by_long s.rules p.0) all opt found refl e)
+option_other s rows id pos word a None all opt same_id found other is e =
     let same = no_flag s (option id) word (held rows (Some (id, []))) (short_of word) all refl e in
-    record { after_is = ap (λ (q : Held × Step). after_step s.rules word (option_at rows id pos) q.0 q.1) same ∙ given_after s rows id pos word a opt same_id found }
+    record {
+      after_is = ap (λ (q : Held × Step). after_step s.rules word (option_at rows id pos) q.0 q.1) same ∙ given_after s rows id pos word a opt same_id found;
+      no_flag = is_no_flag word (record { no_end = other; no_long = is; no_short = flag_has_none s rows (Some (id, [])) word all e });
+    }
 
 option_dashes : (s : Shape) (rows : List Row) (id : Text) (pos : ℕ) (word : Text) (a : Rule) (d : Bool)
-    → ArePlain s.rules → IsOption a → bytes_eq id a.id ≡ true → arg_by_id s.rules id ≡ Some a
+    → ArePlain s.rules → IsOption a → bytes_eq id a.id ≡ true → arg_by_id s.rules id ≡ Some a → bytes_eq word (codes "--") ≡ d
     → (let h = held rows (Some (id, [])) in let m = cond d (h, trailing pos) (long_or_other s.rules (option id) word (long_of word) h) in
     or_else (cond d [] (flag_word_fault s.rules s.args_override_self (long_of word) word h)) (step_fault s pos m.0 m.1) ≡ [])
     → (let h = held rows (Some (id, [])) in let m = cond d (h, trailing pos) (long_or_other s.rules (option id) word (long_of word) h) in
     let after = after_step s.rules word (option_at rows id pos) m.0 m.1 in Gives rows id pos word after ⊎ Ends rows id pos after)
-option_dashes s rows id pos word a true all opt same_id found e = inr (record { after_is = refl })
-option_dashes s rows id pos word a false all opt same_id found e = inl (option_other s rows id pos word a (long_of word) all opt same_id found refl (both_empty _ _ e).0)
+option_dashes s rows id pos word a true all opt same_id found is e = inr (record { after_is = refl })
+option_dashes s rows id pos word a false all opt same_id found is e = inl (option_other s rows id pos word a (long_of word) all opt same_id found is refl (both_empty _ _ e).0)
 
 -- what a word after `--name` does, where it is not refused
 pub option_turn : (s : Shape) (rows : List Row) (id : Text) (pos : ℕ) (word : Text) (a : Rule) → ArePlain s.rules → IsOption a → bytes_eq id a.id ≡ true → arg_by_id s.rules id ≡ Some a
     → turn_fault s [] (option_at rows id pos) word ≡ []
     → Gives rows id pos word (walked s.rules [] (option_at rows id pos) word) ⊎ Ends rows id pos (walked s.rules [] (option_at rows id pos) word)
 unfolding walked
-option_turn s rows id pos word a all opt same_id found e = option_dashes s rows id pos word a (bytes_eq word (codes "--")) all opt same_id found e
+option_turn s rows id pos word a all opt same_id found e = option_dashes s rows id pos word a (bytes_eq word (codes "--")) all opt same_id found refl e

@@ -11,7 +11,7 @@ use Rattle.clap.specs.ValueTests.{accepts}
 use Rattle.clap.specs.Walk.{Rule, Text, arg_by_long, takes_values, has_long, texts}
 use Rattle.clap.specs.declared.builder.value_parser.ValueParser.TheVariants as vp
 use Rattle.wh_options.specs.Setting.{Setting, value_of}
-use Rattle.wh_options.specs.Options.{GivesNumber, GivesPlanner, GivesReplies, GivesTail, HasOnly, IsWritten, planner_text, replies_text, tail_text}
+use Rattle.wh_options.specs.Options.{GivesLog, GivesNumber, GivesPlanner, GivesReplies, GivesTail, HasOnly, IsWritten, planner_text, replies_text, tail_text}
 use Rattle.wh_options.specs.Reads.{ReadsNumber, planner_of, replies_of, tail_of}
 use Rattle.wh_options.specs.Menu.{Choices, planner_words, replies_words, tail_words}
 use Rattle.wh_options.specs.declared.chosen.PlannerKind.{PlannerKind}
@@ -183,3 +183,16 @@ replies_given c settings replies taken choices words r is case parser o same rea
         let t = taken_value c settings (codes "replies") text r taken is e in
         let one = one_of_words choices replies_words text words (rw (case, parser) at t) in
         replies_text_is text _ _ refl refl one ∙ ap replies_text (sym p)
+
+-- ---- a file
+
+pub log_given : (c : List Rule) (settings : List Setting) (log : Option Text) → AllByRecursion (IsTaken c) settings
+    → (r : Rule) → arg_by_long c (codes "log") ≡ Some r → r.parser ≡ Some vp.NonEmptyString
+    → (o : Option Text) → o ≡ value_of (codes "log") settings → log ≡ o → GivesLog settings log
+log_given c settings log taken r is parser o same reads = record {
+  is = reads ∙ same;
+  named = λ empty.
+      let t = taken_value c settings (codes "log") [] r taken is (sym same ∙ sym reads ∙ empty) in
+      let bad : false ≡ true = rw parser at t in
+      cc;
+}

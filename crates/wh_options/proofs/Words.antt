@@ -1,12 +1,12 @@
 -- The words after a subcommand are settings, where `clap` refuses none.
-use Rattle.std.proofs.Common.{◌≡◌, ◌≤◌, ℕ, List, [], ◌∷◌, length, refl, sym, ap, ap₂, ◌∙◌, arith, true, false, None, Some, Option, subst, zero, suc, codes, inl, inr}
+use Rattle.std.proofs.Common.{◌≡◌, ◌≤◌, ℕ, List, [], ◌∷◌, length, refl, sym, ap, ap₂, ◌∙◌, arith, true, false, true≢false, None, Some, Option, subst, zero, suc, codes, inl, inr}
 use Rattle.std.specs.Prelude.{fold}
 use Rattle.std.specs.Str.{bytes_eq}
 use Rattle.std.proofs.lemmas.Slice.Eq.{bytes_eq-Decides}
 use Rattle.clap.specs.Walk.{Held, Row, Rule, Text, Waiting, Walk, arg_by_id, arg_by_long, idle, option, settled, used, walked}
 use Rattle.clap.specs.Faults.{settle_fault, turn_fault, use_fault, walk_fault}
 use Rattle.clap.specs.Simple.{Shape}
-use Rattle.wh_options.specs.Setting.{IsSpelled, Setting}
+use Rattle.wh_options.specs.Setting.{IsSpelled, Setting, is_flag}
 use Rattle.wh_options.proofs.Shapes.{IsLong}
 use Rattle.wh_options.proofs.Leaf.{ArePlain, IsOption, both_empty, by_name, long_plain}
 use Rattle.wh_options.proofs.Turns.{Joins, empty_fails, held, idle_at, idle_turn, option_at, option_turn, trail_at, value_fails}
@@ -51,7 +51,7 @@ trail_ends s h waiting pos [] all f = (refl, f.ends)
 trail_ends s h waiting pos (word ∷ rest) all f = absurd (value_fails s pos h all (turned s (trail_at h waiting pos) word rest f).0)
 
 nothing_said : (s : Shape) (rows : List Row) → Says s [] rows rows
-nothing_said s rows = record { settings = []; spelling = record { rest = []; closes = inl refl; words_are = refl }; applied = refl }
+nothing_said s rows = record { settings = []; spelling = record { rest = []; closes = inl refl; words_are = refl; free = tt }; applied = refl }
 
 -- one setting more in front
 said_joined : (s : Shape) (word name given : Text) (a : Rule) (rest : List Text) (rows last : List Row) → IsLong word name (Some given)
@@ -60,17 +60,27 @@ said_joined : (s : Shape) (word name given : Text) (a : Rule) (rest : List Text)
 said_joined s word name given a rest rows last word_is found opt id passes more =
     record {
       settings = record { name = name; value = given; is_joined = true } ∷ more.settings;
-      spelling = record { rest = more.spelling.rest; closes = more.spelling.closes; words_are = ap₂ (λ w ws. w ∷ ws) word_is more.spelling.words_are };
+      spelling = record {
+        rest = more.spelling.rest;
+        closes = more.spelling.closes;
+        words_are = ap₂ (λ w ws. w ∷ ws) word_is more.spelling.words_are;
+        free = (λ e. absurd (true≢false e), more.spelling.free);
+      };
       applied = (a, record { found = found; option = opt; id = id; passes = passes }, more.applied);
     }
 
-said_apart : (s : Shape) (word name given : Text) (a : Rule) (rest : List Text) (rows last : List Row) → IsLong word name None
+said_apart : (s : Shape) (word name given : Text) (a : Rule) (rest : List Text) (rows last : List Row) → IsLong word name None → is_flag given ≡ false
     → arg_by_long s.rules name ≡ Some a → IsOption a → a.id ≡ name → use_fault s.args_override_self a (given ∷ []) rows ≡ []
     → Says s rest (used a (given ∷ []) rows) last → Says s (word ∷ given ∷ rest) rows last
-said_apart s word name given a rest rows last word_is found opt id passes more =
+said_apart s word name given a rest rows last word_is no_flag found opt id passes more =
     record {
       settings = record { name = name; value = given; is_joined = false } ∷ more.settings;
-      spelling = record { rest = more.spelling.rest; closes = more.spelling.closes; words_are = ap₂ (λ w ws. w ∷ given ∷ ws) word_is more.spelling.words_are };
+      spelling = record {
+        rest = more.spelling.rest;
+        closes = more.spelling.closes;
+        words_are = ap₂ (λ w ws. w ∷ given ∷ ws) word_is more.spelling.words_are;
+        free = (λ e. no_flag, more.spelling.free);
+      };
       applied = (a, record { found = found; option = opt; id = id; passes = passes }, more.applied);
     }
 
@@ -90,7 +100,7 @@ dashes_said s rows pending pos word rest all is f =
       t.1,
       record {
         settings = [];
-        spelling = record { rest = word ∷ rest; closes = inr (ap₂ (λ w ws. w ∷ ws) is t.0); words_are = refl };
+        spelling = record { rest = word ∷ rest; closes = inr (ap₂ (λ w ws. w ∷ ws) is t.0); words_are = refl; free = tt };
         applied = ap (λ ws. last_rows s (trail_at (held rows pending) idle pos) ws) t.0;
       },
     )
@@ -119,16 +129,16 @@ joined_said s rows pending pos word ws after all ih j f =
 
 -- the value after `--name`
 value_said : (s : Shape) (rows : List Row) (pos : ℕ) (word name given : Text) (a : Rule) (rest : List Text) (after : Walk) → ArePlain s.rules → Below s rest
-    → IsLong word name None → arg_by_long s.rules name ≡ Some a → IsOption a → after ≡ idle_at rows (Some (a.id, given ∷ [])) pos → IsFine s after rest
+    → IsLong word name None → is_flag given ≡ false → arg_by_long s.rules name ≡ Some a → IsOption a → after ≡ idle_at rows (Some (a.id, given ∷ [])) pos → IsFine s after rest
     → Says s (word ∷ given ∷ rest) rows (last_rows s after rest)
-value_said s rows pos word name given a rest after all ih word_is found opt is f =
+value_said s rows pos word name given a rest after all ih word_is no_flag found opt is f =
     let at = by_id s a name all found in
     let more = ih rest (omega arith) rows (Some (a.id, given ∷ [])) pos (fine_at s after _ rest is f) in
     let passes : use_fault s.args_override_self a (given ∷ []) rows ≡ [] = rw at at more.0 in
     let rows_are : (settled s.rules (held rows (Some (a.id, given ∷ [])))).rows ≡ used a (given ∷ []) rows = rw at refl in
     let told : Says s rest (used a (given ∷ []) rows) (last_rows s (idle_at rows (Some (a.id, given ∷ [])) pos) rest) =
     subst (λ r. Says s rest r (last_rows s (idle_at rows (Some (a.id, given ∷ [])) pos) rest)) rows_are more.1 in
-    let said = said_apart s word name given a rest rows _ word_is found opt (long_plain s.rules name a all found).1 passes told in
+    let said = said_apart s word name given a rest rows _ word_is no_flag found opt (long_plain s.rules name a all found).1 passes told in
     subst (λ (x : Walk). Says s (word ∷ given ∷ rest) rows (last_rows s x rest)) (sym is) said
 
 opened_said : (s : Shape) (rows : List Row) (pos : ℕ) (word name : Text) (a : Rule) (ws : List Text) → ArePlain s.rules → Below s ws
@@ -139,7 +149,7 @@ opened_said s rows pos word name a (given ∷ rest) all ih word_is found opt f =
     let at = by_id s a name all found in
     let t = turned s (option_at rows a.id pos) given rest f in
     elim (option_turn s rows a.id pos given a all opt (self_same a.id) at t.0) [
-      | inl g ↦ value_said s rows pos word name given a rest _ all (λ xs le. ih xs (omega arith)) word_is found opt g.after_is t.1
+      | inl g ↦ value_said s rows pos word name given a rest _ all (λ xs le. ih xs (omega arith)) word_is g.no_flag found opt g.after_is t.1
       | inr e ↦ absurd (empty_fails s rows a.id a opt at (trail_ends s (held rows (Some (a.id, []))) (option a.id) pos rest all (fine_at s _ _ rest e.after_is t.1)).1)
     ]
 

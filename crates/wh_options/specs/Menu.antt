@@ -31,6 +31,15 @@ choice_rule name choices = record (new_rule name) {
   parser = Some (vp.Names choices);
 }
 
+-- an option whose value is the name of a file, any text but the empty one
+abbrev pub file_rule : Text → Rule
+file_rule name = record (new_rule name) {
+  long = Some name;
+  action = Some Set;
+  value_names = 1;
+  parser = Some vp.NonEmptyString;
+}
+
 abbrev pub planner_words : List Text
 planner_words = codes "near" ∷ codes "patient" ∷ []
 
@@ -47,8 +56,9 @@ fleet_app name planners = with_rule (with_rule (with_rule (with_rule (new_app na
     (number_rule (codes "bank") 2 65536)) (number_rule (codes "spares") 0 16)
 
 abbrev pub replay_app : Choices → Choices → Choices → App
-replay_app planners tails replies = with_rule (with_rule (fleet_app (codes "replay") planners)
-    (choice_rule (codes "tail") tails)) (choice_rule (codes "replies") replies)
+replay_app planners tails replies = with_rule (with_rule (with_rule (fleet_app (codes "replay") planners)
+    (choice_rule (codes "tail") tails)) (choice_rule (codes "replies") replies))
+    (file_rule (codes "log"))
 
 abbrev pub live_app : Choices → App
 live_app planners = with_rule (with_rule (fleet_app (codes "live") planners)

@@ -1,5 +1,5 @@
 -- Which options the words of a command line give.
-use Rattle.std.specs.Prelude.{◌≡◌, ◌≤◌, ℕ, List, [], ◌∷◌, MatchOption, codes, true}
+use Rattle.std.specs.Prelude.{◌≡◌, ◌≢◌, ◌≤◌, ℕ, List, [], ◌∷◌, Option, Some, MatchOption, codes, option_map, true}
 use Rattle.std.specs.List.{AllByRecursion, list_any}
 use Rattle.std.specs.Str.{bytes_eq}
 use Rattle.std.specs.Str.Parse.{IsNumeral, digits_value, without_leading_plus}
@@ -11,6 +11,7 @@ use Rattle.wh_options.specs.declared.chosen.Tail.TheVariants.{Nothing, Log, Ledg
 use Rattle.wh_options.specs.declared.chosen.Replies.{Replies}
 use Rattle.wh_options.specs.declared.chosen.Replies.TheVariants.{Short, Full}
 use Rattle.wh_options.specs.declared.chosen.Fleet.{Fleet}
+use Rattle.wh_options.specs.declared.chosen.ReplayOptions.{ReplayOptions}
 use Rattle.wh_options.specs.declared.chosen.Options.{Options}
 use Rattle.wh_options.specs.declared.chosen.Options.TheVariants.{Check, Replay, Verify, Live}
 
@@ -52,6 +53,15 @@ abbrev pub GivesReplies : List Setting → Replies → Type 0
 GivesReplies settings replies = MatchOption (value_of (codes "replies") settings)
     (replies ≡ Short) (λ text. text ≡ replies_text replies)
 
+-- the text of the file's name
+abbrev pub log_of : ReplayOptions → Option Text
+log_of o = option_map (λ s. s.now) o.log
+
+-- the file named, if one is, by a name that is not empty
+pub record GivesLog (settings : List Setting) (log : Option Text) : Type 0 where
+  pub is : log ≡ value_of (codes "log") settings
+  pub named : log ≢ Some []
+
 -- the settings give these planners
 pub record GivesFleet (settings : List Setting) (fleet : Fleet) : Type 0 where
   pub planner : GivesPlanner settings fleet.planner
@@ -69,7 +79,7 @@ fleet_names = codes "planner" ∷ codes "slots" ∷ codes "bank" ∷ codes "spar
 
 abbrev pub replay_names : List Text
 replay_names = codes "planner" ∷ codes "slots" ∷ codes "bank" ∷ codes "spares" ∷ codes "tail"
-    ∷ codes "replies" ∷ []
+    ∷ codes "replies" ∷ codes "log" ∷ []
 
 abbrev pub live_names : List Text
 live_names = codes "planner" ∷ codes "slots" ∷ codes "bank" ∷ codes "spares" ∷ codes "turns"
@@ -80,6 +90,7 @@ abbrev pub Means : Text → List Setting → Options → Type 0
 Means name settings Check = (name ≡ codes "check") × (settings ≡ [])
 Means name settings (Replay o) = (name ≡ codes "replay") × HasOnly replay_names settings
     × GivesFleet settings o.fleet × GivesTail settings o.tail × GivesReplies settings o.replies
+    × GivesLog settings (log_of o)
 Means name settings Verify = (name ≡ codes "verify") × (settings ≡ [])
 Means name settings (Live o) = (name ≡ codes "live") × HasOnly live_names settings
     × GivesFleet settings o.fleet
@@ -90,3 +101,9 @@ Means name settings (Live o) = (name ≡ codes "live") × HasOnly live_names set
 abbrev pub WordsGive : List Text → Options → Type 0
 WordsGive words options = (name : Text) × (settings : List Setting)
     × IsLine words name settings × Means name settings options
+
+-- the same options: a file's name counts by its text, wherever that text lies
+abbrev pub AreSame : Options → Options → Type 0
+AreSame (Replay o) (Replay p) = (o.fleet ≡ p.fleet) × (o.tail ≡ p.tail) × (o.replies ≡ p.replies)
+    × (log_of o ≡ log_of p)
+AreSame o p = o ≡ p

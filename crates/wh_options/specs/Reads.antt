@@ -3,6 +3,7 @@ use Rattle.std.specs.Prelude.{◌≡◌, ◌≢◌, ◌<◌, ◌^◌, ℕ, Optio
 use Rattle.std.specs.Str.{bytes_eq}
 use Rattle.std.specs.Str.Parse.{IsNumeral, digits_value, without_leading_plus}
 use Rattle.clap.specs.Words.{Text}
+use Rattle.wh_options.specs.Options.{log_of}
 use Rattle.wh_options.specs.declared.chosen.PlannerKind.{PlannerKind}
 use Rattle.wh_options.specs.declared.chosen.PlannerKind.TheVariants.{Near, Patient}
 use Rattle.wh_options.specs.declared.chosen.Tail.{Tail}
@@ -46,6 +47,7 @@ pub record ReadsReplay (given : Text → Option Text) (o : ReplayOptions) : Type
   pub fleet : ReadsFleet given o.fleet
   pub tail : o.tail ≡ tail_of (given (codes "tail"))
   pub replies : o.replies ≡ replies_of (given (codes "replies"))
+  pub log : log_of o ≡ given (codes "log")
 
 pub record ReadsLive (given : Text → Option Text) (o : LiveOptions) : Type 0 where
   pub fleet : ReadsFleet given o.fleet

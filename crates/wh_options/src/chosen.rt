@@ -42,15 +42,17 @@ pub struct Fleet {
     pub spares: u32,
 }
 
-/// The options of `replay`.
+/// The options of `replay`. They keep a text of the words that gave them.
 #[derive(Clone, Copy, Debug, PartialEq, Eq)]
-pub struct ReplayOptions {
+pub struct ReplayOptions<'a> {
     /// The planners of the run.
     pub fleet: Fleet,
     /// What follows the replies.
     pub tail: Tail,
     /// How the replies tell paths.
     pub replies: Replies,
+    /// The name of the file that keeps the run's log, if one is to; never empty.
+    pub log: Option<&'a str>,
 }
 
 /// The options of `live`.
@@ -66,11 +68,11 @@ pub struct LiveOptions {
 
 /// A subcommand with its options.
 #[derive(Clone, Copy, Debug, PartialEq, Eq)]
-pub enum Options {
+pub enum Options<'a> {
     /// `check`: whether the warehouse is well-formed.
     Check,
     /// `replay`: the replies to a script.
-    Replay(ReplayOptions),
+    Replay(ReplayOptions<'a>),
     /// `verify`: whether a log is a run.
     Verify,
     /// `live`: clients, agents and a clock in threads.

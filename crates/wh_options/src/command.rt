@@ -1,7 +1,7 @@
 //! The command line as `clap` is told of it: the subcommands, their options and the help texts.
 ghost use Rattle.std.specs.Prelude.{◌≡◌, IfOk, codes, false};
 ghost use Rattle.clap.specs.Words.{app_of, new_app, rule_of};
-ghost use Rattle.wh_options.specs.Menu.{choice_rule, number_rule, HasShape, IsFleetCommand, IsLiveCommand, IsMenu, IsReplayCommand};
+ghost use Rattle.wh_options.specs.Menu.{choice_rule, file_rule, number_rule, HasShape, IsFleetCommand, IsLiveCommand, IsMenu, IsReplayCommand};
 
 use clap::builder::ValueParser;
 use clap::{Arg, ArgAction, Command};
@@ -39,6 +39,19 @@ fn choice_arg<'a>(alloc: Global, name: &'a str, choices: &'a [&'a str], help: &'
         .help(help)
         .action(ArgAction::Set)
         .value_parser(ValueParser::Names(choices))
+}
+
+// An option whose value is the name of a file.
+fn file_arg<'a>(alloc: Global, name: &'a str, help: &'a str) -> Arg<'a>
+    ensures rule { rule_of result ≡ file_rule name.entry.now }
+    ensures local { result.global ≡ false }
+{
+    Arg::new(alloc, name)
+        .long(name)
+        .value_name("FILE")
+        .help(help)
+        .action(ArgAction::Set)
+        .value_parser(ValueParser::NonEmptyString)
 }
 
 fn plain_command<'a>(alloc: Global, name: &'a str, about: &'a str) -> Command<'a>
@@ -105,10 +118,16 @@ fn replay_command<'a>(alloc: Global) -> Result<Command<'a>, AllocError>
         REPLIES.as_slice(),
         "How a reply tells a path: short, its end alone; full, each cell [default: short]",
     );
+    let log = file_arg(
+        alloc,
+        "log",
+        "Keeps the log of the run in FILE, and goes on from the log that FILE has",
+    );
     let about = "Answers each command of a script (input: map, points, script)";
     fleet_command(alloc, "replay", about)?
         .arg(tail)?
-        .arg(replies)
+        .arg(replies)?
+        .arg(log)
 }
 
 fn live_command<'a>(alloc: Global) -> Result<Command<'a>, AllocError>

@@ -1,7 +1,7 @@
 //! From the words of a command line to the options that they give.
 ghost use Rattle.std.specs.Prelude.{◌≡◌, IfErr, IfOk, IsErrAnd, List, Some, codes, map, option_map, ℕ};
 ghost use Rattle.clap.specs.Words.{Row, Text, first_of, first_value, found_of, kind_of, rows_of, subcommand_rows_of};
-ghost use Rattle.wh_options.specs.Options.{WordsGive};
+ghost use Rattle.wh_options.specs.Options.{AreSame, WordsGive};
 ghost use Rattle.wh_options.specs.Requests.{AsksBy, IsKind, help_flags, version_flags};
 ghost use Rattle.wh_options.specs.Reads.{Reads, ReadsFleet, ReadsLive, ReadsNumber, ReadsReplay, planner_of, replies_of, tail_of};
 
@@ -79,13 +79,14 @@ fn fleet(matches: &ArgMatches<'_>) -> Fleet
     }
 }
 
-fn replay_options(matches: &ArgMatches<'_>) -> ReplayOptions
+fn replay_options<'a>(matches: &ArgMatches<'a>) -> ReplayOptions<'a>
     ensures { ReadsReplay (first_value (found_of matches.now)) result }
 {
     ReplayOptions {
         fleet: fleet(matches),
         tail: tail(matches),
         replies: replies(matches),
+        log: matches.get_str("log"),
     }
 }
 
@@ -100,7 +101,7 @@ fn live_options(matches: &ArgMatches<'_>) -> LiveOptions
 }
 
 // What the subcommand's matches say.
-fn read_options(matches: &ArgMatches<'_>) -> Options
+fn read_options<'a>(matches: &ArgMatches<'a>) -> Options<'a>
     ensures { (name : Text) (rows : List Row) → subcommand_rows_of matches.now ≡ Some (name, rows)
         → Reads name (λ id. first_of id rows) result }
 {
@@ -123,11 +124,11 @@ fn read_options(matches: &ArgMatches<'_>) -> Options
 ///
 /// A mistake in the words, a request for help or the version, or want of memory: `refusal_of` tells
 /// which, and the error's `Display` is the text for the user.
-pub fn options<W: AsStr>(alloc: Global, words: &[W]) -> Result<Options, Error>
+pub fn options<'a, W: AsStr>(alloc: Global, words: &'a [W]) -> Result<Options<'a>, Error>
     // The words give the options that are answered.
     ensures ok { IfOk result (WordsGive (map W.text words.now)) }
     // They give no others.
-    ensures only { IfOk result (λ o. (p : Options) → WordsGive (map W.text words.now) p → p ≡ o) }
+    ensures only { IfOk result (λ o. (p : Options) → WordsGive (map W.text words.now) p → AreSame p o) }
     // Where the words give any options, only want of memory is an error.
     ensures refused { IfErr result (λ e. (o : Options) → WordsGive (map W.text words.now) o
         → kind_of e ≡ ErrorKind.OutOfMemory) }

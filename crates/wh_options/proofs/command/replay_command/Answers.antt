@@ -9,7 +9,9 @@ returns c =
     let below = c.in_ok-fleet_command.ensures in
     let tail_in = c.in_ok-arg.ensures.shape c.choice_arg-tail.ensures.local
     ∙ ap₂ with_rule below.is.shape c.choice_arg-tail.ensures.rule in
-    IfOk-weaker c.arg-2.result _ _ (λ made added. record {
+    let replies_in = c.in_ok-arg-2.ensures.shape c.choice_arg-replies.ensures.local
+    ∙ ap₂ with_rule tail_in c.choice_arg-replies.ensures.rule in
+    IfOk-weaker c.arg-3.result _ _ (λ made added. record {
       planners = below.planners;
       tails = c.as_slice.result;
       replies = c.as_slice-2.result;
@@ -17,7 +19,7 @@ returns c =
       tail_texts = search rules;
       replies_texts = search rules;
       is = record {
-        shape = added.shape c.choice_arg-replies.ensures.local ∙ ap₂ with_rule tail_in c.choice_arg-replies.ensures.rule;
+        shape = added.shape c.file_arg-log.ensures.local ∙ ap₂ with_rule replies_in c.file_arg-log.ensures.rule;
         local = search rules;
       };
-    }) c.arg-2.ensures
+    }) c.arg-3.ensures
