@@ -53,6 +53,8 @@ told trouble.Endless = codes "X2"
 told trouble.Unwritten = codes "X3"
 told trouble.NoThread = codes "E93"
 told trouble.Differs = codes "E95"
+told (trouble.Log number) = placed (codes "L1") number
+told trouble.Unkept = codes "X5"
 told trouble.NoMemory = codes "E90"
 
 -- the line on standard error
@@ -67,7 +69,7 @@ number_of_status status.CommandLine = 2
 number_of_status status.Failed = 3
 number_of_status status.NoMemory = 4
 
--- input that is refused is told by status 1, a device or a thread by 3, want of memory by 4
+-- input or a log file that is refused is told by status 1, a device or a thread by 3, want of memory by 4
 abbrev pub status_of : Trouble → Status
 status_of (trouble.Map fault) = status.Refused
 status_of (trouble.Points fault) = status.Refused
@@ -81,4 +83,6 @@ status_of trouble.Endless = status.Failed
 status_of trouble.Unwritten = status.Failed
 status_of trouble.NoThread = status.Failed
 status_of trouble.Differs = status.Failed
+status_of (trouble.Log number) = status.Refused
+status_of trouble.Unkept = status.Failed
 status_of trouble.NoMemory = status.NoMemory

@@ -68,6 +68,10 @@ pub enum Trouble {
     NoThread,
     /// A pass and its row differ.
     Differs,
+    /// The log file has this line first with which no log of a run of this site goes on.
+    Log { line: u64 },
+    /// The log file cannot be opened, read, written or synced, or another program has it.
+    Unkept,
     /// Memory was wanting.
     NoMemory,
 }
@@ -164,6 +168,8 @@ impl Trouble {
             Trouble::Unwritten => put(&mut line, b"X3"),
             Trouble::NoThread => put(&mut line, b"E93"),
             Trouble::Differs => put(&mut line, b"E95"),
+            Trouble::Log { line: number } => put_place(&mut line, b"L1", number),
+            Trouble::Unkept => put(&mut line, b"X5"),
             Trouble::NoMemory => put(&mut line, b"E90"),
         }
         put(&mut line, b"\n");
@@ -178,8 +184,10 @@ impl Trouble {
             Trouble::Map(_) | Trouble::Points(_) | Trouble::Script(_) => Status::Refused,
             Trouble::Short { .. } | Trouble::Raced { .. } => Status::Refused,
             Trouble::SectionTooLong | Trouble::TooManyWorkers => Status::Refused,
+            Trouble::Log { .. } => Status::Refused,
             Trouble::Broken | Trouble::Endless | Trouble::Unwritten => Status::Failed,
             Trouble::NoThread | Trouble::Differs => Status::Failed,
+            Trouble::Unkept => Status::Failed,
             Trouble::NoMemory => Status::NoMemory,
         }
     }
