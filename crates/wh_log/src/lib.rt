@@ -34,4 +34,4 @@ pub use laws::{cuts_are_found, logs_are, replies_are};
 pub use log::Log;
 pub use reader::{LogFault, read_log};
 pub use version::Version;
-pub use writer::{begun_text, entries_text, log_text, written_again};
+pub use writer::{begun_text, end_text, entries_text, log_text, written_again};

@@ -72,6 +72,15 @@ pub fn entries_text(alloc: Global, entries: &[Entry]) -> Result<Vec<u8>, NoMemor
     Ok(out)
 }
 
+/// The last line of a log of so many entries. Error: `NoMemory` (E90).
+pub fn end_text(alloc: Global, count: u64) -> Result<Vec<u8>, NoMemory>
+    ensures { IfOk result (λ text. text.items ≡ text_of (logs.end_line count ∷ [])) }
+{
+    let mut out = Vec::new(alloc);
+    push_end(&mut out, count)?;
+    Ok(out)
+}
+
 /// The log of this content, in version 2: the opening clock in ticks, the opening slots of each agent by number, and the
 /// entries in their order. It is written whatever the content; where that keeps the format's ranges, the text is a log.
 ///

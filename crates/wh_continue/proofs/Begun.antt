@@ -1,0 +1,130 @@
+-- A log file that was begun, or ended.
+use Rattle.std.proofs.Common.{◌≡◌, ◌⊎◌, inl, inr, ℕ, List, [], ◌∷◌, ◌++◌, length, take, drop, refl, sym, ap, ◌∙◌, subst, Option, None, Some, take-append-drop}
+use Rattle.std.specs.Prelude.{Bool, true, IfSome, MatchOption, IfErr, OnErr, Result, Ok, Err}
+use Rattle.std.proofs.Math.Seq.{take-length}
+use Rattle.std.specs.Io.KnownBytes.{Appends}
+use Rattle.wh_words.specs.Lines.{text_of as lines_text}
+use Rattle.wh_points.specs.Points.{Site}
+use Rattle.wh_resume.specs.Drafts.{Seen}
+use Rattle.wh_event.specs.declared.entry.Entry.{Entry}
+use Rattle.wh_resume.specs.Resuming.{IsFront}
+use Rattle.wh_log.specs.declared.version.Version.TheVariants.{Two}
+use Rattle.wh_log.specs.Logs.{Content, end_line}
+use Rattle.wh_log.specs.Torn.{begun_lines}
+use Rattle.wh_log.proofs.Fronts.{text-append}
+use Rattle.wh_journal.specs.Cutting.{front_of, MayCut}
+use Rattle.wh_journal.specs.Scripts.{WritesFront}
+use Rattle.wh_journal.specs.Surviving.{told_by, IsLogOfBook, HoldsLog, StaysLog}
+use Rattle.wh_resume.specs.Resuming.{Tells}
+use Rattle.wh_resume.specs.declared.recovery.Recovery.{Recovery}
+use Rattle.wh_resume.specs.declared.recovery.Recovery.TheVariants as told
+use Rattle.wh_continue.specs.Starting.{Begins, BreaksAt, GoesOnFrom, StartsIn, first_lines}
+use Rattle.wh_continue.specs.declared.running.KeepFault.{KeepFault}
+use Rattle.wh_continue.specs.declared.running.KeepFault.TheVariants.{Unkept}
+use Rattle.wh_continue.specs.Running.{IsStartOf, IsWholeLog, IsLeft, Opens, OpensShort, opening_lines, last_line}
+use Rattle.wh_continue.specs.declared.starting.Start.{Start}
+use Rattle.wh_continue.proofs.Closing.{whole_is_log}
+
+-- what stands for a file: it holds the book's log, if it tells its bytes, and does tell them if it did
+pub record Stands (file new : Option (List ℕ)) (book : Seen) : Type 0 where
+  pub stays : StaysLog file new book
+  pub holds : HoldsLog new book
+
+opening_is_log : (site : Site) (slots text : List ℕ) (book : Seen) → Begins site slots text book → IsLogOfBook (Some (opening_lines book)) book
+opening_is_log site slots text book begins =
+    ap (λ (es : List Entry). Some (lines_text (begun_lines Two (let c : Content = record { clock = book.opening.clock; slots = book.opening.slots; entries = es } in c)))) (sym begins.unbegun.history_is)
+
+stands_some : (text : List ℕ) (new : Option (List ℕ)) (book : Seen) → IsLogOfBook new book → Stands (Some text) new book
+stands_some text new book is = record { stays = is; holds = subst (λ (n : Option (List ℕ)). HoldsLog n book) (sym is) refl }
+
+-- where the run goes on, the file was cut behind its whole lines
+pub begun_found : (file new : Option (List ℕ)) (start : Start) (bytes : ℕ) → IsStartOf file start → start.bytes ≡ Some bytes → new ≡ front_of bytes file → Stands file new start.book
+begun_found None new start bytes of is cut = record { stays = tt; holds = subst (λ (n : Option (List ℕ)). HoldsLog n start.book) (sym cut) tt }
+begun_found (Some text) new start bytes of is cut =
+    let from : GoesOnFrom of.0 text bytes start.book =
+    subst (λ (b : Option ℕ). StartsIn of.0 of.1 text (record { book = start.book; bytes = b })) is of.2 in
+    stands_some text new start.book (cut ∙ whole_is_log of.0 from.content from.is_ended text bytes start.book from.holds from.goes_on)
+
+-- the two lines stand alone in a file that was emptied
+opened_alone : (bytes : List ℕ) (new : Option (List ℕ)) → Appends (Some []) new bytes → new ≡ Some bytes
+opened_alone bytes None a = absurd a
+opened_alone bytes (Some ys) a = ap (λ (l : List ℕ). Some l) a
+
+pub opens_alone : (file cut new : Option (List ℕ)) (lines : List ℕ) → cut ≡ front_of 0 file → Appends cut new lines → (cut ≡ None → new ≡ None) → Opens file new lines
+opens_alone None cut new lines emptied added silent = silent emptied
+opens_alone (Some text) cut new lines emptied added silent = opened_alone lines new (subst (λ (c : Option (List ℕ)). Appends c new lines) emptied added)
+
+-- or a front of them does
+pub opens_front : (file cut new : Option (List ℕ)) (lines : List ℕ) → cut ≡ front_of 0 file → WritesFront cut new lines
+    → IfSome file (λ (text : List ℕ). (left : List ℕ) × (new ≡ Some left) × ((left ≡ text) ⊎ IsFront left lines))
+opens_front None cut new lines emptied front = tt
+opens_front (Some text) cut new lines emptied front = (
+  take front.count lines,
+  opened_alone (take front.count lines) new (subst (λ (c : Option (List ℕ)). Appends c new (take front.count lines)) emptied front.appends),
+  inr (record { rest = drop front.count lines; is = sym (take-append-drop front.count lines) }),
+)
+
+pub opens_uncut : (file new : Option (List ℕ)) (lines : List ℕ) → MayCut 0 file new
+    → IfSome file (λ (text : List ℕ). (left : List ℕ) × (new ≡ Some left) × ((left ≡ text) ⊎ IsFront left lines))
+opens_uncut None new lines may = tt
+opens_uncut (Some text) new lines may = elim may [
+  | inl same ↦ (text, same, inl refl)
+  | inr emptied ↦ ([], emptied, inr (record { rest = lines; is = refl }))
+]
+
+-- where it begins, the two lines were written
+pub begun_new : (file new : Option (List ℕ)) (start : Start) → IsStartOf file start → start.bytes ≡ None → Opens file new (opening_lines start.book) → Stands file new start.book
+begun_new None new start of is opens = record { stays = tt; holds = subst (λ (n : Option (List ℕ)). HoldsLog n start.book) (sym opens) tt }
+begun_new (Some text) new start of is opens =
+    let from : Begins of.0 of.1 text start.book =
+    subst (λ (b : Option ℕ). StartsIn of.0 of.1 text (record { book = start.book; bytes = b })) is of.2 in
+    stands_some text new start.book (opens ∙ opening_is_log of.0 of.1 text start.book from)
+
+-- a file that was not begun
+pub left_found : (file new : Option (List ℕ)) (start : Start) (bytes : ℕ) → start.bytes ≡ Some bytes → MayCut bytes file new → IsLeft start file new
+left_found None new start bytes is may = tt
+left_found (Some text) new start bytes is may = elim may [
+  | inl same ↦ (text, same, inl refl)
+  | inr cut ↦ (take bytes text, cut, inr (subst (λ (b : Option ℕ). MatchOption b (IsFront (take bytes text) (opening_lines start.book)) (λ (n : ℕ). take bytes text ≡ take n text)) (sym is) refl))
+]
+
+pub left_new : (file new : Option (List ℕ)) (start : Start) → start.bytes ≡ None
+    → IfSome file (λ (text : List ℕ). (left : List ℕ) × (new ≡ Some left) × ((left ≡ text) ⊎ IsFront left (opening_lines start.book))) → IsLeft start file new
+left_new None new start is left = tt
+left_new (Some text) new start is left = (left.0, left.1, elim left.2 [
+  | inl same ↦ inl same
+  | inr front ↦ inr (subst (λ (b : Option ℕ). MatchOption b (IsFront left.0 (opening_lines start.book)) (λ (n : ℕ). left.0 ≡ take n text)) (sym is) front)
+])
+
+-- the log of the book and the end line are its whole log
+pub ended : (kept holds : Option (List ℕ)) (book : Seen) → IsLogOfBook kept book → Appends kept holds (last_line (length book.history)) → IsWholeLog holds book
+ended kept None book log ends = absurd (subst (λ (k : Option (List ℕ)). Appends k None (last_line (length book.history))) log ends)
+ended kept (Some bytes) book log ends =
+    let is : bytes ≡ lines_text (begun_lines Two (told_by book)) ++ last_line (length book.history) =
+    subst (λ (k : Option (List ℕ)). Appends k (Some bytes) (last_line (length book.history))) log ends in
+    ap (λ (l : List ℕ). Some l) (is ∙ sym (text-append (begun_lines Two (told_by book)) (end_line (length book.history) ∷ [])))
+
+-- all was written: so a front of it was
+pub front_whole : (had has : Option (List ℕ)) (bytes : List ℕ) → Appends had has bytes → WritesFront had has bytes
+front_whole had has bytes a = record { count = length bytes; appends = subst (λ (bs : List ℕ). Appends had has bs) (sym (take-length bytes)) a }
+
+-- why the two lines were not written
+pub opening_short : {A : Type 0} (said : Result A KeepFault) (file cut new : Option (List ℕ)) (failed : Bool) (lines : List ℕ) → IfErr said (λ (f : KeepFault). f ≡ Unkept)
+    → OnErr said (WritesFront cut new lines) → OnErr said (failed ≡ true) → cut ≡ front_of 0 file → IfErr said (λ (f : KeepFault). OpensShort f file new failed lines)
+opening_short (Ok a) file cut new failed lines is front has emptied = tt
+opening_short (Err f) file cut new failed lines is front has emptied = subst (λ (k : KeepFault). OpensShort k file new failed lines) (sym is) (has, opens_front file cut new lines emptied front)
+
+-- a text that is refused
+pub bad_from : (site : Site) (slots begun text : List ℕ) (line bytes : ℕ) (said : Recovery) → Tells site begun text said → said ≡ told.Bad line bytes
+    → begun ≡ first_lines slots → BreaksAt site slots text line
+bad_from site slots begun text line bytes said tells is same =
+    let t : Tells site (first_lines slots) text (told.Bad line bytes) =
+    subst (λ (b : List ℕ). Tells site b text (told.Bad line bytes)) same (subst (λ (r : Recovery). Tells site begun text r) is tells) in
+    record { bytes = bytes; ends = t.0; why = t.1 }
+
+-- through all: the file was begun, the script was served over it, and it was ended
+pub whole_log : (file begun kept holds : Option (List ℕ)) (old new : Seen) → StaysLog file begun old → StaysLog begun kept new
+    → Appends kept holds (last_line (length new.history)) → IfSome file (λ (_ : List ℕ). IsWholeLog holds new)
+whole_log None begun kept holds old new first then ends = tt
+whole_log (Some text) begun kept holds old new first then ends =
+    ended kept holds new (subst (λ (b : Option (List ℕ)). StaysLog b kept new) first then) ends

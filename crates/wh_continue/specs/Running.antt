@@ -1,0 +1,103 @@
+-- a run over its log file, from what the file holds to the line that ends it
+use Rattle.std.specs.Prelude.{option_map, ◌≡◌, ◌⊎◌, ℕ, Bool, true, List, [], ◌∷◌, ◌++◌, length, take, codes, decimal, Option, Some, IfSome, MatchOption}
+use Rattle.std.specs.Io.KnownBytes.{Appends, Keeps}
+use Rattle.wh_points.specs.Points.{Site}
+use Rattle.wh_grid.specs.Grids.{Floor}
+use Rattle.wh_words.specs.Lines.{text_of as lines_text}
+use Rattle.wh_resume.specs.Drafts.{Seen}
+use Rattle.wh_event.specs.declared.reply.Reply.{Reply}
+use Rattle.wh_lines.specs.Input.{Input}
+use Rattle.wh_log.specs.declared.version.Version.TheVariants.{Two}
+use Rattle.wh_log.specs.Logs.{end_line, log_lines, head_line, start_line}
+use Rattle.wh_resume.specs.Resuming.{IsFront}
+use Rattle.wh_journal.specs.Scripts.{WritesFront}
+use Rattle.wh_journal.specs.Journals.{ReplaysJournaled}
+use Rattle.wh_journal.specs.Surviving.{StaysLog, told_by}
+use Rattle.wh_continue.specs.Closing.{StopsShort}
+use Rattle.wh_continue.specs.Starting.{StartsIn}
+use Rattle.wh_continue.specs.declared.running.KeepFault.{KeepFault}
+use Rattle.wh_continue.specs.declared.running.KeepFault.TheVariants.{Unkept, NoMemory}
+use Rattle.wh_continue.specs.declared.running.RunFault.{RunFault}
+use Rattle.wh_continue.specs.declared.running.RunFault.TheVariants.{Begin, Uncounted, Continue, End}
+use Rattle.wh_continue.specs.declared.starting.Start.{Start}
+
+-- the line that tells how many entries a run has so far, and the line that ends its log
+abbrev pub count_line : ℕ → List ℕ
+count_line entries = codes "entries " ++ decimal entries ++ 10 ∷ []
+
+abbrev pub last_line : ℕ → List ℕ
+last_line entries = lines_text (end_line entries ∷ [])
+
+-- the first two lines of the book's log
+abbrev pub opening_lines : Seen → List ℕ
+opening_lines book = lines_text (head_line Two ∷ start_line book.opening.clock book.opening.slots ∷ [])
+
+-- a file that tells its bytes holds what the start was found in
+abbrev pub IsStartOf : Option (List ℕ) → Start → Type 0
+IsStartOf file start = IfSome file (λ text. (site : Site) × (slots : List ℕ) × StartsIn site slots text start)
+
+-- the journal is the log of the book's run, which the command `verify` takes
+abbrev pub IsWholeLog : Option (List ℕ) → Seen → Type 0
+IsWholeLog journal book = journal ≡ Some (lines_text (log_lines Two (told_by book)))
+
+-- What is left of a file that was not begun: it is as it was; or, where the run goes on, its whole lines are; or, where it
+-- begins, a front of the first two lines.
+abbrev pub IsLeftAt : Start → (text left : List ℕ) → Type 0
+IsLeftAt start text left = (left ≡ text) ⊎ MatchOption start.bytes (IsFront left (opening_lines start.book)) (λ bytes. left ≡ take bytes text)
+
+abbrev pub IsLeft : Start → (file holds : Option (List ℕ)) → Type 0
+IsLeft start file holds = IfSome file (λ text. (left : List ℕ) × (holds ≡ Some left) × IsLeftAt start text left)
+
+-- a file that tells its bytes holds these lines alone, and one that tells nothing tells nothing
+abbrev pub Opens : (file holds : Option (List ℕ)) → List ℕ → Type 0
+Opens file holds lines = holds ≡ option_map (λ _. lines) file
+
+-- it was cut to nothing, or not, and a front of these lines was written
+abbrev pub OpensShort : KeepFault → (file holds : Option (List ℕ)) → Bool → List ℕ → Type 0
+OpensShort NoMemory file holds failed lines = holds ≡ file
+OpensShort Unkept file holds failed lines = (failed ≡ true) × IfSome file (λ text. (left : List ℕ) × (holds ≡ Some left) × ((left ≡ text) ⊎ IsFront left lines))
+
+-- Why a log was not begun: for want of memory nothing was done; or the file failed.
+abbrev pub BeginsShort : KeepFault → Start → (file holds : Option (List ℕ)) → Bool → Type 0
+BeginsShort NoMemory start file holds failed = holds ≡ file
+BeginsShort Unkept start file holds failed = (failed ≡ true) × IsLeft start file holds
+
+-- Why it was not ended. What was synced stays so.
+abbrev pub EndsShort : KeepFault → ℕ → (file holds synced safe : Option (List ℕ)) → Bool → Type 0
+EndsShort NoMemory entries file holds synced safe failed = (holds ≡ file) × (safe ≡ synced)
+EndsShort Unkept entries file holds synced safe failed = WritesFront file holds (last_line entries) × Keeps synced safe × (failed ≡ true)
+
+-- The number of the entries so far was told, and the file was made the log of the run so far.
+pub record Counts (book : Seen) (had counted file begun : Option (List ℕ)) : Type 0 where
+  pub counts : Appends had counted (count_line (length book.history))
+  pub begins : StaysLog file begun book
+
+-- That was told, the script was served to its end, each reply told when its entry was synced, and the file was given the
+-- line that ends the log: it is the log of the whole run.
+pub record RunsOn {X : Type 0} (fits : X → Floor → Bool) (count : X → ℕ) (text : Reply → List ℕ) (before after : Input) (book : Seen) (spares : List X) (new : Seen) (rest : List X)
+    (had has file synced holds : Option (List ℕ)) : Type 0 where
+  pub counted : Option (List ℕ)
+  pub begun : Option (List ℕ)
+  pub counts : Counts book had counted file begun
+  pub safe : Option (List ℕ)
+  pub kept : Option (List ℕ)
+  pub replays : ReplaysJournaled fits count text before after book spares new rest counted has begun safe kept
+  pub ends : Appends kept holds (last_line (length new.history))
+  pub synced_is : synced ≡ holds
+  pub whole : IfSome file (λ _. IsWholeLog holds new)
+
+-- Why a run was not brought to its end.
+abbrev pub StopsRun : {X : Type 0} → (X → Floor → Bool) → (X → ℕ) → (Reply → List ℕ) → RunFault → (before after : Input) → Start → (planners spares rest : List X)
+    → (had has file : Option (List ℕ)) → Bool → (synced holds : Option (List ℕ)) → Type 0
+StopsRun fits count text (Begin fault) before after start planners spares rest had has file failed synced holds =
+    (after ≡ before) × (rest ≡ spares) × (has ≡ had) × BeginsShort fault start file holds failed
+StopsRun fits count text Uncounted before after start planners spares rest had has file failed synced holds =
+    (after ≡ before) × (rest ≡ spares) × WritesFront had has (count_line (length start.book.history)) × StaysLog file holds start.book × (synced ≡ holds)
+StopsRun fits count text (Continue fault) before after start planners spares rest had has file failed synced holds =
+    (counted : Option (List ℕ)) × (begun : Option (List ℕ)) × Counts start.book had counted file begun
+    × StopsShort fits count text fault before after start.book planners spares rest counted has begun failed synced holds
+StopsRun fits count text (End fault) before after start planners spares rest had has file failed synced holds =
+    (counted : Option (List ℕ)) × (begun : Option (List ℕ)) × Counts start.book had counted file begun
+    × ((new : Seen) × (safe : Option (List ℕ)) × (kept : Option (List ℕ))
+    × ReplaysJournaled fits count text before after start.book spares new rest counted has begun safe kept
+    × EndsShort fault (length new.history) kept holds safe synced failed)

@@ -1,0 +1,186 @@
+//! A run over its log file, from what the file holds to the line that ends it.
+#![tactic(auto)]
+
+ghost use Rattle.std.specs.Prelude.{◌≡◌, ◌≤◌, true, None, IfOk, IfErr, OnOk, OnErr, length};
+ghost use Rattle.std.specs.Io.KnownBytes.{Appends, Keeps};
+ghost use Rattle.wh_core.specs.Laws.{IsOpening};
+ghost use Rattle.wh_core.specs.Steps.{Run};
+ghost use Rattle.wh_log.specs.Told.{told_text};
+ghost use Rattle.wh_journal.specs.Surviving.{HoldsLog, StaysLog};
+ghost use Rattle.wh_journal.specs.Scripts.{WritesFront};
+ghost use Rattle.wh_journal.specs.Cutting.{MayCut, front_of};
+ghost use Rattle.wh_continue.specs.Running.{BeginsShort, EndsShort, IsStartOf, Opens, OpensShort, RunsOn, StopsRun, count_line, last_line, opening_lines};
+
+use crate::continuing::{ContinueFault, continue_run};
+use crate::starting::Start;
+use arrayvec::ArrayVec;
+use std::alloc::Global;
+use std::io::{Read, Write};
+use wh_event::{put, put_number};
+use wh_journal::{Journal, LogFile, Warehouse};
+use wh_lines::{Lines, write_all};
+use wh_log::{Form, begun_text, end_text};
+use wh_planner::Planner;
+use wh_resume::Book;
+
+/// Why a log file was not begun, or not ended.
+#[derive(Clone, Copy, Debug, PartialEq, Eq)]
+pub enum KeepFault {
+    /// X5: a call of the file failed.
+    Unkept,
+    /// E90: memory was wanting.
+    NoMemory,
+}
+
+/// Why a run was not brought to its end.
+#[derive(Clone, Copy, Debug, PartialEq, Eq)]
+pub enum RunFault {
+    /// The file was not begun; nothing was told or served.
+    Begin(KeepFault),
+    /// X3: how many entries the run has so far was not told; nothing was served.
+    Uncounted,
+    /// The script was not served to its end.
+    Continue(ContinueFault),
+    /// The line that ends the log was not kept. All else was, and was told.
+    End(KeepFault),
+}
+
+/// Appends bytes and syncs.
+fn keep<J: Journal>(journal: &mut J, bytes: &[u8]) -> Result<(), KeepFault>
+    ensures ok { OnOk result (Appends (J.contents journal.old) (J.contents journal.new) bytes.now) }
+    ensures synced { OnOk result (J.synced journal.new ≡ J.contents journal.new) }
+    ensures fault { IfErr result (λ fault. fault ≡ KeepFault.Unkept) }
+    ensures front { OnErr result (WritesFront (J.contents journal.old) (J.contents journal.new) bytes.now) }
+    ensures still { OnErr result (Keeps (J.synced journal.old) (J.synced journal.new)) }
+    ensures failed { OnErr result (J.failed journal.new ≡ true) }
+    ensures silent { J.contents journal.old ≡ None → J.contents journal.new ≡ None }
+{
+    match journal.append(bytes) {
+        Ok(()) => {}
+        Err(_) => return Err(KeepFault::Unkept),
+    }
+    match journal.sync() {
+        Ok(()) => Ok(()),
+        Err(_) => Err(KeepFault::Unkept),
+    }
+}
+
+/// Cuts a file, and syncs it.
+fn cut_behind<L: LogFile>(file: &mut L, bytes: usize) -> Result<(), KeepFault>
+    ensures ok { OnOk result (L.contents file.new ≡ front_of bytes (L.contents file.old)) }
+    ensures synced { OnOk result (L.synced file.new ≡ L.contents file.new) }
+    ensures fault { IfErr result (λ fault. fault ≡ KeepFault.Unkept) }
+    ensures left { OnErr result (MayCut bytes (L.contents file.old) (L.contents file.new)) }
+    ensures failed { OnErr result (L.failed file.new ≡ true) }
+{
+    match file.cut(bytes) {
+        Ok(()) => Ok(()),
+        Err(_) => Err(KeepFault::Unkept),
+    }
+}
+
+/// Writes the first two lines of the book's log into a file that holds no more than a beginning of them.
+fn write_opening<L: LogFile>(alloc: Global, file: &mut L, book: &Book) -> Result<(), KeepFault>
+    ensures ok { OnOk result (Opens (L.contents file.old) (L.contents file.new) (opening_lines book.now)) }
+    ensures synced { OnOk result (L.synced file.new ≡ L.contents file.new) }
+    ensures fault { IfErr result (λ fault. OpensShort fault (L.contents file.old) (L.contents file.new) (L.failed file.new) (opening_lines book.now)) }
+{
+    let Ok(text) = begun_text(alloc, book.first_clock(), book.first_slots()) else {
+        return Err(KeepFault::NoMemory);
+    };
+    match cut_behind(file, 0) {
+        Ok(()) => keep(file, text.as_slice()),
+        Err(fault) => Err(fault),
+    }
+}
+
+/// Makes the file the log of the run so far, but for the end line: what was cut is taken away, and where no run was begun
+/// the first two lines are written.
+pub fn begin_log<L: LogFile>(alloc: Global, file: &mut L, start: &Start) -> Result<(), KeepFault>
+    requires starts { IsStartOf (L.contents file.old) start.now }
+    ensures stays { OnOk result (StaysLog (L.contents file.old) (L.contents file.new) start.now.book) }
+    ensures holds { OnOk result (HoldsLog (L.contents file.new) start.now.book) }
+    ensures synced { OnOk result (L.synced file.new ≡ L.contents file.new) }
+    ensures fault { IfErr result (λ fault. BeginsShort fault start.now (L.contents file.old) (L.contents file.new) (L.failed file.new)) }
+{
+    match start.bytes {
+        Some(bytes) => cut_behind(file, bytes),
+        None => write_opening(alloc, file, &start.book),
+    }
+}
+
+/// Appends the line that ends a log of so many entries, and syncs.
+pub fn end_log<J: Journal>(alloc: Global, journal: &mut J, entries: u64) -> Result<(), KeepFault>
+    ensures ok { OnOk result (Appends (J.contents journal.old) (J.contents journal.new) (last_line entries)) }
+    ensures synced { OnOk result (J.synced journal.new ≡ J.contents journal.new) }
+    ensures fault { IfErr result (λ fault. EndsShort fault entries (J.contents journal.old) (J.contents journal.new) (J.synced journal.old) (J.synced journal.new) (J.failed journal.new)) }
+{
+    let Ok(text) = end_text(alloc, entries) else {
+        return Err(KeepFault::NoMemory);
+    };
+    keep(journal, text.as_slice())
+}
+
+/// The line that tells how many entries a run has so far.
+fn count_text(entries: u64) -> ArrayVec<u8, 64>
+    ensures { result.items ≡ count_line entries }
+{
+    let mut line = ArrayVec::new();
+    put_number(&mut line, b"entries ", entries);
+    put(&mut line, b"\n");
+    line
+}
+
+/// Tells how many entries the run has so far, and flushes.
+fn tell_count<W: Write>(writer: &mut W, entries: u64) -> Result<(), RunFault>
+    ensures ok { OnOk result (Appends (W.contents writer.old) (W.contents writer.new) (count_line entries)) }
+    ensures fault { IfErr result (λ fault. fault ≡ RunFault.Uncounted) }
+    ensures front { OnErr result (WritesFront (W.contents writer.old) (W.contents writer.new) (count_line entries)) }
+{
+    match write_all(writer, count_text(entries).as_slice()) {
+        Ok(()) => match writer.flush() {
+            Ok(()) => Ok(()),
+            Err(_) => Err(RunFault::Uncounted),
+        },
+        Err(_) => Err(RunFault::Uncounted),
+    }
+}
+
+/// Goes on from a start over the log file in which it was found, and serves the script that is left in the reader, to the
+/// reader's end. First the file is made the log of the run so far, and the line `entries N` tells how many entries that has;
+/// then the script is served as `continue_run` does; at its end the file is given the line that ends the log, so that it is
+/// the log of the whole run.
+pub fn run_on<R: Read, W: Write, L: LogFile, P: Planner>(
+    lines: &mut Lines<R>,
+    alloc: Global,
+    form: Form,
+    file: &mut L,
+    writer: &mut W,
+    start: Start,
+    planners: Vec<P>,
+    spares: &mut Vec<P>,
+) -> Result<Warehouse<P>, RunFault>
+    requires starts { IsStartOf (L.contents file.old) start }
+    ensures runs { IfOk result (λ w. RunsOn P.fits_map P.slot_count (told_text form) lines.old lines.new start.book spares.old.items w.book spares.new.items (W.contents writer.old) (W.contents writer.new) (L.contents file.old) (L.synced file.new) (L.contents file.new)) }
+    ensures opening { IfOk result (λ w. IsOpening w.book.site w.book.opening) }
+    ensures run { IfOk result (λ w. Run w.book.site w.book.opening w.book.history w.book.state) }
+    ensures fault { IfErr result (λ fault. StopsRun P.fits_map P.slot_count (told_text form) fault lines.old lines.new start planners.items spares.old.items spares.new.items (W.contents writer.old) (W.contents writer.new) (L.contents file.old) (L.failed file.new) (L.synced file.new) (L.contents file.new)) }
+{
+    match begin_log(alloc, file, &start) {
+        Ok(()) => {}
+        Err(fault) => return Err(RunFault::Begin(fault)),
+    }
+    match tell_count(writer, start.book.history().len() as u64) {
+        Ok(()) => {}
+        Err(fault) => return Err(fault),
+    }
+    let Start { book, .. } = start;
+    let warehouse = match continue_run(lines, alloc, form, file, writer, book, planners, spares) {
+        Ok(warehouse) => warehouse,
+        Err(fault) => return Err(RunFault::Continue(fault)),
+    };
+    match end_log(alloc, file, warehouse.history().len() as u64) {
+        Ok(()) => Ok(warehouse),
+        Err(fault) => Err(RunFault::End(fault)),
+    }
+}

@@ -1,0 +1,108 @@
+//! Where a run starts: at the beginning, or where its log file leaves it.
+#![tactic(auto)]
+
+ghost use Rattle.std.specs.Prelude.{◌≡◌, ◌≤◌, IfOk, IfErr, length, All};
+ghost use Rattle.std.specs.List.{AllByRecursion};
+ghost use Rattle.wh_log.specs.Logs.{IsSlots};
+ghost use Rattle.wh_continue.specs.declared.starting.StartFault.TheVariants as fault;
+ghost use Rattle.wh_continue.specs.Starting.{StartsIn, IsWhyNoStart, IsUnbegun, TellsOther};
+
+use crate::own::first_other;
+use std::alloc::{AllocError, Global};
+use wh_log::{NoMemory, Version, begun_text};
+use wh_resume::{Book, Recovery, Resumed, Setting, recover};
+
+/// What a run starts from.
+#[derive(Drop)]
+pub struct Start {
+    /// The run so far.
+    pub book: Book,
+    /// How many bytes of the file tell it; none where it was not begun.
+    pub bytes: Option<usize>,
+}
+
+/// Why no run starts.
+#[derive(Clone, Copy, Debug, PartialEq, Eq)]
+pub enum StartFault {
+    /// L1: no log of a run of this site goes on with this line, from 1; the text is none that could be gone on from.
+    Bad { line: u64 },
+    /// E90: memory was wanting.
+    NoMemory,
+}
+
+impl From<NoMemory> for StartFault {
+    ghost from_gives = { λ _ e. e ≡ fault.NoMemory };
+
+    fn from(_e: NoMemory) -> StartFault {
+        StartFault::NoMemory
+    }
+}
+
+impl From<AllocError> for StartFault {
+    ghost from_gives = { λ _ e. e ≡ fault.NoMemory };
+
+    fn from(_e: AllocError) -> StartFault {
+        StartFault::NoMemory
+    }
+}
+
+/// What a run starts from that begins.
+fn begin(alloc: Global, setting: Setting, slots: Vec<u32>) -> Result<Start, AllocError>
+    requires seats { length slots.items ≡ length setting.layout.agents }
+    ensures book { IfOk result (λ start. IsUnbegun setting slots.items start.book) }
+    ensures state { IfOk result (λ start. start.book.state.slots ≡ slots.items) }
+    ensures bytes { IfOk result (λ start. start.bytes ≡ None) }
+{
+    let book = Book::open(alloc, setting, 0, slots)?;
+    Ok(Start { book, bytes: None })
+}
+
+/// What a run starts from that goes on.
+fn go_on(resumed: Resumed) -> Result<Start, StartFault>
+    requires two { resumed.version ≡ Version.Two }
+    requires slots { AllByRecursion IsSlots resumed.book.opening.slots }
+    ensures book { IfOk result (λ start. start.book ≡ resumed.book) }
+    ensures bytes { IfOk result (λ start. start.bytes ≡ Some resumed.bytes) }
+    ensures slots { IfOk result (λ start. All IsSlots start.book.state.slots) }
+    ensures fault { IfErr result (TellsOther resumed.book.history) }
+{
+    if let Some(place) = first_other(resumed.book.history()) {
+        return Err(StartFault::Bad {
+            line: place as u64 + 3,
+        });
+    }
+    Ok(Start {
+        book: resumed.book,
+        bytes: Some(resumed.bytes),
+    })
+}
+
+/// Finds out what a run of the site starts from, by the text that its log file holds, where each planner is to have these
+/// slots, 2 to 64, at an opening. A text in which fewer than two lines stand whole is taken for a run that was not begun only
+/// where it is a beginning of the two lines that this very run would write first: no other file is.
+///
+/// Errors: `Bad` with the first line with which no log of a run of this site goes on, with line 1 for a log of version 1, with
+/// the line of an entry that tells of a planner with more slots or fewer; `NoMemory`.
+pub fn find_start(
+    alloc: Global,
+    setting: Setting,
+    slots: Vec<u32>,
+    text: &[u8],
+) -> Result<Start, StartFault>
+    requires some { 1 ≤ length setting.layout.agents }
+    requires seats { length slots.items ≡ length setting.layout.agents }
+    requires range { All IsSlots slots.items }
+    ensures ok { IfOk result (StartsIn setting slots.items text.now) }
+    ensures slots { IfOk result (λ start. All IsSlots start.book.state.slots) }
+    ensures fault { IfErr result (IsWhyNoStart setting slots.items text.now) }
+{
+    let begun = begun_text(alloc, 0, slots.as_slice())?;
+    match recover(alloc, setting, begun.as_slice(), text)? {
+        Recovery::Unopened(setting) => Ok(begin(alloc, setting, slots)?),
+        Recovery::Bad { line, .. } => Err(StartFault::Bad { line }),
+        Recovery::Resumed(resumed) => match resumed.version {
+            Version::One => Err(StartFault::Bad { line: 1 }),
+            Version::Two => go_on(resumed),
+        },
+    }
+}
