@@ -41,12 +41,14 @@ fn words<R: AllocGlobal + Eprint + env::Env>(rt: &R) -> Result<Vec<String>, Stat
     }
 }
 
-/// The options that the process's words give, or the status with which it ends at once.
-fn given<R: AllocGlobal + Print + Eprint + env::Env>(rt: &R) -> Result<Options, Status>
+/// The options that the words give, or the status with which the program ends at once.
+fn given<'a, R: AllocGlobal + Print + Eprint>(
+    rt: &R,
+    words: &'a [String],
+) -> Result<Options<'a>, Status>
     ensures { IfOk result HasRange }
 {
-    let words = words(rt)?;
-    match options(rt.alloc(), words.as_slice()) {
+    match options(rt.alloc(), words) {
         Ok(options) => Ok(options),
         Err(error) => Err(refused(rt, &error)),
     }
@@ -77,7 +79,7 @@ fn told<R: Eprint>(rt: &R, trouble: &Trouble) -> Status
 /// Replays standard input to standard output.
 fn replay<R: AllocGlobal + Print + Input, P: Planner, F: Fn(PlannerParts) -> Result<P, AllocError>>(
     rt: &R,
-    options: &ReplayOptions,
+    options: &ReplayOptions<'_>,
     make: F,
 ) -> Result<Status, Trouble>
     requires range { IsOfFleet options.now.fleet }
@@ -129,7 +131,7 @@ fn live<
 /// Does what the options ask for. All planners are made here.
 fn obey<R: AllocGlobal + Print + Eprint + Input + Threads + Wait + Sync>(
     rt: &R,
-    options: &Options,
+    options: &Options<'_>,
 ) -> Status
     requires { HasRange options.now }
 {
@@ -164,9 +166,12 @@ fn obey<R: AllocGlobal + Print + Eprint + Input + Threads + Wait + Sync>(
 }
 
 fn main(rt: HostRuntime) -> ExitCode {
-    let status = match given(&rt) {
+    let status = match words(&rt) {
         Err(status) => status,
-        Ok(options) => obey(&rt, &options),
+        Ok(words) => match given(&rt, words.as_slice()) {
+            Err(status) => status,
+            Ok(options) => obey(&rt, &options),
+        },
     };
     ExitCode::from(status.number())
 }

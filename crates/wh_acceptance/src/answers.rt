@@ -61,6 +61,7 @@ pub fn served<R: Read + Drop, W: Write>(
         fleet,
         tail,
         replies,
+        log: None,
     };
     let mut lines = Lines::new(reader);
     match serve(alloc, &mut lines, writer, &options, make) {

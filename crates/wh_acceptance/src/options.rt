@@ -25,6 +25,7 @@ fn subcommands_with_their_defaults(rt: HostRuntime) -> Result<(), Fail> {
         fleet: FLEET,
         tail: Tail::Nothing,
         replies: Replies::Short,
+        log: None,
     };
     assert_eq!(rt; options(alloc, words.as_slice())?, Options::Replay(replay));
     let words = ["warehouse", "live"];
@@ -44,6 +45,7 @@ fn an_option_in_one_word_or_two(rt: HostRuntime) -> Result<(), Fail> {
         fleet: Fleet { slots: 8, ..FLEET },
         tail: Tail::Ledger,
         replies: Replies::Full,
+        log: None,
     };
     let joined = [
         "warehouse",
@@ -67,12 +69,65 @@ fn an_option_in_one_word_or_two(rt: HostRuntime) -> Result<(), Fail> {
     Ok(())
 }
 
-fn replay(tail: Tail, replies: Replies) -> Options {
+fn replay(tail: Tail, replies: Replies) -> Options<'static> {
     Options::Replay(ReplayOptions {
         fleet: FLEET,
         tail,
         replies,
+        log: None,
     })
+}
+
+fn kept(name: &str) -> Options<'_> {
+    Options::Replay(ReplayOptions {
+        fleet: FLEET,
+        tail: Tail::Nothing,
+        replies: Replies::Short,
+        log: Some(name),
+    })
+}
+
+#[test]
+fn a_log_by_its_name(rt: HostRuntime) -> Result<(), Fail> {
+    let alloc = rt.alloc();
+    let apart = ["warehouse", "replay", "--log", "a.log"];
+    assert_eq!(rt; options(alloc, apart.as_slice())?, kept("a.log"));
+    let joined = ["warehouse", "replay", "--slots=4", "--log=kept/a b=c"];
+    assert_eq!(rt; options(alloc, joined.as_slice())?, kept("kept/a b=c"));
+    // A hyphen alone is a name as any, and one that has more behind it must stand in the option's word.
+    let hyphen = ["warehouse", "replay", "--log", "-", "--tail=none"];
+    assert_eq!(rt; options(alloc, hyphen.as_slice())?, kept("-"));
+    let hyphens = ["warehouse", "replay", "--log=--tail"];
+    assert_eq!(rt; options(alloc, hyphens.as_slice())?, kept("--tail"));
+    Ok(())
+}
+
+/// The kind of error with which the words are refused.
+fn refused<R: AllocGlobal>(rt: &R, words: &[&str]) -> Option<ErrorKind> {
+    match options(rt.alloc(), words) {
+        Ok(_) => None,
+        Err(error) => Some(error.kind()),
+    }
+}
+
+#[test]
+fn mistakes_in_a_log(rt: HostRuntime) {
+    let none = ["warehouse", "replay", "--log"];
+    assert!(rt; refused(&rt, none.as_slice()) == Some(ErrorKind::InvalidValue));
+    let empty = ["warehouse", "replay", "--log="];
+    assert!(rt; refused(&rt, empty.as_slice()) == Some(ErrorKind::InvalidValue));
+    let blank = ["warehouse", "replay", "--log", ""];
+    assert!(rt; refused(&rt, blank.as_slice()) == Some(ErrorKind::InvalidValue));
+    let option = ["warehouse", "replay", "--log", "--tail", "log"];
+    assert!(rt; refused(&rt, option.as_slice()) == Some(ErrorKind::InvalidValue));
+    let flag = ["warehouse", "replay", "--log", "-x"];
+    assert!(rt; refused(&rt, flag.as_slice()) == Some(ErrorKind::UnknownArgument));
+    let twice = ["warehouse", "replay", "--log=a.log", "--log", "a.log"];
+    assert!(rt; refused(&rt, twice.as_slice()) == Some(ErrorKind::ArgumentConflict));
+    let check = ["warehouse", "check", "--log", "x"];
+    assert!(rt; refused(&rt, check.as_slice()) == Some(ErrorKind::UnknownArgument));
+    let live = ["warehouse", "live", "--log=x"];
+    assert!(rt; refused(&rt, live.as_slice()) == Some(ErrorKind::UnknownArgument));
 }
 
 #[test]
@@ -179,6 +234,7 @@ fn help_and_version(rt: HostRuntime) -> Result<(), Fail> {
         "{text}"
     );
     assert!(rt; text.as_str().contains("--slots <N>"), "{text}");
+    assert!(rt; text.as_str().contains("--log <FILE>"), "{text}");
     assert!(rt;
         text.as_str()
             .contains("[default: short] [possible values: short, full]\n"),

@@ -89,7 +89,7 @@ pub fn serve<R: Read, W: Write, P: Planner, F: Fn(PlannerParts) -> Result<P, All
     alloc: Global,
     lines: &mut Lines<R>,
     output: &mut W,
-    options: &ReplayOptions,
+    options: &ReplayOptions<'_>,
     make: F,
 ) -> Result<Replayed, Trouble>
     requires range { IsOfFleet options.now.fleet }

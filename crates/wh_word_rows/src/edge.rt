@@ -67,6 +67,11 @@ fn texts_and_statuses(rt: HostRuntime) {
     assert_eq!(rt; short.status().number(), 1);
     assert!(rt; Trouble::Unwritten.text().as_slice() == b"refused X3\n".as_slice());
     assert_eq!(rt; Trouble::Unwritten.status().number(), 3);
+    let log = Trouble::Log { line: 12 };
+    assert!(rt; log.text().as_slice() == b"refused L1 line 12\n".as_slice());
+    assert_eq!(rt; log.status().number(), 1);
+    assert!(rt; Trouble::Unkept.text().as_slice() == b"refused X5\n".as_slice());
+    assert_eq!(rt; Trouble::Unkept.status().number(), 3);
     assert_eq!(rt; Trouble::from(AllocError).status().number(), 4);
 }
 
