@@ -12,7 +12,9 @@ ghost use Rattle.wh_service.specs.Fleets.{HasRange, IsOfFleet, MakesPlanners};
 
 use std::alloc::AllocError;
 use std::env;
+use std::fs::{File, Files};
 use std::io::{self, BufWriter, ErrorKind};
+use std::path::Path;
 use std::process::ExitCode;
 use std::sync::Wait;
 use std::thread::Threads;
@@ -21,7 +23,7 @@ use wh_lines::Lines;
 use wh_options::{LiveOptions, Options, PlannerKind, Refusal, ReplayOptions, options, refusal_of};
 use wh_planner::Planner;
 use wh_planners::{Patient, Sharing};
-use wh_service::{PlannerParts, ended, host, judge, judge_log, serve};
+use wh_service::{FileJournal, PlannerParts, ended, host, judge, judge_log, serve, serve_kept};
 
 /// How many bytes of output are written at a time.
 const OUTPUT_BUFFER: usize = 65_536;
@@ -41,7 +43,7 @@ fn words<R: AllocGlobal + Eprint + env::Env>(rt: &R) -> Result<Vec<String>, Stat
     }
 }
 
-/// The options that the words give, or the status with which the program ends at once.
+/// The options that the words give, or the status with which the process ends at once.
 fn given<'a, R: AllocGlobal + Print + Eprint>(
     rt: &R,
     words: &'a [String],
@@ -76,12 +78,12 @@ fn told<R: Eprint>(rt: &R, trouble: &Trouble) -> Status
     trouble.status()
 }
 
-/// Replays standard input to standard output.
-fn replay<R: AllocGlobal + Print + Input, P: Planner, F: Fn(PlannerParts) -> Result<P, AllocError>>(
-    rt: &R,
-    options: &ReplayOptions<'_>,
-    make: F,
-) -> Result<Status, Trouble>
+/// Replays standard input to standard output, over the log file where the options name one.
+fn replay<
+    R: AllocGlobal + Print + Input + Files<File = File>,
+    P: Planner,
+    F: Fn(PlannerParts) -> Result<P, AllocError>,
+>(rt: &R, options: &ReplayOptions<'_>, make: F) -> Result<Status, Trouble>
     requires range { IsOfFleet options.now.fleet }
     requires callable { F.IsAlwaysCallable make }
     requires makes { MakesPlanners P.fits_map P.slot_count (F.post make) }
@@ -90,7 +92,19 @@ fn replay<R: AllocGlobal + Print + Input, P: Planner, F: Fn(PlannerParts) -> Res
     let Ok(mut output) = BufWriter::with_capacity(rt.alloc(), OUTPUT_BUFFER, io::writer(rt)) else {
         return Err(Trouble::NoMemory);
     };
-    let _replayed = serve(rt.alloc(), &mut lines, &mut output, options, make)?;
+    let Some(path) = options.log else {
+        let _replayed = serve(rt.alloc(), &mut lines, &mut output, options, make)?;
+        return Ok(Status::Done);
+    };
+    let mut file = FileJournal::new(rt, Path::new(path));
+    serve_kept(
+        rt.alloc(),
+        &mut lines,
+        &mut output,
+        options,
+        &mut file,
+        make,
+    )?;
     Ok(Status::Done)
 }
 
@@ -129,7 +143,7 @@ fn live<
 }
 
 /// Does what the options ask for. All planners are made here.
-fn obey<R: AllocGlobal + Print + Eprint + Input + Threads + Wait + Sync>(
+fn obey<R: AllocGlobal + Print + Eprint + Input + Files<File = File> + Threads + Wait + Sync>(
     rt: &R,
     options: &Options<'_>,
 ) -> Status
@@ -165,13 +179,18 @@ fn obey<R: AllocGlobal + Print + Eprint + Input + Threads + Wait + Sync>(
     }
 }
 
+/// Does what the process's words ask for.
+fn run<R: AllocGlobal + Print + Eprint + Input + env::Env + Files<File = File> + Threads + Wait + Sync>(
+    rt: &R,
+) -> Result<Status, Status> {
+    let words = words(rt)?;
+    let options = given(rt, words.as_slice())?;
+    Ok(obey(rt, &options))
+}
+
 fn main(rt: HostRuntime) -> ExitCode {
-    let status = match words(&rt) {
-        Err(status) => status,
-        Ok(words) => match given(&rt, words.as_slice()) {
-            Err(status) => status,
-            Ok(options) => obey(&rt, &options),
-        },
+    let status = match run(&rt) {
+        Ok(status) | Err(status) => status,
     };
     ExitCode::from(status.number())
 }

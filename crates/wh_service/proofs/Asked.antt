@@ -25,7 +25,7 @@ use Rattle.wh_edge.specs.Script.{IsScript, command_in, commands_in}
 use Rattle.wh_edge.specs.declared.work.Work.{Work}
 use Rattle.wh_log.specs.Ranges.{EventKeeps, SpareKeeps}
 use Rattle.wh_live.specs.Lists.{Received, entries_from, entries_of}
-use Rattle.wh_live.specs.Work.{IsSublist, nothing, keeps, skips, Worked, commands_of, spares_told, told_by, LentFromEnd}
+use Rattle.wh_live.specs.Work.{IsSublist, nothing, keeps, skips, commands_of, spares_told, told_by, LentFromEnd}
 use Rattle.wh_live.specs.Work as crew
 use Rattle.wh_live.specs.Pasts.{Origin}
 use Rattle.wh_core.specs.States.{State}

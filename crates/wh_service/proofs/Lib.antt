@@ -6,6 +6,7 @@ pub mod Hosted
 pub mod InRange
 pub mod Asked
 pub mod Teams
+mod Lasting
 pub mod Logged
 pub mod Openings
 pub mod Replayed

@@ -1,5 +1,6 @@
 -- The planners that a run is given.
-use Rattle.std.specs.Prelude.{◌≡◌, ◌<◌, ◌≤◌, ℕ, Bool, true, List, length, All, Result, Ok}
+use Rattle.std.specs.Prelude.{◌≡◌, ◌<◌, ◌≤◌, ℕ, Bool, true, List, length, All, Contains, Result, Ok}
+use Rattle.std.specs.List.{AllZip}
 use Rattle.std.specs.declared.alloc.AllocError.{AllocError}
 use Rattle.std.specs.Arc.{arc_value}
 use Rattle.wh_grid.specs.Grids.{Floor}
@@ -44,6 +45,14 @@ pub record IsMember {X : Type 0} (gives : PlannerParts → Result X AllocError �
   pub slots_are : claim_amount parts.claim ≡ fleet.slots
   pub bank_is : claim_bank parts.claim ≡ bank
 
+-- the fleet, but that each planner has so many slots
+abbrev pub with_slots : Fleet → ℕ → Fleet
+with_slots fleet slots = record fleet { slots = slots }
+
+-- one planner of the fleet for each of these numbers of slots
+abbrev pub AreSeated : {X : Type 0} → (PlannerParts → Result X AllocError → Type 0) → Fleet → Floor → Bank → List ℕ → List X → Type 0
+AreSeated gives fleet grid bank slots planners = AllZip (λ n planner. IsMember gives (with_slots fleet n) grid bank planner) slots planners
+
 -- One planner for each of so many agents, and as many spare ones as the options name, all of them members of the fleet. The
 -- bank has as many slots in all as the options name.
 pub record IsEquipped {X : Type 0} (gives : PlannerParts → Result X AllocError → Type 0) (fleet : Fleet) (grid : Floor) (agents : ℕ) (planners spares : List X) : Type 0 where
@@ -60,3 +69,11 @@ IsWhyUnclaimed slots (trouble.Short free) = free < slots
 IsWhyUnclaimed slots (trouble.Raced seen) = Unit {0}
 IsWhyUnclaimed slots trouble.NoMemory = Unit {0}
 IsWhyUnclaimed slots _ = ⊥
+
+-- why planners with these numbers of slots were not made: fewer were free than one of them is to have, or the bank's word
+-- changed meanwhile, or memory was wanting
+abbrev pub IsWhyUnseated : List ℕ → Trouble → Type 0
+IsWhyUnseated slots (trouble.Short free) = (n : ℕ) × Contains slots n × (free < n)
+IsWhyUnseated slots (trouble.Raced seen) = Unit {0}
+IsWhyUnseated slots trouble.NoMemory = Unit {0}
+IsWhyUnseated slots _ = ⊥

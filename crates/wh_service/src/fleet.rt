@@ -5,7 +5,8 @@ ghost use Rattle.std.specs.Prelude.{◌≡◌, IfOk, IfErr, All, length};
 ghost use Rattle.std.specs.Arc.{arc_value};
 ghost use Rattle.wh_claims.specs.Bank.{Belongs};
 ghost use Rattle.wh_claims.specs.Claim.{claim_amount, claim_bank};
-ghost use Rattle.wh_service.specs.Fleets.{IsOfFleet, IsEquipped, IsMember, IsWhyUnclaimed};
+ghost use Rattle.wh_service.specs.Fleets.{AreSeated, IsOfFleet, IsEquipped, IsMember, IsWhyUnclaimed, IsWhyUnseated};
+ghost use Rattle.wh_log.specs.Logs.{IsSlots};
 
 use crate::parts::PlannerParts;
 use std::alloc::{AllocError, Global};
@@ -83,6 +84,39 @@ pub(crate) fn members<P: Planner, F: Fn(PlannerParts) -> Result<P, AllocError>>(
     for k in 0..count {
         let planner = member(fleet, grid, bank, seat, make)?;
         row.push(planner)?;
+    }
+    Ok(row)
+}
+
+/// One planner of the fleet for each of these numbers of slots, 2 to 64, each with a claim of its own on the bank. The error
+/// tells why one of them got no slots, or that memory is wanting.
+pub(crate) fn seated<P: Planner, F: Fn(PlannerParts) -> Result<P, AllocError>>(
+    alloc: Global,
+    fleet: &Fleet,
+    grid: &Arc<Grid>,
+    bank: &Arc<Bank>,
+    seat: &mut BankSeat,
+    make: &F,
+    slots: &[u32],
+) -> Result<Vec<P>, Trouble>
+    requires each { All IsSlots slots.now }
+    requires callable { F.IsAlwaysCallable make.now }
+    requires seat { Belongs seat.old (arc_value bank.now) }
+    ensures seat { Belongs seat.new (arc_value bank.now) }
+    ensures members { IfOk result (λ row. AreSeated (F.post make.now) fleet.now (arc_value grid.now) (arc_value bank.now) slots.now row.items) }
+    ensures fault { IfErr result (IsWhyUnseated slots.now) }
+{
+    let mut row = Vec::with_capacity(alloc, slots.len())?;
+    for k in 0..slots.len() {
+        let count = slots[k];
+        let own = Fleet {
+            slots: count,
+            ..*fleet
+        };
+        match member(&own, grid, bank, seat, make) {
+            Ok(planner) => row.push(planner)?,
+            Err(trouble) => return Err(trouble),
+        }
     }
     Ok(row)
 }

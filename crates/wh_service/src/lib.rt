@@ -5,6 +5,7 @@
 #![tactic(auto)]
 
 mod fleet;
+mod kept;
 mod live;
 mod parts;
 mod program;
@@ -13,6 +14,7 @@ mod verdict;
 mod verified;
 
 pub use fleet::{claim, equip};
+pub use kept::serve_kept;
 pub use live::host;
 pub use parts::PlannerParts;
 pub use program::{ended, play, serve};
@@ -20,6 +22,7 @@ pub use verdict::judge;
 pub use verified::judge_log;
 
 // handed on, for callers: what the items below take, return and speak of
+pub use wh_continue::{FileJournal, LogFile};
 pub use wh_live::{Cells, Desk, DeskFault, DeskName, Pass, Publisher, Receipt, Viewer};
 pub use wh_replay::{Committed, Form, NoMemory, OpenFault, ReplayFault, Warehouse, replay};
 pub use wh_verify::{Book, Verified, verify};

@@ -1,0 +1,143 @@
+-- A run over a log file.
+use Rattle.std.proofs.lemmas.Result.{on_ok_weaker, IfErr-weaker}
+use Rattle.std.proofs.Common.{◌≡◌, ◌<◌, ◌+◌, ℕ, Bool, List, [], ◌∷◌, ◌++◌, length, take, get_or, sym, ◌∙◌, subst, inl, inr, Option, None, Some, Result}
+use Rattle.std.specs.Prelude.{MatchOption, OnOk, IfErr, slice_index}
+use Rattle.std.specs.Io.KnownBytes.{Appends}
+use Rattle.std.specs.declared.alloc.AllocError.{AllocError}
+use Rattle.std.proofs.lemmas.List.{take_more}
+use Rattle.std.proofs.lemmas.List.Elements.{Contains-get_or}
+use Rattle.std.proofs.lemmas.Slice.Zip.{all_zipped_more}
+use Rattle.wh_grid.specs.Grids.{Floor}
+use Rattle.wh_points.specs.Points.{Site}
+use Rattle.wh_claims.specs.declared.bank.Bank.{Bank}
+use Rattle.wh_verify.specs.Drafts.{AllServed, Seen}
+use Rattle.wh_options.specs.declared.chosen.Fleet.{Fleet}
+use Rattle.wh_continue.specs.Starting.{Begins, GoesOnFrom, StartsIn}
+use Rattle.wh_continue.specs.declared.starting.Start.{Start}
+use Rattle.wh_continue.specs.Running.{IsStartOf, RunsOn, StopsRun}
+use Rattle.wh_edge.specs.Site.{SiteRead}
+use Rattle.wh_edge.specs.declared.trouble.Trouble.{Trouble}
+use Rattle.wh_edge.specs.declared.trouble.Trouble.TheVariants as trouble
+use Rattle.wh_service.specs.Fleets.{AreSeated, IsMember, IsWhyUnclaimed, IsWhyUnseated, with_slots}
+use Rattle.wh_service.specs.Kept.{IsSeated, IsWhyUnkept, ServesKept, StartsFrom, StartsOver, first_slots, run_trouble}
+use Rattle.wh_service.specs.Tails.{IsWhyNoTail, tail_after}
+use Rattle.wh_event.specs.declared.reply.Reply.{Reply}
+use Rattle.wh_lines.specs.Input.{Input}
+use Rattle.wh_core.specs.Laws.{IsOpening}
+use Rattle.wh_core.specs.Steps.{Run}
+use Rattle.wh_points.specs.Formed.{IsFormed}
+use Rattle.wh_options.specs.declared.chosen.Tail.{Tail}
+use Rattle.wh_continue.specs.declared.running.RunFault.{RunFault}
+use Rattle.wh_service.specs.declared.parts.PlannerParts.{PlannerParts}
+
+-- one more planner
+pub seat_added : {X : Type 0} (gives : PlannerParts → Result X AllocError → Type 0) (fleet : Fleet) (grid : Floor) (bank : Bank)
+    (slots : List ℕ) (k : ℕ) (row added : List X) (planner : X) → k < length slots → added ≡ row ++ planner ∷ []
+    → AreSeated gives fleet grid bank (take k slots) row → IsMember gives (with_slots fleet (slice_index slots k)) grid bank planner → AreSeated gives fleet grid bank (take (k + 1) slots) added
+seat_added {X} gives fleet grid bank slots k row added planner within same all member =
+    let R : ℕ → X → Type 0 = λ n p. IsMember gives (with_slots fleet n) grid bank p in
+    subst (λ (ns : List ℕ). AreSeated gives fleet grid bank ns added) (sym (take_more slots k 0 within))
+    (subst (λ (ps : List X). AreSeated gives fleet grid bank (take k slots ++ get_or slots k 0 ∷ []) ps) (sym same)
+    (all_zipped_more R (take k slots) row (get_or slots k 0) planner all member))
+
+-- why a planner was not made
+pub unseated : (slots : List ℕ) (k : ℕ) (told : Trouble) → k < length slots → IsWhyUnclaimed (slice_index slots k) told → IsWhyUnseated slots told
+unseated slots k (trouble.Short free) within few = (slice_index slots k, Contains-get_or slots k 0 within, few)
+unseated slots k (trouble.Raced seen) within few = tt
+unseated slots k trouble.NoMemory within few = tt
+unseated slots k told within few = absurd few
+
+-- the run starts on the site
+site_at : (site : Site) (slots text : List ℕ) (book : Seen) (bytes : Option ℕ)
+    → MatchOption bytes (Begins site slots text book) (λ (n : ℕ). GoesOnFrom site text n book) → book.site ≡ site
+site_at site slots text book None starts = starts.unbegun.site_is
+site_at site slots text book (Some n) starts = starts.goes_on.site_is
+
+pub start_site : (site : Site) (slots text : List ℕ) (start : Start) → StartsIn site slots text start → start.book.site ≡ site
+start_site site slots text start starts = site_at site slots text start.book start.bytes starts
+
+starts_of : {fleet : Fleet} {site : Site} {start : Start} (file : Option (List ℕ)) → StartsFrom fleet site file start → IsStartOf file start
+starts_of {fleet} {site} {start} None from = tt
+starts_of {fleet} {site} {start} (Some held) from =
+    (site, first_slots fleet site, subst (λ (text : List ℕ). StartsIn site (first_slots fleet site) text start) from.text_is from.starts)
+
+-- what the file was read as is what it holds
+pub start_of_file : (fleet : Fleet) (site : Site) (file held : Option (List ℕ)) (start : Start) → StartsFrom fleet site file start → held ≡ file → IsStartOf held start
+start_of_file fleet site file held start from same = subst (λ (h : Option (List ℕ)). IsStartOf h start) (sym same) (starts_of file from)
+
+-- ---- what the whole call says
+
+module _ {X : Type 0} (fits : X → Floor → Bool) (count : X → ℕ) (text : Reply → List ℕ) (gives : PlannerParts → Result X AllocError → Type 0) (fleet : Fleet)
+    (old between new : Input) (had has file synced holds : Option (List ℕ)) (site : Site) (start : Start) (planners spares rest : List X)
+    (site_read : SiteRead old between site.grid site.layout) (from : StartsFrom fleet site file start) (slots : List ℕ) (slots_are : slots ≡ start.book.state.slots)
+    (seated : IsSeated gives fleet site.grid slots planners spares) (told_as : Reply → List ℕ) (same : told_as ≡ text)
+    (held : Option (List ℕ)) (unchanged : held ≡ file) where
+  starts : StartsOver gives fleet old between file site start planners spares
+  starts = record {
+    site_read = site_read;
+    starts = from;
+    seated = subst (λ (ns : List ℕ). IsSeated gives fleet site.grid ns planners spares) slots_are seated;
+  }
+
+  -- the run was not brought to its end
+  pub stops_kept : (tail : Tail) (fault : RunFault) (told : Trouble) (failed : Bool) → told ≡ run_trouble fault
+      → StopsRun fits count told_as fault between new start planners spares rest had has held failed synced holds
+      → IsWhyUnkept fits count text gives fleet tail told old new had has file failed synced holds
+  stops_kept tail fault told failed is stops = inr (inr (inl (
+    fault,
+    is,
+    record { site = site; between = between; start = start; planners = planners; spares = spares; starts = starts; rest = rest;
+      stops = subst (λ (f : Option (List ℕ)). StopsRun fits count text fault between new start planners spares rest had has f failed synced holds) unchanged
+          (subst (λ (t : Reply → List ℕ). StopsRun fits count t fault between new start planners spares rest had has held failed synced holds) same stops);
+    },
+  )))
+
+  module _ (tail : Tail) (said : Result (Unit {0}) Trouble) (final : Seen) (replied : Option (List ℕ))
+      (ran : RunsOn fits count told_as between new start.book spares final rest had replied held synced holds) where
+    runs : RunsOn fits count text between new start.book spares final rest had replied file synced holds
+    runs = subst (λ (f : Option (List ℕ)). RunsOn fits count text between new start.book spares final rest had replied f synced holds) unchanged
+        (subst (λ (t : Reply → List ℕ). RunsOn fits count t between new start.book spares final rest had replied held synced holds) same ran)
+
+    -- it was, and what is to follow the replies does
+    pub serves_kept : IsOpening final.site final.opening → Run final.site final.opening final.history final.state → (IsFormed final.site → AllServed final.history)
+        → OnOk said (Appends replied has (tail_after tail final.opening final.history final.state))
+        → OnOk said (ServesKept fits count text gives fleet tail old new had has file synced holds)
+    serves_kept opening run served follows =
+        let is : final.site ≡ site = runs.replays.serves.output.site ∙ start_site site (first_slots fleet site) from.text start from.starts in
+        on_ok_weaker said (λ after. record {
+          site = site;
+          between = between;
+          start = start;
+          planners = planners;
+          spares = spares;
+          starts = starts;
+          rest = rest;
+          final = final;
+          replied = replied;
+          runs = runs;
+          follows = after;
+          site_is = is;
+          is_opening = subst (λ (at : Site). IsOpening at final.opening) is opening;
+          run = subst (λ (at : Site). Run at final.opening final.history final.state) is run;
+          served = subst (λ (at : Site). IsFormed at → AllServed final.history) is served;
+        }) follows
+
+    -- or does not
+    pub without_tail : (failed : Bool) → IfErr said (λ (told : Trouble). IsWhyNoTail told replied has (tail_after tail final.opening final.history final.state))
+        → IfErr said (λ (told : Trouble). IsWhyUnkept fits count text gives fleet tail told old new had has file failed synced holds)
+    without_tail failed why =
+        IfErr-weaker said (λ (told : Trouble). IsWhyNoTail told replied has (tail_after tail final.opening final.history final.state))
+        (λ (told : Trouble). IsWhyUnkept fits count text gives fleet tail told old new had has file failed synced holds)
+        (λ (told : Trouble) w. inr (inr (inr (record {
+          site = site;
+          between = between;
+          start = start;
+          planners = planners;
+          spares = spares;
+          starts = starts;
+          rest = rest;
+          final = final;
+          replied = replied;
+          runs = runs;
+          why = w;
+        })))) why

@@ -1,0 +1,161 @@
+-- What a whole run of `replay` over a log file does.
+use Rattle.std.specs.Prelude.{◌≡◌, ◌⊎◌, ℕ, Bool, List, length, replicate, Option, IfSome, Result, All}
+use Rattle.std.specs.declared.alloc.AllocError.{AllocError}
+use Rattle.std.specs.Io.KnownBytes.{Appends, Keeps}
+use Rattle.wh_lines.specs.Input.{Input}
+use Rattle.wh_grid.specs.Grids.{Floor}
+use Rattle.wh_points.specs.Points.{Site}
+use Rattle.wh_points.specs.Formed.{IsFormed}
+use Rattle.wh_claims.specs.Bank.{bank_total}
+use Rattle.wh_claims.specs.declared.bank.Bank.{Bank}
+use Rattle.wh_event.specs.declared.reply.Reply.{Reply}
+use Rattle.wh_core.specs.Laws.{IsOpening}
+use Rattle.wh_core.specs.Steps.{Run}
+use Rattle.wh_verify.specs.Drafts.{AllServed, Seen}
+use Rattle.wh_continue.specs.Starting.{IsWhyNoStart, StartsIn}
+use Rattle.wh_continue.specs.Running.{RunsOn, StopsRun}
+use Rattle.wh_continue.specs.declared.continuing.ContinueFault.TheVariants as continued
+use Rattle.wh_continue.specs.declared.running.KeepFault.{KeepFault}
+use Rattle.wh_continue.specs.declared.running.KeepFault.TheVariants as kept
+use Rattle.wh_continue.specs.declared.running.RunFault.{RunFault}
+use Rattle.wh_continue.specs.declared.running.RunFault.TheVariants as ran
+use Rattle.wh_continue.specs.declared.starting.Start.{Start}
+use Rattle.wh_continue.specs.declared.starting.StartFault.TheVariants as started
+use Rattle.wh_journal.specs.declared.fault.JournaledFault.{JournaledFault}
+use Rattle.wh_journal.specs.declared.fault.JournaledFault.TheVariants as journaled
+use Rattle.wh_edge.specs.Site.{SiteRead, SiteFault}
+use Rattle.wh_edge.specs.declared.trouble.Trouble.{Trouble}
+use Rattle.wh_edge.specs.declared.trouble.Trouble.TheVariants as trouble
+use Rattle.wh_options.specs.declared.chosen.Fleet.{Fleet}
+use Rattle.wh_options.specs.declared.chosen.Tail.{Tail}
+use Rattle.wh_service.specs.Fleets.{AreSeated, IsMember, IsWhyUnclaimed, IsWhyUnseated}
+use Rattle.wh_service.specs.Tails.{IsWhyNoTail, tail_after}
+use Rattle.wh_service.specs.declared.parts.PlannerParts.{PlannerParts}
+
+-- One planner for each agent, with the slots that its state tells, and as many spare ones as the options name, with the
+-- fleet's slots. All are of the fleet's kind, on the grid, and with their claims on one bank, which has as many slots in all as
+-- the options name.
+pub record IsSeated {X : Type 0} (gives : PlannerParts → Result X AllocError → Type 0) (fleet : Fleet) (grid : Floor) (slots : List ℕ) (planners spares : List X) : Type 0 where
+  pub bank : Bank
+  pub total : bank_total bank ≡ fleet.bank
+  pub stands_by : length spares ≡ fleet.spares
+  pub planners_are : AreSeated gives fleet grid bank slots planners
+  pub spares_are : All (IsMember gives fleet grid bank) spares
+
+-- the slots of each agent at an opening
+abbrev pub first_slots : Fleet → Site → List ℕ
+first_slots fleet site = replicate (length site.layout.agents) fleet.slots
+
+-- The file was read, and this is what a run of the site starts from. A file that tells its bytes was read as it was.
+pub record StartsFrom (fleet : Fleet) (site : Site) (file : Option (List ℕ)) (start : Start) : Type 0 where
+  pub text : List ℕ
+  pub text_is : IfSome file (λ held. text ≡ held)
+  pub starts : StartsIn site (first_slots fleet site) text start
+
+-- A site was read, then the file, and planners were made for what the run starts from.
+pub record StartsOver {X : Type 0} (gives : PlannerParts → Result X AllocError → Type 0) (fleet : Fleet) (old between : Input) (file : Option (List ℕ))
+    (site : Site) (start : Start) (planners spares : List X) : Type 0 where
+  pub site_read : SiteRead old between site.grid site.layout
+  pub starts : StartsFrom fleet site file start
+  pub seated : IsSeated gives fleet site.grid start.book.state.slots planners spares
+
+-- The run went on from there: the script behind the site was served to its end, with planners for its agents, over the file,
+-- which is the log of the whole run now, and what is to follow the replies follows them.
+pub record ServesKept {X : Type 0} (fits : X → Floor → Bool) (count : X → ℕ) (text : Reply → List ℕ) (gives : PlannerParts → Result X AllocError → Type 0) (fleet : Fleet) (tail : Tail)
+    (old new : Input) (had has file synced holds : Option (List ℕ)) : Type 0 where
+  pub site : Site
+  pub between : Input
+  pub start : Start
+  pub planners : List X
+  pub spares : List X
+  pub starts : StartsOver gives fleet old between file site start planners spares
+  pub rest : List X
+  pub final : Seen
+  pub replied : Option (List ℕ)
+  pub runs : RunsOn fits count text between new start.book spares final rest had replied file synced holds
+  pub follows : Appends replied has (tail_after tail final.opening final.history final.state)
+  -- the whole run, old entries and new ones, is one of the abstract warehouse, from an opening state of this site
+  pub site_is : final.site ≡ site
+  pub is_opening : IsOpening site final.opening
+  pub run : Run site final.opening final.history final.state
+  -- on a well-formed site no request was ever refused for want of a path
+  pub served : IsFormed site → AllServed final.history
+
+-- what is told of a log file that was not begun or not ended
+abbrev pub keep_trouble : KeepFault → Trouble
+keep_trouble kept.Unkept = trouble.Unkept
+keep_trouble kept.NoMemory = trouble.NoMemory
+
+-- what is told of a script that was not served to its end over a log file
+abbrev pub journal_trouble : JournaledFault → Trouble
+journal_trouble journaled.Broken = trouble.Broken
+journal_trouble journaled.Endless = trouble.Endless
+journal_trouble journaled.Unwritten = trouble.Unwritten
+journal_trouble journaled.Unjournaled = trouble.Unkept
+journal_trouble journaled.NoMemory = trouble.NoMemory
+
+-- what is told of a run that was not brought to its end
+abbrev pub run_trouble : RunFault → Trouble
+run_trouble (ran.Begin fault) = keep_trouble fault
+run_trouble ran.Uncounted = trouble.Unwritten
+run_trouble (ran.Continue (continued.Replay fault)) = journal_trouble fault
+run_trouble (ran.Continue (continued.Resume fault)) = trouble.NoMemory
+run_trouble (ran.End fault) = keep_trouble fault
+
+-- Why no run starts over the file of a site that was read: it was not to be read, or its text is none that a run goes on from,
+-- or memory was wanting.
+abbrev pub IsWhyNotStarted : Fleet → Site → Option (List ℕ) → Trouble → Type 0
+IsWhyNotStarted fleet site file (trouble.Log line) =
+    (text : List ℕ) × IfSome file (λ held. text ≡ held) × IsWhyNoStart site (first_slots fleet site) text (started.Bad line)
+IsWhyNotStarted fleet site file trouble.Unkept = Unit {0}
+IsWhyNotStarted fleet site file trouble.NoMemory = Unit {0}
+IsWhyNotStarted fleet site file _ = ⊥
+
+-- the run starts, and a planner got no slots, or memory was wanting for one
+pub record IsUnequipped (fleet : Fleet) (site : Site) (file : Option (List ℕ)) (told : Trouble) : Type 0 where
+  pub start : Start
+  pub starts : StartsFrom fleet site file start
+  pub why : IsWhyUnseated start.book.state.slots told ⊎ IsWhyUnclaimed fleet.slots told
+
+-- A site was read, and there it ended: no run starts over the file, or its planners were not made.
+pub record EndsAtStart (fleet : Fleet) (told : Trouble) (old new : Input) (file : Option (List ℕ)) : Type 0 where
+  pub site : Site
+  pub site_read : SiteRead old new site.grid site.layout
+  pub why : IsWhyNotStarted fleet site file told ⊎ IsUnequipped fleet site file told
+
+-- The run started, and was not brought to its end.
+pub record StopsKept {X : Type 0} (fits : X → Floor → Bool) (count : X → ℕ) (text : Reply → List ℕ) (gives : PlannerParts → Result X AllocError → Type 0) (fleet : Fleet) (fault : RunFault)
+    (old new : Input) (had has file : Option (List ℕ)) (failed : Bool) (synced holds : Option (List ℕ)) : Type 0 where
+  pub site : Site
+  pub between : Input
+  pub start : Start
+  pub planners : List X
+  pub spares : List X
+  pub starts : StartsOver gives fleet old between file site start planners spares
+  pub rest : List X
+  pub stops : StopsRun fits count text fault between new start planners spares rest had has file failed synced holds
+
+-- The run was brought to its end, and what is to follow the replies does not.
+pub record KeptWithoutTail {X : Type 0} (fits : X → Floor → Bool) (count : X → ℕ) (text : Reply → List ℕ) (gives : PlannerParts → Result X AllocError → Type 0) (fleet : Fleet) (tail : Tail)
+    (told : Trouble) (old new : Input) (had has file synced holds : Option (List ℕ)) : Type 0 where
+  pub site : Site
+  pub between : Input
+  pub start : Start
+  pub planners : List X
+  pub spares : List X
+  pub starts : StartsOver gives fleet old between file site start planners spares
+  pub rest : List X
+  pub final : Seen
+  pub replied : Option (List ℕ)
+  pub runs : RunsOn fits count text between new start.book spares final rest had replied file synced holds
+  pub why : IsWhyNoTail told replied has (tail_after tail final.opening final.history final.state)
+
+-- Why it ended otherwise, in this order: the site, the file, the bank and the planners, the run, what is to follow the
+-- replies. Before the run starts nothing is written, and the file is as it was.
+abbrev pub IsWhyUnkept : {X : Type 0} → (X → Floor → Bool) → (X → ℕ) → (Reply → List ℕ) → (PlannerParts → Result X AllocError → Type 0) → Fleet → Tail → Trouble
+    → (old new : Input) → (had has file : Option (List ℕ)) → Bool → (synced holds : Option (List ℕ)) → Type 0
+IsWhyUnkept fits count text gives fleet tail told old new had has file failed synced holds =
+    (SiteFault told old new × Keeps had has × (holds ≡ file))
+    ⊎ (EndsAtStart fleet told old new file × Keeps had has × (holds ≡ file))
+    ⊎ ((fault : RunFault) × (told ≡ run_trouble fault) × StopsKept fits count text gives fleet fault old new had has file failed synced holds)
+    ⊎ KeptWithoutTail fits count text gives fleet tail told old new had has file synced holds
