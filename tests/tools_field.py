@@ -81,7 +81,7 @@ def test_every_code_of_the_formats_has_a_sentence() -> None:
     for page in ('FORMATS.md', 'USE.md'):
         with open(os.path.join(ROOT, 'docs', page), encoding='utf-8') as text:
             named |= set(re.findall(r'\b[A-Z][0-9]{1,2}\b', text.read())) - {'S1', 'N0', 'N1', 'P0', 'P1'}
-    assert {'M1', 'M7', 'P10', 'C2', 'E10', 'E95', 'B2', 'X4'} <= named, named
+    assert {'M1', 'M7', 'P10', 'C2', 'E10', 'E95', 'B2', 'L1', 'X4', 'X5'} <= named, named
     same(named - set(told), set())
     for verdict in ('formed', 'few', 'cut', 'bad', 'run'):
         assert told[verdict].endswith('.')
@@ -99,6 +99,9 @@ def test_explain_tells_the_place() -> None:
     same(tool('explain.py', 'refused P7 line 5', instance)[0].splitlines()[1:],
          ['The section ends before its line 5; in the whole input it would be line 11.'])
     assert 'is it the one' in tool('explain.py', 'bad 1', file('j', 'type t\n'))[0]
+    log = file('l', 'wlog 2\nstart 0 slots 4\n%%\n')
+    same(tool('explain.py', 'refused L1 line 3', log)[0].splitlines()[1:], ['Line 3 of the log file:', '    %%'])
+    same(tool('explain.py', 'refused L1 line 4', log)[0].splitlines()[1:], ['The log file ends before its line 4.'])
     refused(tool('explain.py', 'refused Z9'), 'no message of the program is known to me')
 
 

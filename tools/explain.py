@@ -4,6 +4,7 @@
     explain.py 'refused P4 line 2'               the sentence
     explain.py 'refused P4 line 2' INSTANCE      and the line itself, and its place in the whole input
     explain.py 'bad 7' INPUT                     INPUT is what `verify` read: map, points, log
+    explain.py 'refused L1 line 7' FILE          FILE is the log file of `replay --log`
     explain.py E6                                a code alone; --all prints every code
 
 The program counts lines from 1 in each section anew: M codes in the map, P codes in the points, C codes with a line in
@@ -15,7 +16,7 @@ import re
 import signal
 import sys
 
-from sections import Section, fail, is_skipped, read_file, sections_of, words_of
+from sections import Section, fail, is_skipped, lines_of, read_file, sections_of, words_of
 
 SENTENCES = {
     'M1': 'The head of the map is wrong here: `type WORD`, then `height N` and `width N` once each, then `map`.',
@@ -54,12 +55,14 @@ SENTENCES = {
     'E93': 'A thread could not be started (status 3).',
     'E94': 'There are more than 64 workers in `live`: clients, agents and the clock together.',
     'E95': 'A pass and its row in the journal differ (status 3): a fault of the program, which is to be reported.',
+    'L1': 'The log file of `replay --log` has this line first with which no log of a run over this map and these points goes on, or it is a log of version 1, which is refused at line 1. No byte of it was changed.',
     'B1': 'The bank has too few slots: so many are free, and the next planner wants more. --bank must be at least --slots times the agents and spare planners.',
     'B2': 'Slots were taken from the bank or given back while a planner was made; so many were seen free.',
     'X1': 'Reading the input failed: it is closed, or a directory (status 3).',
     'X2': 'The input was read 100,000,000 times, and no more is read (status 3).',
     'X3': 'The output could not be written: a closed pipe, a full disk (status 3). Commands whose replies could not be written stand.',
     'X4': 'A section of the input is too long: a map has at most 33,554,432 bytes, points 1,048,576, a log or a script of `live` 268,435,456.',
+    'X5': 'The log file of `replay --log` cannot be opened, read, written or synced, or another program has it (status 3). From then on nothing was appended to it, and no reply told.',
     'formed': 'The instance is well-formed: no agent that is due is refused a path.',
     'few': 'There are fewer parkings than agents: the first number are there, the second is wanted. The instance is not well-formed.',
     'cut': 'No walk leads from the first of these points to the second without meeting a third one. The instance is not well-formed: requests may be refused for want of a path.',
@@ -79,6 +82,8 @@ def section_of(code: str, number: int, sections: list[Section]) -> Section | Non
     if code[0] in 'MP':
         place = 0 if code[0] == 'M' else 1
         return sections[place] if place < len(sections) else None
+    if code == 'L1':
+        return sections[0]
     if code == 'bad':
         return sections[2] if len(sections) > 2 else None
     # the first client's script that has a line of this number which is no command
@@ -119,11 +124,13 @@ def place(code: str, number: int, sections: list[Section]) -> list[str]:
         return ['The input has no such line: is it the one that the program read?']
     whole = section.first + number - 1
     if number > len(section.lines):
-        return [f'The section ends before its line {number}; in the whole input it would be line {whole}.']
+        ends = f'The section ends before its line {number}; in the whole input it would be line {whole}.'
+        return [f'The log file ends before its line {number}.' if code == 'L1' else ends]
     line = section.lines[number - 1]
     shown = line if len(line) <= 200 else line[:200] + ' ..'
     said = hint(code, line, section, sections)
-    return [f'Line {number} of its section is line {whole} of the whole input:', f'    {shown}'] + [said] * bool(said)
+    head = f'Line {number} of its section is line {whole} of the whole input:'
+    return [f'Line {number} of the log file:' if code == 'L1' else head, f'    {shown}'] + [said] * bool(said)
 
 
 def explained(words: list[str], instance: str | None) -> list[str]:
@@ -135,7 +142,9 @@ def explained(words: list[str], instance: str | None) -> list[str]:
     number = next((word for before, word in zip(told, told[1:]) if before in ('line', 'bad')), None)
     lines = [f'{code}: {SENTENCES[code]}']
     if number is not None and re.fullmatch('[1-9][0-9]{0,17}', number) and instance is not None:
-        lines += place(code, int(number), sections_of(read_file(instance)))
+        text = read_file(instance)
+        sections = [Section(1, lines_of(text))] if code == 'L1' else sections_of(text)
+        lines += place(code, int(number), sections)
     return lines
 
 
