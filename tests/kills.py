@@ -1,0 +1,179 @@
+#!/usr/bin/env python3
+"""Kills the built program again and again while it keeps a run in a file, and goes on with the run.
+
+    tests/kills.py 50                  so many kills
+    tests/kills.py 1000 --seed 7
+
+Each run has a script from the seed (tools/make_instance.py, or examples/shelves), and each line of it an entry. A life of
+the program, `replay --log FILE --replies full` behind two pipes, is sent the script from the line on that its `entries N`
+names: line by line, each behind the reply to the one before, in batches, all at once, or in pieces that end anywhere. At
+a moment from the seed it is killed by signal 9: by a time from its start, or some time after so many replies. Some lives
+are hung up on in place of it: the pipe ends within a line.
+
+After each life: what it told first is how many entries the file had; each reply is that of the script at one go; every
+reply that any life told stands in the file at its place, and the file is a front of the log of the script at one go (of a
+life that was hung up on, such a front with its end line). At the end of a run the file is that log, byte for byte, and
+`verify` says how many entries it has. The program is that of WAREHOUSE, else the one of crates/warehouse. A signal leaves
+what was written, synced or not: whether it was synced is for tests/order.py.
+"""
+import argparse
+import collections
+import os
+import random
+import subprocess
+import sys
+import tempfile
+import time
+
+from lives import PROGRAM, ROOT, Life, Whole, Wrong, demand, go_on, judge, read_file
+
+WAYS = ['one', 'batch', 'all', 'pieces']
+
+
+def make(chance: random.Random, program: str) -> Whole:
+    """A script, with the words of its run."""
+    words = ('--planner', 'patient') if chance.random() < 0.2 else ()
+    if not words and chance.random() < 0.2:
+        with open(os.path.join(ROOT, 'examples/shelves'), 'rb') as shelves:
+            return Whole(shelves.read(), words, program)
+    sizes = {'columns': chance.randint(20, 36), 'rows': chance.randint(9, 18), 'agents': chance.randint(1, 8), 'every': 1,
+             'tasks': chance.randint(5, 60), 'ticks': chance.randint(20, 90), 'seed': chance.randrange(10 ** 6)}
+    made = subprocess.run([sys.executable, os.path.join(ROOT, 'tools/make_instance.py'), '--stops', chance.choice('238'),
+                           *(word for name, size in sizes.items() for word in (f'--{name}', str(size)))],
+                          stdout=subprocess.PIPE, check=True).stdout
+    return Whole(made, words, program)
+
+
+class Sender:
+    """Sends the script from a line on, in one of the ways."""
+
+    def __init__(self, chance: random.Random, whole: Whole, life: Life, first: int):
+        self.chance, self.life, self.way = chance, life, chance.choice(WAYS)
+        self.lines = [line + b'\n' for line in whole.commands[first:]]
+        self.sent = 0
+        self.most = chance.randint(1, 200) if self.way == 'pieces' else 65536
+        life.send(whole.site)
+
+    def feed(self) -> None:
+        """Hands over the next lines, where the way allows."""
+        if self.way in ('one', 'batch') and (self.life.lines == 0 or self.life.lines - 1 < self.sent):
+            return
+        count = {'one': 1, 'batch': self.chance.randint(1, 60)}.get(self.way, len(self.lines))
+        self.life.send(b''.join(self.lines[self.sent:self.sent + count]))
+        self.sent = min(self.sent + count, len(self.lines))
+
+    def is_done(self) -> bool:
+        return self.life.lines > len(self.lines)
+
+
+def live(chance: random.Random, whole: Whole, life: Life, before: int) -> str:
+    """A life up to its end: 'killed', 'hung up', or 'done' where the script came to its end before."""
+    sender = Sender(chance, whole, life, before)
+    hangs_up = chance.random() < 0.1
+    count = 0 if chance.random() < 0.2 else chance.randint(1, 1 + min(120, len(whole.commands)))
+    delay = chance.random() * (0.03 if count == 0 else 0.004)
+    until = time.monotonic() + delay if count == 0 else None
+    while not sender.is_done() and not life.ended:
+        sender.feed()
+        if until is None and life.lines >= count:
+            until = time.monotonic() + delay
+        if until is not None and time.monotonic() >= until:
+            if hangs_up and life.lines:
+                return hang_up(chance, life)
+            life.kill()
+            return 'killed'
+        came = life.turn(60 if until is None else until - time.monotonic(), sender.most)
+        demand(came or until is not None, 'nothing came for 60 s')
+    if chance.random() < 0.3:
+        life.kill()    # while it may be writing its last line
+        return 'killed'
+    return 'done'
+
+
+def hang_up(chance: random.Random, life: Life) -> str:
+    """Ends its input, mostly within a line: of what waits to be sent a front, or a part of a line."""
+    keep = chance.randint(0, len(life.left))
+    del life.left[keep:]
+    if not life.left:
+        life.send(b'token 0'[:chance.randint(0, 7)])
+    while life.left and not life.deaf and not life.ended:
+        demand(life.turn(60), 'nothing came for 60 s')
+    status = life.end()
+    demand((status, life.errors) == (0, b''), f'hung up on: status {status}, {life.errors!r}')
+    return 'hung up'
+
+
+def run(chance: random.Random, program: str, file: str, kills: int, seen: collections.Counter) -> int:
+    """One run, with so many kills at most; how many there were."""
+    whole = make(chance, program)
+    if os.path.exists(file):
+        os.remove(file)
+    killed = before = told = 0
+    while killed < kills:
+        life = Life(whole, file)
+        try:
+            end = live(chance, whole, life, before)
+            if end == 'done':
+                demand(life.end() == 0 and not life.errors, f'status {life.process.returncode}, {life.errors!r}')
+        finally:
+            if life.process.poll() is None:
+                life.process.kill()
+        seen[end] += 1
+        killed += end == 'killed'
+        _, now = judge(whole, life, before)
+        told = max(told, now)
+        text = read_file(file) or b''
+        kept = whole.kept(text, told)
+        note(seen, end, life, text, kept, told)
+        if end == 'hung up':
+            demand(text == whole.text(kept, True), 'hung up on, it has no end line')
+        before = kept
+        if end == 'done':
+            break
+        # a run whose script is over, and whose last life was killed, is gone on from too
+    go_on(whole, file, before)
+    demand(whole.verify(whole.log) == b'run %d\n' % len(whole.commands), 'verify does not call it a run')
+    seen['runs'] += 1
+    seen['entries'] += len(whole.commands)
+    return killed
+
+
+def note(seen: collections.Counter, end: str, life: Life, text: bytes, kept: int, told: int) -> None:
+    """Where the kills fell."""
+    if end == 'killed':
+        seen['before a line was told'] += life.lines == 0
+        seen['with a part of a line in the file'] += not text.endswith(b'\n') and text != b''
+        seen['with an entry in the file that was not told'] += kept > told
+        seen['within a reply'] += not life.said.endswith(b'\n') and life.lines > 0
+        seen['with the end line in the file'] += text.split(b'\n')[-2:][0].startswith(b'end ')
+
+
+def main() -> None:
+    parser = argparse.ArgumentParser(description=__doc__, formatter_class=argparse.RawDescriptionHelpFormatter)
+    parser.add_argument('kills', type=int, nargs='?', default=50)
+    parser.add_argument('--seed', type=int, default=1)
+    parser.add_argument('--program', default=PROGRAM)
+    options = parser.parse_args()
+    seen: collections.Counter = collections.Counter()
+    passed = failed = seed = 0
+    with tempfile.TemporaryDirectory() as scratch:
+        file = os.path.join(scratch, 'log')
+        while seen['killed'] < options.kills:
+            seed += 1
+            chance = random.Random(options.seed * 1_000_003 + seed)
+            try:
+                run(chance, options.program, file, min(options.kills - seen['killed'], chance.randint(3, 25)), seen)
+                passed += 1
+            except (Wrong, OSError, ValueError, subprocess.SubprocessError) as wrong:
+                failed += 1
+                print(f'run {seed} of seed {options.seed}: {wrong}')
+                if failed == 10:
+                    break
+    for name in sorted(seen):
+        print(f'{name}: {seen[name]}')
+    print(f'{passed} passed, {failed} failed')
+    sys.exit(failed != 0)
+
+
+if __name__ == '__main__':
+    main()
