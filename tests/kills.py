@@ -6,9 +6,10 @@
 
 Each run has a script from the seed (tools/make_instance.py, or examples/shelves), and each line of it an entry. A life of
 the program, `replay --log FILE --replies full` behind two pipes, is sent the script from the line on that its `entries N`
-names: line by line, each behind the reply to the one before, in batches, all at once, or in pieces that end anywhere. At
-a moment from the seed it is killed by signal 9: by a time from its start, or some time after so many replies. Some lives
-are hung up on in place of it: the pipe ends within a line.
+names: line by line, each behind the reply to the one before, in batches, all at once, or in pieces that end anywhere. It is
+killed by signal 9 at a moment from the seed: a time from its start, a time after so many replies, or when the file has
+grown for so many times, so that it is being written or synced. Some lives are hung up on in place of it: the pipe ends
+within a line.
 
 After each life: what it told first is how many entries the file had; each reply is that of the script at one go; every
 reply that any life told stands in the file at its place, and the file is a front of the log of the script at one go (of a
@@ -66,25 +67,58 @@ class Sender:
         return self.life.lines > len(self.lines)
 
 
-def live(chance: random.Random, whole: Whole, life: Life, before: int) -> str:
+class Moment:
+    """When a life is to end."""
+
+    def __init__(self, chance: random.Random, whole: Whole, file: str, start: float):
+        self.file, self.until = file, None
+        self.kind = chance.choice(['start', 'replies', 'replies', 'growth', 'growth'])
+        self.count = chance.randint(1, 1 + min(120 if self.kind == 'replies' else 25, len(whole.commands)))
+        self.delay = chance.random() * (1.2 * start if self.kind == 'start' else 0.004)
+        self.size = self.length()
+        if self.kind == 'start':
+            self.until = time.monotonic() + self.delay
+
+    def length(self) -> int:
+        try:
+            return os.stat(self.file).st_size
+        except FileNotFoundError:
+            return 0
+
+    def has_come(self, life: Life) -> bool:
+        if self.kind == 'growth':
+            size = self.length()
+            self.count -= size > self.size
+            self.size = size
+            return self.count <= 0
+        if self.until is None and life.lines >= self.count:
+            self.until = time.monotonic() + self.delay
+        return self.until is not None and time.monotonic() >= self.until
+
+    def left(self) -> float:
+        """How long to wait for anything else."""
+        if self.kind == 'growth':
+            return 0
+        return 60 if self.until is None else self.until - time.monotonic()
+
+
+def live(chance: random.Random, whole: Whole, life: Life, before: int, moment: Moment) -> str:
     """A life up to its end: 'killed', 'hung up', or 'done' where the script came to its end before."""
     sender = Sender(chance, whole, life, before)
     hangs_up = chance.random() < 0.1
-    count = 0 if chance.random() < 0.2 else chance.randint(1, 1 + min(120, len(whole.commands)))
-    delay = chance.random() * (0.03 if count == 0 else 0.004)
-    until = time.monotonic() + delay if count == 0 else None
     while not sender.is_done() and not life.ended:
         sender.feed()
-        if until is None and life.lines >= count:
-            until = time.monotonic() + delay
-        if until is not None and time.monotonic() >= until:
+        if moment.has_come(life):
             if hangs_up and life.lines:
                 return hang_up(chance, life)
             life.kill()
             return 'killed'
-        came = life.turn(60 if until is None else until - time.monotonic(), sender.most)
-        demand(came or until is not None, 'nothing came for 60 s')
+        came = life.turn(moment.left(), sender.most)
+        demand(came or moment.kind != 'replies' or moment.until, 'nothing came for 60 s')
     if chance.random() < 0.3:
+        life.process.stdin.close()
+        while moment.kind == 'growth' and not moment.has_come(life) and life.process.poll() is None:
+            pass
         life.kill()    # while it may be writing its last line
         return 'killed'
     return 'done'
@@ -103,16 +137,18 @@ def hang_up(chance: random.Random, life: Life) -> str:
     return 'hung up'
 
 
-def run(chance: random.Random, program: str, file: str, kills: int, seen: collections.Counter) -> int:
-    """One run, with so many kills at most; how many there were."""
+def run(chance: random.Random, program: str, file: str, kills: int, seen: collections.Counter) -> None:
+    """One run, with so many kills at most."""
     whole = make(chance, program)
     if os.path.exists(file):
         os.remove(file)
     killed = before = told = 0
+    start = starting(whole, file)
     while killed < kills:
+        moment = Moment(chance, whole, file, start)
         life = Life(whole, file)
         try:
-            end = live(chance, whole, life, before)
+            end = live(chance, whole, life, before, moment)
             if end == 'done':
                 demand(life.end() == 0 and not life.errors, f'status {life.process.returncode}, {life.errors!r}')
         finally:
@@ -135,7 +171,18 @@ def run(chance: random.Random, program: str, file: str, kills: int, seen: collec
     demand(whole.verify(whole.log) == b'run %d\n' % len(whole.commands), 'verify does not call it a run')
     seen['runs'] += 1
     seen['entries'] += len(whole.commands)
-    return killed
+
+
+def starting(whole: Whole, file: str) -> float:
+    """How long the program takes to its first line; the file is as it was."""
+    began = time.monotonic()
+    life = Life(whole, file)
+    life.send(whole.site)
+    life.await_lines(1)
+    took = time.monotonic() - began
+    life.end()
+    os.remove(file)
+    return took
 
 
 def note(seen: collections.Counter, end: str, life: Life, text: bytes, kept: int, told: int) -> None:
@@ -166,7 +213,7 @@ def main() -> None:
                 passed += 1
             except (Wrong, OSError, ValueError, subprocess.SubprocessError) as wrong:
                 failed += 1
-                print(f'run {seed} of seed {options.seed}: {wrong}')
+                print(f'run {seed} of seed {options.seed}: {str(wrong)[:300]}')
                 if failed == 10:
                     break
     for name in sorted(seen):

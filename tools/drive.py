@@ -2,7 +2,7 @@
 """Drives an instance to its end through a pipe, as a fleet manager would: sends a command, reads its reply, goes on.
 
     drive.py INSTANCE                            the orders are those of INSTANCE's third section
-    drive.py INSTANCE SCRIPT --log run.log       the orders are those of SCRIPT
+    drive.py INSTANCE SCRIPT --log run.log       the orders are those of SCRIPT; the program keeps the run in run.log
     drive.py INSTANCE --cells cells              where each agent is at each clock
     drive.py INSTANCE --program 'ssh host warehouse/warehouse replay'
 
@@ -30,11 +30,19 @@ With --cells FILE a line `CLOCK X,Y X,Y ..` is written for each clock, agent by 
 other one before the tick to its clock is sent. So it says where the vehicles must be before that tick; a controller that
 moves vehicles would wait there until they are.
 
+With --log FILE the program keeps the run in FILE, each entry before its reply is told (`replay --log`). Where the program
+ends while commands wait for their replies, it is started again, and goes on: `entries N` tells how many of these commands
+it had served, and their replies are read from FILE, in which each command must stand at its place. A FILE that cannot be
+read here, as behind ssh, can be gone on with only where none of them was served. A program that ends again before it has
+served anything more is not started a third time. A FILE with a run of before is left as it is: what this script knew of
+that run, it knows no more, so it says so and ends. --save FILE is for a program that knows no --log: it writes there, at the
+end, the log that follows the replies.
+
 With --replies short `took N end K` and `parked P end K` tell K and no cell: for a program that knows no `--replies`.
 
-To --program's words `--tail log` and, but with --replies short, `--replies full` are added, unless they name these options.
-The figures of deliveries are worked out at the end, from the log, as tools/stats.py does; its paths must be those that the
-replies told.
+To --program's words are added `--log FILE`, or without it `--tail log`, and, but with --replies short, `--replies full`, unless
+they name these options. The figures of deliveries are worked out at the end, from the log, as tools/stats.py does; its paths
+must be those that the replies told.
 
 It prints a name and a number a line:
 
@@ -56,6 +64,7 @@ from __future__ import annotations
 
 import argparse
 import os
+import re
 import select
 import shlex
 import signal
@@ -76,6 +85,7 @@ from whereabouts import Whereabouts
 MOST_IN_BATCH = 1000
 PIECE = 65536
 MOST_IN_REPLY = 1 << 26    # bytes, some six million cells
+PATH = re.compile(r' path (.*)')
 ENDING = 10    # seconds that a program has to end once its pipe is closed
 
 
@@ -87,28 +97,41 @@ class Stop(Exception):
         self.sound = sound
 
 
+class Ended(Stop):
+    """The program ended before each command had its reply; these came."""
+
+    def __init__(self, message: str, replies: list[str]):
+        super().__init__(message)
+        self.replies = replies
+
+
 class Program:
     """A program behind two pipes, which are never waited for singly: what it writes is read while it is written to."""
 
     def __init__(self, words: list[str], wait: float | None):
+        self.words, self.wait = words, wait
+        self.start()
+
+    def start(self) -> None:
         try:
-            self.process = subprocess.Popen(words, stdin=subprocess.PIPE, stdout=subprocess.PIPE, bufsize=0)
+            self.process = subprocess.Popen(self.words, stdin=subprocess.PIPE, stdout=subprocess.PIPE, bufsize=0)
         except OSError as error:
-            fail(f'{words[0]}: {error.strerror}')
+            fail(f'{self.words[0]}: {error.strerror}')
         self.to, self.back = self.process.stdin.fileno(), self.process.stdout.fileno()
         os.set_blocking(self.to, False)
         os.set_blocking(self.back, False)
-        self.wait = wait
         self.came = bytearray()    # read, and not looked at yet
         self.whole = 0             # how many lines of that are whole
         self.begun = 0             # how many bytes stand behind them
         self.ended = False         # its output has ended
+        self.deaf = False          # it takes no more
 
     def turn(self, left: memoryview) -> memoryview:
         """Reads or writes a piece, whichever can be first; what is left to write then."""
-        readable, writable, _ = select.select([self.back], [self.to] if left else [], [], self.wait)
+        wait = self.wait if not self.deaf else ENDING if self.wait is None else min(self.wait, ENDING)
+        readable, writable, _ = select.select([self.back], [self.to] if left else [], [], wait)
         if not readable and not writable:
-            raise Stop(f'nothing came from the program for {self.wait:g} seconds')
+            raise Stop(f'nothing came from the program for {wait:g} seconds')
         if readable:
             piece = os.read(self.back, PIECE)
             self.ended = not piece
@@ -120,7 +143,7 @@ class Program:
                 return left[os.write(self.to, left[:PIECE]):]
             except BrokenPipeError:
                 # what it still had to say can be read; it says no more than that
-                self.wait = ENDING if self.wait is None else min(self.wait, ENDING)
+                self.deaf = True
                 return left[:0]
         return left
 
@@ -140,7 +163,7 @@ class Program:
         """The replies to commands that are sent at once."""
         replies = self.send(''.join(line + '\n' for line in commands).encode('latin-1'), len(commands))
         if len(replies) < len(commands):
-            raise Stop(f'the program ended with status {self.status()} and gave no reply to `{commands[len(replies)]}`')
+            raise Ended(f'the program ended with status {self.status()} and gave no reply to `{commands[len(replies)]}`', replies)
         return replies
 
     def tail(self) -> bytes:
@@ -163,12 +186,69 @@ class Program:
             self.process.wait()
 
 
+class Kept:
+    """The file in which the program keeps the run, and what its lives told of it. Each command that was answered, and did not
+    end the run, is an entry there."""
+
+    def __init__(self, path: str):
+        self.path = path
+        self.stops: list[str] = []    # why it was started again
+
+    def begin(self, program: Program, site: runs.Site) -> int:
+        """Hands map and points to a program that was started; with how many entries it goes on."""
+        said = program.send(site.text, 1)
+        words = said[0].split(' ') if said else []
+        count = runs.number(words[1]) if len(words) == 2 and words[0] == 'entries' else None
+        if count is None:
+            raise Stop(f'`{shortened(said[0])}` came in place of `entries N`' if said else
+                       f'the program ended with status {program.status()} and began no run')
+        return count
+
+    def replies(self, first: int, commands: list[str], full: bool) -> list[str]:
+        """The replies to commands that are the entries from the first on."""
+        if not commands:
+            return []
+        try:
+            with open(self.path, 'rb') as file:
+                lines = file.read().decode('latin-1').split('\n')
+        except OSError as error:
+            raise Stop(f'{len(commands)} commands were served whose replies were lost, and {self.path}: {error.strerror}') from None
+        found = []
+        for place, command in enumerate(commands, first + 2):    # two lines stand before the entries
+            event, _, reply = (lines + [''] * (place + 1))[place].partition(' = ')
+            if event != f'0 {command}':
+                raise Stop(f'{self.path} line {place + 1} is no entry of `{command}`: another program goes on with this run')
+            found.append(reply if full else PATH.sub(lambda path: f' end {path[1].count(" ")}', reply))
+        return found
+
+    def go_on(self, fleet: Fleet, commands: list[str], ended: Ended) -> list[str]:
+        """The replies to commands, of which only some were told before the program ended."""
+        program, replies = fleet.program, ended.replies
+        while True:
+            program.drop()
+            program.start()
+            known = fleet.commands + len(replies)
+            count = self.begin(program, fleet.site)
+            left = commands[len(replies):]
+            if not known <= count <= known + len(left):
+                raise Stop(f'it goes on with {count} entries, and {known} commands were answered, {len(left)} more were sent: '
+                           'another program goes on with this run')
+            self.stops.append(f'{ended}; it was started again, with {count} entries, {count - known} of them without a reply')
+            replies = replies + self.replies(known, left[:count - known], fleet.whereabouts is not None)
+            try:
+                return replies + program.ask(left[count - known:])
+            except Ended as again:
+                if count == known and not again.replies:
+                    raise
+                ended, replies = again, replies + again.replies
+
+
 class Fleet:
     """The orders, and of each agent what the replies have told; with whereabouts they are full ones, else short."""
 
     def __init__(self, to: Program, site: runs.Site, orders: list[tuple[int, str]], batch: int,
-                 whereabouts: Whereabouts | None = None):
-        self.program, self.site, self.batch, self.whereabouts = to, site, batch, whereabouts
+                 whereabouts: Whereabouts | None = None, kept: Kept | None = None):
+        self.program, self.site, self.batch, self.whereabouts, self.kept = to, site, batch, whereabouts, kept
         self.waiting = list(reversed(orders))
         agents = len(site.starts)
         self.clock = 0
@@ -190,7 +270,7 @@ class Fleet:
         for first in range(0, len(commands), self.batch):
             batch = commands[first:first + self.batch]
             began = time.perf_counter()
-            answers = self.program.ask(batch)
+            answers = self.answers(batch)
             self.commands += len(batch)
             if batch[0].startswith('token '):
                 self.requests += len(batch)
@@ -198,6 +278,23 @@ class Fleet:
             for line, reply in zip(batch, answers):
                 self.refused += reply.startswith('refused ')
                 yield line, reply
+
+    def begin(self) -> None:
+        """Hands map and points to the program."""
+        if not self.kept:
+            self.program.send(self.site.text)
+        elif count := self.kept.begin(self.program, self.site):
+            self.program.tail()    # it writes the end line that it has cut off
+            raise Stop(f'{self.kept.path} has {count} entries of a run of before, which this script knows nothing of')
+
+    def answers(self, commands: list[str]) -> list[str]:
+        """Their replies. Where the program ends before, it goes on with what it keeps."""
+        try:
+            return self.program.ask(commands)
+        except Ended as ended:
+            if not self.kept:
+                raise
+            return self.kept.go_on(self, commands, ended)
 
     def release(self) -> None:
         """Hands in the orders that are due."""
@@ -328,6 +425,19 @@ def log_of(tail: bytes) -> bytes:
     return tail.removeprefix(b'%%\n') if tail.startswith(b'%%\nwlog ') else b''
 
 
+def told_log(fleet: Fleet) -> bytes:
+    """The log behind the replies, or in the file, once the input has ended and the program has."""
+    log = log_of(fleet.program.tail())
+    if not log and fleet.kept:
+        fleet.program.status()
+        try:
+            with open(fleet.kept.path, 'rb') as file:
+                log = file.read()
+        except OSError:
+            pass    # it stands where the program is
+    return log
+
+
 def figures(fleet: Fleet, orders: int, read: runs.Run | None) -> list[tuple[str, object]]:
     rows: list[tuple[str, object]] = [('orders', orders), ('accepted', len(fleet.accepted))]
     if read:
@@ -371,27 +481,33 @@ def words_of_options() -> argparse.Namespace:
     parser.add_argument('--ticks', type=int, default=1_000_000, metavar='N', help='end at this clock (%(default)s)')
     parser.add_argument('--shift', type=int, metavar='N', help='from clock N on ask no more, and end when nobody moves')
     parser.add_argument('--close', action='store_true', help='send `close` at the end')
-    parser.add_argument('--log', metavar='FILE', help='write the log there')
+    parser.add_argument('--log', metavar='FILE', help='the program keeps the run there, and goes on with it where it ends')
+    parser.add_argument('--save', metavar='FILE', help='write the log there at the end, for a program that knows no --log')
     parser.add_argument('--wait', type=float, metavar='SECONDS', help='stop where nothing comes for so long (never)')
     options = parser.parse_args()
     if not 1 <= options.batch <= MOST_IN_BATCH:
         fail(f'--batch {options.batch}: 1 to {MOST_IN_BATCH} commands can be sent at once')
     if options.cells is not None and options.replies == 'short':
         fail('--cells: short replies tell no cells')
+    if options.log is not None and options.save is not None:
+        fail('--save: with --log the log stands there')
     if options.wait is not None and not 0 < options.wait < 1e6:
         fail(f'--wait {options.wait:g}: a time above 0 is wanted')
     return options
 
 
-def program_words(text: str, replies: str) -> list[str]:
+def program_words(options: argparse.Namespace) -> list[str]:
     try:
-        words = shlex.split(text)
+        words = shlex.split(options.program)
     except ValueError as error:
         fail(f'--program: {error}')
     if not words:
         fail('--program: no word stands there')
     named = {word.split('=')[0] for word in words}
-    added = [('--tail', 'log')] + ([('--replies', 'full')] if replies == 'full' else [])
+    if '--log' in named and options.log is None:
+        fail('--program: --log stands there; name the file by --log FILE')
+    added = [('--tail', 'log') if options.log is None else ('--log', options.log)]
+    added += [('--replies', 'full')] if options.replies == 'full' else []
     return words + [word for pair in added if pair[0] not in named for word in pair]
 
 
@@ -410,7 +526,7 @@ def finish(fleet: Fleet, why: str, close: bool) -> tuple[bytes, str]:
         (line, reply), = fleet.ask(['close'])
         if reply != 'closed':
             stop_at(line, reply)
-    log = log_of(fleet.program.tail())
+    log = told_log(fleet)
     status = fleet.program.status()
     return log, why or ('' if status == 0 else f'the program ended with status {status} after its replies')
 
@@ -419,7 +535,7 @@ def run(options: argparse.Namespace, fleet: Fleet) -> tuple[bytes, str, int]:
     """The log, why the run ended before its end, and the status."""
     to = fleet.program
     try:
-        to.send(fleet.site.text)
+        fleet.begin()
         early = drive(fleet, options.ticks, options.shift)
         log, why = finish(fleet, early, options.close)
         return log, why, (1 if early else 2 if why else 0)
@@ -428,7 +544,7 @@ def run(options: argparse.Namespace, fleet: Fleet) -> tuple[bytes, str, int]:
         if stop.sound:
             to.wait = ENDING if to.wait is None else to.wait
             try:
-                log = log_of(to.tail())
+                log = told_log(fleet)
             except Stop:
                 pass    # what is told is why the run ended, and not this
         return log, str(stop), 2
@@ -441,19 +557,20 @@ def main() -> None:
     data = runs.read_file(options.instance)
     site = runs.read_instance(options.instance, data)
     orders = orders_of(options, data)
-    file = open(options.log, 'wb') if options.log else None    # a run is not lost to a path that cannot be written
-    words = program_words(options.program, options.replies)
+    file = open(options.save, 'wb') if options.save else None    # a run is not lost to a path that cannot be written
+    words = program_words(options)
     lines = sys.stdout if options.cells == '-' else open(options.cells, 'w') if options.cells else None
     whereabouts = Whereabouts(site, lines) if options.replies == 'full' else None
-    fleet = Fleet(Program(words, options.wait), site, orders, options.batch, whereabouts)
+    kept = Kept(options.log) if options.log is not None else None
+    fleet = Fleet(Program(words, options.wait), site, orders, options.batch, whereabouts, kept)
     log, why, status = run(options, fleet)
     signal.signal(signal.SIGPIPE, signal.SIG_DFL)    # `| head` ends it quietly
     if file:
         file.write(log)
         file.close()
-    for line in [*fleet.left_out, *([why] if why else []), *([] if log else ['no log came, so no delivery is told'])]:
+    for line in [*(kept.stops if kept else []), *fleet.left_out, *([why] if why else []), *([] if log else ['no log came, so no delivery is told'])]:
         print(f'drive.py: {line}', file=sys.stderr)
-    for name, value in figures(fleet, len(orders), read_log(fleet, log, options.log or 'the log', status < 2)):
+    for name, value in figures(fleet, len(orders), read_log(fleet, log, options.log or options.save or 'the log', status < 2)):
         print(name, value)
     sys.exit(status or (1 if fleet.left_out else 0))
 

@@ -1,0 +1,391 @@
+#!/usr/bin/env python3
+"""What the built program makes of the file of `replay --log FILE`, whatever stands there, and of a file that takes no more.
+
+    tests/log_file.py
+
+The program is that of WAREHOUSE, else the one of crates/warehouse. What is expected is worked out by hand, or is the log of
+the same script at one go, `replay --tail log`. A full disk is a small one of its own, mounted where a user may (`unshare`);
+where none may be, that is said, and tests/order.py has the same by a library. The last line is `N passed, M failed`.
+"""
+import os
+import re
+import resource
+import shutil
+import signal
+import socket
+import subprocess
+import tempfile
+
+import counting
+from lives import PROGRAM, ROOT, Life, Whole, demand, go_on, read_file, write_file
+
+SCRATCH = tempfile.TemporaryDirectory()
+CROSS = Whole(read_file(os.path.join(ROOT, 'examples/deliveries')), (), PROGRAM)
+REFUSED = b''    # what stands on the standard output where a run does not begin
+
+
+def path(name: str = 'log', text: bytes | None = None) -> str:
+    """A file with this text, or none of that name."""
+    found = os.path.join(SCRATCH.name, name)
+    if os.path.lexists(found):
+        os.remove(found)
+    if text is not None:
+        write_file(found, text)
+    return found
+
+
+def same(found: object, wanted: object) -> None:
+    demand(found == wanted, f'found {found!r}, wanted {wanted!r}')
+
+
+def replay(text: bytes, file: str, *words: str, **how: object) -> tuple[bytes, bytes, int]:
+    done = subprocess.run([PROGRAM, 'replay', '--log', file, *words], input=text, capture_output=True, timeout=60, **how)
+    return done.stdout, done.stderr, done.returncode
+
+
+def is_left(file: str, outcome: tuple[bytes, bytes, int], errors: bytes, status: int, text: bytes) -> None:
+    """The run does not begin, and no byte of the file is changed."""
+    same(outcome, (REFUSED, errors, status))
+    same(read_file(file), text)
+
+
+def script(*lines: str, site: bytes = CROSS.site) -> bytes:
+    return site + ''.join(line + '\n' for line in lines).encode()
+
+
+# ------------------------------------------------------------------------------------ what is gone on from
+
+def test_cut_at_each_byte() -> None:
+    for length in range(len(CROSS.log) + 1):
+        text = CROSS.log[:length]
+        go_on(CROSS, path('log', text), CROSS.kept(text, 0))
+    go_on(CROSS, path(), 0)
+
+
+def test_zeros_behind_the_last_line() -> None:
+    # what a file system may leave of lines that were not synced
+    for count in (1, 511, 70000):
+        go_on(CROSS, path('log', CROSS.text(5) + bytes(count)), 5)
+
+
+def test_a_page_that_is_wanting() -> None:
+    # what was not synced came only in part: the lines before it are the way on
+    whole = CROSS.text(9)
+    for hole in (b'\0' * 20, b'\0' * 19 + b'\n'):
+        text = CROSS.text(5) + hole + whole[len(CROSS.text(5)) + 20:]
+        file = path('log', text)
+        is_left(file, replay(script('tick'), file), b'refused L1 line 8\n', 1, text)
+        go_on(CROSS, path('log', b''.join(text.splitlines(True)[:7])), 5)
+
+
+def test_with_short_replies() -> None:
+    file = path()
+    text = CROSS.site + b'\n'.join(CROSS.commands[:6]) + b'\n'
+    plain = CROSS.run('replay', text=text).stdout
+    same(replay(text, file), (b'entries 0\n' + plain, b'', 0))
+    same(read_file(file), CROSS.text(6, True))
+    same(replay(CROSS.site, file, '--tail', 'log'), (b'entries 6\n%%\n' + CROSS.text(6, True), b'', 0))
+    same(read_file(file), CROSS.text(6, True))
+
+
+def test_a_run_that_was_closed() -> None:
+    file = path('log', CROSS.log)
+    count = len(CROSS.commands)
+    same(replay(script('tick', 'submit x A B', 'close'), file), (b'entries %d\n' % count + b'refused E8\n' * 3, b'', 0))
+    wanted = CROSS.text(count) + b'0 tick = refused E8\n0 submit x A B = refused E8\n0 close = refused E8\nend %d\n' % (count + 3)
+    same(read_file(file), wanted)
+    same(CROSS.verify(wanted), b'run %d\n' % (count + 3))
+
+
+def test_a_log_of_threads() -> None:
+    # entries of other callers
+    log = CROSS.run('live', '--turns', '8', text=CROSS.site + b'submit x A B\n%%\nsubmit y D C\n').stdout
+    same(CROSS.verify(log), b'run 26\n')
+    file = path('log', log)
+    same(replay(script('close'), file), (b'entries 26\nclosed\n', b'', 0))
+    same(read_file(file), log.replace(b'end 26\n', b'0 close = closed\nend 27\n'))
+
+
+def test_planners_have_the_slots_of_the_state() -> None:
+    file = path()
+    same(replay(script('tick', 'replace 0'), file, '--spares', '1', '--slots', '8')[0], b'entries 0\nclock 1 picked 0 dropped 0\nreplaced 8\n')
+    # --slots is for spare planners alone from here on, and each life has spares of its own
+    same(replay(script('replace 1', 'replace 0'), file, '--spares', '1', '--slots', '2')[0], b'entries 2\nreplaced 2\nrefused E10\n')
+    lines = [b'0 tick = clock 1 picked 0 dropped 0', b'0 replace 0 fits 8 = replaced 8', b'0 replace 1 fits 2 = replaced 2',
+             b'0 replace 0 none = refused E10']
+    text = b'wlog 2\nstart 0 slots 8 8\n' + b'\n'.join(lines) + b'\nend 4\n'
+    same(read_file(file), text)
+    same(CROSS.verify(text), b'run 4\n')
+    # they want 8 and 2, and a spare one 4
+    is_left(file, replay(CROSS.site, file, '--bank', '9'), b'refused B1 free 1\n', 1, text)
+    same(replay(CROSS.site, file, '--bank', '10')[::2], (b'entries 4\n', 0))
+    is_left(file, replay(CROSS.site, file, '--bank', '13', '--spares', '1'), b'refused B1 free 3\n', 1, text)
+    same(replay(CROSS.site, file, '--bank', '14', '--spares', '1')[::2], (b'entries 4\n', 0))
+
+
+# -------------------------------------------------------------------------------------- what is a line, and when
+
+def test_a_line_that_was_cut() -> None:
+    file = path()
+    told = b'entries 0\naccepted 0\n'
+    same(replay(script('submit x A B') + b'token 0', file), (told, b'', 0))
+    same(read_file(file), CROSS.text(1, True))
+    same(replay(CROSS.site + b'submit x A', file)[0], b'entries 1\n')
+    same(read_file(file), CROSS.text(1, True))
+
+
+def test_lines_without_an_entry() -> None:
+    file = path()
+    lines = ['# note', 'go', '', 'submit x A B', 'x' * 257, '  ', 'tick 1']
+    same(replay(script(*lines), file), (b'entries 0\nrefused C1\naccepted 0\nrefused C2\nrefused C1\n', b'', 0))
+    same(read_file(file), CROSS.text(1, True))
+
+
+def test_the_first_line_comes_before_the_script() -> None:
+    for text, count in ((None, 0), (CROSS.text(3), 3)):
+        file = path('log', text)
+        life = Life(CROSS, file)
+        life.send(CROSS.site)
+        demand(life.await_lines(1), 'it ended')
+        same((bytes(life.said), read_file(file)), (b'entries %d\n' % count, CROSS.text(count)))
+        same((life.end(), read_file(file)), (0, CROSS.text(count, True)))
+
+
+# ------------------------------------------------------------------------------------------- what is refused
+
+def test_two_programs() -> None:
+    file = path()
+    life = Life(CROSS, file)
+    life.send(CROSS.site)
+    life.await_lines(1)
+    for number, line in enumerate(CROSS.commands):
+        is_left(file, replay(CROSS.site + b'tick\n', file), b'refused X5\n', 3, CROSS.text(number))
+        life.send(line + b'\n')
+        life.await_lines(2 + number)
+    same((life.end(), life.errors, read_file(file)), (0, b'', CROSS.log))
+
+
+def test_no_regular_file() -> None:
+    folder = os.path.join(SCRATCH.name, 'folder')
+    os.makedirs(folder, exist_ok=True)
+    pipe, spoken = path('pipe'), path('socket')
+    os.mkfifo(pipe)
+    ear = socket.socket(socket.AF_UNIX)
+    ear.bind(spoken)
+    for file in (folder, folder + '/', pipe, spoken, '/dev/null', '/dev/full', '/dev/zero', os.path.join(SCRATCH.name, 'none/log')):
+        same(replay(script('tick'), file), (REFUSED, b'refused X5\n', 3))
+    ear.close()
+    same(os.listdir(folder), [])
+
+
+def test_another_text() -> None:
+    head = CROSS.head
+    for text, line in ((b'my notes', 1), (b'my notes\n', 1), (b'\n', 1), (b'\0', 1), (b'\0' * 5000, 1), (b'wlog 3\n', 1), (b'wlog 2', 0), (b'w', 0),
+                       (b'wlog 2 \n', 1), (b'wlog 2\r\n', 1), (b'wlog 2\n', 0), (b'wlog 2\nstart 0 slots 4 4', 0),
+                       (b'wlog 2\nnotes', 2), (b'wlog 2\nstart 0 slots 4\n', 2), (b'wlog 2\nstart 0 slots 4 4 4\n', 2),
+                       (b'wlog 2\nstart 0 slots 1 4\n', 2), (b'wlog 2\nstart 0 slots 65 4\n', 2), (b'wlog 2\nstart 0 slots 4 4 \n', 2),
+                       (head + b'\n', 3), (head + b'0 tick\n', 3), (head + b'0 tick = clock 2 picked 0 dropped 0\n', 3),
+                       (head + b'64 tick = clock 1 picked 0 dropped 0\n', 3), (head + b'end 1\n', 3), (head + b'end 0\n\n', 4),
+                       (head + b'end 0\nend 0\n', 4), (head + b'end 0\n\0', 4), (CROSS.log + b'0 tick = refused E8\n', 20), (CROSS.text(4) + b'0 close = closed\r\n', 7),
+                       (CROSS.text(4) + CROSS.entries[5] + b'\n', 7), (CROSS.text(16)[:-1] + b' \n', 18)):
+        file = path('log', text)
+        outcome = replay(script(), file)
+        if line:
+            is_left(file, outcome, b'refused L1 line %d\n' % line, 1, text)
+        else:
+            same((outcome, read_file(file)), ((b'entries 0\n', b'', 0), head + b'end 0\n'))
+
+
+def test_other_slots_than_were_begun() -> None:
+    # a file that was killed within its two first lines, and is begun with other slots, is another text
+    text = b'wlog 2\nstart 0 slots 4'
+    file = path('log', text)
+    is_left(file, replay(CROSS.site, file, '--slots', '8'), b'refused L1 line 2\n', 1, text)
+    # the same lines whole are the beginning of a run, with the slots that they tell
+    file = path('log', CROSS.head)
+    same(replay(CROSS.site, file, '--slots', '8')[::2], (b'entries 0\n', 0))
+    same(read_file(file), CROSS.text(0, True))
+
+
+def test_version_1() -> None:
+    text = CROSS.log.replace(b'wlog 2', b'wlog 1')
+    same(CROSS.verify(text), b'run %d\n' % len(CROSS.commands))
+    file = path('log', text)
+    is_left(file, replay(script('tick'), file), b'refused L1 line 1\n', 1, text)
+    # of this one the second line is wanting
+    file = path('log', b'wlog 1\n')
+    is_left(file, replay(script('tick'), file), b'refused L1 line 2\n', 1, b'wlog 1\n')
+
+
+def test_a_planner_that_no_planner_can_take_the_place_of() -> None:
+    for slots, good in ((0, False), (1, False), (2, True), (64, True), (65, False), (999999999, False)):
+        text = CROSS.head + b'0 tick = clock 1 picked 0 dropped 0\n0 replace 1 fits %d = replaced %d\nend 2\n' % (slots, slots)
+        same(CROSS.verify(text), b'run 2\n')
+        file = path('log', text)
+        outcome = replay(CROSS.site, file)
+        if good:
+            same((outcome, read_file(file)), ((b'entries 2\n', b'', 0), text))
+        else:
+            is_left(file, outcome, b'refused L1 line 4\n', 1, text)
+
+
+def test_another_site() -> None:
+    # agent 0 starts at the other end of the corridor, so the first path begins elsewhere
+    site = CROSS.site.replace(b'agent P0\nagent P1', b'agent P1\nagent P0')
+    file = path('log', CROSS.log)
+    is_left(file, replay(site, file), b'refused L1 line 4\n', 1, CROSS.log)
+    # one agent, where the file has two
+    is_left(file, replay(site.replace(b'agent P1\n', b''), file), b'refused L1 line 2\n', 1, CROSS.log)
+    # a point of another name
+    is_left(file, replay(CROSS.site.replace(b'station A', b'station E'), file), b'refused L1 line 3\n', 1, CROSS.log)
+
+
+def test_what_goes_wrong_before_the_file() -> None:
+    # of the order: command line, map, points, file, bank
+    for text, words, errors, status in ((b'', (), b'refused M1 line 1\n', 1), (CROSS.site.replace(b'agent', b'agnt'), (), b'refused P1 line 7\n', 1),
+                                        (CROSS.site, ('--bank', '7'), b'refused B1 free 3\n', 1)):
+        for kept in (None, b'', CROSS.text(4), CROSS.log, CROSS.text(4) + b'0 to'):
+            file = path('log', kept)
+            is_left(file, replay(text, file, *words), errors, status, kept)
+    file = path('log', b'notes\n')
+    is_left(file, replay(CROSS.site, file, '--bank', '7'), b'refused L1 line 1\n', 1, b'notes\n')
+    is_left(file, replay(b'', file), b'refused M1 line 1\n', 1, b'notes\n')
+    for words in (('--log', file), ('--slots', '1')):
+        same(replay(CROSS.site, file, *words)[::2], (REFUSED, 2))
+    same(read_file(file), b'notes\n')
+
+
+def test_names() -> None:
+    here = os.path.join(SCRATCH.name, 'here')
+    os.makedirs(os.path.join(here, 'in'), exist_ok=True)
+    for name in ('log', './log2', 'in/log', '-', 'a log=1', 'h\N{LATIN SMALL LETTER E WITH ACUTE}', 'x' * 255):
+        for number in (0, 1):
+            same(replay(script('tick'), name, cwd=here)[::2], (b'entries %d\nclock %d picked 0 dropped 0\n' % (number, number + 1), 0))
+        same(read_file(os.path.join(here, name)).count(b'tick'), 2)
+    same(replay(script('tick'), 'x' * 256, cwd=here), (REFUSED, b'refused X5\n', 3))
+    # a link leads to its file
+    os.symlink('log', os.path.join(here, 'link'))
+    same(replay(script('tick'), 'link', cwd=here)[0], b'entries 2\nclock 3 picked 0 dropped 0\n')
+    demand(os.path.islink(os.path.join(here, 'link')), 'the link is gone')
+
+
+# ---------------------------------------------------------------------------------------- what takes no more
+
+def long_run() -> Whole:
+    """A log of some 12,000 bytes."""
+    made = subprocess.run(['python3', os.path.join(ROOT, 'tools/make_instance.py'), '--columns', '24', '--rows', '12', '--agents', '4', '--tasks', '30',
+                           '--ticks', '70', '--every', '1'], stdout=subprocess.PIPE, check=True).stdout
+    whole = Whole(made, (), PROGRAM)
+    demand(10000 < len(whole.log) < 65536, f'{len(whole.log)} bytes')
+    return whole
+
+
+def is_full(whole: Whole, said: bytes, errors: bytes, status: int, text: bytes) -> None:
+    """The file took no more: all that was told stands there, and it is gone on from elsewhere."""
+    same((errors, status), (b'refused X5\n', 3))
+    first, *replies = said.split(b'\n')[:-1]
+    same((first, replies), (b'entries 0', whole.replies[:len(replies)]))
+    demand(replies and said.endswith(b'\n'), 'nothing was told')
+    kept = whole.kept(text, len(replies))
+    demand(kept == len(replies) and text == whole.text(kept), f'{kept} entries stand there, {len(replies)} replies were told')
+    go_on(whole, path('log', text), kept)
+
+
+def limited(bytes_at_most: int, ignored: bool):
+    """Before the program starts: a limit on the size of files, and whether the signal for it is ignored."""
+    def before() -> None:
+        resource.setrlimit(resource.RLIMIT_FSIZE, (bytes_at_most, bytes_at_most))
+        signal.signal(signal.SIGXFSZ, signal.SIG_IGN if ignored else signal.SIG_DFL)
+    return before
+
+
+def test_a_limit_on_the_size_of_files() -> None:
+    whole = long_run()
+    for size in (4096, 5000, 8191, 10001):
+        file = path()
+        process = subprocess.Popen([PROGRAM, 'replay', '--replies', 'full', '--log', file], bufsize=0, stdin=subprocess.PIPE, stdout=subprocess.PIPE,
+                                   stderr=subprocess.PIPE, restore_signals=False, preexec_fn=limited(size, True))
+        said = one_by_one(process, whole)
+        errors = process.stderr.read()
+        is_full(whole, said, errors, process.wait(60), read_file(file))
+
+
+def test_a_limit_that_ends_the_program() -> None:
+    # the signal is not ignored: status 153 in a shell
+    whole = long_run()
+    file = path()
+    process = subprocess.Popen([PROGRAM, 'replay', '--replies', 'full', '--log', file], bufsize=0, stdin=subprocess.PIPE, stdout=subprocess.PIPE,
+                               stderr=subprocess.PIPE, restore_signals=False, preexec_fn=limited(6000, False))
+    told = len(one_by_one(process, whole).splitlines()) - 1
+    same((process.stderr.read(), process.wait(60)), (b'', -signal.SIGXFSZ))
+    go_on(whole, file, whole.kept(read_file(file), told))
+
+
+def one_by_one(process: subprocess.Popen, whole: Whole) -> bytes:
+    """Line by line, each behind the reply to the one before; all that came."""
+    process.stdin.write(whole.site)
+    said = process.stdout.readline()
+    for line in whole.commands:
+        try:
+            process.stdin.write(line + b'\n')
+        except BrokenPipeError:
+            break
+        reply = process.stdout.readline()
+        said += reply
+        if not reply:
+            break
+    process.stdin.close()
+    return said + process.stdout.read()
+
+
+MOUNT = 'mount -t tmpfs -o size=8k none "$1" && { "$2" replay --replies full --log "$1/log"; status=$?; cp "$1/log" "$3"; exit "$status"; }'
+
+
+def test_a_full_disk() -> None:
+    folder = os.path.join(SCRATCH.name, 'disk')
+    os.makedirs(folder, exist_ok=True)
+    new = ['unshare', '--mount'] + ([] if os.geteuid() == 0 else ['--map-root-user'])
+    if not shutil.which('unshare') or subprocess.run([*new, 'mount', '-t', 'tmpfs', 'none', folder], capture_output=True).returncode:
+        print('a full disk NOT RUN: none can be mounted here')
+        return
+    whole, copy = long_run(), path('copy')
+    process = subprocess.Popen([*new, 'sh', '-c', MOUNT, 'sh', folder, PROGRAM, copy], bufsize=0, stdin=subprocess.PIPE, stdout=subprocess.PIPE,
+                               stderr=subprocess.PIPE)
+    said = one_by_one(process, whole)
+    errors = process.stderr.read()
+    is_full(whole, said, errors, process.wait(60), read_file(copy))
+
+
+def test_a_closed_pipe() -> None:
+    # nobody reads the replies: what was synced stands
+    file = path()
+    back, to = os.pipe()
+    os.close(back)
+    done = subprocess.run([PROGRAM, 'replay', '--log', file], input=script('tick'), stdout=to, stderr=subprocess.PIPE, timeout=60,
+                          restore_signals=False)
+    os.close(to)
+    same((done.stderr, done.returncode), (b'refused X3\n', 3))
+    text = read_file(file)
+    demand(CROSS.head.startswith(text), f'{text!r}')
+    go_on(CROSS, file, 0)
+
+
+def test_a_full_output() -> None:
+    file = path()
+    with open('/dev/full', 'wb') as full:
+        done = subprocess.run([PROGRAM, 'replay', '--log', file], input=script('tick'), stdout=full, stderr=subprocess.PIPE, timeout=60)
+    same((done.stderr, done.returncode), (b'refused X3\n', 3))
+    go_on(CROSS, file, 0)
+
+
+def test_an_input_that_fails() -> None:
+    # a folder as standard input
+    file = path()
+    folder = os.open(SCRATCH.name, os.O_RDONLY)
+    done = subprocess.run([PROGRAM, 'replay', '--log', file], stdin=folder, capture_output=True, timeout=60)
+    os.close(folder)
+    same((done.stdout, done.stderr, done.returncode, os.path.exists(file)), (b'', b'refused X1\n', 3, False))
+
+
+if __name__ == '__main__':
+    counting.main(globals(), (), SCRATCH)
