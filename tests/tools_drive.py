@@ -88,15 +88,68 @@ def test_one_order() -> None:
 def test_two_agents_on_one_corridor() -> None:
     # As examples/README.md says: agent 0 comes by 1,1 at 3, 2,1 at 4, 3,1 at 5. Agent 1 is at D at 2; it cannot be at 1,1
     # before 3, so it enters the corridor at 6 and is at C at 9.
-    log = file('log', '')
     wanted = figures(2, 9, '7.50', 9, '22.22', 9, 14, 2)
     for batch in ('1', '7'):
+        log = file('log', '')
         same(drive(TWO + 'submit x A B\nsubmit y D C\n', '--close', '--log', log, '--batch', batch)[::2], (wanted, 0))
     with open(log) as made:
         made = made.read()
     # two submits, two requests, nine ticks, close
     same((made.splitlines()[-2:], made.count('\n')), (['0 close = closed', 'end 14'], 17))
     same(warehouse(TWO + made, 'verify'), 'run 14\n')
+
+
+# Runs a program, and kills it and itself behind so many lines of it, in the first three lives.
+KILLER = '''
+import os, subprocess, sys
+state, lines = sys.argv[1], int(sys.argv[2])
+life = int(open(state).read())
+open(state, 'w').write(str(life + 1))
+program = subprocess.Popen(sys.argv[3:], stdout=subprocess.PIPE)
+for number, line in enumerate(program.stdout):
+    if number == lines and life < 3:
+        program.kill()
+        program.wait()
+        os.kill(os.getpid(), 9)
+    os.write(1, line)
+sys.exit(program.wait())
+'''
+
+
+def test_a_program_that_is_killed() -> None:
+    log, cells = file('log', ''), file('cells', '')
+    instance = TWO + 'submit x A B\nsubmit y D C\n'
+    wanted, said, _ = drive(instance, '--save', log, '--cells', cells)
+    same(said, '')
+    with open(log) as text, open(cells) as lines:
+        made = text.read(), lines.read()
+    for lines, batch in ((0, 1), (1, 1), (3, 1), (5, 1), (2, 7), (4, 7)):
+        state, log, cells = file('state', '0'), file('log', ''), file('cells', '')
+        program = f'{sys.executable} {file("killer.py", KILLER)} {state} {lines} {PROGRAM} replay'
+        found, said, status = drive(instance, '--program', program, '--log', log, '--cells', cells, '--batch', str(batch))
+        if lines == 0:
+            # it was not begun
+            same(status, 2)
+            has(said, 'the program ended with status -9 and began no run')
+            continue
+        # a life serves one line more than it tells
+        stops = said.count('was started again')
+        same((said.count('gave no reply to'), stops), (stops, min(3, 12 // lines) if batch == 1 else max(1, stops)))
+        with open(log) as text, open(cells) as rows:
+            same((found, status, text.read(), rows.read()), (wanted, 0, *made))
+
+
+def test_a_file_with_a_run_of_before() -> None:
+    log = file('log', '')
+    instance = ONE + 'submit x A B\n'
+    same(drive(instance, '--log', log)[2], 0)
+    with open(log) as text:
+        made = text.read()
+    found, said, status = drive(instance, '--log', log)
+    same((found, status), ('orders 1 accepted 0 ticks 0 commands 0 requests 0 refused 0', 2))
+    has(said, 'log has 8 entries of a run of before, which this script knows nothing of')
+    with open(log) as text:
+        same(text.read(), made)
 
 
 def test_an_order_released_later() -> None:
@@ -316,7 +369,7 @@ def test_full_replies_are_the_log() -> None:
     same(warehouse('%%\n'.join(instance.split('%%\n')[:2]) + '%%\n' + cut, 'verify'), 'run 7\n')
 
 
-NEEDS_PROGRAM = {'test_full_replies_are_the_log', 'test_one_order', 'test_two_agents_on_one_corridor', 'test_an_order_released_later',
+NEEDS_PROGRAM = {'test_full_replies_are_the_log', 'test_a_program_that_is_killed', 'test_a_file_with_a_run_of_before', 'test_one_order', 'test_two_agents_on_one_corridor', 'test_an_order_released_later',
                  'test_an_order_that_waits_for_another', 'test_no_path_now', 'test_no_path_ever',
                  'test_an_order_of_three_stops_that_nobody_may_take', 'test_a_bound_on_ticks', 'test_a_shift_that_ends_with_an_open_order',
                  'test_refused_orders_are_left_out', 'test_batches_that_are_longer_than_a_pipe', 'test_the_program_refuses_the_points',

@@ -170,7 +170,7 @@ def test_three_shifts_on_the_shelves() -> None:
     handed_in = Counter()
     done = Counter()
     for shift in ('60', '30', '1000000'):
-        path = os.path.join(SCRATCH.name, 'shelves.log')
+        path = os.path.join(SCRATCH.name, f'shelves-{shift}.log')
         found, said, status = drive(instance, '--shift', shift, '--batch', '1000', '--log', path)
         same((said, status), ('', 0))
         with open(path) as text:

@@ -50,6 +50,39 @@ def taped(tape: list[str], log: str = '', *words: str, instance: str = ONE + 'su
     return drive(instance, '--program', ' '.join(stand_in), *words)
 
 
+# As the stand-in above, over several lives: of each the tape has the first line, and then commands and replies. At KILLED it is
+# ended by signal 9.
+LIVES = '''
+import os, signal, sys
+tape = sys.argv[1]
+life = int(open(tape + '.life').read())
+open(tape + '.life', 'w').write(str(life + 1))
+first, *rows = open(tape).read().split('--\\n')[life].splitlines()
+cut = 0
+while cut < 2:
+    cut += sys.stdin.readline() == '%%\\n'
+print(first, flush=True)
+for row in rows:
+    wanted, reply = row.split(' = ')
+    line = sys.stdin.readline().rstrip('\\n')
+    if line != wanted:
+        sys.stderr.write('stand-in: ' + repr(line) + ' came in place of ' + repr(wanted) + '\\n')
+        sys.exit(9)
+    if reply == 'KILLED':
+        os.kill(os.getpid(), signal.SIGKILL)
+    print(reply, flush=True)
+sys.stdin.read()
+'''
+
+
+def lived(lives: list[list[str]], kept: str, *words: str) -> tuple[str, str, int]:
+    """What comes of such lives, where the file has this text all the while."""
+    tape = file('tape', '--\n'.join(''.join(line + '\n' for line in life) for life in lives))
+    file('tape.life', '0')
+    stand_in = [sys.executable, file('lives.py', LIVES), tape]
+    return drive(ONE + 'submit x A B\n', '--program', ' '.join(stand_in), '--log', kept, *words)
+
+
 def told_both_ways(entries: list[str], log: str, **others) -> tuple[str, str, int]:
     """Entries of a log are commands with full replies; with short ones the outcome is the same."""
     found = taped(entries, log, **others)
@@ -114,7 +147,7 @@ def test_refusals_that_end_the_run() -> None:
     log = file('log', 'old')
     for reply in ('C1', 'C2', 'E90', 'E8', 'E7', 'E4 0', 'E5 3', 'E11', 'X1', 'E10'):
         entries = GOES[:2] + ticks(1, 1)
-        found, said, status = taped(entries + [f'tick = refused {reply}'], log_of(*entries), '--log', log)
+        found, said, status = taped(entries + [f'tick = refused {reply}'], log_of(*entries), '--save', log)
         # what was done until then is told, and its log kept
         same((found, status), ('orders 1 accepted 1 done 0 ticks 1 commands 4 requests 1 refused 1', 2))
         has(said, f'`refused {reply}` came to `tick`: ')
@@ -226,12 +259,45 @@ def test_a_log_that_is_not_of_the_run() -> None:
     same(taped(short(waits), log_of(*goes), '--replies', 'short')[2], 0)
 
 
+def test_a_run_that_is_gone_on_with() -> None:
+    # killed with the second command served, and with the third not
+    kept = file('kept', log_of(*GOES)[3:])
+    lives = [['entries 0', GOES[0], 'token 0 = KILLED'], ['entries 2', 'tick = KILLED'], ['entries 2', *GOES[2:]]]
+    found, said, status = lived(lives, kept)
+    same((found, status), (figures(1, 6, '6.00', 6, '16.67', 6, 8, 1), 0))
+    same(said.splitlines(), [
+        'drive.py: the program ended with status -9 and gave no reply to `token 0`; it was started again, with 2 entries, 1 of them without a reply',
+        'drive.py: the program ended with status -9 and gave no reply to `tick`; it was started again, with 2 entries, 0 of them without a reply'])
+    # with short replies the path is told by its end
+    lives = [[line.replace(GOES[1], short(GOES)[1]) for line in life] for life in lives]
+    same(lived(lives, kept, '--replies', 'short'), (found, said, status))
+
+
+def test_a_run_that_is_not_gone_on_with() -> None:
+    kept = file('kept', log_of(*GOES)[3:])
+    begun = ['entries 0', GOES[0], 'token 0 = KILLED']
+    for lives, name, part in (
+            ([['entries 0', 'submit x A B = KILLED'], ['entries 0', 'submit x A B = KILLED']], kept, 'gave no reply to `submit x A B`'),
+            ([begun, ['entries 0']], kept, 'it goes on with 0 entries, and 1 commands were answered, 1 more were sent'),
+            ([begun, ['entries 3']], kept, 'it goes on with 3 entries, and 1 commands were answered, 1 more were sent'),
+            ([begun, ['entries 2']], '/none/such', '1 commands were served whose replies were lost, and /none/such: No such file'),
+            ([begun, ['entries 2']], file('other', log_of(GOES[0], 'token 1 = rested')[3:]), 'other line 4 is no entry of `token 0`'),
+            ([begun, ['entries 2']], file('short', log_of(GOES[0])[3:].replace('end 1\n', '')), 'short line 4 is no entry of `token 0`'),
+            ([begun, ['accepted 0']], kept, '`accepted 0` came in place of `entries N`'),
+            ([['entries 8']], kept, 'kept has 8 entries of a run of before, which this script knows nothing of'),
+            ([['']], kept, 'came in place of `entries N`')):
+        found, said, status = lived(lives, name)
+        same(status, 2)
+        has(said, part)
+
+
 def test_words_that_are_wrong() -> None:
     instance = file('i', ONE + 'submit x A B\n')
     for words, part in ((['--program', '/none/such'], '/none/such: No such file'), (['--program', ' '], 'no word'), (['--program', "'"], '--program'),
                         (['--batch', '0'], '1 to 1000'), (['--batch', '1001'], '1 to 1000'), (['--wait', '0'], 'above 0'),
-                        (['--log', '/none/such'], '/none/such: No such file'), (['--cells', '/none/such'], '/none/such: No such file'),
-                        (['--replies', 'short', '--cells', '-'], '--cells: short replies tell no cells'), (['/none/such'], '/none/such: No such file')):
+                        (['--save', '/none/such'], '/none/such: No such file'), (['--cells', '/none/such'], '/none/such: No such file'),
+                        (['--replies', 'short', '--cells', '-'], '--cells: short replies tell no cells'), (['/none/such'], '/none/such: No such file'),
+                        (['--log', 'a', '--save', 'b'], '--save'), (['--program', 'none --log a'], 'name the file by --log FILE')):
         out, said, status = tool('drive.py', instance, *words)
         same((out, status, said.count('\n')), ('', 2, 1))
         has(said, part)
