@@ -31,10 +31,10 @@ from lives import PROGRAM, ROOT, Life, Whole, Wrong, demand, go_on, judge, read_
 WAYS = ['one', 'batch', 'all', 'pieces']
 
 
-def make(chance: random.Random, program: str) -> Whole:
+def make(chance: random.Random, program: str, made_alone: bool) -> Whole:
     """A script, with the words of its run."""
     words = ('--planner', 'patient') if chance.random() < 0.2 else ()
-    if not words and chance.random() < 0.2:
+    if not words and chance.random() < 0.2 and not made_alone:
         with open(os.path.join(ROOT, 'examples/shelves'), 'rb') as shelves:
             return Whole(shelves.read(), words, program)
     sizes = {'columns': chance.randint(20, 36), 'rows': chance.randint(9, 18), 'agents': chance.randint(1, 8), 'every': 1,
@@ -137,9 +137,8 @@ def hang_up(chance: random.Random, life: Life) -> str:
     return 'hung up'
 
 
-def run(chance: random.Random, program: str, file: str, kills: int, seen: collections.Counter) -> None:
+def run(chance: random.Random, whole: Whole, file: str, kills: int, seen: collections.Counter) -> None:
     """One run, with so many kills at most."""
-    whole = make(chance, program)
     if os.path.exists(file):
         os.remove(file)
     killed = before = told = 0
@@ -200,6 +199,7 @@ def main() -> None:
     parser.add_argument('kills', type=int, nargs='?', default=50)
     parser.add_argument('--seed', type=int, default=1)
     parser.add_argument('--program', default=PROGRAM)
+    parser.add_argument('--made', action='store_true', help='made instances alone: examples/shelves takes a program that is not proved long')
     options = parser.parse_args()
     seen: collections.Counter = collections.Counter()
     passed = failed = seed = 0
@@ -209,7 +209,8 @@ def main() -> None:
             seed += 1
             chance = random.Random(options.seed * 1_000_003 + seed)
             try:
-                run(chance, options.program, file, min(options.kills - seen['killed'], chance.randint(3, 25)), seen)
+                whole = make(chance, options.program, options.made)
+                run(chance, whole, file, min(options.kills - seen['killed'], chance.randint(3, 25)), seen)
                 passed += 1
             except (Wrong, OSError, ValueError, subprocess.SubprocessError) as wrong:
                 failed += 1

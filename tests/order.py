@@ -178,7 +178,8 @@ def is_cut(stand: Stand, case: Case, number: int) -> None:
     whole = [text]
     if text is not None:
         safe = min(safe_length(seen.calls, case.text), len(text))
-        whole += [text[:safe], text[:safe] + bytes(len(text) - safe), text[:safe] + bytes(4096)]
+        if len(text) > safe:
+            whole += [text[:safe], text[:safe] + bytes(len(text) - safe), text[:safe] + bytes(4096)]
         # where it was cut, and that was not synced, it is as it was
         cuts = [place for place, call in enumerate(seen.calls) if call.what.startswith('cut ')]
         syncs = [place for place, call in enumerate(seen.calls) if call.what == 'sync']
