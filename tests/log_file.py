@@ -165,6 +165,20 @@ def test_two_programs() -> None:
     same((life.end(), life.errors, read_file(file)), (0, b'', CROSS.log))
 
 
+def test_two_programs_that_begin() -> None:
+    for _ in range(5):
+        file = path()
+        lives = [Life(CROSS, file), Life(CROSS, file)]
+        for life in lives:
+            life.send(CROSS.site)
+        for life in lives:
+            life.await_lines(1)
+        first, second = lives if lives[0].lines else lives[::-1]
+        same((second.end(), second.errors, bytes(second.said)), (3, b'refused X5\n', b''))
+        same((bytes(first.said), read_file(file)), (b'entries 0\n', CROSS.head))
+        same((first.end(), first.errors, read_file(file)), (0, b'', CROSS.text(0, True)))
+
+
 def test_no_regular_file() -> None:
     folder = os.path.join(SCRATCH.name, 'folder')
     os.makedirs(folder, exist_ok=True)
