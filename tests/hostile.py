@@ -6,8 +6,9 @@
 Each run makes an input from a seed: a small site and script, with bytes changed, lines doubled, cut or moved, sections
 left out, numbers made large; then it runs a subcommand on it. Whatever the input, the program must end within the time
 allowed, with a status of 0 to 4; standard output must hold lines of the formats and nothing else, standard error one
-line of the formats for the statuses 1, 3 and 4 and clap's text for 2, and nothing for 0. A run that breaks this is
-printed with its seed and kept in a file. The expected forms are those of docs/FORMATS.md.
+line of the formats for the statuses 1, 3 and 4 and clap's text for 2, and nothing for 0. A log file (`kept`) that is odd as
+well is as it was where the run is refused, and else what `verify` calls a run. A run that breaks this is printed with its
+seed and kept in a file. The expected forms are those of docs/FORMATS.md.
 """
 import argparse
 import os
@@ -38,7 +39,8 @@ VERDICT = re.compile(rf'(formed|few parkings {NUMBER} {NUMBER}|cut {NAME} {NAME}
 VERIFIED = re.compile(rf'(run {NUMBER}|bad {NUMBER})')
 FAULT = re.compile(
     rf'refused (M[1-7] line {NUMBER}|P([1-9]|10) line {NUMBER}|C[12] line {NUMBER}|B1 free {NUMBER}|B2 seen {NUMBER}'
-    rf'|X[1-4]|E90|E93|E94|E95)\n')
+    rf'|L1 line {NUMBER}|X[1-5]|E90|E93|E94|E95)\n')
+BEGUN = re.compile(rf'entries {NUMBER}\n')
 
 
 def site(chance):
@@ -151,6 +153,11 @@ def is_output(words, status, text):
         return is_text_of(VERIFIED, text)
     if kind == 'live':
         return is_text_of(LOG, text)
+    if any(word.startswith('--log=') for word in words):
+        begun = BEGUN.match(text)
+        if not begun:
+            return text == '' and status != 0
+        text = text[begun.end():]
     replies, mark, tail = text.partition('%%\n')
     return is_text_of(reply_form(words), replies) and is_text_of(LEDGER if '--tail=ledger' in words else LOG, tail)
 
@@ -163,12 +170,30 @@ def is_error(words, status, text):
     return FAULT.fullmatch(text) is not None
 
 
+def site_of(text):
+    """Map and points of an input, with their separators."""
+    lines = text.split(b'\n')
+    cuts = [place for place, line in enumerate(lines) if line.removesuffix(b'\r') == b'%%'] + [len(lines)]
+    return b'\n'.join(lines[:cuts[min(1, len(cuts) - 1)]]) + b'\n%%\n'
+
+
+def file_fault(program, text, file, before, status, limit):
+    """What is wrong with the log file behind a run (None: nothing)."""
+    with open(file, 'rb') as kept:
+        after = kept.read()
+    if status in (1, 2):
+        return None if after == before else f'the log file was {before[-200:]!r}, and is {after[-200:]!r}'
+    verdict = subprocess.run([program, 'verify'], input=site_of(text) + after, capture_output=True, timeout=limit).stdout
+    return None if verdict.startswith(b'run ') else f'{verdict!r} of the log file {after[-200:]!r}'
+
+
 def one_run(program, seed, kinds, limit):
     """The words, the input, and what is wrong with how the program ended (None: nothing)."""
     chance = random.Random(seed)
     level, points, names = site(chance)
     commands = script(chance, names)
     kind = chance.choice(kinds)
+    file = None
     if kind == 'wrong':
         words = wrong_words(chance)
     elif kind == 'verify':
@@ -179,6 +204,13 @@ def one_run(program, seed, kinds, limit):
         words += fleet_words(chance)
     elif kind == 'check':
         words = ['check']
+    elif kind == 'kept':
+        file = os.path.join(tempfile.gettempdir(), f'hostile-log-{os.getpid()}')
+        log = log_text(program, level, points, commands, limit)
+        before = spoiled(chance, log[:chance.choice([len(log), chance.randint(0, len(log))])])
+        with open(file, 'wb') as kept:
+            kept.write(before)
+        words = ['replay', f'--log={file}'] + fleet_words(chance) + chance.choice([[], ['--tail=log'], ['--tail=ledger']])
     else:
         words = ['replay'] + fleet_words(chance) + chance.choice([[], [f'--tail={kind}'] if kind != 'replay' else []])
         words += chance.choice([[], ['--replies=full'], ['--replies', 'short']])
@@ -192,8 +224,12 @@ def one_run(program, seed, kinds, limit):
         text = spoiled(chance, level + ['%%'] + points + ['%%'] + commands)
     try:
         done = subprocess.run([program] + words, input=text, capture_output=True, timeout=limit)
+        misfiled = file and file_fault(program, text, file, before, done.returncode, limit)
     except subprocess.TimeoutExpired:
         return words, text, 'no end', None
+    finally:
+        if file:
+            os.remove(file)
     output, errors = done.stdout.decode(errors='replace'), done.stderr.decode(errors='replace')
     wrong = None
     if not 0 <= done.returncode <= 4:
@@ -202,6 +238,8 @@ def one_run(program, seed, kinds, limit):
         wrong = f'standard output {output[-200:]!r}'
     elif not is_error(words or ['none'], done.returncode, errors):
         wrong = f'standard error {errors[:200]!r}'
+    elif misfiled:
+        wrong = misfiled
     return words, text, wrong, done.returncode
 
 
@@ -211,7 +249,7 @@ def main():
     parser.add_argument('--runs', type=int, default=2000)
     parser.add_argument('--seed', type=int, default=1)
     parser.add_argument('--seconds', type=float, default=20, help='the time allowed to a run')
-    parser.add_argument('--kinds', default='replay,log,ledger,check,verify,live,wrong')
+    parser.add_argument('--kinds', default='replay,log,ledger,check,verify,live,kept,wrong')
     options = parser.parse_args()
     counts, failed = {}, 0
     for seed in range(options.seed, options.seed + options.runs):
