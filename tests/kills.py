@@ -199,7 +199,7 @@ def main() -> None:
     parser.add_argument('kills', type=int, nargs='?', default=50)
     parser.add_argument('--seed', type=int, default=1)
     parser.add_argument('--program', default=PROGRAM)
-    parser.add_argument('--made', action='store_true', help='made instances alone: examples/shelves takes a program that is not proved long')
+    parser.add_argument('--made', action='store_true', help='made instances alone, since examples/shelves takes an unproved program long')
     options = parser.parse_args()
     seen: collections.Counter = collections.Counter()
     passed = failed = seed = 0

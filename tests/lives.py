@@ -8,7 +8,6 @@ from __future__ import annotations
 import os
 import select
 import subprocess
-import time
 
 ROOT = os.path.dirname(os.path.dirname(os.path.abspath(__file__)))
 PROGRAM = os.environ.get('WAREHOUSE') or os.path.join(ROOT, 'crates/warehouse/out/warehouse')
@@ -173,7 +172,3 @@ def go_on(whole: Whole, file: str, before: int, words: tuple[str, ...] = ()) -> 
     demand((status, life.errors) == (0, b''), f'going on: status {status}, {life.errors!r}')
     judge(whole, life, before)
     demand(read_file(file) == whole.log, 'gone on from, the file is not the log of the script at one go')
-
-
-def seconds_since(began: float) -> float:
-    return time.monotonic() - began

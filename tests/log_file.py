@@ -8,12 +8,12 @@ the same script at one go, `replay --tail log`. A full disk is a small one of it
 where none may be, that is said, and tests/order.py has the same by a library. The last line is `N passed, M failed`.
 """
 import os
-import re
 import resource
 import shutil
 import signal
 import socket
 import subprocess
+import sys
 import tempfile
 
 import counting
@@ -108,7 +108,7 @@ def test_a_log_of_threads() -> None:
 
 def test_planners_have_the_slots_of_the_state() -> None:
     file = path()
-    same(replay(script('tick', 'replace 0'), file, '--spares', '1', '--slots', '8')[0], b'entries 0\nclock 1 picked 0 dropped 0\nreplaced 8\n')
+    same(replay(script('tick', 'replace 0'), file, '--spares', '1', '--slots', '8'), (b'entries 0\nclock 1 picked 0 dropped 0\nreplaced 8\n', b'', 0))
     # --slots is for spare planners alone from here on, and each life has spares of its own
     same(replay(script('replace 1', 'replace 0'), file, '--spares', '1', '--slots', '2')[0], b'entries 2\nreplaced 2\nrefused E10\n')
     lines = [b'0 tick = clock 1 picked 0 dropped 0', b'0 replace 0 fits 8 = replaced 8', b'0 replace 1 fits 2 = replaced 2',
@@ -194,13 +194,14 @@ def test_no_regular_file() -> None:
 
 def test_another_text() -> None:
     head = CROSS.head
-    for text, line in ((b'my notes', 1), (b'my notes\n', 1), (b'\n', 1), (b'\0', 1), (b'\0' * 5000, 1), (b'wlog 3\n', 1), (b'wlog 2', 0), (b'w', 0),
-                       (b'wlog 2 \n', 1), (b'wlog 2\r\n', 1), (b'wlog 2\n', 0), (b'wlog 2\nstart 0 slots 4 4', 0),
+    for text, line in ((b'my notes', 1), (b'my notes\n', 1), (b'\n', 1), (b'\0', 1), (b'\0' * 5000, 1), (b'wlog 3\n', 1),
+                       (b'wlog 2', 0), (b'w', 0), (b'wlog 2 \n', 1), (b'wlog 2\r\n', 1), (b'wlog 2\n', 0), (b'wlog 2\nstart 0 slots 4 4', 0),
                        (b'wlog 2\nnotes', 2), (b'wlog 2\nstart 0 slots 4\n', 2), (b'wlog 2\nstart 0 slots 4 4 4\n', 2),
                        (b'wlog 2\nstart 0 slots 1 4\n', 2), (b'wlog 2\nstart 0 slots 65 4\n', 2), (b'wlog 2\nstart 0 slots 4 4 \n', 2),
                        (head + b'\n', 3), (head + b'0 tick\n', 3), (head + b'0 tick = clock 2 picked 0 dropped 0\n', 3),
                        (head + b'64 tick = clock 1 picked 0 dropped 0\n', 3), (head + b'end 1\n', 3), (head + b'end 0\n\n', 4),
-                       (head + b'end 0\nend 0\n', 4), (head + b'end 0\n\0', 4), (CROSS.log + b'0 tick = refused E8\n', 20), (CROSS.text(4) + b'0 close = closed\r\n', 7),
+                       (head + b'end 0\nend 0\n', 4), (head + b'end 0\n\0', 4),
+                       (CROSS.log + b'0 tick = refused E8\n', 20), (CROSS.text(4) + b'0 close = closed\r\n', 7),
                        (CROSS.text(4) + CROSS.entries[5] + b'\n', 7), (CROSS.text(16)[:-1] + b' \n', 18)):
         file = path('log', text)
         outcome = replay(script(), file)
@@ -256,11 +257,11 @@ def test_another_site() -> None:
 
 def test_what_goes_wrong_before_the_file() -> None:
     # of the order: command line, map, points, file, bank
-    for text, words, errors, status in ((b'', (), b'refused M1 line 1\n', 1), (CROSS.site.replace(b'agent', b'agnt'), (), b'refused P1 line 7\n', 1),
-                                        (CROSS.site, ('--bank', '7'), b'refused B1 free 3\n', 1)):
+    for text, words, errors in ((b'', (), b'refused M1 line 1\n'), (CROSS.site.replace(b'agent', b'agnt'), (), b'refused P1 line 7\n'),
+                                (CROSS.site, ('--bank', '7'), b'refused B1 free 3\n')):
         for kept in (None, b'', CROSS.text(4), CROSS.log, CROSS.text(4) + b'0 to'):
             file = path('log', kept)
-            is_left(file, replay(text, file, *words), errors, status, kept)
+            is_left(file, replay(text, file, *words), errors, 1, kept)
     file = path('log', b'notes\n')
     is_left(file, replay(CROSS.site, file, '--bank', '7'), b'refused L1 line 1\n', 1, b'notes\n')
     is_left(file, replay(b'', file), b'refused M1 line 1\n', 1, b'notes\n')
@@ -287,8 +288,8 @@ def test_names() -> None:
 
 def long_run() -> Whole:
     """A log of some 12,000 bytes."""
-    made = subprocess.run(['python3', os.path.join(ROOT, 'tools/make_instance.py'), '--columns', '24', '--rows', '12', '--agents', '4', '--tasks', '30',
-                           '--ticks', '70', '--every', '1'], stdout=subprocess.PIPE, check=True).stdout
+    words = '--columns 24 --rows 12 --agents 4 --tasks 30 --ticks 70 --every 1'.split()
+    made = subprocess.run([sys.executable, os.path.join(ROOT, 'tools/make_instance.py'), *words], stdout=subprocess.PIPE, check=True).stdout
     whole = Whole(made, (), PROGRAM)
     demand(10000 < len(whole.log) < 65536, f'{len(whole.log)} bytes')
     return whole
@@ -305,20 +306,23 @@ def is_full(whole: Whole, said: bytes, errors: bytes, status: int, text: bytes) 
     go_on(whole, path('log', text), kept)
 
 
-def limited(bytes_at_most: int, ignored: bool):
-    """Before the program starts: a limit on the size of files, and whether the signal for it is ignored."""
+def limited(file: str, bytes_at_most: int, ignored: bool) -> subprocess.Popen:
+    """The program with a limit on the size of files, and with the signal for it ignored or not."""
     def before() -> None:
         resource.setrlimit(resource.RLIMIT_FSIZE, (bytes_at_most, bytes_at_most))
         signal.signal(signal.SIGXFSZ, signal.SIG_IGN if ignored else signal.SIG_DFL)
-    return before
+    return begun(PROGRAM, 'replay', '--replies', 'full', '--log', file, restore_signals=False, preexec_fn=before)
+
+
+def begun(*words: str, **how: object) -> subprocess.Popen:
+    return subprocess.Popen(words, bufsize=0, stdin=subprocess.PIPE, stdout=subprocess.PIPE, stderr=subprocess.PIPE, **how)
 
 
 def test_a_limit_on_the_size_of_files() -> None:
     whole = long_run()
     for size in (4096, 5000, 8191, 10001):
         file = path()
-        process = subprocess.Popen([PROGRAM, 'replay', '--replies', 'full', '--log', file], bufsize=0, stdin=subprocess.PIPE, stdout=subprocess.PIPE,
-                                   stderr=subprocess.PIPE, restore_signals=False, preexec_fn=limited(size, True))
+        process = limited(file, size, True)
         said = one_by_one(process, whole)
         errors = process.stderr.read()
         is_full(whole, said, errors, process.wait(60), read_file(file))
@@ -328,8 +332,7 @@ def test_a_limit_that_ends_the_program() -> None:
     # the signal is not ignored: status 153 in a shell
     whole = long_run()
     file = path()
-    process = subprocess.Popen([PROGRAM, 'replay', '--replies', 'full', '--log', file], bufsize=0, stdin=subprocess.PIPE, stdout=subprocess.PIPE,
-                               stderr=subprocess.PIPE, restore_signals=False, preexec_fn=limited(6000, False))
+    process = limited(file, 6000, False)
     told = len(one_by_one(process, whole).splitlines()) - 1
     same((process.stderr.read(), process.wait(60)), (b'', -signal.SIGXFSZ))
     go_on(whole, file, whole.kept(read_file(file), told))
@@ -363,8 +366,7 @@ def test_a_full_disk() -> None:
         print('a full disk NOT RUN: none can be mounted here')
         return
     whole, copy = long_run(), path('copy')
-    process = subprocess.Popen([*new, 'sh', '-c', MOUNT, 'sh', folder, PROGRAM, copy], bufsize=0, stdin=subprocess.PIPE, stdout=subprocess.PIPE,
-                               stderr=subprocess.PIPE)
+    process = begun(*new, 'sh', '-c', MOUNT, 'sh', folder, PROGRAM, copy)
     said = one_by_one(process, whole)
     errors = process.stderr.read()
     is_full(whole, said, errors, process.wait(60), read_file(copy))

@@ -148,7 +148,7 @@ def safe_length(calls: list[Call], text: bytes | None) -> int:
     return lengths[-1] if lengths else len(text or b'')
 
 
-def fails(stand: Stand, case: Case, number: int, what: str, error: int, on: bool) -> None:
+def fails(stand: Stand, case: Case, number: int, error: int, on: bool) -> None:
     """One call fails, or it and all later ones."""
     seen = stand.live(case, FAIL=number, ERROR=error, ON=int(on))
     demand((seen.status, seen.life.errors) == (3, b'refused X5\n'), f'status {seen.status}, {seen.life.errors!r}')
@@ -208,12 +208,11 @@ def turns(stand: Stand, case: Case, only: str | None) -> list[bool]:
     good = [attempt(f'{case.name}: order', in_order, stand, case)] if only in (None, 'order') else []
     for call in calls:
         name = f'{case.name}: call {call.number}, {call.what}'
-        missing = call.what.startswith('open there') and call.result < 0    # this failed by itself: there was no file
         if only in (None, 'fails'):
             for error, on in ((errno.EIO, False), (errno.EIO, True), (errno.ENOSPC, False), (errno.ENOSPC, True)):
                 words = f'{name}: {errno.errorcode[error]}{", and all later ones" if on else ""}'
-                good.append(attempt(words, fails, stand, case, call.number, call.what, error, on))
-        if only in (None, 'short') and call.what.startswith('put ') and not missing:
+                good.append(attempt(words, fails, stand, case, call.number, error, on))
+        if only in (None, 'short') and call.what.startswith('put '):
             good.append(attempt(f'{name}: half of it', is_short, stand, case, call.number))
         if only in (None, 'power'):
             good.append(attempt(f'{name}: the power is cut before', is_cut, stand, case, call.number))
