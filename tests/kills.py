@@ -21,6 +21,7 @@ import argparse
 import collections
 import os
 import random
+import signal
 import subprocess
 import sys
 import tempfile
@@ -119,8 +120,7 @@ def live(chance: random.Random, whole: Whole, life: Life, before: int, moment: M
         life.process.stdin.close()
         while moment.kind == 'growth' and not moment.has_come(life) and life.process.poll() is None:
             pass
-        life.kill()    # while it may be writing its last line
-        return 'killed'
+        return 'killed' if life.kill() == -signal.SIGKILL else 'done'    # while it may be writing its last line
     return 'done'
 
 
@@ -149,7 +149,7 @@ def run(chance: random.Random, whole: Whole, file: str, kills: int, seen: collec
         try:
             end = live(chance, whole, life, before, moment)
             if end == 'done':
-                demand(life.end() == 0 and not life.errors, f'status {life.process.returncode}, {life.errors!r}')
+                demand((life.end(), life.errors) == (0, b''), f'status {life.status}, {life.errors!r}')
         finally:
             if life.process.poll() is None:
                 life.process.kill()

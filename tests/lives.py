@@ -94,6 +94,7 @@ class Life:
         self.lines = 0             # so many lines of it
         self.ended = False         # its output has
         self.deaf = False          # it takes nothing more
+        self.status: int | None = None    # once it was ended
 
     def send(self, text: bytes) -> None:
         self.left += text
@@ -120,12 +121,14 @@ class Life:
             demand(self.turn(NO_END), f'nothing came for {NO_END} s; {self.lines} lines before')
         return self.lines >= lines
 
-    def kill(self) -> None:
+    def kill(self) -> int:
         self.process.kill()
-        self.end()
+        return self.end()
 
     def end(self) -> int:
         """Its status, once it has said all."""
+        if self.status is not None:
+            return self.status
         self.process.stdin.close()
         self.left.clear()
         while not self.ended:
@@ -133,7 +136,8 @@ class Life:
         self.errors = self.process.stderr.read()
         self.process.stderr.close()
         self.process.stdout.close()
-        return self.process.wait(NO_END)
+        self.status = self.process.wait(NO_END)
+        return self.status
 
     def replies(self) -> tuple[int | None, list[bytes], bytes]:
         """The number of entries that it told first (None: it did not come to it), the whole replies, and what was cut."""

@@ -373,17 +373,16 @@ def test_a_full_disk() -> None:
 
 
 def test_a_closed_pipe() -> None:
-    # nobody reads the replies: what was synced stands
-    file = path()
-    back, to = os.pipe()
-    os.close(back)
-    done = subprocess.run([PROGRAM, 'replay', '--log', file], input=script('tick'), stdout=to, stderr=subprocess.PIPE, timeout=60,
-                          restore_signals=False)
-    os.close(to)
-    same((done.stderr, done.returncode), (b'refused X3\n', 3))
-    text = read_file(file)
-    demand(CROSS.head.startswith(text), f'{text!r}')
-    go_on(CROSS, file, 0)
+    # nobody reads the replies, whether the signal for it is ignored or not: what was synced stands
+    for restored in (False, True):
+        file = path()
+        back, to = os.pipe()
+        os.close(back)
+        done = subprocess.run([PROGRAM, 'replay', '--log', file], input=script('tick'), stdout=to, stderr=subprocess.PIPE, timeout=60,
+                              restore_signals=restored)
+        os.close(to)
+        same((done.stderr, done.returncode, read_file(file)), (b'refused X3\n', 3, CROSS.head))
+        go_on(CROSS, file, 0)
 
 
 def test_a_full_output() -> None:

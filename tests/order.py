@@ -11,7 +11,7 @@ before has left, with its end line or a torn one.
 
 - order: the file is locked before a byte of it is read, and never emptied as it is opened; it and its folder are synced
   before a line is told; nothing is told while anything in the file is not synced; nor is anything at the end. There is no
-  more than one sync for each read of the standard input, and three at the start and the end.
+  more than one sync for each read of the standard input, and three at the start and the end. What is told stands in the file.
 - fails: each call in turn fails, alone and with all later ones, with EIO, and with ENOSPC where a write has put half of its
   bytes there. The program ends with `refused X5` and status 3; all that it told stands in the file, which is a front of the
   log and, where no later call fails, no longer than what was synced; and the run is gone on with, to the log of the script at
@@ -111,7 +111,7 @@ def in_order(stand: Stand, case: Case) -> None:
     seen = stand.live(case)
     demand((seen.status, seen.life.errors) == (0, b''), f'status {seen.status}, {seen.life.errors!r}')
     demand(read_file(stand.file) == stand.whole.log, 'the file is not the log of the script at one go')
-    locked = told = False
+    locked, told = False, 0
     wet = ['the file at the start', 'the folder at the start']    # what may not outlive a cut of the power
     reads = syncs = 0
     for call in seen.calls:
@@ -129,7 +129,10 @@ def in_order(stand: Stand, case: Case) -> None:
             wet = [thing for thing in wet if thing != 'the folder at the start']
         elif word == 'tell':
             demand(not wet, f'{call} while this is not synced: {wet}')
-            told = True
+            told += call.result
+            # the line `entries N` before the replies
+            lines = bytes(seen.life.said)[:told].count(b'\n') - 1
+            demand(call.length >= len(stand.whole.text(case.before + lines)), f'{call} tells {lines} replies')
         reads += word == 'ask'
     demand(told and not wet, f'at the end this is not synced: {wet}')
     demand(syncs <= reads + 3, f'{syncs} syncs for {reads} reads')
