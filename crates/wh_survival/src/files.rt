@@ -1,0 +1,90 @@
+//! A journal in a real file: what is made, read, cut, refused and left alone.
+
+use std::alloc::Global;
+use std::fs;
+use std::path::Path;
+use std::test::*;
+use wh_journal::{FileJournal, Journal, LogFile, LogFileFault};
+
+const TEXT: &[u8] = b"one\ntwo\nthr";
+
+/// Whether these bytes stand in a file.
+fn holds(rt: &HostRuntime, path: Path<'_>, bytes: &[u8]) -> Result<bool, Fail> {
+    Ok(fs::read(rt, path)?.as_slice() == bytes)
+}
+
+/// Whether these bytes are the text that a journal tells.
+fn tells(alloc: Global, journal: &mut FileJournal<'_, HostRuntime>, bytes: &[u8]) -> bool {
+    match journal.text(alloc) {
+        Ok(text) => text.as_slice() == bytes,
+        Err(_) => false,
+    }
+}
+
+fn is_unread(alloc: Global, journal: &mut FileJournal<'_, HostRuntime>) -> bool {
+    matches!(journal.text(alloc), Err(LogFileFault::Unread))
+}
+
+#[test]
+fn made_cut_and_read_again(rt: HostRuntime) -> Result<(), Fail> {
+    let alloc = rt.alloc();
+    let path = Path::new("made.log");
+    let mut first = FileJournal::new(&rt, path);
+    assert!(rt; tells(alloc, &mut first, b""));
+    assert!(rt; !fs::exists(&rt, path)?);
+    assert!(rt; first.cut(0).is_ok());
+    assert!(rt; first.append(TEXT).is_ok());
+    assert!(rt; first.sync().is_ok());
+    assert!(rt; holds(&rt, path, TEXT)?);
+    drop(first);
+    let mut second = FileJournal::new(&rt, path);
+    assert!(rt; tells(alloc, &mut second, TEXT));
+    assert!(rt; second.cut(8).is_ok());
+    assert!(rt; holds(&rt, path, b"one\ntwo\n")?);
+    assert!(rt; second.append(b"four\n").is_ok());
+    assert!(rt; tells(alloc, &mut second, b"one\ntwo\nfour\n"));
+    Ok(())
+}
+
+#[test]
+fn refused_and_left_alone(rt: HostRuntime) -> Result<(), Fail> {
+    let alloc = rt.alloc();
+    let path = Path::new("other.log");
+    fs::write(&rt, path, TEXT)?;
+    let mut first = FileJournal::new(&rt, path);
+    assert!(rt; tells(alloc, &mut first, TEXT));
+    // locked by the first
+    let mut second = FileJournal::new(&rt, path);
+    assert!(rt; is_unread(alloc, &mut second));
+    assert!(rt; second.cut(0).is_err());
+    // longer than it is, and then after that fault
+    assert!(rt; first.cut(12).is_err());
+    assert!(rt; first.append(b"more").is_err());
+    drop(first);
+    // before a cut, and then after that fault
+    let mut third = FileJournal::new(&rt, path);
+    assert!(rt; tells(alloc, &mut third, TEXT));
+    assert!(rt; third.append(b"more").is_err());
+    assert!(rt; third.cut(0).is_err());
+    assert!(rt; holds(&rt, path, TEXT)?);
+    fs::create_dir(&rt, "folder")?;
+    assert!(rt; is_unread(alloc, &mut FileJournal::new(&rt, Path::new("folder"))));
+    Ok(())
+}
+
+#[test]
+fn made_or_written_meanwhile(rt: HostRuntime) -> Result<(), Fail> {
+    let alloc = rt.alloc();
+    let path = Path::new("meanwhile.log");
+    let mut first = FileJournal::new(&rt, path);
+    assert!(rt; tells(alloc, &mut first, b""));
+    fs::write(&rt, path, TEXT)?;
+    assert!(rt; first.cut(0).is_err());
+    assert!(rt; holds(&rt, path, TEXT)?);
+    let mut second = FileJournal::new(&rt, path);
+    assert!(rt; tells(alloc, &mut second, TEXT));
+    fs::write(&rt, path, b"one\n".as_slice())?;
+    assert!(rt; second.cut(4).is_err());
+    assert!(rt; holds(&rt, path, b"one\n")?);
+    Ok(())
+}
