@@ -8,6 +8,12 @@ use wh_journal::{FileJournal, Journal, LogFile, LogFileFault};
 
 const TEXT: &[u8] = b"one\ntwo\nthr";
 
+/// Makes an empty folder, also where an earlier run left one.
+fn make_folder(rt: &HostRuntime, folder: &str) -> Result<(), Fail> {
+    let _ = fs::remove_dir_all(rt, folder);
+    Ok(fs::create_dir(rt, folder)?)
+}
+
 /// Whether these bytes stand in a file.
 fn holds(rt: &HostRuntime, path: Path<'_>, bytes: &[u8]) -> Result<bool, Fail> {
     Ok(fs::read(rt, path)?.as_slice() == bytes)
@@ -28,7 +34,8 @@ fn is_unread(alloc: Global, journal: &mut FileJournal<'_, HostRuntime>) -> bool 
 #[test]
 fn made_cut_and_read_again(rt: HostRuntime) -> Result<(), Fail> {
     let alloc = rt.alloc();
-    let path = Path::new("made.log");
+    make_folder(&rt, "survival_made")?;
+    let path = Path::new("survival_made/run.log");
     let mut first = FileJournal::new(&rt, path);
     assert!(rt; tells(alloc, &mut first, b""));
     assert!(rt; !fs::exists(&rt, path)?);
@@ -43,13 +50,14 @@ fn made_cut_and_read_again(rt: HostRuntime) -> Result<(), Fail> {
     assert!(rt; holds(&rt, path, b"one\ntwo\n")?);
     assert!(rt; second.append(b"four\n").is_ok());
     assert!(rt; tells(alloc, &mut second, b"one\ntwo\nfour\n"));
-    Ok(())
+    Ok(fs::remove_dir_all(&rt, "survival_made")?)
 }
 
 #[test]
 fn refused_and_left_alone(rt: HostRuntime) -> Result<(), Fail> {
     let alloc = rt.alloc();
-    let path = Path::new("other.log");
+    make_folder(&rt, "survival_refused")?;
+    let path = Path::new("survival_refused/run.log");
     fs::write(&rt, path, TEXT)?;
     let mut first = FileJournal::new(&rt, path);
     assert!(rt; tells(alloc, &mut first, TEXT));
@@ -67,15 +75,16 @@ fn refused_and_left_alone(rt: HostRuntime) -> Result<(), Fail> {
     assert!(rt; third.append(b"more").is_err());
     assert!(rt; third.cut(0).is_err());
     assert!(rt; holds(&rt, path, TEXT)?);
-    fs::create_dir(&rt, "folder")?;
-    assert!(rt; is_unread(alloc, &mut FileJournal::new(&rt, Path::new("folder"))));
-    Ok(())
+    let folder = Path::new("survival_refused");
+    assert!(rt; is_unread(alloc, &mut FileJournal::new(&rt, folder)));
+    Ok(fs::remove_dir_all(&rt, folder)?)
 }
 
 #[test]
 fn made_or_written_meanwhile(rt: HostRuntime) -> Result<(), Fail> {
     let alloc = rt.alloc();
-    let path = Path::new("meanwhile.log");
+    make_folder(&rt, "survival_meanwhile")?;
+    let path = Path::new("survival_meanwhile/run.log");
     let mut first = FileJournal::new(&rt, path);
     assert!(rt; tells(alloc, &mut first, b""));
     fs::write(&rt, path, TEXT)?;
@@ -86,5 +95,5 @@ fn made_or_written_meanwhile(rt: HostRuntime) -> Result<(), Fail> {
     fs::write(&rt, path, b"one\n".as_slice())?;
     assert!(rt; second.cut(4).is_err());
     assert!(rt; holds(&rt, path, b"one\n")?);
-    Ok(())
+    Ok(fs::remove_dir_all(&rt, "survival_meanwhile")?)
 }
