@@ -1,20 +1,19 @@
 -- vehicles that are brought to given steps
-use Rattle.std.proofs.Common.{◌≡◌, ◌≢◌, ℕ, ◌+◌, ◌-◌, ◌<◌, ◌≤◌, ◌∙◌, ◌++◌, ◌⊎◌, inl, inr, List, [], ◌∷◌, true, min, length, get_or, sym, subst, refl, ap, arith}
-use Rattle.std.specs.Prelude.{slice_index, Result, Ok, Err}
-use Rattle.std.proofs.Math.ListN.{set}
-use Rattle.std.proofs.lemmas.Bool.{cases_eq, cases_lt}
+use Rattle.std.proofs.Common.{◌≡◌, ◌≢◌, ℕ, ◌+◌, ◌-◌, ◌<◌, ◌≤◌, ◌∙◌, ◌++◌, ◌⊎◌, inl, inr, List, [], ◌∷◌, true, min, length, sym, subst, refl, ap, arith}
+use Rattle.std.specs.Prelude.{slice_index}
+use Rattle.std.proofs.lemmas.Bool.{cases_lt}
 use Rattle.std.proofs.lemmas.List.{length-set, get_or-set_same, get_or-set_other}
 use Rattle.wh_grid.specs.declared.cell.Cell.{Cell}
 use Rattle.wh_drive.specs.declared.vehicle.Vehicle.{Vehicle}
 use Rattle.wh_drive.specs.declared.refusal.StartRefusal.{StartRefusal}
-use Rattle.wh_drive.specs.Drives.{Drive, clock, cell_in, planned, vehicle, reached, told, MayStart, started, arrived}
-use Rattle.wh_drive.specs.Runs.{Event, Start, Arrive, Tick, Step, Run, IsReached, AreTwo, IsSound}
+use Rattle.wh_drive.specs.Drives.{Drive, clock, cell_in, planned, told, MayStart, started, arrived}
+use Rattle.wh_drive.specs.Runs.{Event, Start, Arrive, Tick, Run, AreTwo}
 use Rattle.wh_drive.specs.Refusals.{RefusesStart}
 use Rattle.wh_drive.specs.Standstills.{OnlyGo}
 use Rattle.wh_drive.proofs.Vehicles.{idle}
 use Rattle.wh_drive.proofs.Running.{sound-reached}
 use Rattle.wh_order.specs.Orders.{Order, Represents, vehicle_in, reached_of, told_of, HasLeft, IsArrived, started_order}
-use Rattle.wh_order.specs.Bringing.{StandBy, GoesOn, IsTooEarly, NoneIsTooEarly}
+use Rattle.wh_order.specs.Bringing.{GoesOn, IsTooEarly, NoneIsTooEarly}
 use Rattle.wh_order.proofs.Asking.{vehicles-size, reached-same, told-same, comes}
 
 -- one run after another

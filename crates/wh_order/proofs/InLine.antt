@@ -1,13 +1,13 @@
 -- what is kept of a cell stands in a line
-use Rattle.std.proofs.Common.{◌≡◌, ◌≢◌, ℕ, ◌+◌, ◌-◌, ◌<◌, ◌≤◌, ◌++◌, ◌∙◌, ◌&&◌, ◌==◌, inl, inr, List, [], ◌∷◌, Option, Some, None, Bool, true, false, cond, nat_lt, length, take, drop, map, get_or, eq-eqb, sym, subst, refl, ap, arith}
-use Prim.Native.Nat.{zero, suc}
+use Rattle.std.proofs.Common.{◌≡◌, ◌≢◌, ℕ, ◌+◌, ◌-◌, ◌<◌, ◌≤◌, ◌++◌, ◌∙◌, ◌==◌, inl, inr, List, [], ◌∷◌, Option, Some, None, Bool, true, false, cond, nat_lt, length, take, drop, map, get_or, eq-eqb, sym, subst, refl, ap, arith}
+use Prim.Native.Nat.{suc}
 use Rattle.std.specs.List.{flat_map, list_any, sum_by, IsDistinct}
 use Rattle.std.specs.Map.{keys_of}
 use Rattle.std.specs.Option.{unwrap_or, is_some}
 use Rattle.std.specs.Cmp.{IsEquivalence}
 use Rattle.std.specs.Set.{is_member}
 use Rattle.std.proofs.Math.ListN.{set}
-use Rattle.std.proofs.lemmas.Bool.{cases_eq, cases_lt, cases_Bool, ltb-false, lt-ltb, le-ltb, ne_eqb, and_from, and_left, and_right, cond-true, cond-false}
+use Rattle.std.proofs.lemmas.Bool.{cases_eq, cases_Bool, ltb-false, lt-ltb, le-ltb, ne_eqb, and_from, and_left, and_right, cond-true, cond-false}
 use Rattle.std.proofs.lemmas.List.{length-set, length-map, length_push, length-drop, take_at, get_or-drop, get_or_push, get_or_append_left, get_or-set_same, get_or-set_other, get_or-map, get_or_read}
 use Rattle.std.proofs.lemmas.List.Concat.{length-flat_map, get_or-flat_map}
 use Rattle.std.proofs.lemmas.List.Folds.{list_any_at, length-flat_map-take}
@@ -96,7 +96,7 @@ left-cell o agent cell (Some v) in_line known e = left-visit o agent cell v in_l
 
 pub forgets-left : (o : Order) (agent : ℕ) (latest : List (Cell × Visit)) → AreInLine o → agent < length o.vehicles →
     ((cell : Cell) → latest_at latest cell
-        ≡ cond (is_cell (step_of (line_of o.lines agent) 0).cell cell) (without agent (reached_of o.vehicles agent) (latest_at o.latest cell)) (latest_at o.latest cell)) →
+    ≡ cond (is_cell (step_of (line_of o.lines agent) 0).cell cell) (without agent (reached_of o.vehicles agent) (latest_at o.latest cell)) (latest_at o.latest cell)) →
     Forgets (after o agent) o.latest latest
 forgets-left o agent latest in_line known is = λ cell. is cell ∙ left-cell o agent cell (latest_at o.latest cell) in_line known refl
 

@@ -11,7 +11,6 @@ use Rattle.wh_drive.specs.declared.vehicle.Vehicle.{Vehicle}
 use Rattle.wh_drive.specs.Drives.{Drive, clock, planned, reached, MayTick, ticked, opened}
 use Rattle.wh_drive.specs.Runs.{AreTwo, IsSound}
 use Rattle.wh_drive.proofs.Vehicles.{idle}
-use Rattle.wh_order.specs.declared.visit.Visit.{Visit}
 use Rattle.wh_order.specs.declared.visit.Pending.{Pending}
 use Rattle.wh_order.proofs.Changes.{Further, pending-further, latest-further, forgotten}
 use Rattle.wh_order.specs.Orders.{Order, line_of, step_of, latest_at, IsPending, IsLatest, reached_of, Represents, IsPlaced, AreSteps, standing}

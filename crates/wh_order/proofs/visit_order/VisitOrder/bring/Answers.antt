@@ -1,5 +1,4 @@
-use Rattle.std.proofs.Common.{◌≡◌, ◌<◌, ◌≤◌, ◌∙◌, refl, length, sym, subst, arith}
-use Rattle.std.specs.Prelude.{slice_index}
+use Rattle.std.proofs.Common.{◌<◌, ◌∙◌, refl, length, sym, subst, arith}
 use Rattle.wh_order.specs.Bringing.{IsTooEarly}
 use Rattle.wh_order.proofs.Brought.{goes-nowhere, goes-further, too-early, one-along, less-left}
 use Rattle.wh_order.proofs.visit_order.VisitOrder.bring.Goals as goal

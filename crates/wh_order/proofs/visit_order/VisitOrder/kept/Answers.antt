@@ -1,4 +1,4 @@
-use Rattle.std.proofs.Common.{◌≡◌, ◌≤◌, List, length, map, subst, arith, Global}
+use Rattle.std.proofs.Common.{◌≤◌, List, map, subst, arith, Global}
 use Rattle.std.specs.declared.collections.VecDeque.{VecDeque}
 use Rattle.wh_order.specs.declared.visit.Pending.{Pending}
 use Rattle.wh_order.specs.Orders.{Order, not_over}

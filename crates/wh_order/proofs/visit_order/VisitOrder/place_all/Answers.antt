@@ -1,4 +1,4 @@
-use Rattle.std.proofs.Common.{◌≡◌, ◌<◌, ◌++◌, ◌∙◌, List, length, map, take, drop, true, false, refl, sym, subst, ap, arith, Global}
+use Rattle.std.proofs.Common.{◌≡◌, ◌++◌, ◌∙◌, List, length, map, take, drop, true, false, refl, sym, subst, Global}
 use Rattle.std.specs.declared.collections.VecDeque.{VecDeque}
 use Rattle.wh_drive.specs.declared.vehicle.Vehicle.{Vehicle}
 use Rattle.wh_order.specs.declared.visit.Pending.{Pending}
@@ -27,8 +27,7 @@ invariant_of-self c =
       vehicles_are = refl;
       lines = subst (λ (qs : List (VecDeque Pending Global)). AreOver vehicles (map items old) (map items qs)) (sym over) gone';
       latest = subst (λ (vs : List Vehicle). Forgets vs e.latest.entries latest) c.deref-2.ensures.value c.forget_over.ensures;
-    } in
-    (
+    } in (
       kept-placed o r vehicles c.self.invariant.0 steps placed,
       λ is. absurd (let f : false ≡ true = is in cc),
       in-line-placed o r vehicles c.self.invariant.2 steps placed,

@@ -1,4 +1,4 @@
-use Rattle.std.proofs.Common.{◌≡◌, ◌<◌, ◌≤◌, ◌++◌, ◌∙◌, List, All, length, map, take, drop, true, false, refl, sym, subst, ap, arith, Global}
+use Rattle.std.proofs.Common.{◌≡◌, ◌<◌, ◌++◌, ◌∙◌, List, All, length, map, take, drop, true, false, refl, sym, subst, ap, arith, Global}
 use Rattle.std.specs.VecDeque.{deque_len, deque_capacity}
 use Rattle.std.specs.declared.collections.VecDeque.{VecDeque}
 use Rattle.wh_order.specs.declared.visit.Pending.{Pending}
@@ -11,8 +11,7 @@ invariant_of-self c =
     let items : VecDeque Pending Global → List Pending = λ q. q.items in
     let e = c.self.inside in
     let o : Order = record { ahead = e.ahead; clock = e.clock; ready = e.ready; latest = e.latest.entries; lines = map items e.lines.items; vehicles = e.vehicles.items } in
-    let r : Order = record { ahead = e.ahead; clock = e.clock; ready = false; latest = c.reserve.new.self.entries; lines = map items e.lines.items; vehicles = e.vehicles.items } in
-    (
+    let r : Order = record { ahead = e.ahead; clock = e.clock; ready = false; latest = c.reserve.new.self.entries; lines = map items e.lines.items; vehicles = e.vehicles.items } in (
       kept-same o r c.self.invariant.0 refl refl refl,
       λ is. absurd (let f : false ≡ true = is in cc),
       in-line-same o r c.self.invariant.2 refl c.reserve.ensures.entries refl refl,
@@ -28,8 +27,7 @@ invariant_of-self-in_err-reserve_all c =
     let o : Order = record { ahead = e.ahead; clock = e.clock; ready = e.ready; latest = e.latest.entries; lines = map items old; vehicles = e.vehicles.items } in
     let r : Order = record { ahead = e.ahead; clock = e.clock; ready = false; latest = c.reserve.new.self.entries; lines = map items written; vehicles = e.vehicles.items } in
     let over : written ≡ new = written-over e.lines.len new old (c.reserve_all.auto.lines ∙ c.deref_mut.ensures.len) in
-    let same : r.lines ≡ o.lines = ap (map items) over ∙ c.reserve_all.ensures.same ∙ ap (map items) c.deref_mut.ensures.value in
-    (
+    let same : r.lines ≡ o.lines = ap (map items) over ∙ c.reserve_all.ensures.same ∙ ap (map items) c.deref_mut.ensures.value in (
       kept-same o r c.self.invariant.0 refl same refl,
       λ is. absurd (let f : false ≡ true = is in cc),
       in-line-same o r c.self.invariant.2 refl c.reserve.ensures.entries same refl,
@@ -47,8 +45,7 @@ invariant_of-self-2 c =
     let over : written ≡ new = written-over e.lines.len new old (c.reserve_all.auto.lines ∙ c.deref_mut.ensures.len) in
     let same : r.lines ≡ o.lines = ap (map items) over ∙ c.reserve_all.ensures.same ∙ ap (map items) c.deref_mut.ensures.value in
     let room = c.in_ok-reserve.ensures.ok in
-    let count = c.len.ensures in
-    (
+    let count = c.len.ensures in (
       kept-same o r c.self.invariant.0 refl same refl,
       λ is. (subst (λ (qs : List (VecDeque Pending Global)). All (λ q. deque_len q < deque_capacity q) qs) (sym over) c.in_ok-reserve_all.ensures.room, omega arith),
       in-line-same o r c.self.invariant.2 refl c.reserve.ensures.entries same refl,

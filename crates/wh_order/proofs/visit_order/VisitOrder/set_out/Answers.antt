@@ -1,7 +1,6 @@
-use Rattle.std.proofs.Common.{◌≡◌, ◌<◌, ◌≤◌, ◌+◌, List, length, map, true, sym, subst, ap, arith, Global}
+use Rattle.std.proofs.Common.{◌<◌, ◌+◌, List, length, map, sym, subst, arith, Global}
 use Rattle.std.specs.declared.collections.VecDeque.{VecDeque}
 use Rattle.std.proofs.lemmas.List.{length-set}
-use Rattle.wh_drive.specs.declared.vehicle.Vehicle.{Vehicle}
 use Rattle.wh_order.specs.declared.visit.Pending.{Pending}
 use Rattle.wh_order.specs.Orders.{Order, IsKept, AreInLine, told_of}
 use Rattle.wh_order.proofs.Asking.{set-out, kept-started}
@@ -17,8 +16,7 @@ invariant_of-self c =
     let known : agent < length o.vehicles = subst (λ (s : Order). agent < length s.vehicles) (sym c.self.view_is) c.requires.known in
     let planned : told_of o.vehicles agent < o.clock = subst (λ (s : Order). told_of s.vehicles agent < s.clock) (sym c.self.view_is) c.requires.planned in
     let is = set-out o agent c.index-vehicle.result.now known c.index-vehicle.ensures in
-    let count = length-set e.vehicles.items agent (record { reached = c.index-vehicle.result.now.reached; told = c.index-vehicle.result.now.told + 1 }) in
-    (
+    let count = length-set e.vehicles.items agent (record { reached = c.index-vehicle.result.now.reached; told = c.index-vehicle.result.now.told + 1 }) in (
       subst IsKept (sym is) (kept-started o agent c.self.invariant.0 known planned),
       λ ready. (let room = c.self.invariant.1 ready in (room.0, (let more = room.1 in omega arith))),
       subst AreInLine (sym is) (in-line-started o agent c.self.invariant.2 known),
