@@ -1,1 +1,3 @@
 pub mod Planning
+pub mod Reading
+pub mod Digits

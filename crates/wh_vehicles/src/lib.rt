@@ -1,4 +1,9 @@
-//! The warehouse's run as a plan that vehicles carry out late.
+//! The warehouse's run as a plan that vehicles carry out late, and the lines of those who drive them.
 #![tactic(auto)]
 
 pub mod laws;
+mod notice;
+mod report;
+
+pub use notice::{Notice, put_notice};
+pub use report::{Report, read_report};
