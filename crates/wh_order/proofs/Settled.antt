@@ -1,21 +1,20 @@
 -- all that can be told is told
-use Rattle.std.proofs.Common.{◌≡◌, ◌≢◌, ℕ, ◌+◌, ◌-◌, ◌<◌, ◌≤◌, ◌++◌, ◌∙◌, inl, inr, Bool, true, false, cond, List, [], ◌∷◌, length, sym, subst, refl, ap, arith}
-use Rattle.std.specs.Prelude.{IsTrue, ◌↔◌, sum_by}
+use Rattle.std.proofs.Common.{◌≡◌, ◌≢◌, ℕ, ◌+◌, ◌-◌, ◌<◌, ◌≤◌, ◌++◌, ◌∙◌, inl, inr, true, false, cond, List, [], ◌∷◌, length, sym, subst, refl, ap, arith}
+use Rattle.std.specs.Prelude.{sum_by}
 use Rattle.std.proofs.Math.ListN.{set}
-use Rattle.std.proofs.lemmas.Bool.{cases_lt, cases_Bool}
-use Rattle.std.proofs.lemmas.List.{length-set, append-nil, append_assoc}
+use Rattle.std.proofs.lemmas.Bool.{cases_Bool}
+use Rattle.std.proofs.lemmas.List.{append-nil, append_assoc}
 use Rattle.std.proofs.lemmas.List.Sums.{sum_by-set}
-use Rattle.wh_grid.specs.declared.cell.Cell.{Cell}
 use Rattle.wh_drive.specs.declared.vehicle.Vehicle.{Vehicle}
 use Rattle.wh_drive.specs.declared.refusal.StartRefusal.{StartRefusal}
-use Rattle.wh_drive.specs.Drives.{Drive, clock, planned, vehicle, reached, told, place, next, MayStart, started, arrived}
-use Rattle.wh_drive.specs.Runs.{Event, Start, Arrive, Tick, Step, Run}
+use Rattle.wh_drive.specs.Drives.{Drive, planned, reached, told, place, next, MayStart, started, arrived}
+use Rattle.wh_drive.specs.Runs.{Event, Start, Arrive, Tick, Run}
 use Rattle.wh_drive.specs.Refusals.{RefusesStart}
 use Rattle.wh_drive.proofs.Vehicles.{idle}
 use Rattle.wh_order.specs.declared.visit.Told.{Told}
 use Rattle.wh_order.specs.declared.visit.Go.{Go}
 use Rattle.wh_order.specs.Orders.{Order, is_cell, Represents, Tells, line_of, step_of, reached_of, told_of, HasLeft, IsArrived, started_order}
-use Rattle.wh_order.specs.Settling.{Passes, IsQuiet, OnlySettle, telling, told_by, Settles, to_go}
+use Rattle.wh_order.specs.Settling.{Passes, OnlySettle, telling, told_by, Settles, to_go}
 use Rattle.wh_order.proofs.Latest.{same-cell, one-cell}
 use Rattle.wh_order.proofs.Asking.{vehicles-size, reached-same, told-same, step-at, comes}
 

@@ -1,5 +1,5 @@
 -- a vehicle arrives step by step
-use Rattle.std.proofs.Common.{◌≡◌, ℕ, ◌+◌, ◌<◌, ◌≤◌, ◌∙◌, ◌++◌, max, List, [], ◌∷◌, length, Result, Ok, Err, sym, subst, refl, ap, arith}
+use Rattle.std.proofs.Common.{◌≡◌, ℕ, ◌+◌, ◌<◌, ◌∙◌, ◌++◌, max, List, [], ◌∷◌, length, Result, Ok, Err, subst, refl, ap, arith}
 use Rattle.std.specs.Prelude.{IfOk, IfErr}
 use Rattle.std.proofs.lemmas.List.{length-set}
 use Rattle.wh_drive.specs.declared.vehicle.Vehicle.{Vehicle}
@@ -9,7 +9,7 @@ use Rattle.wh_drive.specs.Drives.{Drive, reached, told, MayArrive, arrived}
 use Rattle.wh_drive.specs.Runs.{Event, Start, Arrive, Tick, Step, Run}
 use Rattle.wh_drive.specs.Refusals.{RefusesArrive, Reports}
 use Rattle.wh_drive.proofs.Vehicles.{arrived-same}
-use Rattle.wh_order.specs.Orders.{Order, Represents, vehicle_in}
+use Rattle.wh_order.specs.Orders.{Order, Represents}
 use Rattle.wh_vehicles.specs.Driving.{OnlyArrives, HasArrived}
 
 -- the vehicle has come to a step, and has been told as far as before

@@ -1,17 +1,15 @@
 -- which lines report: the definition by tests says what the grammar says
-use Rattle.std.proofs.Common.{◌≡◌, ℕ, ◌<◌, ◌≤◌, ◌∙◌, Bool, true, false, ◌&&◌, cond, min, List, [], ◌∷◌, length, Option, Some, None, Result, Ok, Err, codes, refl, sym, ap, arith, subst}
+use Rattle.std.proofs.Common.{◌≡◌, ℕ, ◌≤◌, ◌∙◌, Bool, true, false, ◌&&◌, cond, min, List, [], ◌∷◌, length, Option, Some, None, Err, codes, refl, sym, ap, subst}
 use Rattle.std.specs.Prelude.{◌↔◌, IfSome, nat_lt, nat_le, option_map}
 use Rattle.std.specs.Str.{bytes_eq}
 use Rattle.std.specs.Option.{unwrap_or}
 use Rattle.std.proofs.lemmas.Bool.{leb-true, le-leb, ltb-false, le-ltb, and_parts}
 use Rattle.std.proofs.lemmas.Slice.Eq.{bytes_eq-Decides}
 use Rattle.wh_text.specs.Words.{words_of}
-use Rattle.wh_text.specs.Numbers.{are_digits, decimal, number_of, small_number_of}
+use Rattle.wh_text.specs.Numbers.{are_digits, decimal, small_number_of}
 use Rattle.wh_event.specs.Grammar.{Writes}
 use Rattle.wh_event.specs.CommandLines.{command_by, command_of}
-use Rattle.wh_event.specs.declared.event.Command.{Command}
-use Rattle.wh_event.specs.declared.fault.LineFault.{LineFault}
-use Rattle.wh_event.specs.declared.fault.LineFault.TheVariants.{Form, TooLong}
+use Rattle.wh_event.specs.declared.fault.LineFault.TheVariants.{Form}
 use Rattle.wh_vehicles.specs.declared.report.Report.{Report}
 use Rattle.wh_vehicles.specs.Reports.{Says, step_of, report_from, numbers_of, report_by, report_of}
 

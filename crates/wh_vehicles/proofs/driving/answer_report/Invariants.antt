@@ -1,4 +1,4 @@
-use Rattle.std.proofs.Common.{◌≡◌, ◌≤◌, max}
+use Rattle.std.proofs.Common.{◌≤◌, max}
 use Rattle.wh_drive.specs.Drives.{Drive}
 use Rattle.wh_order.specs.Orders.{Represents}
 use Rattle.wh_vehicles.proofs.Arriving.{Came}

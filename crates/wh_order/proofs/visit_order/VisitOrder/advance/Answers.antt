@@ -1,7 +1,6 @@
-use Rattle.std.proofs.Common.{◌≡◌, ◌++◌, ◌∷◌, [], true, false, refl, sym, subst}
+use Rattle.std.proofs.Common.{◌≡◌, true, false, refl, sym, subst}
 use Rattle.std.proofs.lemmas.Bool.{not-true, not-false}
-use Rattle.wh_drive.specs.Drives.{MayStart, started}
-use Rattle.wh_order.specs.Orders.{Order, Represents, Tells}
+use Rattle.wh_order.specs.Orders.{Order, Represents}
 use Rattle.wh_order.proofs.Settled.{settles-pass, settles-start}
 use Rattle.wh_order.proofs.visit_order.VisitOrder.advance.Goals as goal
 
