@@ -1,6 +1,6 @@
 //! Vehicles that are brought to where they stood, tick by tick.
 
-ghost use Rattle.std.specs.Prelude.{◌≡◌, ◌≢◌, ℕ, ◌-◌, ◌<◌, ◌≤◌, OnOk, IfErr, length, min, true};
+ghost use Rattle.std.specs.Prelude.{◌≡◌, ◌≢◌, ℕ, ◌-◌, ◌<◌, ◌≤◌, ◌↔◌, IsTrue, OnOk, IfErr, length, min, true};
 ghost use Rattle.wh_drive.specs.Drives.{Drive};
 ghost use Rattle.wh_drive.specs.Refusals.{RefusesStart};
 ghost use Rattle.wh_drive.specs.declared.refusal.StartRefusal.{StartRefusal as Reason};
@@ -32,6 +32,24 @@ impl VisitOrder {
             }
             Err(_) => Err(agent),
         }
+    }
+
+    /// Whether each vehicle stands where it was a step before the clock if it goes along with it, no further than its step.
+    pub fn stands_by(&self, steps: &[u64]) -> bool
+        ensures { IsTrue result ↔ StandBy (self.now.clock - 1) steps.now self.now.vehicles }
+    {
+        if steps.len() != self.agents() as usize {
+            return false;
+        }
+        let before = self.clock().saturating_sub(1);
+        for agent in 0..self.agents() {
+            let vehicle = self.vehicle(agent);
+            let step = steps[agent as usize].min(before);
+            if vehicle.reached != step || vehicle.told != step {
+                return false;
+            }
+        }
+        true
     }
 
     /// Each vehicle that stands a step behind the clock makes it, but none goes beyond its step here. Called after each tick
