@@ -11,8 +11,8 @@ use Rattle.wh_drive.specs.declared.vehicle.Vehicle.{Vehicle}
 use Rattle.wh_drive.specs.Drives.{Drive, clock, planned, reached, MayTick, ticked, opened}
 use Rattle.wh_drive.specs.Runs.{AreTwo, IsSound}
 use Rattle.wh_drive.proofs.Vehicles.{idle}
-use Rattle.wh_order.specs.declared.visit.Visit.{Visit}
 use Rattle.wh_order.specs.declared.visit.Pending.{Pending}
+use Rattle.wh_order.proofs.Changes.{Further, pending-further, latest-further, forgotten}
 use Rattle.wh_order.specs.Orders.{Order, line_of, step_of, latest_at, IsPending, IsLatest, reached_of, Represents, IsPlaced, AreSteps, standing}
 
 -- as many rows of the plan, with each vehicle at its start
@@ -100,6 +100,7 @@ pub represents-placed : (old new : Order) (d : Drive) → Represents old (standi
 represents-placed old new d r sound placed =
     let size : length (standing d).vehicles ≡ length d.vehicles = length-map d.vehicles (λ _. idle) in
     let start : (i : ℕ) → reached (standing d) i ≡ 0 = λ i. ap (λ (v : Vehicle). v.reached) (all-start d.vehicles i) in
+    let further : Further (standing d).vehicles d.vehicles = record { size = sym size; on = λ i. let s = start i in omega arith } in
     let line : (i : ℕ) → i < length d.vehicles → line_of new.lines i ≡ drop (reached d i) (line_of old.lines i) = placed.lines.each in
     let before : (i : ℕ) → i < length d.vehicles → length (line_of old.lines i) ≡ length d.rows = λ i h.
     (let l = r.left i (omega arith) in let s = start i in omega arith) in
@@ -127,9 +128,10 @@ represents-placed old new d r sound placed =
           let time : reached (standing d) i + (reached d i + k) ≡ reached d i + k = omega arith in
           let same : step_of line' (reached d i + k) ≡ step_of (line_of new.lines i) k =
           sym (ap (λ (ps : List Pending). step_of ps k) (line i h) ∙ get_or-drop (reached d i) line' k (record { cell = record { x = 0; y = 0 }; after = None })) in
-          subst (λ n. IsPending d.rows n i (reached d i + k) (step_of (line_of new.lines i) k)) size
-          (subst (λ m. IsPending d.rows (length (standing d).vehicles) i m (step_of (line_of new.lines i) k)) time
-          (subst (IsPending d.rows (length (standing d).vehicles) i (reached (standing d) i + (reached d i + k))) same pending));
-      latest = λ cell. subst (λ n. IsLatest d.rows n (length d.rows) cell (latest_at new.latest cell)) size
-          (subst (λ (l : List (Cell × Visit)). IsLatest d.rows (length (standing d).vehicles) (length d.rows) cell (latest_at l cell)) (sym placed.latest) (r.latest cell));
+          pending-further d.rows (standing d).vehicles d.vehicles i (reached d i + k) (step_of (line_of new.lines i) k) further
+          (subst (λ m. IsPending d.rows (standing d).vehicles i m (step_of (line_of new.lines i) k)) time
+          (subst (IsPending d.rows (standing d).vehicles i (reached (standing d) i + (reached d i + k))) same pending));
+      latest = λ cell. subst (IsLatest d.rows d.vehicles (length d.rows) cell) (sym (placed.latest cell))
+          (forgotten d cell (latest_at old.latest cell) sound
+          (latest-further d.rows (standing d).vehicles d.vehicles (length d.rows) cell (latest_at old.latest cell) further (r.latest cell)));
     }

@@ -19,4 +19,6 @@ mod state;
 #[cfg(test)]
 mod tasks;
 #[cfg(test)]
+mod vehicles;
+#[cfg(test)]
 mod verify;

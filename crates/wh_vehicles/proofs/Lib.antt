@@ -1,0 +1,4 @@
+pub mod Planning
+pub mod Reading
+pub mod Digits
+pub mod Arriving

@@ -1,0 +1,49 @@
+-- what a report is answered, and when the clock may not go on
+use Rattle.std.specs.Prelude.{◌≡◌, ℕ, ◌-◌, ◌<◌, ◌≤◌, max, List, [], ◌∷◌, length}
+use Rattle.wh_drive.specs.Drives.{Drive, reached, told}
+use Rattle.wh_drive.specs.Runs.{Event, Start, Arrive, Tick, Run}
+use Rattle.wh_order.specs.Orders.{Order, Represents, reached_of, IsFurthestBack}
+use Rattle.wh_vehicles.specs.declared.report.Report.{Report}
+use Rattle.wh_vehicles.specs.declared.notice.Notice.{Notice}
+use Rattle.wh_vehicles.specs.declared.notice.Notice.TheVariants.{Arrived, Visited, Go, Behind, UnknownAgent, NotTold}
+
+-- nothing happens but that the agent's vehicle arrives
+abbrev pub OnlyArrives : ℕ → List Event → Type 0
+OnlyArrives agent [] = Unit {0}
+OnlyArrives agent (Arrive other step ∷ events) = (other ≡ agent) × OnlyArrives agent events
+OnlyArrives agent (Start other ∷ events) = ⊥
+OnlyArrives agent (Tick cells ∷ events) = ⊥
+
+-- The vehicle has arrived at each step up to this one; if it had come as far before, nothing has happened.
+pub record HasArrived (d : Drive) (agent step : ℕ) (o : Order) : Type 0 where
+  pub events : List Event
+  pub only : OnlyArrives agent events
+  pub end : Drive
+  pub run : Run d events end
+  pub reached_is : reached end agent ≡ max (reached d agent) step
+  pub represents : Represents o end
+
+-- What a report is answered, and where it leads: of an agent that is unknown or a step that was not told nothing changes;
+-- of a step that was told the vehicle has arrived there, and so at each step before.
+abbrev pub AnswersReport : Drive → Report → Notice → Order → Type 0
+AnswersReport d r (UnknownAgent agent) o = (agent ≡ r.agent) × (length d.vehicles ≤ r.agent) × Represents o d
+AnswersReport d r (NotTold agent step) o =
+    (agent ≡ r.agent) × (step ≡ r.step) × (r.agent < length d.vehicles) × (told d r.agent < r.step) × Represents o d
+AnswersReport d r (Arrived agent step) o =
+    (agent ≡ r.agent) × (step ≡ r.step) × (r.agent < length d.vehicles) × (r.step ≤ told d r.agent) × HasArrived d r.agent r.step o
+AnswersReport d r (Visited agent task visit) o = ⊥
+AnswersReport d r (Go agent step cell) o = ⊥
+AnswersReport d r (Behind agent steps) o = ⊥
+
+-- The vehicle of whom none is further behind is so many steps behind, and that is the bound or more.
+abbrev pub TellsLate : Order → ℕ → Notice → Type 0
+TellsLate o bound (Behind agent steps) = IsFurthestBack o.vehicles agent × (steps ≡ o.clock - reached_of o.vehicles agent) × (bound ≤ steps)
+TellsLate o bound (UnknownAgent agent) = ⊥
+TellsLate o bound (NotTold agent step) = ⊥
+TellsLate o bound (Arrived agent step) = ⊥
+TellsLate o bound (Visited agent task visit) = ⊥
+TellsLate o bound (Go agent step cell) = ⊥
+
+-- each vehicle is fewer steps behind than the bound
+abbrev pub NoneIsLate : Order → ℕ → Type 0
+NoneIsLate o bound = (agent : ℕ) → agent < length o.vehicles → o.clock - reached_of o.vehicles agent < bound

@@ -1,0 +1,4 @@
+pub mod Plans
+pub mod Reports
+pub mod Notices
+pub mod Driving
