@@ -180,9 +180,9 @@ fn obey<R: AllocGlobal + Print + Eprint + Input + Files<File = File> + Threads +
 }
 
 /// Does what the process's words ask for.
-fn run<R: AllocGlobal + Print + Eprint + Input + env::Env + Files<File = File> + Threads + Wait + Sync>(
-    rt: &R,
-) -> Result<Status, Status> {
+fn run<
+    R: AllocGlobal + Print + Eprint + Input + env::Env + Files<File = File> + Threads + Wait + Sync,
+>(rt: &R) -> Result<Status, Status> {
     let words = words(rt)?;
     let options = given(rt, words.as_slice())?;
     Ok(obey(rt, &options))

@@ -91,10 +91,14 @@ left_found (Some text) new start bytes is may = elim may [
 pub left_new : (file new : Option (List ℕ)) (start : Start) → start.bytes ≡ None
     → IfSome file (λ (text : List ℕ). (left : List ℕ) × (new ≡ Some left) × ((left ≡ text) ⊎ IsFront left (opening_lines start.book))) → IsLeft start file new
 left_new None new start is left = tt
-left_new (Some text) new start is left = (left.0, left.1, elim left.2 [
-  | inl same ↦ inl same
-  | inr front ↦ inr (subst (λ (b : Option ℕ). MatchOption b (IsFront left.0 (opening_lines start.book)) (λ (n : ℕ). left.0 ≡ take n text)) (sym is) front)
-])
+left_new (Some text) new start is left = (
+  left.0,
+  left.1,
+  elim left.2 [
+    | inl same ↦ inl same
+    | inr front ↦ inr (subst (λ (b : Option ℕ). MatchOption b (IsFront left.0 (opening_lines start.book)) (λ (n : ℕ). left.0 ≡ take n text)) (sym is) front)
+  ],
+)
 
 -- the log of the book and the end line are its whole log
 pub ended : (kept holds : Option (List ℕ)) (book : Seen) → IsLogOfBook kept book → Appends kept holds (last_line (length book.history)) → IsWholeLog holds book

@@ -86,7 +86,14 @@ module _ {X : Type 0} (fits : X → Floor → Bool) (count : X → ℕ) (text : 
   stops_kept tail fault told failed is stops = inr (inr (inl (
     fault,
     is,
-    record { site = site; between = between; start = start; planners = planners; spares = spares; starts = starts; rest = rest;
+    record {
+      site = site;
+      between = between;
+      start = start;
+      planners = planners;
+      spares = spares;
+      starts = starts;
+      rest = rest;
       stops = subst (λ (f : Option (List ℕ)). StopsRun fits count text fault between new start planners spares rest had has f failed synced holds) unchanged
           (subst (λ (t : Reply → List ℕ). StopsRun fits count t fault between new start planners spares rest had has held failed synced holds) same stops);
     },

@@ -161,7 +161,14 @@ pub fn serve_kept<
     };
     let form = form_of(options.replies);
     let ran = run_on(
-        lines, alloc, form, file, output, start, planners, &mut spares,
+        lines,
+        alloc,
+        form,
+        file,
+        output,
+        start,
+        planners,
+        &mut spares,
     );
     let warehouse = match ran {
         Ok(warehouse) => warehouse,
