@@ -12,15 +12,16 @@ ghost use Rattle.wh_search.specs.Guides.{IsOnward};
 ghost use Rattle.wh_intervals.specs.Efforts.{IsSearch, IsEffort};
 ghost use Rattle.wh_search.specs.Parkings.{IsParking, IsLeastParking};
 
+use crate::errand::Errand;
 use crate::search::search;
-use crate::stay::{Stay, count_once};
+use crate::stay::Stay;
 use std::alloc::{AllocError, Global};
 use wh_field::{Field, NearestField};
 use wh_grid::{Cell, Grid};
 use wh_path::TimedPath;
 use wh_resv::Reservations;
 use wh_search::Fault;
-use wh_search::errand::{Errand, arrive};
+use wh_search::errand::{arrive, first_end};
 use wh_search::guide::{Guide, onward_of};
 
 /// A least path, or none where there is no delivery; and what was expanded.
@@ -61,11 +62,8 @@ fn find<'x>(
             onward: &onward,
         },
         first: arrive(via, 0, loc),
-        horizon,
         limit: horizon + stops.len() as u64 * u64::from(grid.cells()),
-        soonest,
-        exact: true,
-        least: soonest,
+        base: first_end(others, stops[last], soonest),
     };
     search(alloc, &errand, expanded)
 }
@@ -100,7 +98,7 @@ pub fn deliver_by_intervals<'x>(
 /// How many arrivals, each of a cell, a time, a number of stops behind and a time up to which it
 /// may wait, have their successors made by `deliver_by_intervals` on these arguments; or its fault.
 /// They are those of a best-first search: each can be reached and may, by the fields, lead to a
-/// least path, and for all that may lead to a shorter one they stand.
+/// least path, and for all that may lead to a shorter one they stand. No two are in one interval.
 pub fn interval_steps<'x>(
     alloc: Global,
     grid: &'x Grid,
@@ -118,10 +116,7 @@ pub fn interval_steps<'x>(
 {
     let mut expanded = Vec::new(alloc);
     match find(alloc, grid, others, loc, stops, fields, &mut expanded) {
-        Ok(Some(_path)) => match count_once(alloc, &expanded) {
-            Ok(number) => Ok(number),
-            Err(_) => Err(Fault::NoMemory),
-        },
+        Ok(Some(_path)) => Ok(expanded.len() as u64),
         Ok(None) => Err(Fault::NoPath),
         Err(_) => Err(Fault::NoMemory),
     }
@@ -152,11 +147,8 @@ fn find_parking<'x>(
         ends: allowed,
         guide: Guide::Nearest { field: &field },
         first: 0,
-        horizon,
         limit: horizon + u64::from(grid.cells()),
-        soonest: 0,
-        exact: false,
-        least: 0,
+        base: 0,
     };
     search(alloc, &errand, expanded)
 }

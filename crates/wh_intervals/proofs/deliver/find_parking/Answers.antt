@@ -17,12 +17,9 @@ search-requires-clause-errand c =
     record {
       inside = c.requires.inside;
       arrives = record { forward = omega arith; few = omega arith; visited = λ j a b. absurd (omega arith); stuck = λ a. absurd (omega arith) };
-      horizon_is = c.horizon-horizon.ensures.value;
       limit_is = omega (arith, c.horizon-horizon.ensures.value, c.cells.ensures.value);
       small = omega (arith, c.horizon-horizon.ensures.bound);
       guided = subst (λ (f : Sources). IsEstimate g [] ends (λ l d. nearest_estimate f.grid f.cells d)) (sym c.in_ok-field.ensures) (nearest_estimates g ends);
-      not_sooner = λ k s e. omega arith;
-      exact = λ t. cc;
       none_before = λ q t. omega arith;
     }
 
