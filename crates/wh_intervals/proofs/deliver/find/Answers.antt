@@ -12,10 +12,11 @@ use Rattle.wh_search.proofs.Stops.{ok_weaker, some_weaker, path_weaker, tour_del
 use Rattle.wh_intervals.proofs.deliver.find.Goals as goal
 
 pub returns-in_default-clause-found : goal.returns-in_default-clause-found
-returns-in_default-clause-found c = λ q d. c.in_default.ensures.none (last_index q) (delivery_rests c.args.grid.now c.args.others.now c.args.loc c.args.stops.now q d)
+returns-in_default-clause-found g c = λ q d. c.in_default.ensures.none (last_index q) (delivery_rests c.args.grid.now (g.T.Occupancy.others c.args.others.now) c.args.loc c.args.stops.now q d)
 
 pub search-requires-clause-errand : goal.search-requires-clause-errand
-search-requires-clause-errand c =
+search-requires-clause-errand g c =
+    let o = g.T.Occupancy.others c.args.others.now in
     let g = c.args.grid.now in
     let stops = c.args.stops.now in
     let n = length stops - 1 in
@@ -34,13 +35,13 @@ search-requires-clause-errand c =
       limit_is = omega (arith, c.horizon-horizon.ensures.value);
       small = omega (arith, c.horizon-horizon.ensures.bound);
       guided = stops_estimates g stops via ends c.args.fields.now c.deref.result.now many refl (last_part stops) c.requires.fields on;
-      none_before = λ q t. c.first_end.ensures.none (last_index q) (delivery_ends g c.args.others.now c.args.loc stops q (tour_delivery g c.args.others.now c.args.loc stops via ends q many refl (last_part stops) t));
+      none_before = λ q t. c.first_end.ensures (last_index q) (delivery_ends g o c.args.loc stops q (tour_delivery g o c.args.loc stops via ends q many refl (last_part stops) t));
     }
 
 pub returns-clause-found : goal.returns-clause-found
-returns-clause-found c =
+returns-clause-found g c =
+    let o = g.T.Occupancy.others c.args.others.now in
     let g = c.args.grid.now in
-    let o = c.args.others.now in
     let stops = c.args.stops.now in
     let n = length stops - 1 in
     let via = take n stops in
@@ -51,9 +52,9 @@ returns-clause-found c =
     (λ found h. path_weaker g o c.args.loc stops via ends found c.requires.stops.0 refl (last_part stops) h) c.search.ensures.found
 
 pub returns-clause-expanded : goal.returns-clause-expanded
-returns-clause-expanded c =
+returns-clause-expanded g c =
+    let o = g.T.Occupancy.others c.args.others.now in
     let g = c.args.grid.now in
-    let o = c.args.others.now in
     let stops = c.args.stops.now in
     let onward = c.deref.result.now in
     let cells : c.from.result ≡ passable_cells g = c.from.ensures ∙ c.cells.ensures.value in
@@ -66,4 +67,4 @@ returns-clause-expanded c =
     (λ found. IfSome found (λ p. Expanded limit (last_index p) new))
     (λ found. IfSome found (λ p. IsSearch g o c.args.loc stops c.args.fields.now (last_index p) new))
     (λ found h. some_weaker found (λ p. Expanded limit (last_index p) new) (λ p. IsSearch g o c.args.loc stops c.args.fields.now (last_index p) new)
-    (λ p x. record { onward = onward; by_fields = on; soonest = c.first_end.result; not_sooner = c.first_end.ensures.none; expanded = subst (λ (k : ℕ). Expanded k (last_index p) new) size x }) h) c.search.ensures.expanded
+    (λ p x. record { onward = onward; by_fields = on; soonest = c.first_end.result; not_sooner = c.first_end.ensures; expanded = subst (λ (k : ℕ). Expanded k (last_index p) new) size x }) h) c.search.ensures.expanded

@@ -14,8 +14,8 @@ use Rattle.wh_intervals.proofs.search.take.Goals as goal
 use Rattle.wh_intervals.proofs.search.take.Goals.{in-None, in-Some+else-since-node}
 
 pub returns-then-since-node-clause-kept : goal.returns-then-since-node-clause-kept
-returns-then-since-node-clause-kept c =
-    let p = problem c.args.errand.now in
+returns-then-since-node-clause-kept g c =
+    let p = problem g.T.Occupancy.others c.args.errand.now in
     let nodes = c.args.states.now.nodes.items in
     let queue = c.args.states.now.queue in
     let stays = c.args.expanded.now.items in
@@ -34,8 +34,8 @@ returns-then-since-node-clause-kept c =
     kept_done p nodes queue c.args.index c.requires.kept (past_expanded p nodes queue stays n since (c.requires.told.spent (interval_of n) since (now ∙ c.in-Some.is)) (omega arith) r.from)
 
 pub returns-then-since-node-clause-told : goal.returns-then-since-node-clause-told
-returns-then-since-node-clause-told c =
-    let p = problem c.args.errand.now in
+returns-then-since-node-clause-told g c =
+    let p = problem g.T.Occupancy.others c.args.errand.now in
     let nodes = c.args.states.now.nodes.items in
     let queue = c.args.states.now.queue in
     let stays = c.args.expanded.now.items in
@@ -52,8 +52,8 @@ returns-then-since-node-clause-told c =
     told_skip p nodes queue c.args.index closed stays c.requires.told (record { since = c.in-Some.since; closed_is = now ∙ c.in-Some.is; from = omega arith })
 
 pub expand-requires-clause-in_time : goal.expand-requires-clause-in_time
-expand-requires-clause-in_time c =
-    let p = problem c.args.errand.now in
+expand-requires-clause-in_time g c =
+    let p = problem g.T.Occupancy.others c.args.errand.now in
     let nodes = c.args.states.now.nodes.items in
     let queue = c.args.states.now.queue in
     let stays = c.args.expanded.now.items in
@@ -74,8 +74,8 @@ expand-requires-clause-in_time c =
     omega (arith, c.from.ensures, last_within p nodes queue closed stays n last c.requires.told.spent rest)
 
 pub returns-clause-kept : goal.returns-clause-kept
-returns-clause-kept c =
-    let p = problem c.args.errand.now in
+returns-clause-kept g c =
+    let p = problem g.T.Occupancy.others c.args.errand.now in
     let nodes = c.args.states.now.nodes.items in
     let queue = c.args.states.now.queue in
     let stays = c.args.expanded.now.items in
@@ -100,8 +100,8 @@ returns-clause-kept c =
     rest_kept p nodes queue new new_queue c.args.index closed stays last c.requires.told within c.requires.past made.kept made.spreads rest onward c.requires.no_end
 
 pub returns-clause-told : goal.returns-clause-told
-returns-clause-told c =
-    let p = problem c.args.errand.now in
+returns-clause-told g c =
+    let p = problem g.T.Occupancy.others c.args.errand.now in
     let nodes = c.args.states.now.nodes.items in
     let queue = c.args.states.now.queue in
     let stays = c.args.expanded.now.items in
