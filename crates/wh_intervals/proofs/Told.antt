@@ -63,8 +63,8 @@ some_not_none : (t : ℕ) → Some t ≡ None → ⊥
 some_not_none t e = subst is_there e refl
 
 -- the first node waits
-pub told_first : (p : Problem) (low : ℕ) (queue : List Entry) (nodes : List Node) (new : List Entry) (closed : Interval → Option ℕ) → ((i : Interval) → closed i ≡ None) → Spreads p low [] queue nodes new → IsTold p nodes new None closed []
-told_first p low queue nodes new closed none x =
+pub told_first : (p : Problem) (low index : ℕ) (queue : List Entry) (nodes : List Node) (new : List Entry) (closed : Interval → Option ℕ) → ((i : Interval) → closed i ≡ None) → Spreads p low index [] queue nodes new → ((i : ℕ) → i < length nodes → (node_at nodes i).time ≡ 0) → IsTold p nodes new None closed []
+told_first p low index queue nodes new closed none x first =
     record {
       reached = λ s c. absurd (none_there s c);
       may_lead = λ s c. absurd (none_there s c);
@@ -73,6 +73,7 @@ told_first p low queue nodes new closed none x =
       spent = λ i t is. absurd (some_not_none t (sym is ∙ none i));
       within = λ s c. absurd (none_there s c);
       each = λ i b. inr (inl (x.fresh i (omega arith) b));
+      begun = λ i b late. absurd (omega (arith, first i b));
     }
 
 spent_pop : (p : Problem) (nodes : List Node) (queue rest : List Entry) (bound index : ℕ) (stays : List Stay) (i : Interval) (t : ℕ) → Pops queue rest bound index → IsSpent p nodes queue stays i t → IsSpent p nodes rest stays i t
@@ -99,6 +100,7 @@ told_pop p nodes queue rest bound index closed stays x pop =
       once = x.once;
       spent = λ i t is. spent_pop p nodes queue rest bound index stays i t pop (x.spent i t is);
       within = x.within;
+      begun = x.begun;
       each = λ i b. elim (x.each i b) [
         | inl c ↦ inl c
         | inr d ↦ inr (elim d [
@@ -211,9 +213,9 @@ rest_stands p nodes queue closed stays n last spent (front since some soon e) k 
     ]
 
 -- nodes, queue and stays may grow
-spent_more : (p : Problem) (nodes : List Node) (queue : List Entry) (new_nodes : List Node) (new_queue : List Entry) (stays : List Stay) (one : Stay) (low : ℕ) (i : Interval) (t : ℕ) → Spreads p low nodes queue new_nodes new_queue → bound_at p (node_in i t) ≤ low
+spent_more : (p : Problem) (nodes : List Node) (queue : List Entry) (new_nodes : List Node) (new_queue : List Entry) (stays : List Stay) (one : Stay) (low index : ℕ) (i : Interval) (t : ℕ) → Spreads p low index nodes queue new_nodes new_queue → bound_at p (node_in i t) ≤ low
     → IsSpent p nodes queue stays i t → IsSpent p new_nodes new_queue (stays ++ one ∷ []) i t
-spent_more p nodes queue new_nodes new_queue stays one low i t more below x =
+spent_more p nodes queue new_nodes new_queue stays one low index i t more below x =
     record {
       from = x.from;
       in_time = x.in_time;
@@ -249,9 +251,9 @@ part_apart p nodes queue closed stays n last s spent w interval in_time long res
     let same = same_interval w.interval n w.since (in_s.state_is ∙ sym su.state_is) ends in
     rest_apart closed n last rest w.since k (sym (ap closed same) ∙ w.closed_is) (omega arith) su_to
 
-spent_grows : (p : Problem) (nodes : List Node) (queue : List Entry) (new_nodes : List Node) (new_queue : List Entry) (stays : List Stay) (low : ℕ) (i : Interval) (t : ℕ) → Spreads p low nodes queue new_nodes new_queue → bound_at p (node_in i t) ≤ low
+spent_grows : (p : Problem) (nodes : List Node) (queue : List Entry) (new_nodes : List Node) (new_queue : List Entry) (stays : List Stay) (low index : ℕ) (i : Interval) (t : ℕ) → Spreads p low index nodes queue new_nodes new_queue → bound_at p (node_in i t) ≤ low
     → IsSpent p nodes queue stays i t → IsSpent p new_nodes new_queue stays i t
-spent_grows p nodes queue new_nodes new_queue stays low i t more below x =
+spent_grows p nodes queue new_nodes new_queue stays low index i t more below x =
     record {
       from = x.from;
       in_time = x.in_time;
@@ -265,13 +267,17 @@ spent_grows p nodes queue new_nodes new_queue stays low i t more below x =
       past = λ b n w. elim (more.only b n w) [ inl old ↦ x.past b n old | inr above ↦ omega arith ];
     }
 
+-- a node that is not at the start comes from an earlier one
+pub parent_within : (p : Problem) (nodes : List Node) (i : ℕ) → IsReached p nodes i (node_at nodes i) → 0 < (node_at nodes i).time → (node_at nodes i).parent < i
+parent_within p nodes i r late = elim r.comes [ inl s ↦ absurd (omega (arith, s.0)) | inr c ↦ c.earlier ]
+
 -- with the rest of its interval the node is expanded
 pub rest_kept : (p : Problem) (nodes : List Node) (queue : List Entry) (new_nodes : List Node) (new_queue : List Entry) (index : ℕ) (closed : Interval → Option ℕ) (stays : List Stay) (last : ℕ) → IsTold p nodes queue (Some index) closed stays → index < length nodes
-    → ((i : Interval) (t : ℕ) → closed i ≡ Some t → bound_at p (node_in i t) ≤ bound_at p (node_at nodes index)) → IsKept p new_nodes new_queue (Some index) → Spreads p (bound_at p (node_at nodes index)) nodes queue new_nodes new_queue → IsRest closed (node_at nodes index) last
+    → ((i : Interval) (t : ℕ) → closed i ≡ Some t → bound_at p (node_in i t) ≤ bound_at p (node_at nodes index)) → IsKept p new_nodes new_queue (Some index) → Spreads p (bound_at p (node_at nodes index)) index nodes queue new_nodes new_queue → IsRest closed (node_at nodes index) last
     → IsOnward p new_nodes (node_at nodes index) last → (IsEnd p.others p.via p.ends (node_at nodes index).time (state_of (node_at nodes index)) → ⊥) → IsKept p new_nodes new_queue None
 rest_kept p nodes queue new_nodes new_queue index closed stays last x within past kept more rest onward no_end =
     let n = node_at nodes index in
-    let grown : (i : Interval) (t : ℕ) → closed i ≡ Some t → IsSpent p new_nodes new_queue stays i t = λ i t is. spent_grows p nodes queue new_nodes new_queue stays (bound_at p n) i t more (past i t is) (x.spent i t is) in
+    let grown : (i : Interval) (t : ℕ) → closed i ≡ Some t → IsSpent p new_nodes new_queue stays i t = λ i t is. spent_grows p nodes queue new_nodes new_queue stays (bound_at p n) index i t more (past i t is) (x.spent i t is) in
     let done : IsExpanded p new_nodes n = record { onward = rest_onward p new_nodes new_queue closed stays n last grown rest onward; no_end = no_end } in
     kept_done p new_nodes new_queue index kept (subst (IsExpanded p new_nodes) (sym (grows_node nodes new_nodes index more.grows within)) done)
 
@@ -282,7 +288,7 @@ pub told_note : (p : Problem) (nodes : List Node) (queue : List Entry) (new_node
     → ((i : Interval) (t : ℕ) → closed i ≡ Some t → bound_at p (node_in i t) ≤ bound_at p (node_at nodes index))
     → ((b i : ℕ) → Waiting queue b i → bound_at p (node_at nodes index) ≤ b)
     → (IsEnd p.others p.via p.ends (node_at nodes index).time (state_of (node_at nodes index)) → ⊥)
-    → IsRest closed (node_at nodes index) last → Spreads p (bound_at p (node_at nodes index)) nodes queue new_nodes new_queue → IsOnward p new_nodes (node_at nodes index) last
+    → IsRest closed (node_at nodes index) last → Spreads p (bound_at p (node_at nodes index)) index nodes queue new_nodes new_queue → IsOnward p new_nodes (node_at nodes index) last
     → Notes closed new_closed (interval_of (node_at nodes index)) (node_at nodes index).time
     → IsTold p new_nodes new_queue None new_closed (stays ++ part_of (node_at nodes index) last ∷ [])
 told_note p nodes queue new_nodes new_queue index closed new_closed stays last x within all lead past least no_end rest more onward notes =
@@ -299,8 +305,8 @@ told_note p nodes queue new_nodes new_queue index closed new_closed stays last x
     let long : last ≤ n.until = last_within p nodes queue closed stays n last x.spent rest in
     let here : P one = λ k from to. node_reaches p nodes all (index + 1) index k (omega arith) within from (omega arith) in
     let same : (s : Stay) → Contains after s → Contains stays s ⊎ (one ≡ s) = λ s c. Contains-push_cases stays one s c in
-    let spent : (i : Interval) (t : ℕ) → closed i ≡ Some t → IsSpent p new_nodes new_queue after i t = λ i t is. spent_more p nodes queue new_nodes new_queue stays one (bound_at p n) i t more (past i t is) (x.spent i t is) in
-    let grown : (i : Interval) (t : ℕ) → closed i ≡ Some t → IsSpent p new_nodes new_queue stays i t = λ i t is. spent_grows p nodes queue new_nodes new_queue stays (bound_at p n) i t more (past i t is) (x.spent i t is) in
+    let spent : (i : Interval) (t : ℕ) → closed i ≡ Some t → IsSpent p new_nodes new_queue after i t = λ i t is. spent_more p nodes queue new_nodes new_queue stays one (bound_at p n) index i t more (past i t is) (x.spent i t is) in
+    let grown : (i : Interval) (t : ℕ) → closed i ≡ Some t → IsSpent p new_nodes new_queue stays i t = λ i t is. spent_grows p nodes queue new_nodes new_queue stays (bound_at p n) index i t more (past i t is) (x.spent i t is) in
     let now : IsSpent p new_nodes new_queue after (interval_of n) n.time = record {
       from = r.from;
       in_time = r.in_time;
@@ -335,6 +341,18 @@ told_note p nodes queue new_nodes new_queue index closed new_closed stays last x
           | inr still ↦ record { interval = w.interval; since = w.since; closed_is = still; state_is = w.state_is; from = w.from; to = w.to }
         ])
         | inr e ↦ subst W e (record { interval = interval_of n; since = n.time; closed_is = notes.here; state_is = refl; from = omega arith; to = long })
+      ];
+      begun = λ i b late. elim (cases_lt i (length nodes)) [
+        | inr new ↦ (let keeps = grows_node nodes new_nodes index more.grows within in
+            let time : n.time ≡ (node_at new_nodes (node_at new_nodes i).parent).time = ap (λ (m : Node). m.time) (sym keeps) ∙ ap (λ j. (node_at new_nodes j).time) (sym (more.parent i new b)) in
+            (one, Contains-push stays one, time))
+        | inl old ↦ (let keeps = grows_node nodes new_nodes i more.grows old in
+            let late_before : 0 < (node_at nodes i).time = subst (λ (m : Node). 0 < m.time) keeps late in
+            let before = x.begun i old late_before in
+            let child = parent_within p nodes i (all i old) late_before in
+            let time : (node_at nodes (node_at nodes i).parent).time ≡ (node_at new_nodes (node_at new_nodes i).parent).time =
+            ap (λ (m : Node). m.time) (sym (grows_node nodes new_nodes (node_at nodes i).parent more.grows (omega arith))) ∙ ap (λ (m : Node). (node_at new_nodes m.parent).time) (sym keeps) in
+            (before.0, Contains-append_left stays (one ∷ []) before.0 before.1, before.2 ∙ time))
       ];
       each = λ i b. elim (cases_lt i (length nodes)) [
         | inr new ↦ inr (inl (more.fresh i new b))
@@ -375,6 +393,7 @@ told_skip p nodes queue index closed stays x skip =
       once = x.once;
       spent = x.spent;
       within = x.within;
+      begun = x.begun;
       each = λ i b. elim (x.each i b) [
         | inl c ↦ inl c
         | inr d ↦ elim d [

@@ -47,8 +47,12 @@ pub record IsPast (closed : Interval → Option ℕ) (n : Node) : Type 0 where
   pub closed_is : closed (interval_of n) ≡ Some since
   pub from : since ≤ n.time
 
+-- one of the stays begins at this time
+abbrev pub IsBegun : List Stay → ℕ → Type 0
+IsBegun stays t = (s : Stay) × Contains stays s × (s.time ≡ t)
+
 -- each stay can be reached at all its times, may lead to the end of any tour, and is a part of an interval; each node's interval is expanded from its
--- time on, or it waits, or is the one that is being expanded
+-- time on, or it waits, or is the one that is being expanded; and a stay begins with each node that leads to another one
 pub record IsTold (p : Problem) (nodes : List Node) (queue : List Entry) (busy : Option ℕ) (closed : Interval → Option ℕ) (stays : List Stay) : Type 0 where
   pub reached : (s : Stay) → Contains stays s → (k : ℕ) → s.time ≤ k → k ≤ s.until → Reaches (Steps p.grid p.others p.via) p.start k (arrival s).state
   pub may_lead : (s : Stay) → Contains stays s → (q : List Cell) → IsTour p.grid p.others p.start.cell p.via p.ends q → total p.estimate s.time (arrival s).state ≤ last_index q
@@ -57,3 +61,4 @@ pub record IsTold (p : Problem) (nodes : List Node) (queue : List Entry) (busy :
   pub spent : (i : Interval) (t : ℕ) → closed i ≡ Some t → IsSpent p nodes queue stays i t
   pub within : (s : Stay) → Contains stays s → IsWithin closed s
   pub each : (i : ℕ) → i < length nodes → IsPast closed (node_at nodes i) ⊎ Waiting queue (bound_at p (node_at nodes i)) i ⊎ IsBusy busy i
+  pub begun : (i : ℕ) → i < length nodes → 0 < (node_at nodes i).time → IsBegun stays (node_at nodes (node_at nodes i).parent).time

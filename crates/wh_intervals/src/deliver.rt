@@ -9,7 +9,7 @@ ghost use Rattle.wh_resv.specs.Others.{MayRest};
 ghost use Rattle.wh_search.specs.Deliveries.{IsDelivery, IsLawful, IsLeast, IfNoPath, AreStops};
 ghost use Rattle.wh_search.specs.Fields.{AreFieldsOf};
 ghost use Rattle.wh_search.specs.Guides.{IsOnward};
-ghost use Rattle.wh_intervals.specs.Efforts.{IsSearch, IsEffort};
+ghost use Rattle.wh_intervals.specs.Efforts.{MovesAtMost, IsSearch, IsEffort, IsEnough};
 ghost use Rattle.wh_search.specs.Parkings.{IsParking, IsLeastParking};
 
 use crate::errand::{Errand, first_end};
@@ -39,6 +39,7 @@ fn find<'x, T: Occupancy>(
     requires stops { AreStops stops.now }
     requires fields { AreFieldsOf grid.now stops.now fields.now }
     ensures expanded { IfOk result (λ found. IfSome found (λ p. IsSearch grid.now (T.others others.now) loc stops.now fields.now (last_index p) expanded.new.items)) }
+    ensures moves { IfOk result (λ found. IfSome found (λ p. MovesAtMost p (length expanded.new.items))) }
     ensures found { IfOk result (λ found. MatchOption found
         ((q : List Cell) → IsDelivery grid.now (T.others others.now) loc stops.now q → ⊥)
         (λ p. IsLeast grid.now (T.others others.now) loc stops.now p)) }
@@ -98,7 +99,8 @@ pub fn deliver_by_intervals<'x, T: Occupancy>(
 /// How many arrivals, each of a cell, a time, a number of stops behind and a time up to which it
 /// may wait, have their successors made by `deliver_by_intervals` on these arguments; or its fault.
 /// They are those of a best-first search: each can be reached and may, by the fields, lead to a
-/// least path, and for all that may lead to a shorter one they stand. No two are in one interval.
+/// least path, and for all that may lead to a shorter one they stand. Of no state at any time do two
+/// stand. They are no fewer than the moves of some least path.
 pub fn interval_steps<'x, T: Occupancy>(
     alloc: Global,
     grid: &'x Grid,
@@ -112,6 +114,7 @@ pub fn interval_steps<'x, T: Occupancy>(
     requires stops { AreStops stops.now }
     requires fields { AreFieldsOf grid.now stops.now fields.now }
     ensures effort { IfOk result (λ n. IsEffort grid.now (T.others others.now) loc stops.now fields.now n) }
+    ensures enough { IfOk result (λ n. IsEnough grid.now (T.others others.now) loc stops.now n) }
     ensures none { IfNoPath result ((q : List Cell) → IsDelivery grid.now (T.others others.now) loc stops.now q → ⊥) }
 {
     let mut expanded = Vec::new(alloc);

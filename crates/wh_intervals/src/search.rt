@@ -9,7 +9,7 @@ ghost use Rattle.wh_search.specs.States.{IsEnd};
 ghost use Rattle.wh_search.specs.Tours.{IsTour, IsLeastTour};
 ghost use Rattle.wh_path.specs.Paths.{last_index};
 ghost use Rattle.wh_search.specs.Guides.{guide_estimate};
-ghost use Rattle.wh_intervals.specs.Efforts.{AreExpandedBy};
+ghost use Rattle.wh_intervals.specs.Efforts.{AreExpandedBy, MovesAtMost};
 ghost use Rattle.wh_intervals.specs.Nodes.{node_at, state_of, bound_at, total_at, IsKept};
 ghost use Rattle.wh_intervals.specs.Queues.{Waiting};
 ghost use Rattle.indexmap.specs.IndexMap.{get};
@@ -72,6 +72,7 @@ pub fn search<T: Occupancy>(
     requires errand { IsProblem (problem T.others errand.now) }
     requires clear { MayRest (T.others errand.now.others.now) errand.now.loc 0 }
     ensures expanded { IfOk result (λ found. IfSome found (λ p. AreExpandedBy errand.now.grid.now (T.others errand.now.others.now) errand.now.via.now errand.now.loc (guide_estimate errand.now.guide) errand.now.base errand.now.limit (last_index p) expanded.new.items)) }
+    ensures moves { IfOk result (λ found. IfSome found (λ p. MovesAtMost p (length expanded.new.items))) }
     ensures found { IfOk result (λ found. MatchOption found
         ((q : List Cell) → IsTour errand.now.grid.now (T.others errand.now.others.now) errand.now.loc errand.now.via.now errand.now.ends.now q → ⊥)
         (λ p. IsLeastTour errand.now.grid.now (T.others errand.now.others.now) errand.now.loc errand.now.via.now errand.now.ends.now p)) }
