@@ -1,43 +1,88 @@
 //! The search, guided by an estimate, for a least lawful path.
 #![tactic(auto)]
 
-ghost use Rattle.std.specs.Prelude.{◌≡◌, ℕ, ◌+◌, ◌<◌, ◌≤◌, ◌^◌, List, IfOk, IfSome, MatchOption, Option, Some, None, length};
+ghost use Rattle.std.specs.Prelude.{◌≡◌, ℕ, ◌+◌, ◌<◌, ◌≤◌, ◌^◌, List, OnOk, IfOk, IfSome, MatchOption, Option, Some, None, length, vec_len};
 ghost use Rattle.wh_grid.specs.declared.cell.Cell.{Cell};
 ghost use Rattle.wh_resv.specs.Others.{MayRest};
-ghost use Rattle.wh_search.specs.Frontiers.{problem, IsErrand};
+ghost use Rattle.wh_intervals.specs.Problems.{problem, IsProblem};
+ghost use Rattle.wh_search.specs.States.{IsEnd};
 ghost use Rattle.wh_search.specs.Tours.{IsTour, IsLeastTour};
 ghost use Rattle.wh_path.specs.Paths.{last_index};
 ghost use Rattle.wh_search.specs.Guides.{guide_estimate};
-ghost use Rattle.wh_intervals.specs.Efforts.{AreExpandedBy};
-ghost use Rattle.wh_intervals.specs.Nodes.{node_at, state_of, IsKept, IsTold};
+ghost use Rattle.wh_intervals.specs.Efforts.{AreExpandedBy, MovesAtMost};
+ghost use Rattle.wh_intervals.specs.Nodes.{node_at, state_of, bound_at, total_at, IsKept};
+ghost use Rattle.wh_intervals.specs.Queues.{Waiting};
+ghost use Rattle.indexmap.specs.IndexMap.{get};
+ghost use Rattle.wh_intervals.specs.Closings.{interval_eq};
+ghost use Rattle.wh_intervals.specs.Told.{node_in, IsTold};
+ghost use Rattle.wh_intervals.specs.declared.interval.Interval.{Interval as Span};
 
+use crate::closed::Closed;
+use crate::errand::Errand;
+use crate::interval::interval_of;
 use crate::states::States;
 use crate::stay::{Stay, stay_of};
 use crate::trail::walk_back;
 use std::alloc::{AllocError, Global};
 use wh_path::TimedPath;
-use wh_search::errand::Errand;
+use wh_timetable::Occupancy;
+
+/// Expands a node that was taken from the queue, for those times of its interval for which none is
+/// expanded yet.
+fn take<T: Occupancy>(
+    errand: &Errand<T>,
+    states: &mut States,
+    closed: &mut Closed,
+    expanded: &mut Vec<Stay>,
+    index: usize,
+) -> Result<(), AllocError>
+    requires errand { IsProblem (problem T.others errand.now) }
+    requires kept { IsKept (problem T.others errand.now) states.old.nodes.items states.old.queue (Some index) }
+    requires within { index < vec_len states.old.nodes }
+    requires told { IsTold (problem T.others errand.now) states.old.nodes.items states.old.queue (Some index) (get interval_eq closed.old.times) expanded.old.items }
+    requires first { (b i : ℕ) → Waiting states.old.queue b i → bound_at (problem T.others errand.now) (node_at states.old.nodes.items index) ≤ b }
+    requires past { (i : Span) (t : ℕ) → get interval_eq closed.old.times i ≡ Some t → bound_at (problem T.others errand.now) (node_in i t) ≤ bound_at (problem T.others errand.now) (node_at states.old.nodes.items index) }
+    requires may_lead { (q : List Cell) → IsTour errand.now.grid.now (T.others errand.now.others.now) errand.now.loc errand.now.via.now errand.now.ends.now q → total_at (problem T.others errand.now) (node_at states.old.nodes.items index) ≤ last_index q }
+    requires no_end { IsEnd (T.others errand.now.others.now) errand.now.via.now errand.now.ends.now (node_at states.old.nodes.items index).time (state_of (node_at states.old.nodes.items index)) → ⊥ }
+    ensures kept { OnOk result (IsKept (problem T.others errand.now) states.new.nodes.items states.new.queue None) }
+    ensures told { OnOk result (IsTold (problem T.others errand.now) states.new.nodes.items states.new.queue None (get interval_eq closed.new.times) expanded.new.items) }
+{
+    let node = states.nodes[index];
+    let last = match closed.since(interval_of(node)) {
+        None => node.until,
+        Some(since) => {
+            if since <= node.time {
+                return Ok(());
+            }
+            since - 1
+        }
+    };
+    states.expand(errand, index, u64::from(last))?;
+    closed.note(interval_of(node), node.time)?;
+    expanded.push(stay_of(node, last))?;
+    Ok(())
+}
 
 /// A least tour, or none where there is no tour; and what was expanded, whatever was there before.
-pub fn search(
+pub fn search<T: Occupancy>(
     alloc: Global,
-    errand: &Errand,
+    errand: &Errand<T>,
     expanded: &mut Vec<Stay>,
 ) -> Result<Option<TimedPath>, AllocError>
-    requires errand { IsErrand errand.now }
-    requires clear { MayRest errand.now.others.now errand.now.loc 0 }
-    ensures expanded { IfOk result (λ found. IfSome found (λ p. AreExpandedBy errand.now.grid.now errand.now.others.now errand.now.via.now errand.now.loc (guide_estimate errand.now.guide) errand.now.least (last_index p) expanded.new.items)) }
+    requires errand { IsProblem (problem T.others errand.now) }
+    requires clear { MayRest (T.others errand.now.others.now) errand.now.loc 0 }
+    ensures expanded { IfOk result (λ found. IfSome found (λ p. AreExpandedBy errand.now.grid.now (T.others errand.now.others.now) errand.now.via.now errand.now.loc (guide_estimate errand.now.guide) errand.now.base errand.now.limit (last_index p) expanded.new.items)) }
+    ensures moves { IfOk result (λ found. IfSome found (λ p. MovesAtMost p (length expanded.new.items))) }
     ensures found { IfOk result (λ found. MatchOption found
-        ((q : List Cell) → IsTour errand.now.grid.now errand.now.others.now errand.now.loc errand.now.via.now errand.now.ends.now q → ⊥)
-        (λ p. IsLeastTour errand.now.grid.now errand.now.others.now errand.now.loc errand.now.via.now errand.now.ends.now p)) }
+        ((q : List Cell) → IsTour errand.now.grid.now (T.others errand.now.others.now) errand.now.loc errand.now.via.now errand.now.ends.now q → ⊥)
+        (λ p. IsLeastTour errand.now.grid.now (T.others errand.now.others.now) errand.now.loc errand.now.via.now errand.now.ends.now p)) }
 {
     let left = errand.guide.estimate(errand.first, errand.loc);
     if left > errand.limit {
         return Ok(None);
     }
-    let base = errand.least.max(left);
-    let stride = (left as usize).min(4096) + 16;
-    let mut states = States::new(alloc, errand, base, stride)?;
+    let mut states = States::new(alloc);
+    let mut closed = Closed::empty(alloc);
     let _until = states.meet(errand, 0, errand.first, errand.loc, 0)?;
     expanded.clear();
     for _ in 0..u64::MAX {
@@ -48,8 +93,7 @@ pub fn search(
             let path = walk_back(alloc, errand, &states.nodes, index)?;
             return Ok(Some(path));
         }
-        expanded.push(stay_of(states.nodes[index]))?;
-        states.expand(errand, index)?;
+        take(errand, &mut states, &mut closed, expanded, index)?;
     }
     // not in practice: each round looks at one more of the nodes
     Err(AllocError)

@@ -17,8 +17,9 @@ use crate::guide::{Guide, onward_of};
 use crate::memory::{SearchMemory, settle};
 use crate::moment::count_once;
 use crate::search::search;
+use crate::stop::Stop;
 use crate::straight::search_straight;
-use std::alloc::{AllocError, Global};
+use std::alloc::Global;
 use wh_field::Field;
 use wh_grid::{Cell, Grid};
 use wh_path::TimedPath;
@@ -44,7 +45,7 @@ fn find<'x>(
     loc: Cell,
     stops: &'x [Cell],
     fields: &'x [Option<&'x Field>],
-) -> Result<Option<TimedPath>, AllocError>
+) -> Result<Option<TimedPath>, Stop>
     requires inside { IsPassable grid.now loc }
     requires clear { MayRest others.now loc 0 }
     requires stops { AreStops stops.now }
@@ -80,9 +81,9 @@ fn find<'x>(
         least: first_end(others, stops[last], soonest),
     };
     if straight {
-        search_straight(alloc, frontier, &errand)
+        search_straight(alloc, frontier, &errand, u64::MAX)
     } else {
-        search(alloc, frontier, &errand)
+        search(alloc, frontier, &errand, u64::MAX)
     }
 }
 

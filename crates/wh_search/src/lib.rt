@@ -15,11 +15,13 @@ pub mod queue;
 mod search;
 mod seen;
 mod sighted;
+mod stop;
 mod straight;
 mod trail;
 
 pub use fresh::deliver;
 pub use guided::{Fault, deliver_guided, deliver_in, guided_steps};
 pub use memory::{MOST_KEPT, SearchMemory};
-pub use parking::{park, park_in};
-pub use sighted::deliver_sighted;
+pub use parking::{park, park_in, park_within};
+pub use sighted::sighted_within;
+pub use stop::Stop;

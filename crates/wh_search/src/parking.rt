@@ -14,14 +14,15 @@ use crate::frontier::Frontier;
 use crate::guide::Guide;
 use crate::guided::Fault;
 use crate::memory::{SearchMemory, settle};
+use crate::stop::Stop;
 use crate::straight::search_straight;
-use std::alloc::{AllocError, Global};
+use std::alloc::Global;
 use wh_field::NearestField;
 use wh_grid::{Cell, Grid};
 use wh_path::TimedPath;
 use wh_resv::Reservations;
 
-/// A least path to one of the allowed cells, or none.
+/// A least path to one of the allowed cells, or none; it takes up only so many states.
 fn find_parking<'x>(
     alloc: Global,
     frontier: &mut Frontier,
@@ -29,7 +30,8 @@ fn find_parking<'x>(
     others: &'x Reservations<'x>,
     loc: Cell,
     allowed: &'x [Cell],
-) -> Result<Option<TimedPath>, AllocError>
+    most: u64,
+) -> Result<Option<TimedPath>, Stop>
     requires inside { IsPassable grid.now loc }
     requires clear { MayRest others.now loc 0 }
     ensures { IfOk result (λ found. MatchOption found
@@ -52,7 +54,7 @@ fn find_parking<'x>(
         exact: false,
         least: 0,
     };
-    search_straight(alloc, frontier, &errand)
+    search_straight(alloc, frontier, &errand, most)
 }
 
 /// A lawful path from loc to one of the allowed cells, with the least last index of all; it makes
@@ -90,11 +92,33 @@ pub fn park_in<'x>(
     ensures none { IfNoPath result ((q : List Cell) → IsParking grid.now others.now loc allowed.now q → ⊥) }
 {
     let frontier = &mut memory.frontier;
-    let found = find_parking(alloc, frontier, grid, others, loc, allowed);
+    let found = find_parking(alloc, frontier, grid, others, loc, allowed, u64::MAX);
     settle(alloc, frontier);
     match found {
         Ok(Some(path)) => Ok(path),
         Ok(None) => Err(Fault::NoPath),
         Err(_) => Err(Fault::NoMemory),
     }
+}
+
+/// As `park_in`, taking up no more than so many states; none where no path parks.
+pub fn park_within<'x>(
+    alloc: Global,
+    memory: &mut SearchMemory,
+    grid: &'x Grid,
+    others: &'x Reservations<'x>,
+    loc: Cell,
+    allowed: &'x [Cell],
+    most: u64,
+) -> Result<Option<TimedPath>, Stop>
+    requires inside { IsPassable grid.now loc }
+    requires clear { MayRest others.now loc 0 }
+    ensures { IfOk result (λ found. MatchOption found
+        ((q : List Cell) → IsParking grid.now others.now loc allowed.now q → ⊥)
+        (λ p. IsLeastParking grid.now others.now loc allowed.now p)) }
+{
+    let frontier = &mut memory.frontier;
+    let found = find_parking(alloc, frontier, grid, others, loc, allowed, most);
+    settle(alloc, frontier);
+    found
 }

@@ -12,17 +12,20 @@ ghost use Rattle.wh_search.specs.Tours.{IsTour, IsLeastTour};
 
 use crate::errand::Errand;
 use crate::frontier::{Frontier, node_of};
+use crate::stop::Stop;
 use crate::trail::walk_back;
-use std::alloc::{AllocError, Global};
+use std::alloc::Global;
 use wh_path::TimedPath;
 
-/// A least tour, or none where there is no tour. The frontier has the states that were expanded;
-/// what it held before does not matter.
+/// A least tour, or none where there is no tour; `TooMany` where it would have to take up more than so
+/// many states, or to go on to bounds that are greater than the first by more than a sixteenth of that, since each
+/// of them has bins of its own. The frontier has the states that were expanded; what it held before does not matter.
 pub fn search(
     alloc: Global,
     frontier: &mut Frontier,
     errand: &Errand,
-) -> Result<Option<TimedPath>, AllocError>
+    most: u64,
+) -> Result<Option<TimedPath>, Stop>
     requires errand { IsErrand errand.now }
     requires clear { MayRest errand.now.others.now errand.now.loc 0 }
     ensures expanded { IfOk result (λ found. IfSome found (λ p. AreExpanded errand.now.grid.now errand.now.others.now errand.now.via.now errand.now.loc (guide_estimate errand.now.guide) errand.now.least (last_index p) frontier.new.expanded.items)) }
@@ -36,15 +39,18 @@ pub fn search(
     frontier.restart(base, stride)?;
     let start = node_of(0, errand.first, errand.loc, 0)?;
     frontier.meet(errand, start, left)?;
-    for _ in 0..u64::MAX {
+    for _ in 0..most {
         let Some((bound, index)) = frontier.queue.pop() else {
             return Ok(None);
         };
+        if bound.saturating_sub(base) > most / 16 {
+            return Err(Stop::TooMany);
+        }
         if frontier.is_end(errand, index) {
             let path = walk_back(alloc, errand, &frontier.nodes, index)?;
             return Ok(Some(path));
         }
         frontier.expand(errand, index, bound)?;
     }
-    Err(AllocError)
+    Err(Stop::TooMany)
 }

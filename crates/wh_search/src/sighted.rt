@@ -5,23 +5,23 @@ ghost use Rattle.std.specs.Prelude.{◌≡◌, ℕ, ◌+◌, ◌-◌, ◌*◌, �
 ghost use Rattle.wh_grid.specs.declared.cell.Cell.{Cell};
 ghost use Rattle.wh_grid.specs.Grids.{IsPassable};
 ghost use Rattle.wh_resv.specs.Others.{MayRest};
-ghost use Rattle.wh_path.specs.Paths.{last_index};
-ghost use Rattle.wh_search.specs.Deliveries.{IsDelivery, IsLawful, IsLeast, IfNoPath, AreStops};
+ghost use Rattle.wh_search.specs.Deliveries.{IsDelivery, IsLeast, AreStops};
 ghost use Rattle.wh_search.specs.Sights.{AreSightsOf, IsOnwardBySights};
 
 use crate::errand::{Errand, arrive, first_end};
 use crate::frontier::Frontier;
 use crate::guide::{Guide, onward_by_sights};
-use crate::guided::Fault;
 use crate::memory::{SearchMemory, settle};
+use crate::stop::Stop;
 use crate::straight::search_straight;
-use std::alloc::{AllocError, Global};
+use std::alloc::Global;
 use wh_field::Sight;
 use wh_grid::{Cell, Grid};
 use wh_path::TimedPath;
 use wh_resv::Reservations;
 
-/// A least path, or none where there is no delivery. It looks for a straight one first.
+/// A least path, or none where there is no delivery. It looks for a straight one first, and takes up only
+/// so many states.
 fn find_sighted<'x>(
     alloc: Global,
     frontier: &mut Frontier,
@@ -30,7 +30,8 @@ fn find_sighted<'x>(
     loc: Cell,
     stops: &'x [Cell],
     sights: &'x [Option<Sight<'x>>],
-) -> Result<Option<TimedPath>, AllocError>
+    most: u64,
+) -> Result<Option<TimedPath>, Stop>
     requires inside { IsPassable grid.now loc }
     requires clear { MayRest others.now loc 0 }
     requires stops { AreStops stops.now }
@@ -64,12 +65,12 @@ fn find_sighted<'x>(
         exact: true,
         least: first_end(others, stops[last], soonest),
     };
-    search_straight(alloc, frontier, &errand)
+    search_straight(alloc, frontier, &errand, most)
 }
 
-/// As `deliver_in`, guided by fields that are filled up to a level. A level may make the search
-/// longer, never the path.
-pub fn deliver_sighted<'x>(
+/// A least path through the stops, guided by fields that are filled up to a level, or none where no path
+/// delivers; it takes up no more than so many states. A level may make the search longer, never the path.
+pub fn sighted_within<'x>(
     alloc: Global,
     memory: &mut SearchMemory,
     grid: &'x Grid,
@@ -77,21 +78,18 @@ pub fn deliver_sighted<'x>(
     loc: Cell,
     stops: &'x [Cell],
     sights: &'x [Option<Sight<'x>>],
-) -> Result<TimedPath, Fault>
+    most: u64,
+) -> Result<Option<TimedPath>, Stop>
     requires inside { IsPassable grid.now loc }
     requires clear { MayRest others.now loc 0 }
     requires stops { AreStops stops.now }
     requires sights { AreSightsOf grid.now stops.now sights.now }
-    ensures lawful { IfOk result (λ p. IsLawful grid.now others.now loc stops.now p) }
-    ensures least { IfOk result (λ p. (q : List Cell) → IsDelivery grid.now others.now loc stops.now q → last_index p ≤ last_index q) }
-    ensures none { IfNoPath result ((q : List Cell) → IsDelivery grid.now others.now loc stops.now q → ⊥) }
+    ensures { IfOk result (λ found. MatchOption found
+        ((q : List Cell) → IsDelivery grid.now others.now loc stops.now q → ⊥)
+        (λ p. IsLeast grid.now others.now loc stops.now p)) }
 {
     let frontier = &mut memory.frontier;
-    let found = find_sighted(alloc, frontier, grid, others, loc, stops, sights);
+    let found = find_sighted(alloc, frontier, grid, others, loc, stops, sights, most);
     settle(alloc, frontier);
-    match found {
-        Ok(Some(path)) => Ok(path),
-        Ok(None) => Err(Fault::NoPath),
-        Err(_) => Err(Fault::NoMemory),
-    }
+    found
 }
