@@ -86,12 +86,10 @@ came-further d agent step o new result came far ok err =
       represents = may.1;
     }
 
-pub has-arrived : (d : Drive) (agent last step : ℕ) (o : Order) → Came d agent last o → last ≡ max (reached d agent) step → HasArrived d agent step o
+pub has-arrived : (d : Drive) (agent last step : ℕ) (o : Order) (came : Came d agent last o) → last ≡ max (reached d agent) step → HasArrived d agent step came.end
 has-arrived d agent last step o came is = record {
   events = came.events;
   only = came.only;
-  end = came.end;
   run = came.run;
   reached_is = came.reached_is ∙ is;
-  represents = came.represents;
 }

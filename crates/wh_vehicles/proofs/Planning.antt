@@ -22,11 +22,11 @@ use Rattle.wh_drive.specs.Runs.{Start, Arrive, Tick, Run as RunOfDrive, Step as 
 use Rattle.wh_drive.proofs.Vehicles.{idle}
 use Rattle.wh_vehicles.specs.Plans.{places, HasComeTo, EachStepMayBeTaken, Happening, Done, Goes, Comes, taken, Fleet, AllHappen, IsOpening, entries_of, IsCarriedOut, EachRunIsAPlan, row_of, rows_of, RowsAreTheTicks}
 
-size : (s : State) → length (places s) ≡ length s.paths
+pub size : (s : State) → length (places s) ≡ length s.paths
 size s = length-map s.paths (λ path. at path 0)
 
 -- the cell at an agent's place is where the agent is
-at-place : (s : State) (i : ℕ) → i < length s.paths → cell_at (places s) i ≡ place_of s.paths i
+pub at-place : (s : State) (i : ℕ) → i < length s.paths → cell_at (places s) i ≡ place_of s.paths i
 at-place s i h = get_or-map (λ path. at path 0) s.paths i [] origin h
 
 -- the run that has led to the state, and one step more
@@ -82,7 +82,7 @@ same-places old new count same =
     get_or_default (places new) k d origin (omega arith) ∙ at-place new k l ∙ same k l' ∙ sym (at-place old k l') ∙ get_or_default (places old) k origin d (omega arith))
 
 -- where the reply tells no clock, all agents stay where they are
-abbrev IsNoClock : Reply → Type 0
+abbrev pub IsNoClock : Reply → Type 0
 IsNoClock (Reply.Clock now first last) = ⊥
 IsNoClock reply = Unit {0}
 
@@ -183,7 +183,7 @@ carried-event site before old event next new r step same come =
       come = come;
     })
 
-carried : (site : Site) (before : List Entry) (old : Fleet) (happenings : List Happening) (new : Fleet) → IsCarriedOut site before old →
+pub carried : (site : Site) (before : List Entry) (old : Fleet) (happenings : List Happening) (new : Fleet) → IsCarriedOut site before old →
     AllHappen site old happenings new → IsCarriedOut site (before ++ entries_of happenings) new
 carried site before old [] new r run =
     subst (λ f. IsCarriedOut site (before ++ []) f) (sym run) (subst (λ es. IsCarriedOut site es old) (sym (append-nil before)) r)
@@ -201,7 +201,7 @@ carried site before old (Comes agent step ∷ happenings) new r run =
     carried site before run.0 happenings new (carried-event site before old (Arrive agent step) (arrived agent d) run.0 r (run.1.0, refl) run.1.1 come) run.2
 
 -- at the opening
-carried-opening : (site : Site) (fleet : Fleet) → IsOpening site fleet → IsCarriedOut site [] fleet
+pub carried-opening : (site : Site) (fleet : Fleet) → IsOpening site fleet → IsCarriedOut site [] fleet
 carried-opening site fleet o =
     let s = fleet.state in
     let reached : IsReachedState site [] s = record { opening = s; is_opening = o.state; run = refl } in

@@ -2,7 +2,7 @@
 use Rattle.std.specs.Prelude.{◌≡◌, ℕ, ◌-◌, ◌<◌, ◌≤◌, max, List, [], ◌∷◌, length}
 use Rattle.wh_drive.specs.Drives.{Drive, reached, told}
 use Rattle.wh_drive.specs.Runs.{Event, Start, Arrive, Tick, Run}
-use Rattle.wh_order.specs.Orders.{Order, Represents, reached_of, IsFurthestBack}
+use Rattle.wh_order.specs.Orders.{Order, reached_of, IsFurthestBack}
 use Rattle.wh_vehicles.specs.declared.report.Report.{Report}
 use Rattle.wh_vehicles.specs.declared.notice.Notice.{Notice}
 use Rattle.wh_vehicles.specs.declared.notice.Notice.TheVariants.{Arrived, Visited, Go, Behind, UnknownAgent, NotTold}
@@ -15,25 +15,23 @@ OnlyArrives agent (Start other ∷ events) = ⊥
 OnlyArrives agent (Tick cells ∷ events) = ⊥
 
 -- The vehicle has arrived at each step up to this one; if it had come as far before, nothing has happened.
-pub record HasArrived (d : Drive) (agent step : ℕ) (o : Order) : Type 0 where
+pub record HasArrived (old : Drive) (agent step : ℕ) (new : Drive) : Type 0 where
   pub events : List Event
   pub only : OnlyArrives agent events
-  pub end : Drive
-  pub run : Run d events end
-  pub reached_is : reached end agent ≡ max (reached d agent) step
-  pub represents : Represents o end
+  pub run : Run old events new
+  pub reached_is : reached new agent ≡ max (reached old agent) step
 
 -- What a report is answered, and where it leads: of an agent that is unknown or a step that was not told nothing changes;
 -- of a step that was told the vehicle has arrived there, and so at each step before.
-abbrev pub AnswersReport : Drive → Report → Notice → Order → Type 0
-AnswersReport d r (UnknownAgent agent) o = (agent ≡ r.agent) × (length d.vehicles ≤ r.agent) × Represents o d
-AnswersReport d r (NotTold agent step) o =
-    (agent ≡ r.agent) × (step ≡ r.step) × (r.agent < length d.vehicles) × (told d r.agent < r.step) × Represents o d
-AnswersReport d r (Arrived agent step) o =
-    (agent ≡ r.agent) × (step ≡ r.step) × (r.agent < length d.vehicles) × (r.step ≤ told d r.agent) × HasArrived d r.agent r.step o
-AnswersReport d r (Visited agent task visit) o = ⊥
-AnswersReport d r (Go agent step cell) o = ⊥
-AnswersReport d r (Behind agent steps) o = ⊥
+abbrev pub AnswersReport : Drive → Report → Notice → Drive → Type 0
+AnswersReport old r (UnknownAgent agent) new = (agent ≡ r.agent) × (length old.vehicles ≤ r.agent) × (new ≡ old)
+AnswersReport old r (NotTold agent step) new =
+    (agent ≡ r.agent) × (step ≡ r.step) × (r.agent < length old.vehicles) × (told old r.agent < r.step) × (new ≡ old)
+AnswersReport old r (Arrived agent step) new =
+    (agent ≡ r.agent) × (step ≡ r.step) × (r.agent < length old.vehicles) × (r.step ≤ told old r.agent) × HasArrived old r.agent r.step new
+AnswersReport old r (Visited agent task visit) new = ⊥
+AnswersReport old r (Go agent step cell) new = ⊥
+AnswersReport old r (Behind agent steps) new = ⊥
 
 -- The vehicle of whom none is further behind is so many steps behind, and that is the bound or more.
 abbrev pub TellsLate : Order → ℕ → Notice → Type 0

@@ -43,4 +43,5 @@ returns c = λ d r.
     let since = c.loop-step.auto.step in
     let most = c.loop-step.invariant.no_further in
     let last : c.loop-step.step ≡ max (reached d agent) c.args.report.step = omega arith in
-    (refl, refl, known, was_told, has-arrived d agent c.loop-step.step c.args.report.step c.loop-step.order (c.loop-step.invariant.came d r) last)
+    let came = c.loop-step.invariant.came d r in
+    (came.end, (refl, refl, known, was_told, has-arrived d agent c.loop-step.step c.args.report.step c.loop-step.order came last), came.represents)
