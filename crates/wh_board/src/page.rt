@@ -52,6 +52,13 @@ impl Page {
         }
     }
 
+    /// What is known of the past that it shows.
+    pub(crate) fn front(&self) -> &Front
+        ensures { result.now ≡ self.now }
+    {
+        &self.front
+    }
+
     /// What is shown.
     pub fn board(&self) -> Board
         ensures { IsBoardOf self.now.past result }

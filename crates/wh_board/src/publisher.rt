@@ -100,10 +100,11 @@ impl<R: Wait + Drop> Publisher<R> {
         })
     }
 
-    /// What was added so far.
+    /// What was added so far. What was published last is a beginning of it.
     pub fn front(&self) -> &Front
         ensures book { result.now.book ≡ self.now.book }
         ensures past { result.now.past ≡ self.now.added }
+        ensures begins { Extends self.now.shown self.now.added }
     {
         &self.front
     }
@@ -116,6 +117,17 @@ impl<R: Wait + Drop> Publisher<R> {
         ensures added { MatchBool result (self.new.added ≡ grown self.old.added entry.now) (self.new.added ≡ self.old.added) }
     {
         self.front.add(&self.count, book, entry)
+    }
+
+    /// Goes back to what was known before, where an entry was added and then not committed. Nothing is added from then on.
+    pub fn go_back(&mut self, before: Front)
+        requires book { before.book ≡ self.old.book }
+        requires shown { Extends self.old.shown before.past }
+        ensures book { self.new.book ≡ self.old.book }
+        ensures shown { self.new.shown ≡ self.old.shown }
+        ensures added { self.new.added ≡ before.past }
+    {
+        self.front = before;
     }
 
     /// Publishes the board of the warehouse's book, which may have several entries more than what was added. It may wait
@@ -176,9 +188,23 @@ impl Told {
     {
         self.page.board()
     }
+
+    /// The past that was published, to be compared with what others know.
+    pub fn front(&self) -> &Front
+        ensures { result.now ≡ self.now }
+    {
+        self.page.front()
+    }
 }
 
 impl Viewer {
+    /// The past that it knows, to be compared with what others know: of two pasts of one book one extends the other.
+    pub fn front(&self) -> &Front
+        ensures { result.now ≡ self.now }
+    {
+        self.known.front()
+    }
+
     /// The longest board that it saw or learnt. It waits for nobody, also once the publisher is gone.
     pub fn look(&mut self) -> Board
         ensures board { IsBoardOf self.new.past result }
