@@ -3,7 +3,7 @@
 # Markdown: the machine, its load, then a table of the least of several runs. docs/PERFORMANCE.md keeps what it printed.
 # Where there is a g++, the unproved peer in tools/peer runs the three warehouses too.
 #
-#   tools/bench.sh [all|parts|runs]        RUNS=5 tools/bench.sh runs
+#   tools/bench.sh [all|parts|runs|floods]        RUNS=5 tools/bench.sh runs
 #
 # The parts want valgrind, and each of their runs is made once. It builds what is not built. Run it on a machine that does
 # nothing else; instructions do not depend on that.
@@ -140,9 +140,26 @@ whole_runs() {
     fi
 }
 
+# Requests that were dear, of growing sizes (tools/floods.py).
+floods() {
+    instances    # so that the program is built
+    echo
+    echo '| Instance | Options | Lines | Tasks taken | No path | Seconds | Memory, MB | Status |'
+    echo '|---|---|---|---|---|---|---|---|'
+    local words
+    for words in 'stops 64 5 2' 'stops 64 8 2' 'stops 128 5 2' 'unreachable 64 5' 'door 64 4' 'door 128 4' 'door 256 4' 'hall 100 80' \
+        'hall 200 150' 'hall 400 300' 'late 40 3 1' 'late 60 7 1' 'late 100 7 1' 'late 100 7 0' 'beside 100 7' 'beside 800 7' \
+        'ring 201 101' 'ring 401 201' 'ring 1001 301'; do
+        # shellcheck disable=SC2086
+        python3 "$root/tools/floods.py" $words > "$folder/flood"
+        row "$words" "$folder/flood" replay --planner near
+    done
+}
+
 case $what in
-    all) machine; parts; whole_runs ;;
+    all) machine; parts; whole_runs; floods ;;
     parts) machine; parts ;;
     runs) machine; whole_runs ;;
-    *) echo "bench.sh: all, parts or runs" >&2; exit 2 ;;
+    floods) machine; floods ;;
+    *) echo "bench.sh: all, parts, runs or floods" >&2; exit 2 ;;
 esac

@@ -31,6 +31,10 @@ class Reservations {
     std::vector<uint32_t> marks_;
     uint32_t mask_ = 0;
     uint32_t self_ = 0, horizon_ = 0, soonest_ = 0;
+    struct Span {
+        uint32_t first, last;
+    };
+    std::vector<Span> spans_;    // of each cell; some share one
 
 public:
     std::vector<PathView> views;
@@ -67,6 +71,38 @@ public:
         return LIKELY(!nofollow_) || (is_vacant(to, time) && is_vacant(from, time + 1));
     }
 
+    // Notes between which times each cell is passed, for free_until.
+    void note_spans() {
+        size_t visits = 0;
+        for (const PathView& view : views) visits += view.last;
+        spans_.assign(table_size(visits), {NONE, 0});
+        for (uint32_t agent = 0; agent < views.size(); ++agent) {
+            if (agent == self_) continue;
+            for (uint32_t time = 0; time <= views[agent].last; ++time) {
+                Span& span = spans_[span_of(views[agent].cells[time])];
+                span.first = std::min(span.first, time);
+                span.last = std::max(span.last, time);
+            }
+        }
+    }
+
+    // The last time up to which nobody is at a cell, where nobody is now; NONE where nobody ever comes again.
+    uint32_t free_until(uint32_t cell, uint32_t time) const {
+        const Span& span = spans_[span_of(cell)];
+        if (span.first != 0) time = std::max(time, span.first - 1);
+        for (const uint32_t last = std::min(span.last, horizon_); time < last; ++time)
+            if (!is_vacant(cell, time + 1)) return time;
+        return NONE;
+    }
+
+    // The first time from this one on at which nobody is at a cell; NONE where somebody always is.
+    uint32_t next_free(uint32_t cell, uint32_t time) const {
+        if (is_vacant(cell, time)) return time;
+        for (; time < horizon_; ++time)
+            if (is_vacant(cell, time + 1)) return time + 1;
+        return NONE;
+    }
+
     // From when on nobody else is at a cell where no other ends.
     uint32_t rest_from(uint32_t cell) const {
         uint32_t free = 0;
@@ -91,6 +127,8 @@ private:
             if (visits <= size[0]) return size[1];
         return 131072;
     }
+
+    uint32_t span_of(uint32_t cell) const { return (cell * 2654435761u >> 12) & uint32_t(spans_.size() - 1); }
 
     void clear_marks(size_t visits) {
         const size_t size = table_size(visits);

@@ -1,9 +1,11 @@
 // The search for a least path over places and times, round the paths of all others: the straight pass, and where that
-// finds none best first, guided by the same estimates. Of several least paths the one must be found that the product
+// finds none best first, guided by the same estimates: over single times, or where that takes up too many states over
+// intervals. Of several least paths the one must be found that the product
 // finds, as all later replies depend on it: main.cpp says by which rules.
 #pragma once
 
 #include "check.hpp"
+#include "intervals.hpp"
 #include "states.hpp"
 #include "straight.hpp"
 
@@ -14,12 +16,17 @@ class Search {
     Straight straight_;
     States states_;
     Waiting waiting_;
+    Intervals intervals_;
+    // So many states at most are taken up over single times, and no bound is looked at that is beyond the first by more
+    // than so much: what wants more is searched for over intervals.
+    static constexpr uint32_t MOST_TIMES = 16384, MOST_BEYOND = MOST_TIMES / 32;
+    enum class Found { Path, None, TooMany };
 
 public:
     std::vector<uint32_t> path;    // the last that was found
 
     Search(const Site& site, const PathEnds& ends)
-        : site_(site), reservations_(ends, site.nofollow), errand_(reservations_), straight_(site.grid) {}
+        : site_(site), reservations_(ends, site.nofollow), errand_(reservations_), straight_(site.grid), intervals_(site.grid) {}
 
     std::vector<PathView>& views() { return reservations_.views; }
 
@@ -51,25 +58,31 @@ private:
             if (straight_.find(errand_, start, first, whole, path)) return true;
             least = whole + 1;
         }
-        return look_best_first(start, first, whole, least);
+        const Found found = look_best_first(start, first, whole, least);
+        if (found != Found::TooMany) return found == Found::Path;
+        reservations_.note_spans();
+        return intervals_.find(errand_, start, first, std::max(least, whole + 1), path);
     }
 
-    bool look_best_first(uint32_t start, uint32_t first, uint32_t left, uint32_t least) {
+    Found look_best_first(uint32_t start, uint32_t first, uint32_t left, uint32_t least) {
         waiting_.begin(std::max(least, left), left);
         states_.begin(reservations_.horizon());
         const uint64_t hash = states_.hash_of(0, first, start);
         size_t place = 0;
         states_.is_known(0, first, start, hash, place);
         meet({start, first, 0, NONE}, left, hash, place);
-        for (Waiting::Entry entry; waiting_.pop(entry);) {
+        Waiting::Entry entry;
+        for (uint32_t taken = 0; taken < MOST_TIMES; ++taken) {
+            if (!waiting_.pop(entry)) return Found::None;
+            if (entry.bound > std::max(least, left) + MOST_BEYOND) return Found::TooMany;
             const State& state = states_[entry.state];
             if (errand_.is_end(state.leg, state.cell, state.time)) {
                 trace(entry.state);
-                return true;
+                return Found::Path;
             }
             expand(entry.state, entry.bound);
         }
-        return false;
+        return Found::TooMany;
     }
 
     void meet(const State& state, uint32_t left, uint64_t hash, size_t place) {

@@ -158,7 +158,7 @@ fn find_by<'x, T: Occupancy>(
 }
 
 /// A least path to one of the allowed cells, or none; it makes the field of them all.
-pub fn find_parking<T: Occupancy>(
+fn find_parking<T: Occupancy>(
     alloc: Global,
     grid: &Grid,
     others: &T,

@@ -8,17 +8,18 @@ ghost use Rattle.wh_resv.specs.Others.{MayRest};
 ghost use Rattle.wh_search.specs.Deliveries.{IfNoPath};
 ghost use Rattle.wh_search.specs.Parkings.{IsParking, IsLeastParking};
 
-use crate::deliver::find_parking;
-use crate::sighted::MOST_TIMES;
+use crate::both::search_both;
 use std::alloc::{AllocError, Global};
+use wh_field::NearestField;
 use wh_grid::{Cell, Grid};
 use wh_path::TimedPath;
 use wh_resv::Reservations;
-use wh_search::{Fault, SearchMemory, Stop, park_within};
+use wh_search::errand::Errand;
+use wh_search::guide::Guide;
+use wh_search::{Fault, SearchMemory};
 
-/// A least path to one of the allowed cells, or none: by a search over single times where that takes up few states, else
-/// by one over intervals.
-fn find<'x>(
+/// A least path to one of the allowed cells, or none.
+fn find_nearest<'x>(
     alloc: Global,
     memory: &mut SearchMemory,
     grid: &'x Grid,
@@ -32,11 +33,23 @@ fn find<'x>(
         ((q : List Cell) → IsParking grid.now others.now loc allowed.now q → ⊥)
         (λ p. IsLeastParking grid.now others.now loc allowed.now p)) }
 {
-    match park_within(alloc, memory, grid, others, loc, allowed, MOST_TIMES) {
-        Ok(found) => Ok(found),
-        Err(Stop::NoMemory) => Err(AllocError),
-        Err(Stop::TooMany) => find_parking(alloc, grid, others, loc, allowed),
-    }
+    let field = NearestField::from(alloc, grid, allowed)?;
+    let horizon = others.horizon();
+    let errand = Errand {
+        grid,
+        others,
+        loc,
+        via: &[],
+        ends: allowed,
+        guide: Guide::Nearest { field: &field },
+        first: 0,
+        horizon,
+        limit: horizon + u64::from(grid.cells()),
+        soonest: 0,
+        exact: false,
+        least: 0,
+    };
+    search_both(alloc, memory, &errand)
 }
 
 /// A lawful path from loc to one of the allowed cells, with the least last index of all; it makes the field of them all,
@@ -55,7 +68,7 @@ pub fn park_in<'x>(
     ensures least { IfOk result (λ p. IsLeastParking grid.now others.now loc allowed.now p) }
     ensures none { IfNoPath result ((q : List Cell) → IsParking grid.now others.now loc allowed.now q → ⊥) }
 {
-    match find(alloc, memory, grid, others, loc, allowed) {
+    match find_nearest(alloc, memory, grid, others, loc, allowed) {
         Ok(Some(path)) => Ok(path),
         Ok(None) => Err(Fault::NoPath),
         Err(_) => Err(Fault::NoMemory),

@@ -4,43 +4,38 @@
 ghost use Rattle.std.specs.Prelude.{◌≡◌, ℕ, ◌+◌, ◌-◌, ◌*◌, ◌<◌, ◌≤◌, ◌^◌, List, IfOk, MatchOption, length};
 ghost use Rattle.wh_grid.specs.declared.cell.Cell.{Cell};
 ghost use Rattle.wh_grid.specs.Grids.{IsPassable};
-ghost use Rattle.wh_path.specs.Paths.{last_index};
 ghost use Rattle.wh_resv.specs.Others.{MayRest};
+ghost use Rattle.wh_path.specs.Paths.{last_index};
 ghost use Rattle.wh_search.specs.Deliveries.{IsDelivery, IsLawful, IsLeast, IfNoPath, AreStops};
 ghost use Rattle.wh_search.specs.Sights.{AreSightsOf, IsOnwardBySights};
 
-use crate::errand::{Errand, first_end};
-use crate::search::search;
+use crate::both::search_both;
 use std::alloc::{AllocError, Global};
 use wh_field::Sight;
 use wh_grid::{Cell, Grid};
 use wh_path::TimedPath;
 use wh_resv::Reservations;
-use wh_search::errand::arrive;
+use wh_search::errand::{Errand, arrive, first_end};
 use wh_search::guide::{Guide, onward_by_sights};
-use wh_search::{Fault, SearchMemory, Stop, sighted_within};
-use wh_timetable::Occupancy;
+use wh_search::{Fault, SearchMemory};
 
-/// How many states a search over single times takes up at most, before one over intervals begins. A search of so few is
-/// quicker over times, as it asks less about each state; and so many take a few milliseconds and MB.
-pub const MOST_TIMES: u64 = 8192;
-
-/// A least path, or none where there is no delivery, by a search over intervals.
-fn find_sighted<'x, T: Occupancy>(
+/// A least path, or none where there is no delivery.
+fn find_sighted<'x>(
     alloc: Global,
+    memory: &mut SearchMemory,
     grid: &'x Grid,
-    others: &'x T,
+    others: &'x Reservations<'x>,
     loc: Cell,
     stops: &'x [Cell],
     sights: &'x [Option<Sight<'x>>],
 ) -> Result<Option<TimedPath>, AllocError>
     requires inside { IsPassable grid.now loc }
-    requires clear { MayRest (T.others others.now) loc 0 }
+    requires clear { MayRest others.now loc 0 }
     requires stops { AreStops stops.now }
     requires sights { AreSightsOf grid.now stops.now sights.now }
     ensures found { IfOk result (λ found. MatchOption found
-        ((q : List Cell) → IsDelivery grid.now (T.others others.now) loc stops.now q → ⊥)
-        (λ p. IsLeast grid.now (T.others others.now) loc stops.now p)) }
+        ((q : List Cell) → IsDelivery grid.now others.now loc stops.now q → ⊥)
+        (λ p. IsLeast grid.now others.now loc stops.now p)) }
 {
     let Some(soonest) = others.not_before(stops[stops.len() - 1]) else {
         return Ok(None);
@@ -61,36 +56,13 @@ fn find_sighted<'x, T: Occupancy>(
             onward: &onward,
         },
         first: arrive(via, 0, loc),
+        horizon,
         limit: horizon + stops.len() as u64 * u64::from(grid.cells()),
-        base: first_end(others, stops[last], soonest),
+        soonest,
+        exact: true,
+        least: first_end(others, stops[last], soonest),
     };
-    let mut expanded = Vec::new(alloc);
-    search(alloc, &errand, &mut expanded)
-}
-
-/// The same, by a search over single times where that takes up few states.
-fn find<'x>(
-    alloc: Global,
-    memory: &mut SearchMemory,
-    grid: &'x Grid,
-    others: &'x Reservations<'x>,
-    loc: Cell,
-    stops: &'x [Cell],
-    sights: &'x [Option<Sight<'x>>],
-) -> Result<Option<TimedPath>, AllocError>
-    requires inside { IsPassable grid.now loc }
-    requires clear { MayRest others.now loc 0 }
-    requires stops { AreStops stops.now }
-    requires sights { AreSightsOf grid.now stops.now sights.now }
-    ensures found { IfOk result (λ found. MatchOption found
-        ((q : List Cell) → IsDelivery grid.now others.now loc stops.now q → ⊥)
-        (λ p. IsLeast grid.now others.now loc stops.now p)) }
-{
-    match sighted_within(alloc, memory, grid, others, loc, stops, sights, MOST_TIMES) {
-        Ok(found) => Ok(found),
-        Err(Stop::NoMemory) => Err(AllocError),
-        Err(Stop::TooMany) => find_sighted(alloc, grid, others, loc, stops, sights),
-    }
+    search_both(alloc, memory, &errand)
 }
 
 /// A lawful path from loc through the stops, with the least last index of all, guided by fields that are filled up to a
@@ -113,7 +85,7 @@ pub fn deliver_sighted<'x>(
     ensures least { IfOk result (λ p. (q : List Cell) → IsDelivery grid.now others.now loc stops.now q → last_index p ≤ last_index q) }
     ensures none { IfNoPath result ((q : List Cell) → IsDelivery grid.now others.now loc stops.now q → ⊥) }
 {
-    match find(alloc, memory, grid, others, loc, stops, sights) {
+    match find_sighted(alloc, memory, grid, others, loc, stops, sights) {
         Ok(Some(path)) => Ok(path),
         Ok(None) => Err(Fault::NoPath),
         Err(_) => Err(Fault::NoMemory),

@@ -7,7 +7,7 @@ use wh_field::Field;
 use wh_grid::{Cell, Grid};
 use wh_intervals::{deliver_by_intervals, park_by_intervals};
 use wh_path::TimedPath;
-use wh_resv::Reservations;
+use wh_resv::{Reservations, Visits};
 use wh_search::{Fault, deliver_guided, park};
 use wh_timetable::{Beside, Sides, Timetable};
 
@@ -109,6 +109,9 @@ fn ends<R: Abort + AllocGlobal>(
     let delivered = last(rt, times)?;
     let found = deliver_by_intervals(rt.alloc(), grid, others, loc, stops, none);
     assert_eq!(rt; last(rt, found)?, delivered);
+    let visits = Visits::of(rt.alloc(), others)?;
+    let found = deliver_by_intervals(rt.alloc(), grid, &visits, loc, stops, none);
+    assert_eq!(rt; last(rt, found)?, delivered);
     let pair = [stops[0], stops[1]];
     let first = Field::from(rt.alloc(), grid, pair[0])?;
     let second = Field::from(rt.alloc(), grid, pair[1])?;
@@ -119,6 +122,8 @@ fn ends<R: Abort + AllocGlobal>(
     let times = park(rt.alloc(), grid, others, loc, &pair);
     let parked = last(rt, times)?;
     let found = park_by_intervals(rt.alloc(), grid, others, loc, &pair);
+    assert_eq!(rt; last(rt, found)?, parked);
+    let found = park_by_intervals(rt.alloc(), grid, &visits, loc, &pair);
     assert_eq!(rt; last(rt, found)?, parked);
     Ok((delivered, parked))
 }

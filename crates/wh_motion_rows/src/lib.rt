@@ -5,6 +5,8 @@
 #[cfg(test)]
 mod agree;
 #[cfg(test)]
+mod beyond;
+#[cfg(test)]
 mod field;
 #[cfg(test)]
 mod formed;

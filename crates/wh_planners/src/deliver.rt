@@ -14,9 +14,10 @@ ghost use Rattle.wh_planners.specs.Sharing.{IsFilled};
 use std::alloc::{AllocError, Global};
 use wh_field::Sight;
 use wh_grid::{Cell, Grid};
+use wh_intervals::deliver_sighted;
 use wh_path::TimedPath;
 use wh_resv::Reservations;
-use wh_search::{Fault, SearchMemory, deliver_sighted};
+use wh_search::{Fault, SearchMemory};
 use wh_shared::{Share, SharedFields};
 
 /// How many steps beyond its distance a leg's field is filled. The search looks farther only for an agent that is

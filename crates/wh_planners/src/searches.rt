@@ -12,10 +12,11 @@ ghost use Rattle.wh_shared.specs.Shares.{stored_grid, room, slots};
 use crate::deliver::deliver_shared;
 use std::alloc::{AllocError, Global};
 use wh_grid::Cell;
+use wh_intervals::park_in;
 use wh_path::TimedPath;
 use wh_planner::{PlanFault, Scene};
 use wh_resv::Reservations;
-use wh_search::{Fault, SearchMemory, park_in};
+use wh_search::{Fault, SearchMemory};
 use wh_shared::{Share, SharedFields};
 
 /// The paths of all agents but the one that asks. The error comes where memory is wanting, or the agent's number has

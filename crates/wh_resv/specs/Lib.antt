@@ -1,3 +1,4 @@
 pub mod Others
 pub mod Calls
 pub mod Marked
+pub mod Spans

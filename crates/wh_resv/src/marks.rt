@@ -105,7 +105,7 @@ fn enter(marks: &mut [Mark], cells: &[Cell], path: usize)
 
 /// How many marks there are, a power of two. Where few of them are taken, a question looks at few paths: so there are some
 /// five to ten a visit. But each search clears them all, so there are fewer a visit where there are very many visits.
-fn marks_for(paths: &[TimedPath]) -> usize
+pub fn marks_for(paths: &[TimedPath]) -> usize
     ensures { 0 < result }
 {
     let mut visits = 0usize;

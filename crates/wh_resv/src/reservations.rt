@@ -7,10 +7,12 @@ ghost use Rattle.wh_resv.specs.Others.{MayStep, MayRest, StaysAway};
 ghost use Rattle.wh_path.specs.Paths.{horizon, at};
 ghost use Rattle.wh_resv.specs.Marked.{Allows, AreMarked};
 ghost use Rattle.wh_resv.specs.Calls.{IsVacant, NoneExchanges, IsThere, IsExchange};
+ghost use Rattle.wh_resv.specs.Spans.{IsSpanned, KeepsSpans};
 
 use crate::away::{all_away_from, all_stay_away};
 use crate::ends::greatest_end;
-use crate::marks::{Mark, marks_of, passing, resting};
+use crate::marks::{Mark, marks_for, marks_of, passing, resting};
+use crate::spans::{Span, enter_all};
 use std::alloc::{AllocError, Global};
 use std::marker::Model;
 use wh_grid::Cell;
@@ -281,6 +283,23 @@ impl<'a> Reservations<'a> {
         ensures { result ≡ self.now.nofollow }
     {
         self.nofollow
+    }
+
+    /// How many places a table of what is passed wants.
+    pub(crate) fn places(&self) -> usize
+        ensures { 0 < result }
+    {
+        marks_for(self.paths)
+    }
+
+    /// Notes when each cell is passed.
+    pub(crate) fn note_spans(&self, spans: &mut [Span])
+        requires { 0 < length spans.old }
+        ensures kept { KeepsSpans spans.old spans.new }
+        ensures spanned { All (IsSpanned spans.new) self.now.paths }
+    {
+        enter_all(spans, &self.paths[..self.except]);
+        enter_all(spans, &self.paths[self.except + 1..]);
     }
 
     /// Whether nobody is at a cell at time k.

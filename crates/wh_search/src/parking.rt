@@ -22,7 +22,7 @@ use wh_grid::{Cell, Grid};
 use wh_path::TimedPath;
 use wh_resv::Reservations;
 
-/// A least path to one of the allowed cells, or none; it takes up only so many states.
+/// A least path to one of the allowed cells, or none.
 fn find_parking<'x>(
     alloc: Global,
     frontier: &mut Frontier,
@@ -30,7 +30,6 @@ fn find_parking<'x>(
     others: &'x Reservations<'x>,
     loc: Cell,
     allowed: &'x [Cell],
-    most: u64,
 ) -> Result<Option<TimedPath>, Stop>
     requires inside { IsPassable grid.now loc }
     requires clear { MayRest others.now loc 0 }
@@ -54,7 +53,7 @@ fn find_parking<'x>(
         exact: false,
         least: 0,
     };
-    search_straight(alloc, frontier, &errand, most)
+    search_straight(alloc, frontier, &errand, u64::MAX)
 }
 
 /// A lawful path from loc to one of the allowed cells, with the least last index of all; it makes
@@ -92,33 +91,11 @@ pub fn park_in<'x>(
     ensures none { IfNoPath result ((q : List Cell) → IsParking grid.now others.now loc allowed.now q → ⊥) }
 {
     let frontier = &mut memory.frontier;
-    let found = find_parking(alloc, frontier, grid, others, loc, allowed, u64::MAX);
+    let found = find_parking(alloc, frontier, grid, others, loc, allowed);
     settle(alloc, frontier);
     match found {
         Ok(Some(path)) => Ok(path),
         Ok(None) => Err(Fault::NoPath),
         Err(_) => Err(Fault::NoMemory),
     }
-}
-
-/// As `park_in`, taking up no more than so many states; none where no path parks.
-pub fn park_within<'x>(
-    alloc: Global,
-    memory: &mut SearchMemory,
-    grid: &'x Grid,
-    others: &'x Reservations<'x>,
-    loc: Cell,
-    allowed: &'x [Cell],
-    most: u64,
-) -> Result<Option<TimedPath>, Stop>
-    requires inside { IsPassable grid.now loc }
-    requires clear { MayRest others.now loc 0 }
-    ensures { IfOk result (λ found. MatchOption found
-        ((q : List Cell) → IsParking grid.now others.now loc allowed.now q → ⊥)
-        (λ p. IsLeastParking grid.now others.now loc allowed.now p)) }
-{
-    let frontier = &mut memory.frontier;
-    let found = find_parking(alloc, frontier, grid, others, loc, allowed, most);
-    settle(alloc, frontier);
-    found
 }

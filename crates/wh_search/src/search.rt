@@ -18,7 +18,7 @@ use std::alloc::Global;
 use wh_path::TimedPath;
 
 /// A least tour, or none where there is no tour; `TooMany` where it would have to take up more than so
-/// many states, or to go on to bounds that are greater than the first by more than a sixteenth of that, since each
+/// many states, or to go on to bounds that are greater than the first by more than a thirty-second part of that, since each
 /// of them has bins of its own. The frontier has the states that were expanded; what it held before does not matter.
 pub fn search(
     alloc: Global,
@@ -43,7 +43,7 @@ pub fn search(
         let Some((bound, index)) = frontier.queue.pop() else {
             return Ok(None);
         };
-        if bound.saturating_sub(base) > most / 16 {
+        if bound.saturating_sub(base) > most / 32 {
             return Err(Stop::TooMany);
         }
         if frontier.is_end(errand, index) {

@@ -1,21 +1,21 @@
-use Rattle.std.proofs.Common.{◌≡◌, ◌+◌, ◌-◌, ◌*◌, ◌≤◌, List, length, take, drop, MatchOption, refl, ap, sym, subst, ◌∙◌, arith}
+use Rattle.std.proofs.Common.{◌≡◌, ◌+◌, ◌-◌, ◌*◌, ◌≤◌, List, length, take, drop, MatchOption, Contains, refl, ap, sym, subst, ◌∙◌, arith}
 use Rattle.std.proofs.lemmas.Nat.{mul-le}
 use Rattle.wh_grid.specs.declared.cell.Cell.{Cell}
 use Rattle.wh_grid.specs.Grids.{passable_cells}
-use Rattle.wh_path.specs.Paths.{last_index}
+use Rattle.wh_path.specs.Paths.{last_index, cell_at}
 use Rattle.wh_search.specs.Deliveries.{IsDelivery, IsLeast}
 use Rattle.wh_search.specs.Sights.{IsOnwardBySights}
 use Rattle.wh_search.specs.Tours.{IsTour, IsLeastTour}
+use Rattle.wh_resv.specs.Others.{MayRest}
 use Rattle.wh_search.proofs.SightedStops.{sights_estimates}
-use Rattle.wh_search.proofs.Stops.{ok_weaker, path_weaker, tour_delivery, delivery_rests, delivery_ends, via_size, last_part}
+use Rattle.wh_search.proofs.Stops.{ok_weaker, path_weaker, tour_delivery, delivery_rests, delivery_ends, via_size, last_only, last_part, one_only}
 use Rattle.wh_intervals.proofs.sighted.find_sighted.Goals as goal
 
 pub returns-in_default : goal.returns-in_default
-returns-in_default g c = record { found = λ q d. c.in_default.ensures.none (last_index q) (delivery_rests c.args.grid.now (g.T.Occupancy.others c.args.others.now) c.args.loc c.args.stops.now q d) }
+returns-in_default c = record { found = λ q d. c.in_default.ensures.none (last_index q) (delivery_rests c.args.grid.now c.args.others.now c.args.loc c.args.stops.now q d) }
 
-pub search-requires-clause-errand : goal.search-requires-clause-errand
-search-requires-clause-errand g c =
-    let o = g.T.Occupancy.others c.args.others.now in
+pub search_both-requires-clause-errand : goal.search_both-requires-clause-errand
+search_both-requires-clause-errand c =
     let g = c.args.grid.now in
     let stops = c.args.stops.now in
     let n = length stops - 1 in
@@ -31,23 +31,30 @@ search-requires-clause-errand g c =
     record {
       inside = c.requires.inside;
       arrives = c.arrive.ensures;
+      horizon_is = c.horizon-horizon.ensures.value;
       limit_is = omega (arith, c.horizon-horizon.ensures.value);
       small = omega (arith, c.horizon-horizon.ensures.bound);
       guided = sights_estimates g stops via ends c.args.sights.now c.deref.result.now many refl (last_part stops) c.requires.sights on;
-      none_before = λ q t. c.first_end.ensures (last_index q) (delivery_ends g o c.args.loc stops q (tour_delivery g o c.args.loc stops via ends q many refl (last_part stops) t));
+      not_sooner = λ k s e.
+          let is : cell_at stops n ≡ s.cell = one_only (cell_at stops n) s.cell (subst (λ (w : List Cell). Contains w s.cell) (last_part stops ∙ last_only stops n (omega arith)) e.delivered) in
+          c.in-Some.ensures.some k (subst (λ (d : Cell). MayRest c.args.others.now d k) (sym is) e.rests);
+      exact = λ t k end b since.
+          let is : cell_at stops n ≡ end = one_only (cell_at stops n) end (subst (λ (w : List Cell). Contains w end) (last_part stops ∙ last_only stops n (omega arith)) b) in
+          subst (λ (d : Cell). MayRest c.args.others.now d k) is (c.in-Some.ensures.since k since);
+      none_before = λ q t. c.first_end.ensures.none (last_index q) (delivery_ends g c.args.others.now c.args.loc stops q (tour_delivery g c.args.others.now c.args.loc stops via ends q many refl (last_part stops) t));
     }
 
 pub returns : goal.returns
-returns g c =
-    let o = g.T.Occupancy.others c.args.others.now in
+returns c =
     let g = c.args.grid.now in
+    let o = c.args.others.now in
     let stops = c.args.stops.now in
     let n = length stops - 1 in
     let via = take n stops in
     let ends = take (length stops - n) (drop n stops) in
     record {
-      found = ok_weaker c.search.result
+      found = ok_weaker c.search_both.result
           (λ found. MatchOption found ((q : List Cell) → IsTour g o c.args.loc via ends q → ⊥) (λ p. IsLeastTour g o c.args.loc via ends p))
           (λ found. MatchOption found ((q : List Cell) → IsDelivery g o c.args.loc stops q → ⊥) (λ p. IsLeast g o c.args.loc stops p))
-          (λ found h. path_weaker g o c.args.loc stops via ends found c.requires.stops.0 refl (last_part stops) h) c.search.ensures.found;
+          (λ found h. path_weaker g o c.args.loc stops via ends found c.requires.stops.0 refl (last_part stops) h) c.search_both.ensures;
     }

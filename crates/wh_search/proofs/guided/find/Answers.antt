@@ -99,7 +99,7 @@ returns-then-straight-clause-found c =
     ok_weaker c.search_straight.result
     (λ found. MatchOption found ((q : List Cell) → IsTour g o c.args.loc via ends q → ⊥) (λ p. IsLeastTour g o c.args.loc via ends p))
     (λ found. MatchOption found ((q : List Cell) → IsDelivery g o c.args.loc stops q → ⊥) (λ p. IsLeast g o c.args.loc stops p))
-    (λ found h. path_weaker g o c.args.loc stops via ends found c.requires.stops.0 refl (last_part stops) h) c.search_straight.ensures
+    (λ found h. path_weaker g o c.args.loc stops via ends found c.requires.stops.0 refl (last_part stops) h) c.search_straight.ensures.found
 
 pub returns-clause-expanded : goal.returns-clause-expanded
 returns-clause-expanded c = λ plain.

@@ -34,4 +34,4 @@ returns c =
     ok_weaker c.search_straight.result
     (λ found. MatchOption found ((q : List Cell) → IsTour g o c.args.loc [] ends q → ⊥) (λ p. IsLeastTour g o c.args.loc [] ends p))
     (λ found. MatchOption found ((q : List Cell) → IsParking g o c.args.loc ends q → ⊥) (λ p. IsLeastParking g o c.args.loc ends p))
-    (λ found h. parking_weaker g o c.args.loc ends found h) c.search_straight.ensures
+    (λ found h. parking_weaker g o c.args.loc ends found h) c.search_straight.ensures.found

@@ -1,0 +1,172 @@
+#!/usr/bin/env python3
+"""Tests that no request floods: instances of tools/floods.py, each with little time and memory.
+
+    tests/tools_floods.py            the program is taken from WAREHOUSE, else ./warehouse
+
+When the last request of each ends was worked out by hand, or is told by a search of this script's own, one layer of
+time after another, over the paths that the log has. The last line is `N passed, M failed`, and the status is 1 where
+one failed.
+"""
+import os
+import resource
+import subprocess
+import sys
+
+import counting
+
+ROOT = os.path.dirname(os.path.dirname(os.path.abspath(__file__)))
+PROGRAM = os.environ.get('WAREHOUSE', os.path.join(ROOT, 'warehouse'))
+MEMORY, SECONDS = 400 << 20, 10    # of address space, with the program's own
+
+
+def made(*words: object) -> str:
+    return subprocess.run([sys.executable, os.path.join(ROOT, 'tools', 'floods.py'), *map(str, words)], capture_output=True,
+                          text=True, check=True).stdout
+
+
+def bounded() -> None:
+    resource.setrlimit(resource.RLIMIT_AS, (MEMORY, MEMORY))
+    resource.setrlimit(resource.RLIMIT_CPU, (SECONDS, SECONDS))
+
+
+def replayed(text: str, limit: bool = True) -> list[str]:
+    done = subprocess.run([PROGRAM, 'replay', '--tail', 'log'], input=text, capture_output=True, text=True,
+                          preexec_fn=bounded if limit else None)
+    assert done.returncode == 0, (done.returncode, done.stderr)
+    return done.stdout.split('\n')
+
+
+def parts(text: str) -> tuple[list[str], dict[str, tuple[int, int]], list[tuple[int, int]], list[str]]:
+    """The rows of the map, the points by their names, where agents start, the script."""
+    level, points, script = text.split('%%\n')
+    named, starts = {}, []
+    for line in points.splitlines():
+        words = line.split()
+        if words[0] == 'agent':
+            starts.append(named[words[1]])
+        else:
+            named[words[1]] = (int(words[2]), int(words[3]))
+    return level.splitlines()[4:], named, starts, script.splitlines()
+
+
+def path_at(path: list[tuple[int, int]], time: int) -> tuple[int, int]:
+    return path[min(time, len(path) - 1)]
+
+
+def least_end(rows: list[str], others: list[list[tuple[int, int]]], start: tuple[int, int], stops: list[tuple[int, int]]) -> int | None:
+    """When the least path ends that goes through the stops beside the others, by layers of time; None where there is none."""
+    horizon = max(len(path) for path in others)
+    rests = max((time + 1 for path in others for time, cell in enumerate(path) if cell == stops[-1]), default=0)
+    ends = {path[-1] for path in others}
+    if stops[-1] in ends:
+        return None
+
+    def arrived(cell: tuple[int, int], behind: int) -> int:
+        while behind < len(stops) - 1 and stops[behind] == cell:
+            behind += 1
+        return behind
+
+    layer, time, seen = {(start, arrived(start, 0))}, 0, set()
+    while layer:
+        if time >= rests and (stops[-1], len(stops) - 1) in layer:
+            return time
+        taken = {path_at(path, time + 1) for path in others}
+        swaps = {(path_at(path, time + 1), path_at(path, time)) for path in others}
+        following = set()
+        for (x, y), behind in layer:
+            for to in ((x, y), (x - 1, y), (x + 1, y), (x, y - 1), (x, y + 1)):
+                if not (0 <= to[1] < len(rows) and 0 <= to[0] < len(rows[0])) or rows[to[1]][to[0]] != '.':
+                    continue
+                if to not in taken and (to == (x, y) or ((x, y), to) not in swaps):
+                    following.add((to, arrived(to, behind)))
+        time += 1
+        if time > horizon:    # nothing moves any more: what was there before need not be there again
+            following -= seen
+            seen |= following
+        layer = following
+    return None
+
+
+def log_paths(lines: list[str], starts: list[tuple[int, int]]) -> list[list[tuple[int, int]]]:
+    """Where each agent goes from clock 0 on. All requests are made then, and each agent gets one path at most."""
+    paths = [[start] for start in starts]
+    for line in lines:
+        words = line.split()
+        if words[:1] == ['0'] and words[1] == 'token' and words[4] == 'took':
+            paths[int(words[2])] = [tuple(map(int, cell.split(','))) for cell in words[7:]]
+    return paths
+
+
+def told(*words: object) -> None:
+    """The last request ends when the plain search says, or is refused where it finds no path."""
+    text = made(*words)
+    rows, named, starts, script = parts(text)
+    lines = replayed(text)
+    cut = lines.index('%%')
+    asker = int(script[-1].split()[1])
+    paths = log_paths(lines[cut + 1:], starts)
+    stops = [named[name] for name in script[-2].split()[2:]]
+    wanted = least_end(rows, [path for agent, path in enumerate(paths) if agent != asker], starts[asker], stops)
+    answer = ['refused', 'E6'] if wanted is None else ['took', 'end', str(wanted)]
+    given = lines[cut - 1].split()
+    found = given[:1] + given[2:] if given[0] == 'took' else given    # without the task's number
+    assert found == answer, f'{words}: {lines[cut - 1]!r}, wanted {answer}'
+
+
+def bounded_too(*words: object) -> None:
+    """The last request is answered within the bounds."""
+    lines = replayed(made(*words))
+    answer = lines[lines.index('%%') - 1].split()[0]
+    assert answer in ('took', 'refused'), answer
+
+
+def test_the_last_stop_is_free_late() -> None:
+    told('late', 16, 1, 0)
+    told('late', 24, 3, 0)
+
+
+def test_no_path_leads_to_the_last_stop() -> None:
+    told('late', 16, 1, 1)
+    told('late', 40, 2, 1)
+
+
+def test_who_comes_out_is_waited_for() -> None:
+    told('hall', 10, 6)
+    told('hall', 60, 40)
+
+
+def test_the_near_door_is_taken() -> None:
+    told('door', 20, 2)
+
+
+def test_the_long_way_round() -> None:
+    told('ring', 41, 21)
+
+
+def test_many_stops() -> None:
+    told('stops', 24, 5, 2)
+    told('stops', 24, 8, 1)
+
+
+def test_a_walled_stop_is_told() -> None:
+    told('unreachable', 20, 5)
+
+
+def test_another_ends_beside_the_start() -> None:
+    told('beside', 30, 3)
+
+
+def test_none_floods() -> None:
+    for words in (('door', 128, 4), ('hall', 200, 150), ('late', 100, 7, 1), ('ring', 401, 201), ('stops', 128, 8, 2),
+                  ('unreachable', 64, 8), ('beside', 400, 7)):
+        bounded_too(*words)
+
+
+def test_families_and_numbers_are_wanted() -> None:
+    for words in ((), ('flood', '1'), ('door', '64'), ('door', '64', 'x'), ('ring', '9', '9', '9')):
+        done = subprocess.run([sys.executable, os.path.join(ROOT, 'tools', 'floods.py'), *words], capture_output=True)
+        assert (done.returncode, done.stdout) == (2, b''), words
+
+
+if __name__ == '__main__':
+    sys.exit(counting.run(globals()))
