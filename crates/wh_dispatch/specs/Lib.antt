@@ -1,0 +1,5 @@
+pub mod Crews
+pub mod Lines
+pub mod Scripts
+-- handed on, for the crates above
+pub use Rattle.wh_vehicles.specs.Plans
