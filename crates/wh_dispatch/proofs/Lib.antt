@@ -4,3 +4,4 @@ pub mod Steps
 pub mod Serving
 pub mod Following
 pub mod Rows
+pub mod Together

@@ -177,7 +177,7 @@ module _ {X : Type 0} (fits : X → Floor → Bool) (count : X → ℕ) (text : 
   depot book spares d = record { book = book; spares = spares; drive = d }
 
   -- what a line does leads there, and the book grows by its entries
-  record Did (old new : Depot X) : Type 0 where
+  pub record Did (old new : Depot X) : Type 0 where
     pub entries : List Entry
     pub leads : Leads old.book.site (fleet old.book.state old.drive) entries (fleet new.book.state new.drive)
     pub grows : Grows old.book new.book entries
@@ -204,7 +204,7 @@ module _ {X : Type 0} (fits : X → Floor → Bool) (count : X → ℕ) (text : 
         grows = record { site = g.site; opening = g.opening; history = g.history };
       }
 
-  taken_on : (line : Heard) (old new : Depot X) (texts : List (List ℕ)) → TakesLine fits count text bound line old new texts → Did old new
+  pub taken_on : (line : Heard) (old new : Depot X) (texts : List (List ℕ)) → TakesLine fits count text bound line old new texts → Did old new
   taken_on line old new texts t =
       let a = answered line old t.mid t.replies t.answers in
       let on : Leads old.book.site (fleet t.mid.book.state t.mid.drive) [] (fleet t.mid.book.state new.drive) =

@@ -3,6 +3,7 @@
 #![tactic(auto)]
 
 mod fleet;
+pub mod laws;
 mod line;
 mod script;
 mod telling;
