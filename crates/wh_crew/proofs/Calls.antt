@@ -1,5 +1,5 @@
 -- One more command, answered or missed.
-use Rattle.std.proofs.Common.{◌≡◌, ℕ, ◌+◌, Bool, true, false, List, [], ◌∷◌, ◌++◌, length, drop, reverse, Option, Some, None, slice_get, refl, ap, sym, ◌∙◌, subst, arith, append_assoc}
+use Rattle.std.proofs.Common.{◌≡◌, ℕ, ◌+◌, ◌<◌, ◌≤◌, Bool, List, [], ◌∷◌, ◌++◌, length, drop, reverse, Option, Some, None, slice_get, refl, ap, sym, ◌∙◌, subst, arith, append_assoc}
 use Rattle.std.proofs.lemmas.List.{map_push, length_push, append-nil, reverse-append, nil_from_length}
 use Rattle.std.specs.Option.{option_to_list}
 use Rattle.wh_grid.specs.Grids.{Floor}
@@ -11,7 +11,12 @@ use Rattle.wh_desk.specs.Fleet.{TellsSpare}
 use Rattle.wh_desk.specs.Commands.{event_of}
 use Rattle.wh_desk.specs.Lists.{Received}
 use Rattle.wh_desk.proofs.Entries.{AllAt_push}
-use Rattle.wh_crew.specs.Work.{IsSublist, nothing, command_of, keeps, skips, commands_of, told_by, spares_told, LentFromEnd, Worked, Takes, Tried}
+use Rattle.wh_board.proofs.Fronts.{prefix_self, prefix_trans, prefix_length}
+use Rattle.wh_desk.specs.Calls.{Refuses}
+use Rattle.wh_desk.specs.declared.answer.DeskFault.{DeskFault}
+use Rattle.wh_desk.proofs.Telling.{refused_keeps}
+use Rattle.wh_crew.specs.declared.worker.Missed.{Missed}
+use Rattle.wh_crew.specs.Work.{IsSublist, nothing, command_of, keeps, skips, commands_of, told_by, spares_told, all_missed, counted, LentFromEnd, Worked, Takes, Tried}
 use Rattle.wh_crew.proofs.Places.{drop_head, drop_none}
 
 keeps_push : {A : Type 0} (x : A) (xs ys : List A) → IsSublist xs ys → IsSublist (xs ++ x ∷ []) (ys ++ x ∷ [])
@@ -74,23 +79,36 @@ command_back (Command.Replace agent) told = refl
 command_back Command.Close told = refl
 
 -- what holds between two calls of a worker
-pub record Working {X : Type 0} (fits : X → Floor → Bool) (count : X → ℕ) (grid : Floor) (commands : List Command) (spares : List X) (had has : Received) (missed : ℕ) (left : List X) : Type 0 where
-  pub worked : Worked fits count grid commands spares had has missed
+pub record Working {X : Type 0} (fits : X → Floor → Bool) (count : X → ℕ) (grid : Floor) (cells : ℕ) (commands : List Command) (spares : List X) (had has : Received) (missed : Missed) (left : List X) : Type 0 where
+  pub worked : Worked fits count grid cells commands spares had has missed
   pub rest : reverse left ≡ drop (length (spares_told worked.received)) (reverse spares)
 
 -- a worker that has done nothing
-pub working_nothing : {X : Type 0} (fits : X → Floor → Bool) (count : X → ℕ) (grid : Floor) (spares : List X) (p : Received) → Working fits count grid [] spares p p 0 spares
-working_nothing fits count grid spares p = record {
-  worked = record { caller_is = refl; received = []; goes_on = sym (append-nil p.list); in_order = nothing; counted = refl; lent = λ i t at. absurd (cc) };
+pub working_nothing : {X : Type 0} (fits : X → Floor → Bool) (count : X → ℕ) (grid : Floor) (cells : ℕ) (spares : List X) (p : Received) → Working fits count grid cells [] spares p p (record { full = 0; memory = 0; other = 0 }) spares
+working_nothing fits count grid cells spares p = record {
+  worked = record { caller_is = refl; received = []; goes_on = sym (append-nil p.list); in_order = nothing; all_counted = refl; lent = λ i t at. absurd (cc); known = prefix_self p.known; filled = λ some. absurd (omega (arith, some)) };
   rest = refl;
 }
 
+-- one call more was missed, for whatever reason
+missed_more : (missed : Missed) (fault : DeskFault) → all_missed (counted missed (Some fault)) ≡ all_missed missed + 1
+missed_more missed DeskFault.Full = omega arith
+missed_more missed DeskFault.NoMemory = omega arith
+missed_more missed DeskFault.Stale = omega arith
+missed_more missed DeskFault.CellTaken = omega arith
+
+-- who missed a call since the journal was full knows of a full journal
+still_filled : (cells : ℕ) (missed : Missed) (fault : DeskFault) (had has : Received) → Refuses cells had fault has → (0 < missed.full → cells ≤ length had.known) → 0 < (counted missed (Some fault)).full → cells ≤ length has.known
+still_filled cells missed DeskFault.Full had has r before some = omega (arith, r.is_full)
+still_filled cells missed DeskFault.NoMemory had has r before some = omega (arith, before some, ap (λ (p : Received). length p.known) r)
+still_filled cells missed DeskFault.Stale had has r before some = omega (arith, before some, ap (λ (p : Received). length p.known) r)
+still_filled cells missed DeskFault.CellTaken had has r before some = omega (arith, before some, ap (λ (p : Received). length p.known) r)
+
 -- one more call
-pub working_more : {X : Type 0} (fits : X → Floor → Bool) (count : X → ℕ) (grid : Floor) (spares : List X) (commands : List Command) (had has : Received) (missed : ℕ) (left : List X) (command : Command) (answered : Bool) (now : Received) (rest : List X)
-    → Working fits count grid commands spares had has missed left → Tried fits count grid command has left answered now rest
-    → (missed' : ℕ) → (answered ≡ true → missed' ≡ missed) → (answered ≡ false → missed' ≡ missed + 1)
-    → Working fits count grid (commands ++ command ∷ []) spares had now missed' rest
-working_more fits count grid spares commands had has missed left command true now rest w t missed' same more =
+pub working_more : {X : Type 0} (fits : X → Floor → Bool) (count : X → ℕ) (grid : Floor) (cells : ℕ) (spares : List X) (commands : List Command) (had has : Received) (missed : Missed) (left : List X) (command : Command) (why : Option DeskFault) (now : Received) (rest : List X)
+    → Working fits count grid cells commands spares had has missed left → Tried fits count grid cells command has left why now rest
+    → Working fits count grid cells (commands ++ command ∷ []) spares had now (counted missed why) rest
+working_more fits count grid cells spares commands had has missed left command None now rest w t =
     let x = t.0 in
     let before = w.worked.received in
     let asked : commands_of (before ++ x ∷ []) ≡ commands_of before ++ command ∷ [] = map_push (λ (y : ℕ × Entry). command_of y.1.event) before x ∙ ap (λ (e : Command). commands_of before ++ e ∷ []) t.1 in
@@ -102,20 +120,25 @@ working_more fits count grid spares commands had has missed left command true no
         received = before ++ x ∷ [];
         goes_on = t.3 ∙ ap (λ l. l ++ x ∷ []) w.worked.goes_on ∙ append_assoc had.list before (x ∷ []);
         in_order = subst (λ (l : List Command). IsSublist l (commands ++ command ∷ [])) (sym asked) (keeps_push command (commands_of before) commands w.worked.in_order);
-        counted = omega (arith, length_push before x, length_push commands command, w.worked.counted, same refl);
+        all_counted = omega (arith, length_push before x, length_push commands command, w.worked.all_counted);
         lent = subst (λ (l : List Spare). LentFromEnd fits count grid spares l) (sym told) lending.lent;
+        known = prefix_trans had.known has.known now.known w.worked.known t.5;
+        filled = λ some. omega (arith, w.worked.filled some, prefix_length has.known now.known t.5);
       };
       rest = lending.rest ∙ ap (λ (l : List Spare). drop (length l) (reverse spares)) (sym told);
     }
-working_more fits count grid spares commands had has missed left command false now rest w t missed' same more =
+working_more fits count grid cells spares commands had has missed left command (Some fault) now rest w t =
+    let keeps = refused_keeps cells has fault now t.0 in
     record {
       worked = record {
-        caller_is = ap (λ (p : Received). p.caller) t.0 ∙ w.worked.caller_is;
+        caller_is = keeps.0 ∙ w.worked.caller_is;
         received = w.worked.received;
-        goes_on = ap (λ (p : Received). p.list) t.0 ∙ w.worked.goes_on;
+        goes_on = keeps.1 ∙ w.worked.goes_on;
         in_order = skips_push command (commands_of w.worked.received) commands w.worked.in_order;
-        counted = omega (arith, length_push commands command, w.worked.counted, more refl);
+        all_counted = omega (arith, length_push commands command, w.worked.all_counted, missed_more missed fault);
         lent = w.worked.lent;
+        known = prefix_trans had.known has.known now.known w.worked.known keeps.2;
+        filled = still_filled cells missed fault has now t.0 w.worked.filled;
       };
       rest = ap reverse t.1 ∙ w.rest;
     }

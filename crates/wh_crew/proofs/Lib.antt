@@ -2,3 +2,4 @@ pub mod Places
 pub mod Calls
 pub mod Crews
 pub mod Sending
+pub mod Trying

@@ -7,10 +7,10 @@ mod worker;
 
 pub use gate::Gate;
 pub use threads::{CrewFault, Crewed, Due, crew};
-pub use worker::{Report, work_through};
+pub use worker::{Missed, Report, work_through};
 
 // handed on, for callers: what the items below take, return and speak of
 pub use wh_desk::{
-    Answer, Cells, Desk, DeskFault, DeskName, History, OpenFault, Pass, Publisher, Receipt, Viewer,
+    Answer, Cells, Desk, DeskFault, DeskName, Front, History, OpenFault, Pass, Publisher, Receipt, Viewer,
     ViewerFault, Warehouse,
 };

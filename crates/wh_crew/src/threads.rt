@@ -1,15 +1,16 @@
 //! The threads of a crew.
 #![tactic(auto)]
 
-ghost use Rattle.std.specs.Prelude.{◌≡◌, ◌<◌, ◌≤◌, [], ℕ, All, IfOk, length, map, vec_len, vec_capacity, Some, slice_get};
+ghost use Rattle.std.specs.Prelude.{◌≡◌, ◌<◌, ◌≤◌, [], ℕ, true, false, All, IfOk, length, map, vec_len, vec_capacity, Some, slice_get};
+ghost use Rattle.wh_core.specs.Laws.{IsOpening};
 ghost use Rattle.wh_core.specs.Steps.{Run};
 ghost use Rattle.wh_desk.specs.Pasts.{origin_of};
 ghost use Rattle.wh_desk.specs.Lists.{AllAt};
-ghost use Rattle.wh_desk.specs.Calls.{InOrder};
-ghost use Rattle.wh_crew.specs.Work.{Worked, IsDue, ReportAt, AllWorked};
+ghost use Rattle.wh_desk.specs.Calls.{InOrder, NoneWantsPath};
+ghost use Rattle.wh_crew.specs.Work.{AllWorked, IsDue, MissedWithCause, ReportAt, Worked};
 
 use crate::gate::Gate;
-use crate::worker::{Report, work_through};
+use crate::worker::{Missed, Report, work_through};
 use std::alloc::{AllocError, Global};
 use std::snapshot::Snapshot;
 use std::sync::Wait;
@@ -26,7 +27,7 @@ pub enum CrewFault {
     NoThread,
     /// E90: no memory was left.
     NoMemory,
-    /// E95: a pass has not all that its caller did.
+    /// E95: a pass has not all that its caller did, or a call was refused by E91 or E95.
     Stale,
 }
 
@@ -38,9 +39,10 @@ pub struct Due<N: DeskName, P> {
 }
 
 impl<N: DeskName, P: Planner> Promise<Report<N>> for Due<N, P> {
+    ghost use Rattle.std.specs.Prelude.{length};
     ghost use Rattle.wh_crew.specs.Work.{Worked};
 
-    ghost kept_by = { λ due r. Worked P.fits_map P.slot_count N.origin.site.grid due.work.value.commands.items due.work.value.spares.items due.had.value r.pass r.missed };
+    ghost kept_by = { λ due r. Worked P.fits_map P.slot_count N.origin.site.grid (length N.cells) due.work.value.commands.items due.work.value.spares.items due.had.value r.pass r.missed };
 }
 
 /// One worker's whole work, with its pass moved in and out.
@@ -53,7 +55,7 @@ fn report<N: DeskName, H: Wait + Drop, P: Planner, R: Wait, G: Gate>(
     gate: &G,
     worker: u32,
 ) -> Report<N>
-    ensures { Worked P.fits_map P.slot_count N.origin.site.grid work.commands.items work.spares.items pass result.pass result.missed }
+    ensures { Worked P.fits_map P.slot_count N.origin.site.grid (length N.cells) work.commands.items work.spares.items pass result.pass result.missed }
 {
     let missed = work_through(rt, alloc, desk, &mut pass, work, gate, worker);
     Report { pass, missed }
@@ -87,7 +89,7 @@ fn start_one<
     let started = scope.spawn_with(
         due,
         move || -> Report<N>
-            ensures { Worked P.fits_map P.slot_count N.origin.site.grid work.commands.items work.spares.items pass result.pass result.missed }
+            ensures { Worked P.fits_map P.slot_count N.origin.site.grid (length N.cells) work.commands.items work.spares.items pass result.pass result.missed }
         { report(rt, alloc, desk, pass, work, gate, worker) },
     );
     match started {
@@ -158,7 +160,7 @@ fn join_all<N: DeskName, P: Planner, R: Threads>(
     requires empty { reports.items ≡ [] }
     requires room { length handles.items ≤ vec_capacity reports }
     ensures count { length result.items ≡ length handles.items }
-    ensures kept { AllAt (λ i r. (h : _) → slice_get handles.items i ≡ Some h → Worked P.fits_map P.slot_count N.origin.site.grid h.promise.work.value.commands.items h.promise.work.value.spares.items h.promise.had.value r.pass r.missed) result.items }
+    ensures kept { AllAt (λ i r. (h : _) → slice_get handles.items i ≡ Some h → Worked P.fits_map P.slot_count N.origin.site.grid (length N.cells) h.promise.work.value.commands.items h.promise.work.value.spares.items h.promise.had.value r.pass r.missed) result.items }
 {
     for handle in handles {
         reports.push_reserved(handle.join(rt));
@@ -170,8 +172,8 @@ fn join_all<N: DeskName, P: Planner, R: Threads>(
 fn take_apart<N: DeskName>(
     reports: Vec<Report<N>>,
     mut passes: Vec<Pass<N>>,
-    mut missed: Vec<u64>,
-) -> (Vec<Pass<N>>, Vec<u64>)
+    mut missed: Vec<Missed>,
+) -> (Vec<Pass<N>>, Vec<Missed>)
     requires empty { (passes.items ≡ []) × (missed.items ≡ []) }
     requires room { (length reports.items ≤ vec_capacity passes) × (length reports.items ≤ vec_capacity missed) }
     ensures passes { result.0.items ≡ map (λ r. r.pass) reports.items }
@@ -208,14 +210,14 @@ fn run_all<
     requires empty { reports.items ≡ [] }
     requires room { length passes.items ≤ vec_capacity reports }
     ensures count { IfOk result (λ rs. length rs.items ≡ length passes.items) }
-    ensures reported { IfOk result (λ rs. AllAt (λ i r. ReportAt P.fits_map P.slot_count N.origin.site.grid works.items passes.items i r.pass r.missed) rs.items) }
+    ensures reported { IfOk result (λ rs. AllAt (λ i r. ReportAt P.fits_map P.slot_count N.origin.site.grid (length N.cells) works.items passes.items i r.pass r.missed) rs.items) }
 {
     thread::scope(
         thread::scope_env(),
         rt,
         |scope| -> Result<Vec<Report<N>>, CrewFault>
             requires { (length works.items ≡ length passes.items) × (reports.items ≡ []) × (length passes.items ≤ vec_capacity reports) }
-            ensures { IfOk result (λ rs. (length rs.items ≡ length passes.items) × AllAt (λ i r. ReportAt P.fits_map P.slot_count N.origin.site.grid works.items passes.items i r.pass r.missed) rs.items) }
+            ensures { IfOk result (λ rs. (length rs.items ≡ length passes.items) × AllAt (λ i r. ReportAt P.fits_map P.slot_count N.origin.site.grid (length N.cells) works.items passes.items i r.pass r.missed) rs.items) }
         {
             let handles = start_all(scope, rt, alloc, desk, passes, works, gate)?;
             Ok(join_all(rt, handles, reports))
@@ -227,12 +229,14 @@ fn run_all<
 #[derive(Drop)]
 pub struct Crewed<P: Planner = Box<dyn Planner>> {
     pub history: History<P>,
-    pub missed: Vec<u64>,
+    pub missed: Vec<Missed>,
 }
 
 /// Worker i makes its commands with pass i, one call of the desk each, in a thread of its own; then the desk is finished.
-/// The history is one run, and each entry is a worker's. For each worker its entries are those that its pass held before,
-/// and then its commands, in order, without as many as were missed. There are no more entries than the desk has cells.
+/// The history is one run from an opening state, and each entry is a worker's. For each worker its entries are those that its
+/// pass held before, and then its commands, in order, without as many as were missed. There are no more entries than the desk
+/// has cells, and just so many where a call was missed since the journal was full; else calls are missed for want of memory
+/// alone. On a well-formed instance no request is refused for want of a path.
 pub fn crew<
     N: DeskName + Send + Sync,
     H: Wait + Send + Sync + Drop,
@@ -250,10 +254,13 @@ pub fn crew<
     requires passes { InOrder N.callers passes.items }
     requires works { length works.items ≡ length passes.items }
     ensures origin { IfOk result (λ c. origin_of c.history.warehouse.book ≡ N.origin) }
+    ensures opening { IfOk result (λ _. IsOpening N.origin.site N.origin.opening) }
     ensures run { IfOk result (λ c. Run N.origin.site N.origin.opening c.history.warehouse.book.history c.history.warehouse.book.state) }
     ensures callers { IfOk result (λ c. All (λ entry. entry.caller < N.callers) c.history.warehouse.book.history) }
     ensures within { IfOk result (λ c. length c.history.warehouse.book.history ≤ length N.cells) }
-    ensures workers { IfOk result (λ c. AllWorked P.fits_map P.slot_count N.origin.site.grid works.items passes.items c.history.warehouse.book.history c.missed.items) }
+    ensures served { IfOk result (λ c. NoneWantsPath N.origin c.history.warehouse.book.history) }
+    ensures cause { IfOk result (λ c. MissedWithCause (length N.cells) c.history.warehouse.book.history c.missed.items) }
+    ensures workers { IfOk result (λ c. AllWorked P.fits_map P.slot_count N.origin.site.grid (length N.cells) works.items passes.items c.history.warehouse.book.history c.missed.items) }
 {
     let Ok(room) = make_room(alloc, passes.len()) else {
         return Err(CrewFault::NoMemory);
@@ -266,16 +273,41 @@ pub fn crew<
     let reports = run_all(rt, alloc, &desk, passes, works, reports, gate)?;
     let (ended, missed) = take_apart(reports, ended, missed);
     match desk.finish(ended) {
-        Ok(history) => Ok(Crewed { history, missed }),
+        Ok(history) => {
+            if none_other(missed.as_slice()) {
+                Ok(Crewed { history, missed })
+            } else {
+                Err(CrewFault::Stale)
+            }
+        }
         Err(_) => Err(CrewFault::Stale),
     }
+}
+
+/// Whether each call that was refused was so by E11 or E90.
+fn none_other(missed: &[Missed]) -> bool
+    ensures { result ≡ true → All (λ n. n.other ≡ 0) missed.now }
+{
+    for each in missed {
+        if has_other(each) {
+            return false;
+        }
+    }
+    true
+}
+
+/// Whether a call was refused otherwise.
+fn has_other(missed: &Missed) -> bool
+    ensures { result ≡ false → missed.now.other ≡ 0 }
+{
+    missed.other != 0
 }
 
 /// Room for what so many workers leave, made before the first thread starts.
 struct Room<N: DeskName> {
     reports: Vec<Report<N>>,
     passes: Vec<Pass<N>>,
-    missed: Vec<u64>,
+    missed: Vec<Missed>,
 }
 
 fn make_room<N: DeskName>(alloc: Global, count: usize) -> Result<Room<N>, AllocError>

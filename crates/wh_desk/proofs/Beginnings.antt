@@ -2,9 +2,12 @@
 use Rattle.std.proofs.Common.{◌≡◌, ℕ, zero, suc, ◌+◌, ◌≤◌, ◌⊎◌, inl, inr, List, [], ◌∷◌, length, refl, ap, sym, ◌∙◌, arith, subst, Some, slice_get}
 use mathlib.Core.List.{IsPrefix}
 use Rattle.wh_event.specs.declared.entry.Entry.{Entry}
-use Rattle.wh_board.specs.Pasts.{Past, Extends}
-use Rattle.std.proofs.lemmas.List.Elements.{All-head, All-tail}
-use Rattle.wh_desk.specs.Lists.{entries_of, entries_from, StandIn}
+use Rattle.wh_board.specs.Pasts.{Origin, Past, Extends}
+use Rattle.std.proofs.lemmas.List.{append-nil}
+use Rattle.std.proofs.lemmas.List.Elements.{All-head, All-tail, All-weaker}
+use Rattle.wh_board.proofs.Fronts.{prefix_self}
+use Rattle.wh_desk.specs.Lists.{IsRunFrom, Received, entries_of, entries_from, StandIn}
+use Rattle.wh_desk.specs.Calls.{Agreed}
 use Rattle.wh_desk.proofs.Entries.{entries_append, entries_stands, get_left}
 
 one_more : {A : Type 0} (x y : A) (xs ys : List A) → x ≡ y → (IsPrefix xs ys) ⊎ (IsPrefix ys xs) → (IsPrefix (x ∷ xs) (y ∷ ys)) ⊎ (IsPrefix (y ∷ ys) (x ∷ xs))
@@ -59,3 +62,32 @@ receipts_agree g h c d xs ys meets mine theirs m n x y at there place =
 pub one_extends : (p q : Past) → Extends p q ⊎ Extends q p → (IsPrefix p.history q.history) ⊎ (IsPrefix q.history p.history)
 one_extends p q (inl e) = inl e.1
 one_extends p q (inr e) = inr e.1
+
+-- of two beginnings of one list, what is no longer begins the other
+pub begins_longer : {A : Type 0} (g h : List A) → (IsPrefix g h) ⊎ (IsPrefix h g) → length g ≤ length h → IsPrefix g h
+begins_longer g h (inl p) le = p
+begins_longer g h (inr p) le = (let same : h ≡ g = prefix_whole h g p le in ([], append-nil g ∙ sym same))
+
+stands_in : (h g : List Entry) (c : ℕ) (xs : List (ℕ × Entry)) → IsPrefix g h → xs ≡ entries_of g c → StandIn h xs
+stands_in h g c xs p is =
+    subst (λ (l : List (ℕ × Entry)). StandIn h l) (sym is)
+    (All-weaker (λ (x : ℕ × Entry). slice_get g x.0 ≡ Some x.1) (λ (x : ℕ × Entry). slice_get h x.0 ≡ Some x.1) (λ x at. prefix_get g h x.0 x.1 p at) (entries_of g c) (entries_stands [] g c))
+
+agreed_in : {origin : Origin} {one two : Received} (history g h : List Entry) → IsRunFrom origin history → IsPrefix g history → IsPrefix h history
+    → one.list ≡ entries_of g one.caller → two.list ≡ entries_of h two.caller → one.known ≡ g → two.known ≡ h → Agreed origin one two
+agreed_in {origin} {one} {two} history g h run p q all all' known known' = record {
+  history = history;
+  run = run;
+  one_stands = stands_in history g one.caller one.list p all;
+  two_stands = stands_in history h two.caller two.list q all';
+  one_first = subst (λ (l : List (ℕ × Entry)). IsPrefix l (entries_of history one.caller)) (sym all) (entries_prefix g history one.caller p);
+  two_first = subst (λ (l : List (ℕ × Entry)). IsPrefix l (entries_of history two.caller)) (sym all') (entries_prefix h history two.caller q);
+  one_known = subst (λ (l : List Entry). IsPrefix l history) (sym known) p;
+  two_known = subst (λ (l : List Entry). IsPrefix l history) (sym known') q;
+}
+
+-- the receipts of two passes whose fronts begin one another stand in the longer of what these know
+pub agreed : {origin : Origin} {one two : Received} (g h : List Entry) → IsRunFrom origin g → IsRunFrom origin h → (IsPrefix g h) ⊎ (IsPrefix h g)
+    → one.list ≡ entries_of g one.caller → two.list ≡ entries_of h two.caller → one.known ≡ g → two.known ≡ h → Agreed origin one two
+agreed g h run run' (inl p) all all' known known' = agreed_in h g h run' p (prefix_self h) all all' known known'
+agreed g h run run' (inr p) all all' known known' = agreed_in g g h run (prefix_self g) p all all' known known'

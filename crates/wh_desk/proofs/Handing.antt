@@ -42,17 +42,18 @@ handed_back fits grid None planners handed after back there fit swaps = swaps.1
 -- what is swapped had its seat before the call, since a Replace asks no planner
 reseats_by : {X : Type 0} (reply : Reply) (command : Command) (told : Spare) (old mid : List X) (handed : Option X) (new : List X) (back : Option X)
     → StaySeated command old mid → Swaps (replaced_by reply (event_of command told)) mid handed new back
-    → Reseats (replaced_by reply (event_of command told)) old handed new back
+    → Reseats command (replaced_by reply (event_of command told)) old handed new back
 reseats_by (Reply.Replaced slots) (Command.Replace agent) told old mid (Some planner) new back stay swaps =
     (swaps.0 ∙ ap (λ l. slice_set l agent planner) stay, swaps.1 ∙ ap (λ l. slice_get l agent) stay)
-reseats_by (Reply.Replaced slots) (Command.Replace agent) told old mid None new back stay swaps = swaps.1
-reseats_by reply command told old mid handed new back stay swaps = swaps.1
+reseats_by (Reply.Replaced slots) (Command.Replace agent) told old mid None new back stay swaps = (swaps.0 ∙ stay, swaps.1)
+reseats_by {X} reply command told old mid handed new back stay swaps =
+    (subst (λ (l : List X). StaySeated command old l) (sym swaps.0) stay, swaps.1)
 
 -- the same by the entry that answers the command
 pub reseats : {X : Type 0} (entry : Entry) (command : Command) (old mid : List X) (handed : Option X) (new : List X) (back : Option X)
     → IsAskedBy command entry.event → StaySeated command old mid → Swaps (replaced_agent entry) mid handed new back
-    → Reseats (replaced_agent entry) old handed new back
+    → Reseats command (replaced_agent entry) old handed new back
 reseats entry command old mid handed new back asked stay swaps =
-    subst (λ event. Reseats (replaced_by entry.reply event) old handed new back) (sym asked.1)
+    subst (λ event. Reseats command (replaced_by entry.reply event) old handed new back) (sym asked.1)
     (reseats_by entry.reply command asked.0 old mid handed new back stay
     (subst (λ event. Swaps (replaced_by entry.reply event) mid handed new back) asked.1 swaps))

@@ -6,14 +6,15 @@ use Rattle.std.proofs.lemmas.List.Elements.{All-push, All-nil}
 use Rattle.once_cell.specs.declared.race.note.Note.{Note}
 use Rattle.wh_event.specs.declared.entry.Entry.{Entry}
 use Rattle.logbook.specs.Pages.{Book}
+use Rattle.wh_core.specs.Steps.{Run}
 use Rattle.wh_book.specs.Drafts.{Seen, IsSame}
 use Rattle.wh_board.specs.Pasts.{Origin, Past, Known, Stand, Extends, grown, past_of}
 use Rattle.wh_board.proofs.Chains.{extends_same, extends_trans, extends_grown}
-use Rattle.wh_desk.specs.Lists.{AllAt, entries_of, last_position}
+use Rattle.wh_desk.specs.Lists.{AllAt, IsRunFrom, entries_of, last_position}
 use Rattle.wh_desk.proofs.Entries.{last_push, AllAt_push, AllAt_map, get_push, entries_push_same, entries_push_other}
 use Rattle.wh_desk.specs.declared.pass.Held.{Held}
 use Rattle.wh_desk.specs.declared.pass.Row.{Row}
-use Rattle.wh_desk.specs.Kept.{pair_of, list_of, RowOf, NoteKnows, PassKeeps, NoteAt, JournalKeeps}
+use Rattle.wh_desk.specs.Kept.{pair_of, list_of, RowOf, NoteKnows, PassKeeps, NoteAt, Filled, JournalKeeps}
 
 -- a list with one element changed
 pub AllAt_set : {A : Type 0} (P Q : ℕ → A → Type 0) (xs : List A) (i : ℕ) (y : A) → ((k : ℕ) (x : A) → k ≢ i → P k x → Q k x) → Q i y → AllAt P xs → AllAt Q (set xs i y)
@@ -29,14 +30,45 @@ get_under [] ys k less = absurd (omega arith)
 get_under (x ∷ xs) ys zero less = refl
 get_under (x ∷ xs) ys (suc k) less = get_under xs ys k (omega arith)
 
+-- a pass that received nothing
+pub pass_first : {origin : Origin} {row : List ℕ} {book : Book} {callers caller : ℕ} (held : List Held) (front : Known) → held ≡ [] → caller < callers → front.book ≡ book → front.past.history ≡ []
+    → PassKeeps origin row book callers caller 0 0 held front
+pass_first {origin} {row} {book} {callers} {caller} held front none within same empty =
+    subst (λ (l : List Held). PassKeeps origin row book callers caller 0 0 l front) (sym none)
+    (record {
+      caller_within = within;
+      last_is = refl;
+      book_is = same;
+      run = (origin.opening, subst (λ (h : List Entry). Run origin.site origin.opening h origin.opening) (sym empty) refl);
+      long_is = sym (ap length empty);
+      all = ap (λ (h : List Entry). entries_of h caller) (sym empty);
+      notes = λ k x at. absurd cc;
+    })
+
+-- a pass that comes to know of a longer history, in which it has all that its caller did
+pub pass_learns : {origin : Origin} {row : List ℕ} {book : Book} {callers caller last long : ℕ} {held : List Held} {front : Known} → PassKeeps origin row book callers caller last long held front
+    → (after : Known) (longer : ℕ) → list_of held ≡ entries_of after.past.history caller → after.book ≡ book → IsRunFrom origin after.past.history → longer ≡ length after.past.history
+    → PassKeeps origin row book callers caller last longer held after
+pass_learns {origin} {row} {book} {callers} {caller} {last} {long} {held} {front} keeps after longer all same run count = record {
+  caller_within = keeps.caller_within;
+  last_is = keeps.last_is;
+  book_is = same;
+  run = run;
+  long_is = count;
+  all = all;
+  notes = keeps.notes;
+}
+
 -- one more receipt, whose note knows its entry
-pub pass_push : {row : List ℕ} {book : Book} {callers caller last : ℕ} {held : List Held} {front : Known} → PassKeeps row book callers caller last held front → (h : List Entry) (x : Held) (after : Known) → list_of held ≡ entries_of h caller → NoteKnows row x → length h ≡ x.position → x.entry.caller ≡ caller → after.book ≡ book → after.past.history ≡ h ++ x.entry ∷ [] → PassKeeps row book callers caller x.position (held ++ x ∷ []) after
-pass_push {row} {book} {callers} {caller} {last} {held} {front} keeps h x after all knows place mine same grows =
+pub pass_push : {origin : Origin} {row : List ℕ} {book : Book} {callers caller last long : ℕ} {held : List Held} {front : Known} → PassKeeps origin row book callers caller last long held front → (h : List Entry) (x : Held) (after : Known) → list_of held ≡ entries_of h caller → NoteKnows row x → length h ≡ x.position → x.entry.caller ≡ caller → after.book ≡ book → after.past.history ≡ h ++ x.entry ∷ [] → IsRunFrom origin after.past.history → PassKeeps origin row book callers caller x.position (x.position + 1) (held ++ x ∷ []) after
+pass_push {origin} {row} {book} {callers} {caller} {last} {long} {held} {front} keeps h x after all knows place mine same grows run =
     let more : list_of (held ++ x ∷ []) ≡ list_of held ++ pair_of x ∷ [] = map_push pair_of held x in
     record {
       caller_within = keeps.caller_within;
       last_is = sym (ap last_position more ∙ last_push 0 (list_of held) (pair_of x));
       book_is = same;
+      run = run;
+      long_is = omega (arith, place, ap length grows, length_push h x.entry);
       all = more ∙ ap (λ n. list_of held ++ (n, x.entry) ∷ []) (sym place) ∙ ap (λ l. l ++ (length h, x.entry) ∷ []) all ∙ sym (entries_push_same h x.entry caller mine) ∙ ap (λ l. entries_of l caller) (sym grows);
       notes = AllAt_push (λ _ y. NoteKnows row y) held x keeps.notes knows;
     }
@@ -51,16 +83,17 @@ shown_next None shown after old now e begins is there none =
     subst (λ (p : Past). Extends p now) (sym none) (subst (λ (p : Past). Extends shown p) (sym is) (extends_trans shown old (grown old e) begins (extends_grown old old e refl)))
 
 -- one more entry in the journal, with its note and its caller's row
-pub journal_push : {origin : Origin} {names : List ℕ} {book : Book} {callers capacity : ℕ} {past : Past} {rows : List Row} {notes : List (Note Entry)} {publisher : Stand}
-    → JournalKeeps origin names book callers past capacity rows notes publisher
-    → (after : Past) (e : Entry) (n : Note Entry) (r : Row) (caller : ℕ) (stands : Stand)
+pub journal_push : {origin : Origin} {names : List ℕ} {book : Book} {callers capacity : ℕ} {past : Past} {rows : List Row} {notes : List (Note Entry)} {cells : Filled} {publisher : Stand}
+    → JournalKeeps origin names book callers past capacity rows notes cells publisher
+    → (after : Past) (e : Entry) (n : Note Entry) (r : Row) (caller : ℕ) (more : Filled) (stands : Stand)
     → after.origin ≡ origin → after.history ≡ past.history ++ e ∷ [] → length past.history < capacity
     → e.caller ≡ caller → caller < callers
     → slice_get names (length past.history) ≡ Some n.cell → n.known ≡ Some e
     → RowOf (entries_of (past.history ++ e ∷ []) caller) r
+    → more.names ≡ cells.names → more.count ≡ cells.count + 1
     → stands.book ≡ book → stands.added ≡ after → Extends stands.shown after
-    → JournalKeeps origin names book callers after capacity (set rows caller r) (notes ++ n ∷ []) stands
-journal_push {origin} {names} {book} {callers} {capacity} {past} {rows} {notes} {publisher} keeps after e n r caller stands begins grows room mine within cell known row same added shown =
+    → JournalKeeps origin names book callers after capacity (set rows caller r) (notes ++ n ∷ []) more stands
+journal_push {origin} {names} {book} {callers} {capacity} {past} {rows} {notes} {cells} {publisher} keeps after e n r caller more stands begins grows room mine within cell known row still filled same added shown =
     let h = past.history in
     let longer = length_push h e in
     let longer_list : List Entry = h ++ e ∷ [] in
@@ -71,7 +104,11 @@ journal_push {origin} {names} {book} {callers} {capacity} {past} {rows} {notes} 
     record {
       origin_is = begins;
       within = omega (arith, longer, ap length grows);
-      cells_enough = keeps.cells_enough;
+      capacity_is = keeps.capacity_is;
+      cells_are =
+          let count : more.count ≡ length after.history = omega (arith, filled, ap (λ (f : Filled). f.count) keeps.cells_are, longer, ap length grows) in
+          let named : more.names ≡ names = still ∙ ap (λ (f : Filled). f.names) keeps.cells_are in
+          λ i. record { names = named i; count = count i };
       callers_within = subst (λ l. All (λ (x : Entry). x.caller < callers) l) (sym grows) (All-push (λ (x : Entry). x.caller < callers) h e keeps.callers_within (omega (arith, mine)));
       rows_length = length-set rows caller r ∙ keeps.rows_length;
       rows_are = subst (λ l. AllAt (λ c q. RowOf (entries_of l c) q) (set rows caller r)) (sym grows) rows';
@@ -83,14 +120,16 @@ journal_push {origin} {names} {book} {callers} {capacity} {past} {rows} {notes} 
     }
 
 -- a journal with no entry yet
-pub journal_first : {origin : Origin} {names : List ℕ} {book : Book} {callers capacity : ℕ} {rows : List Row} {notes : List (Note Entry)} (past : Past) (publisher : Stand)
+pub journal_first : {origin : Origin} {names : List ℕ} {book : Book} {callers capacity : ℕ} {rows : List Row} {notes : List (Note Entry)} (past : Past) (cells : Filled) (publisher : Stand)
     → past.origin ≡ origin → past.history ≡ [] → capacity ≡ length names → length rows ≡ callers → AllAt (λ _ r. RowOf [] r) rows → notes ≡ []
+    → cells.names ≡ names → cells.count ≡ 0
     → publisher.book ≡ book → publisher.added ≡ past → publisher.shown ≡ past
-    → JournalKeeps origin names book callers past capacity rows notes publisher
-journal_first {origin} {names} {book} {callers} {capacity} {rows} {notes} past publisher begins empty fits count rows_empty none same added shown = record {
+    → JournalKeeps origin names book callers past capacity rows notes cells publisher
+journal_first {origin} {names} {book} {callers} {capacity} {rows} {notes} past cells publisher begins empty fits count rows_empty none named unset same added shown = record {
   origin_is = begins;
   within = omega (arith, ap length empty);
-  cells_enough = omega (arith, fits);
+  capacity_is = fits;
+  cells_are = (let few : cells.count ≡ length past.history = unset ∙ sym (ap length empty) in λ i. record { names = named i; count = few i });
   callers_within = subst (λ (l : List Entry). All (λ (x : Entry). x.caller < callers) l) (sym empty) (All-nil _);
   rows_length = count;
   rows_are = subst (λ (l : List Entry). AllAt (λ c q. RowOf (entries_of l c) q) rows) (sym empty) rows_empty;
@@ -105,21 +144,20 @@ journal_first {origin} {names} {book} {callers} {capacity} {rows} {notes} past p
 pub past_same : (old new : Seen) → IsSame old new → past_of new ≡ past_of old
 past_same old new same = λ i. record { origin = record { site = same.site i; opening = same.opening i }; history = same.history i }
 
--- a journal whose past and notes are the same
-pub journal_same : {origin : Origin} {names : List ℕ} {book : Book} {callers capacity : ℕ} {past : Past} {rows : List Row} {notes : List (Note Entry)} {publisher : Stand}
-    → JournalKeeps origin names book callers past capacity rows notes publisher
-    → (after : Past) (notes' : List (Note Entry)) → after ≡ past → notes' ≡ notes
-    → JournalKeeps origin names book callers after capacity rows notes' publisher
-journal_same {origin} {names} {book} {callers} {capacity} {past} {rows} {notes} {publisher} keeps after notes' is same =
-    subst (λ (t : Past). JournalKeeps origin names book callers t capacity rows notes' publisher) (sym is) (subst (λ (l : List (Note Entry)). JournalKeeps origin names book callers past capacity rows l publisher) (sym same) keeps)
-
--- a publisher that was refused one more entry is the same
-pub journal_refused : {origin : Origin} {names : List ℕ} {book : Book} {callers capacity : ℕ} {past : Past} {rows : List Row} {notes : List (Note Entry)} {publisher : Stand}
-    → JournalKeeps origin names book callers past capacity rows notes publisher
-    → (stands : Stand) → stands.book ≡ publisher.book → stands.added ≡ publisher.added → stands.shown ≡ publisher.shown
-    → JournalKeeps origin names book callers past capacity rows notes stands
-journal_refused {origin} {names} {book} {callers} {capacity} {past} {rows} {notes} {publisher} keeps stands one two three =
-    subst (λ (p : Stand). JournalKeeps origin names book callers past capacity rows notes p) (λ i. record { book = sym one i; added = sym two i; shown = sym three i }) keeps
+-- a journal of which a call was refused: its past, notes, cells and publisher are the same
+pub journal_same : {origin : Origin} {names : List ℕ} {book : Book} {callers capacity : ℕ} {past : Past} {rows : List Row} {notes : List (Note Entry)} {cells : Filled} {publisher : Stand}
+    → JournalKeeps origin names book callers past capacity rows notes cells publisher
+    → (after : Past) (notes' : List (Note Entry)) (filled : Filled) (stands : Stand) → after ≡ past → notes' ≡ notes
+    → filled.names ≡ cells.names → filled.count ≡ cells.count
+    → stands.book ≡ publisher.book → stands.added ≡ publisher.added → stands.shown ≡ publisher.shown
+    → JournalKeeps origin names book callers after capacity rows notes' filled stands
+journal_same {origin} {names} {book} {callers} {capacity} {past} {rows} {notes} {cells} {publisher} keeps after notes' filled stands is same named count one two three =
+    let fill : cells ≡ filled = λ i. record { names = sym named i; count = sym count i } in
+    let stand : publisher ≡ stands = λ i. record { book = sym one i; added = sym two i; shown = sym three i } in
+    subst (λ (t : Past). JournalKeeps origin names book callers t capacity rows notes' filled stands) (sym is)
+    (subst (λ (l : List (Note Entry)). JournalKeeps origin names book callers past capacity rows l filled stands) (sym same)
+    (subst (λ (f : Filled). JournalKeeps origin names book callers past capacity rows notes f stands) fill
+    (subst (λ (p : Stand). JournalKeeps origin names book callers past capacity rows notes cells p) stand keeps)))
 
 -- whichever of two equal ones it is
 pub either_same : {A : Type 0} (x y z : A) → y ≡ z → (x ≡ z) ⊎ (x ≡ y) → x ≡ z

@@ -24,6 +24,7 @@ use Rattle.wh_board.specs.contracts.publisher.Publisher as publisher
 use Rattle.wh_planner.specs.declared.planner.Planner.{Ghosts as Planning}
 use Rattle.wh_desk.specs.declared.naming.DeskName.{Ghosts}
 use Rattle.wh_desk.specs.contracts.cells.Cells as cells
+use Rattle.wh_desk.specs.contracts.cells.CellRow as cell_row
 use Rattle.wh_desk.specs.contracts.desk.Desk as desk
 use Rattle.wh_desk.specs.contracts.journal.Journal as journal
 use Rattle.wh_desk.specs.contracts.pass.Pass as pass
@@ -71,11 +72,14 @@ pass_send N g s y = search (sendable, crosses, front_send, held_send) depth 60 f
 pub publisher_send : (H : RattleType) → IsSend H → IsSync H → IsSend (publisher.the_row H)
 publisher_send H s y = search (sendable, crosses, front_send, page_send, page_sync, word.the_send, part.the_send, part.the_sync, deed.the_send, seat.the_send, shared.the_send, shared.the_sync, badge.the_send, perch.the_send, perch.the_sync, ruled.the_send, ruled.the_sync, mark.the_send, lease.the_send, lease.the_sync) depth 60 fits 20000
 
-pub cells_sync : IsSync cells.the_row
-cells_sync = search (sendable, crosses, once.the_sync, entry_send, entry_sync) depth 60 fits 20000
+pub cells_send : IsSend cells.the_row
+cells_send = search (sendable, crosses, once.the_send, entry_send, entry_sync) depth 60 fits 20000
+
+pub cell_row_send : IsSend cell_row.the_row
+cell_row_send = search (sendable, crosses, cells_send) depth 60 fits 20000
 
 pub journal_send : (N H P : RattleType) (g : Ghosts N.Denot) (q : Planning P.Denot) → IsSend N → IsSync N → IsSend H → IsSync H → IsSend P → IsSend (journal.the_row N H P g q)
-journal_send N H P g q s y h k p = search (sendable, crosses, warehouse_send, publisher_send, note.the_send) depth 60 fits 20000
+journal_send N H P g q s y h k p = search (sendable, crosses, warehouse_send, publisher_send, cell_row_send, note.the_send) depth 60 fits 20000
 
 pub desk_sync : (N H P : RattleType) (g : Ghosts N.Denot) (q : Planning P.Denot) → IsSend N → IsSync N → IsSend H → IsSync H → IsSend P → IsSync (desk.the_row N H P g q)
-desk_sync N H P g q s y h k p = search (sendable, crosses, journal_send, cells_sync) depth 60 fits 20000
+desk_sync N H P g q s y h k p = search (sendable, crosses, journal_send) depth 60 fits 20000

@@ -1,5 +1,5 @@
 -- What the calls tell follows from what the journal and the pass keep.
-use Rattle.std.proofs.Common.{Option, None, IfSome, ◌≡◌, ℕ, ◌+◌, ◌<◌, List, [], ◌∷◌, ◌++◌, length, Some, slice_get, ap, sym, ◌∙◌, subst, arith, IfOk, Result, Ok, Err}
+use Rattle.std.proofs.Common.{Option, None, IfSome, ◌≡◌, ℕ, ◌+◌, ◌<◌, List, [], ◌∷◌, ◌++◌, length, Some, slice_get, refl, ap, sym, ◌∙◌, subst, arith, IfOk, Result, Ok, Err}
 use Rattle.std.specs.List.{All}
 use Rattle.std.proofs.lemmas.List.Elements.{All-weaker}
 use Rattle.wh_event.specs.declared.entry.Entry.{Entry}
@@ -11,7 +11,11 @@ use Rattle.wh_core.specs.Steps.{Run}
 use Rattle.wh_desk.specs.Lists.{entries_of, StandIn, Received, Ledger}
 use Rattle.logbook.specs.Pages.{Book}
 use Rattle.wh_board.specs.Pasts.{Origin, Known}
-use Rattle.wh_desk.specs.Calls.{Entered, Called, TellsReceipt, Together}
+use Rattle.wh_board.proofs.Fronts.{prefix_self, prefix_trans}
+use mathlib.Core.List.{IsPrefix}
+use Rattle.std.proofs.Common.{◌≢◌, ◌≤◌, IfErr, OnErr}
+use Rattle.wh_desk.specs.Lists.{TellsTheSame}
+use Rattle.wh_desk.specs.Calls.{Entered, Called, KnowsFull, Refuses, TellsReceipt, Together, Untouched}
 use Rattle.wh_desk.proofs.Entries.{get_left, get_push, entries_stands, entries_before, entries_push_same}
 
 pub called : {X : Type 0} {origin : Origin} {before after : Ledger X} {had has : Received} {command : Command} {position : ℕ} {entry : Entry} → Entered origin before had command after has position entry → Run origin.site origin.opening after.history after.state → Called origin had command has position entry
@@ -25,6 +29,7 @@ called {X} {origin} {before} {after} {had} {has} {command} {position} {entry} e 
       history = after.history;
       state = after.state;
       run = run;
+      goes_on = prefix_trans had.known before.history after.history e.had_known (entry ∷ [], sym e.history);
       had_stand = subst (λ h. StandIn h had.list) (sym e.history) (subst (λ l. StandIn grown l) (sym e.had_all) kept);
       stands = ap (λ h. slice_get h position) e.history ∙ stands;
       later = subst (λ l. All (λ (x : ℕ × Entry). x.0 < position) l) (sym e.had_all) earlier;
@@ -32,6 +37,7 @@ called {X} {origin} {before} {after} {had} {has} {command} {position} {entry} e 
       command_is = e.command_is;
       has_caller = e.has_caller;
       has_list = e.has_list;
+      has_known = e.has_known;
       has_all = e.has_list ∙ ap (λ l. l ++ (position, entry) ∷ []) e.had_all ∙ ap (λ n. entries_of before.history had.caller ++ (n, entry) ∷ []) e.position_is ∙ sym (entries_push_same before.history entry had.caller e.caller_is) ∙ ap (λ h. entries_of h had.caller) (sym e.history);
     }
 
@@ -72,3 +78,45 @@ pub told_if : {X : Type 0} (origin : Origin) (book : Book) (before after : Ledge
     → IfOk outcome (λ r. IfSome r.told (λ t. TellsReceipt book origin r.position r.entry t))
 told_if origin book before after had has command (Ok r) e t = told_one origin book before after had has command r.position r.entry r.told e t
 told_if origin book before after had has command (Err fault) e t = tt
+
+-- what is told of a full journal
+pub knows_full : (capacity : ℕ) (had has : Received) (history : List Entry) → has ≡ record { caller = had.caller; list = had.list; known = history } → IsPrefix had.known history → length history ≡ capacity
+    → KnowsFull capacity had has
+knows_full capacity had has history is begins full = record {
+  caller_is = ap (λ (p : Received). p.caller) is;
+  list_is = ap (λ (p : Received). p.list) is;
+  goes_on = subst (λ (l : List Entry). IsPrefix had.known l) (sym (ap (λ (p : Received). p.known) is)) begins;
+  is_full = ap (λ (p : Received). length p.known) is ∙ full;
+}
+
+-- a call that was refused for another reason than a stale pass or a full journal
+untouched_late : {X : Type 0} (old : Ledger X) (fault : DeskFault) (new : Ledger X) → fault ≢ DeskFault.Stale → fault ≢ DeskFault.Full → TellsTheSame old new → Untouched old fault new
+untouched_late old DeskFault.Stale new one two same = absurd (one refl)
+untouched_late old DeskFault.Full new one two same = absurd (two refl)
+untouched_late old DeskFault.NoMemory new one two same = same
+untouched_late old DeskFault.CellTaken new one two same = same
+
+refuses_late : (capacity : ℕ) (had : Received) (fault : DeskFault) (has : Received) → fault ≢ DeskFault.Stale → fault ≢ DeskFault.Full → has ≡ had → Refuses capacity had fault has
+refuses_late capacity had DeskFault.Stale has one two same = same
+refuses_late capacity had DeskFault.Full has one two same = absurd (two refl)
+refuses_late capacity had DeskFault.NoMemory has one two same = same
+refuses_late capacity had DeskFault.CellTaken has one two same = same
+
+pub untouched_if : {X : Type 0} (old new : Ledger X) (outcome : Result Receipt DeskFault) (had has : Received) → OnErr outcome (TellsTheSame old new × (has ≡ had)) → IfErr outcome (λ fault. (fault ≢ DeskFault.Stale) × (fault ≢ DeskFault.Full)) → IfErr outcome (λ fault. Untouched old fault new)
+untouched_if old new (Ok r) had has same late = tt
+untouched_if old new (Err fault) had has same late = untouched_late old fault new late.0 late.1 same.0
+
+pub refuses_if : {X : Type 0} (old new : Ledger X) (capacity : ℕ) (outcome : Result Receipt DeskFault) (had has : Received) → OnErr outcome (TellsTheSame old new × (has ≡ had)) → IfErr outcome (λ fault. (fault ≢ DeskFault.Stale) × (fault ≢ DeskFault.Full)) → IfErr outcome (λ fault. Refuses capacity had fault has)
+refuses_if old new capacity (Ok r) had has same late = tt
+refuses_if old new capacity (Err fault) had has same late = refuses_late capacity had fault has late.0 late.1 same.1
+
+-- what a refused call leaves of a pass, whatever the reason
+pub refused_keeps : (capacity : ℕ) (had : Received) (fault : DeskFault) (has : Received) → Refuses capacity had fault has → (has.caller ≡ had.caller) × (has.list ≡ had.list) × IsPrefix had.known has.known
+refused_keeps capacity had DeskFault.Full has r = (r.caller_is, r.list_is, r.goes_on)
+refused_keeps capacity had DeskFault.Stale has r = (ap (λ (p : Received). p.caller) r, ap (λ (p : Received). p.list) r, subst (λ (l : List Entry). IsPrefix had.known l) (sym (ap (λ (p : Received). p.known) r)) (prefix_self had.known))
+refused_keeps capacity had DeskFault.NoMemory has r = (ap (λ (p : Received). p.caller) r, ap (λ (p : Received). p.list) r, subst (λ (l : List Entry). IsPrefix had.known l) (sym (ap (λ (p : Received). p.known) r)) (prefix_self had.known))
+refused_keeps capacity had DeskFault.CellTaken has r = (ap (λ (p : Received). p.caller) r, ap (λ (p : Received). p.list) r, subst (λ (l : List Entry). IsPrefix had.known l) (sym (ap (λ (p : Received). p.known) r)) (prefix_self had.known))
+
+-- who was told that the journal is full knows of a history of its length
+pub refused_full : (capacity : ℕ) (had : Received) (has : Received) → Refuses capacity had DeskFault.Full has → length has.known ≡ capacity
+refused_full capacity had has r = r.is_full

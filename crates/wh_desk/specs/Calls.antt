@@ -1,5 +1,7 @@
 -- what the calls of a desk tell
 use Rattle.std.specs.Prelude.{◌≡◌, ℕ, ◌<◌, Bool, true, List, [], ◌∷◌, ◌++◌, length, Option, Some, slice_get, slice_set, All}
+use mathlib.Core.List.{IsPrefix}
+use Rattle.wh_points.specs.Formed.{IsFormed}
 use Rattle.wh_grid.specs.Grids.{Floor}
 use Rattle.once_cell.specs.declared.race.note.Note.{Note}
 use Rattle.logbook.specs.Pages.{Book}
@@ -9,9 +11,12 @@ use Rattle.wh_event.specs.declared.event.Command.{Command}
 use Rattle.wh_event.specs.declared.event.Spare.{Spare}
 use Rattle.wh_core.specs.States.{State}
 use Rattle.wh_core.specs.Steps.{Step, Run}
+use Rattle.wh_book.specs.Drafts.{AllServed}
 use Rattle.wh_token.specs.Commands.{event_of}
+use Rattle.wh_token.specs.Fleet.{StaySeated}
 use Rattle.wh_board.specs.Pasts.{Origin, Known}
-use Rattle.wh_desk.specs.Lists.{AllAt, entries_of, StandIn, Received, Ledger}
+use Rattle.wh_desk.specs.Lists.{AllAt, IsRunFrom, entries_of, StandIn, Received, Ledger, TellsTheSame}
+use Rattle.wh_desk.specs.declared.answer.DeskFault.{DeskFault}
 
 -- the event is that of the command, whatever it tells of a spare planner
 abbrev pub IsAskedBy : Command → Event → Type 0
@@ -27,15 +32,39 @@ pub record Entered {X : Type 0} (origin : Origin) (before : Ledger X) (had : Rec
   pub step : Step origin.site before.state entry after.state
   pub capacity : after.capacity ≡ before.capacity
   pub had_all : had.list ≡ entries_of before.history had.caller
+  pub had_known : IsPrefix had.known before.history
   pub has_caller : has.caller ≡ had.caller
   pub has_list : has.list ≡ had.list ++ (position, entry) ∷ []
+  pub has_known : has.known ≡ after.history
+
+-- who is told that the journal is full knows of a history of its length, and that goes on from the one it knew of
+pub record KnowsFull (capacity : ℕ) (had has : Received) : Type 0 where
+  pub caller_is : has.caller ≡ had.caller
+  pub list_is : has.list ≡ had.list
+  pub goes_on : IsPrefix had.known has.known
+  pub is_full : length has.known ≡ capacity
+
+-- what a refused call leaves of a pass, where the journal has so many positions: all as it was, but for what is known of a
+-- full journal
+abbrev pub Refuses : ℕ → Received → DeskFault → Received → Type 0
+Refuses capacity had DeskFault.Full has = KnowsFull capacity had has
+Refuses capacity had fault has = has ≡ had
+
+-- whoever is told that its pass is stale, or the journal full, is told so first of all: the journal and its planners are as
+-- they were
+abbrev pub Untouched : {X : Type 0} → Ledger X → DeskFault → Ledger X → Type 0
+Untouched before DeskFault.Stale after = after ≡ before
+Untouched before DeskFault.Full after = after ≡ before
+Untouched before fault after = TellsTheSame before after
 
 -- There is a history that is a run, in which all that the pass had received stands at its positions, and this entry after
--- all of them. The pass has it too now, and so all that its caller did in that history.
+-- all of them. It goes on from the history of which the pass knew. The pass has the entry too now, and so all that its
+-- caller did in that history, of which it knows.
 pub record Called (origin : Origin) (had : Received) (command : Command) (has : Received) (position : ℕ) (entry : Entry) : Type 0 where
   pub history : List Entry
   pub state : State
   pub run : Run origin.site origin.opening history state
+  pub goes_on : IsPrefix had.known history
   pub had_stand : StandIn history had.list
   pub stands : slice_get history position ≡ Some entry
   pub later : All (λ x. x.0 < position) had.list
@@ -44,6 +73,7 @@ pub record Called (origin : Origin) (had : Received) (command : Command) (has : 
   pub has_caller : has.caller ≡ had.caller
   pub has_list : has.list ≡ had.list ++ (position, entry) ∷ []
   pub has_all : has.list ≡ entries_of history had.caller
+  pub has_known : has.known ≡ history
 
 -- what is told with a receipt is of this desk's book, and stands for a history in which the receipt's entry stands at its position
 pub record TellsReceipt (book : Book) (origin : Origin) (position : ℕ) (entry : Entry) (told : Known) : Type 0 where
@@ -57,11 +87,11 @@ abbrev pub HandsBack : {X : Type 0} → (X → Floor → Bool) → Floor → Opt
 HandsBack {X} fits grid (Some agent) (Some handed) back = (planner : X) × (back ≡ Some planner) × (fits planner grid ≡ true)
 HandsBack fits grid agent handed back = back ≡ handed
 
--- Where an agent's planner was replaced, the one handed in has its seat and the one that had it comes back; else what was
--- handed in comes back.
-abbrev pub Reseats : {X : Type 0} → Option ℕ → List X → Option X → List X → Option X → Type 0
-Reseats (Some agent) old (Some handed) new back = (new ≡ slice_set old agent handed) × (back ≡ slice_get old agent)
-Reseats agent old handed new back = back ≡ handed
+-- Where an agent's planner was replaced, the one handed in has its seat and the one that had it comes back. Else what was
+-- handed in comes back, and the planners stay as at such a command.
+abbrev pub Reseats : {X : Type 0} → Command → Option ℕ → List X → Option X → List X → Option X → Type 0
+Reseats command (Some agent) old (Some handed) new back = (new ≡ slice_set old agent handed) × (back ≡ slice_get old agent)
+Reseats command agent old handed new back = StaySeated command old new × (back ≡ handed)
 
 -- there is a history of this length that is a run, in which the receipts of both stand at their positions, and are all that their callers did
 pub record Together (origin : Origin) (one two : Received) (long : ℕ) : Type 0 where
@@ -74,6 +104,22 @@ pub record Together (origin : Origin) (one two : Received) (long : ℕ) : Type 0
   pub one_all : one.list ≡ entries_of history one.caller
   pub two_all : two.list ≡ entries_of history two.caller
 
+-- There is one history, a run, in which the receipts of both stand at their positions. What each has are the first of its
+-- caller's entries there, with none left out, and what each knows of is a beginning of it.
+pub record Agreed (origin : Origin) (one two : Received) : Type 0 where
+  pub history : List Entry
+  pub run : IsRunFrom origin history
+  pub one_stands : StandIn history one.list
+  pub two_stands : StandIn history two.list
+  pub one_first : IsPrefix one.list (entries_of history one.caller)
+  pub two_first : IsPrefix two.list (entries_of history two.caller)
+  pub one_known : IsPrefix one.known history
+  pub two_known : IsPrefix two.known history
+
+-- on a well-formed instance none of the entries is a refusal for want of a path
+abbrev pub NoneWantsPath : Origin → List Entry → Type 0
+NoneWantsPath origin history = IsFormed origin.site → AllServed history
+
 -- a pass for each caller, in order
 pub record InOrder (callers : ℕ) (passes : List Received) : Type 0 where
   pub count : length passes ≡ callers
@@ -81,6 +127,10 @@ pub record InOrder (callers : ℕ) (passes : List Received) : Type 0 where
 
 abbrev pub AllEmpty : List Received → Type 0
 AllEmpty passes = All (λ pass. pass.list ≡ []) passes
+
+-- each pass knows of a beginning of the history
+abbrev pub AllBegin : List Entry → List Received → Type 0
+AllBegin history passes = All (λ pass. IsPrefix pass.known history) passes
 
 -- the note is of the cell of the receipt at this place of the list, and knows its entry
 pub record NoteOf (row : List ℕ) (list : List (ℕ × Entry)) (at : ℕ) (note : Note Entry) : Type 0 where

@@ -1,7 +1,9 @@
 -- histories, and what one caller has of them
-use Rattle.std.specs.Prelude.{◌≡◌, ℕ, ◌+◌, ◌==◌, Bool, ◌&&◌, List, [], ◌∷◌, length, cond, Some, slice_get, All}
+use Rattle.std.specs.Prelude.{◌≡◌, ℕ, ◌+◌, ◌==◌, Bool, ◌&&◌, nat_le, List, [], ◌∷◌, length, cond, Some, slice_get, All}
 use Rattle.wh_event.specs.declared.entry.Entry.{Entry}
 use Rattle.wh_core.specs.States.{State}
+use Rattle.wh_core.specs.Steps.{Run}
+use Rattle.wh_board.specs.Pasts.{Origin}
 
 -- P holds of each element, with its place
 abbrev pub AllAt : {A : Type 0} → (ℕ → A → Type 0) → List A → Type 0
@@ -29,16 +31,23 @@ last_position xs = last_from 0 xs
 abbrev pub StandIn : List Entry → List (ℕ × Entry) → Type 0
 StandIn history xs = All (λ x. slice_get history x.0 ≡ Some x.1) xs
 
--- what contracts see of a pass: its caller, and the entries that it received, with their positions
+-- the history is a run from there, to some state
+abbrev pub IsRunFrom : Origin → List Entry → Type 0
+IsRunFrom origin history = (state : State) × Run origin.site origin.opening history state
+
+-- what contracts see of a pass: its caller, the entries that it received, with their positions, and the longest history
+-- of which it knows
 pub record Received : Type 0 where
   pub caller : ℕ
   pub list : List (ℕ × Entry)
+  pub known : List Entry
 
--- the history has as many entries of the caller as the pass received, and the same last one
+-- the history has as many entries of the caller as the pass received, and the same last one; the pass knows of no longer one
 abbrev pub is_current : List Entry → Received → Bool
 is_current history pass =
     (length (entries_of history pass.caller) == length pass.list)
-    && (last_position (entries_of history pass.caller) == last_position pass.list)
+    && ((last_position (entries_of history pass.caller) == last_position pass.list)
+    && nat_le (length pass.known) (length history))
 
 -- what contracts see of a journal; shown is the history that was published last, and the planners are the agents', in order
 pub record Ledger (X : Type 0) : Type 0 where

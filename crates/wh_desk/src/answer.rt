@@ -14,9 +14,9 @@ pub enum DeskFault {
     Stale,
     /// E11: the journal is full.
     Full,
-    /// E90: no memory was left.
+    /// E90: a growth was refused, of memory or of the book.
     NoMemory,
-    /// E91: the cell of the receipt, or the book, had a value at this position already.
+    /// E91: the cell of the receipt refused its value.
     CellTaken,
 }
 

@@ -1,43 +1,36 @@
 //! The desk.
 #![tactic(auto)]
 
-ghost use Rattle.std.specs.Prelude.{◌≡◌, ◌≢◌, ◌<◌, ◌≤◌, ◌↔◌, [], length, true, IfOk, IfSome, OnErr, IsTrue, IsSome, MatchResult, All};
+ghost use Rattle.std.specs.Prelude.{◌≡◌, ◌≢◌, ◌<◌, ◌≤◌, ◌↔◌, [], length, true, IfOk, IfErr, IfSome, IsTrue, IsSome, MatchResult, All};
 ghost use Rattle.std.specs.List.{sum_by};
 ghost use Rattle.wh_points.specs.Formed.{IsFormed};
 ghost use Rattle.wh_event.specs.declared.event.Command.{Command as Asked};
 ghost use Rattle.wh_event.specs.declared.reply.Reply.{Reply as Answered};
 ghost use Rattle.wh_event.specs.declared.reply.Refusal.{Refusal as Reason};
+ghost use Rattle.wh_core.specs.Laws.{IsOpening};
 ghost use Rattle.wh_core.specs.Steps.{Run};
 ghost use Rattle.wh_token.specs.Fleet.{TellsFor, replaced_agent};
-ghost use Rattle.wh_board.specs.Pasts.{origin_of, past_of};
+ghost use Rattle.wh_board.specs.Pasts.{Extends, origin_of, past_of};
 ghost use Rattle.wh_desk.specs.Lists.{entries_of};
-ghost use Rattle.wh_desk.specs.Calls.{Called, TellsReceipt, Together, InOrder, AllEmpty, HandsBack};
+ghost use Rattle.wh_desk.specs.Calls.{AllBegin, AllEmpty, Called, HandsBack, InOrder, NoneWantsPath, Refuses, TellsReceipt, Together};
 
 use crate::answer::{Answer, DeskFault, Met, Receipt, Stale};
 use crate::cells::Cells;
-use crate::journal::Journal;
+use crate::journal::{History, Journal};
 use crate::naming::DeskName;
 use crate::pass::Pass;
 use std::alloc::{AllocError, Global};
 use std::sync::{Mutex, Wait};
-use wh_board::{Front, Publisher, Viewer, ViewerFault};
+use wh_board::{Front, Publisher, Told, Viewer, ViewerFault};
 use wh_event::{Command, Stops};
 use wh_planner::Planner;
 use wh_text::Name;
 use wh_token::Warehouse;
 
-/// The journal under its lock, with the receipts' cells beside it. `H` is the handle that the publisher keeps for its end.
+/// The journal under its lock. `H` is the handle that the publisher keeps for its end.
 #[derive(Drop)]
 pub struct Desk<N: DeskName, H: Wait + Drop, P: Planner = Box<dyn Planner>> {
     journal: Mutex<Journal<N, H, P>>,
-    cells: Cells,
-    ghost named: { cells ≡ N.cells },
-}
-
-/// What a desk leaves: the warehouse, with all that was done.
-#[derive(Drop)]
-pub struct History<P: Planner = Box<dyn Planner>> {
-    pub warehouse: Warehouse<P>,
 }
 
 impl<N: DeskName, H: Wait + Drop, P: Planner> Desk<N, H, P> {
@@ -62,10 +55,9 @@ impl<N: DeskName, H: Wait + Drop, P: Planner> Desk<N, H, P> {
         ensures empty { IfOk result (λ r. AllEmpty r.1.items) }
     {
         let passes = first_passes(alloc, publisher.front(), callers)?;
-        let journal = Journal::new(alloc, warehouse, &cells, publisher, callers)?;
+        let journal = Journal::new(alloc, warehouse, cells, publisher, callers)?;
         let desk = Desk {
             journal: Mutex::new(journal),
-            cells,
         };
         Ok((desk, passes))
     }
@@ -84,18 +76,18 @@ impl<N: DeskName, H: Wait + Drop, P: Planner> Desk<N, H, P> {
         ensures told { IfOk result.outcome (λ r. IfSome r.told (λ t. TellsReceipt N.book N.origin r.position r.entry t)) }
         ensures served { IfOk result.outcome (λ r. IsFormed N.origin.site → r.entry.reply ≢ Answered.Refused Reason.NoPath) }
         ensures tells { IfOk result.outcome (λ r. TellsFor P.fits_map P.slot_count N.origin.site.grid spare r.entry.event) }
-        ensures err { OnErr result.outcome (pass.new ≡ pass.old) }
+        ensures err { IfErr result.outcome (λ fault. Refuses (length N.cells) pass.old fault pass.new) }
         ensures back { MatchResult result.outcome (λ r. HandsBack P.fits_map N.origin.site.grid (replaced_agent r.entry) spare result.back) (λ _. result.back ≡ spare) }
     {
         let mut journal = self.journal.lock(rt);
-        let answer = journal.enter(alloc, &self.cells, pass, command, spare);
+        let answer = journal.enter(alloc, pass, command, spare);
         journal.is_run();
         answer
     }
 
     /// A client's task. Its entry stands in one history for good, after all that the pass had received. It may wait for the lock.
-    /// Refused: E95 where the pass has not all that its caller did, then E11 where the journal is full, E90, E91; the pass
-    /// stays as it was.
+    /// Refused: E95 where the pass has not all that its caller did, then E11 where the journal is full, E90, E91. The pass
+    /// stays as it was, but that after E11 it knows of a history that has an entry for each cell.
     pub fn submit<R: Wait>(
         &self,
         rt: &R,
@@ -108,7 +100,7 @@ impl<N: DeskName, H: Wait + Drop, P: Planner> Desk<N, H, P> {
         ensures shown { IfOk result (λ r. IsTrue r.shown ↔ IsSome r.told) }
         ensures served { IfOk result (λ r. IsFormed N.origin.site → r.entry.reply ≢ Answered.Refused Reason.NoPath) }
         ensures told { IfOk result (λ r. IfSome r.told (λ t. TellsReceipt N.book N.origin r.position r.entry t)) }
-        ensures err { OnErr result (pass.new ≡ pass.old) }
+        ensures err { IfErr result (λ fault. Refuses (length N.cells) pass.old fault pass.new) }
     {
         let command = Command::Submit { client, stops };
         self.call(rt, alloc, pass, command, None).outcome
@@ -127,7 +119,7 @@ impl<N: DeskName, H: Wait + Drop, P: Planner> Desk<N, H, P> {
         ensures shown { IfOk result (λ r. IsTrue r.shown ↔ IsSome r.told) }
         ensures served { IfOk result (λ r. IsFormed N.origin.site → r.entry.reply ≢ Answered.Refused Reason.NoPath) }
         ensures told { IfOk result (λ r. IfSome r.told (λ t. TellsReceipt N.book N.origin r.position r.entry t)) }
-        ensures err { OnErr result (pass.new ≡ pass.old) }
+        ensures err { IfErr result (λ fault. Refuses (length N.cells) pass.old fault pass.new) }
     {
         let command = Command::Token { agent };
         self.call(rt, alloc, pass, command, None).outcome
@@ -144,7 +136,7 @@ impl<N: DeskName, H: Wait + Drop, P: Planner> Desk<N, H, P> {
         ensures shown { IfOk result (λ r. IsTrue r.shown ↔ IsSome r.told) }
         ensures served { IfOk result (λ r. IsFormed N.origin.site → r.entry.reply ≢ Answered.Refused Reason.NoPath) }
         ensures told { IfOk result (λ r. IfSome r.told (λ t. TellsReceipt N.book N.origin r.position r.entry t)) }
-        ensures err { OnErr result (pass.new ≡ pass.old) }
+        ensures err { IfErr result (λ fault. Refuses (length N.cells) pass.old fault pass.new) }
     {
         self.call(rt, alloc, pass, Command::Tick, None).outcome
     }
@@ -160,7 +152,7 @@ impl<N: DeskName, H: Wait + Drop, P: Planner> Desk<N, H, P> {
         ensures shown { IfOk result (λ r. IsTrue r.shown ↔ IsSome r.told) }
         ensures served { IfOk result (λ r. IsFormed N.origin.site → r.entry.reply ≢ Answered.Refused Reason.NoPath) }
         ensures told { IfOk result (λ r. IfSome r.told (λ t. TellsReceipt N.book N.origin r.position r.entry t)) }
-        ensures err { OnErr result (pass.new ≡ pass.old) }
+        ensures err { IfErr result (λ fault. Refuses (length N.cells) pass.old fault pass.new) }
     {
         self.call(rt, alloc, pass, Command::Close, None).outcome
     }
@@ -180,7 +172,7 @@ impl<N: DeskName, H: Wait + Drop, P: Planner> Desk<N, H, P> {
         ensures told { IfOk result.outcome (λ r. IfSome r.told (λ t. TellsReceipt N.book N.origin r.position r.entry t)) }
         ensures served { IfOk result.outcome (λ r. IsFormed N.origin.site → r.entry.reply ≢ Answered.Refused Reason.NoPath) }
         ensures tells { IfOk result.outcome (λ r. TellsFor P.fits_map P.slot_count N.origin.site.grid spare r.entry.event) }
-        ensures err { OnErr result.outcome (pass.new ≡ pass.old) }
+        ensures err { IfErr result.outcome (λ fault. Refuses (length N.cells) pass.old fault pass.new) }
         ensures back { MatchResult result.outcome (λ r. HandsBack P.fits_map N.origin.site.grid (replaced_agent r.entry) spare result.back) (λ _. result.back ≡ spare) }
     {
         self.call(rt, alloc, pass, Command::Replace { agent }, spare)
@@ -195,6 +187,18 @@ impl<N: DeskName, H: Wait + Drop, P: Planner> Desk<N, H, P> {
         self.journal.lock(rt).viewer()
     }
 
+    /// A viewer of this desk's board that knows at least what was told with a receipt. It waits and is refused as `viewer`.
+    pub fn viewer_after<R: Wait>(&self, rt: &R, told: &Told) -> Result<Viewer, ViewerFault>
+        requires { told.now.book ≡ N.book }
+        ensures book { IfOk result (λ v. v.book ≡ N.book) }
+        ensures origin { IfOk result (λ v. v.past.origin ≡ N.origin) }
+        ensures least { IfOk result (λ v. Extends told.now.past v.past) }
+    {
+        let mut viewer = self.viewer(rt)?;
+        viewer.learn(told);
+        Ok(viewer)
+    }
+
     /// The receipts of both passes stand at their positions among the first entries of one history, so many as are told. It
     /// may wait for the lock. E95: a pass has not all that its caller did.
     pub fn meet<R: Wait>(&self, rt: &R, one: &Pass<N>, two: &Pass<N>) -> Result<Met, Stale>
@@ -203,26 +207,30 @@ impl<N: DeskName, H: Wait + Drop, P: Planner> Desk<N, H, P> {
         self.journal.lock(rt).meet(one, two)
     }
 
-    /// Ends the desk. The history is one run; for each caller its entries are what its pass received, and there are no others.
-    /// There are no more entries than cells. It may wait until looks end. E95: a pass has not all that its caller did; the desk
+    /// Ends the desk. The history is one run from an opening state; for each caller its entries are what its pass received, and
+    /// there are no others. Each pass knows of a beginning of it, and on a well-formed instance none of its requests is refused
+    /// for want of a path. There are no more entries than cells. It may wait until looks end. E95: a pass has not all that its caller did; the desk
     /// and the passes are dropped.
     pub fn finish(self, passes: Vec<Pass<N>>) -> Result<History<P>, Stale>
         requires { InOrder N.callers passes.items }
         ensures origin { IfOk result (λ r. origin_of r.warehouse.book ≡ N.origin) }
+        ensures opening { IfOk result (λ _. IsOpening N.origin.site N.origin.opening) }
         ensures run { IfOk result (λ r. Run N.origin.site N.origin.opening r.warehouse.book.history r.warehouse.book.state) }
         ensures callers { IfOk result (λ r. All (λ entry. entry.caller < N.callers) r.warehouse.book.history) }
         ensures lists { IfOk result (λ r. All (λ p. p.list ≡ entries_of r.warehouse.book.history p.caller) passes.items) }
+        ensures begin { IfOk result (λ r. AllBegin r.warehouse.book.history passes.items) }
+        ensures served { IfOk result (λ r. NoneWantsPath N.origin r.warehouse.book.history) }
+        ensures book { IfOk result (λ r. r.front.book ≡ N.book) }
+        ensures past { IfOk result (λ r. r.front.past ≡ past_of r.warehouse.book) }
         ensures lengths { IfOk result (λ r. sum_by (λ p. length p.list) passes.items ≡ length r.warehouse.book.history) }
         ensures within { IfOk result (λ r. length r.warehouse.book.history ≤ length N.cells) }
     {
-        let Desk { journal, cells: _ } = self;
+        let Desk { journal } = self;
         let journal = journal.into_inner();
         if !journal.knows_all(passes.as_slice()) {
             return Err(Stale);
         }
-        Ok(History {
-            warehouse: journal.into_warehouse(),
-        })
+        Ok(journal.into_history())
     }
 }
 

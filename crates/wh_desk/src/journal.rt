@@ -2,19 +2,21 @@
 #![tactic(auto)]
 
 ghost use Rattle.std.specs.Prelude.{◌≡◌, ◌≢◌, ◌<◌, ◌≤◌, ◌&&◌, ◌↔◌, [], true, false, length, IfSome, IfNone, IsSome, IfOk, IfErr, OnErr, IsErr, IsTrue, Err, MatchResult, All};
+ghost use mathlib.Core.List.{IsPrefix};
 ghost use Rattle.wh_points.specs.Formed.{IsFormed};
 ghost use Rattle.wh_event.specs.declared.reply.Reply.{Reply as Answered};
 ghost use Rattle.wh_event.specs.declared.reply.Refusal.{Refusal as Reason};
+ghost use Rattle.wh_core.specs.Laws.{IsOpening};
 ghost use Rattle.wh_core.specs.Steps.{Run};
 ghost use Rattle.wh_token.specs.Fleet.{IsTied, StaySeated, TellsFor, replaced_agent};
 ghost use Rattle.wh_board.specs.Pasts.{origin_of, past_of};
 ghost use Rattle.wh_desk.specs.Lists.{AllAt, TellsTheSame, entries_of, is_current};
 ghost use Rattle.wh_desk.specs.Kept.{RowOf};
-ghost use Rattle.wh_desk.specs.Calls.{Entered, Together, HandsBack, Reseats};
+ghost use Rattle.wh_desk.specs.Calls.{AllBegin, Entered, HandsBack, NoneWantsPath, Refuses, Reseats, Together, Untouched};
 
 use crate::answer::{Answer, DeskFault, Met, Receipt, Stale};
-use crate::cells::Cells;
-use crate::making::{Made, make_ready, note_down, write_into};
+use crate::cells::{CellRow, Cells};
+use crate::making::{Made, make_ready, note_down};
 use crate::naming::DeskName;
 use crate::pass::{Pass, Row};
 use once_cell::race::Note;
@@ -27,15 +29,24 @@ use wh_planner::Planner;
 use wh_token::{Committed, Warehouse};
 
 /// What lies under the lock. Contracts see it as its history, its state, its capacity, what was published last, and the
-/// agents' planners.
+/// agents' planners. The cells of the receipts lie here too: as many are set as there are entries.
 #[derive(Drop)]
 pub struct Journal<N: DeskName, H: Wait + Drop, P: Planner = Box<dyn Planner>> {
     warehouse: Warehouse<P>,
     capacity: u64,
     rows: Vec<Row>,
     notes: Vec<Note<Entry>>,
+    cells: CellRow,
     publisher: Publisher<H>,
     name: PhantomData<N>,
+}
+
+/// What a desk leaves: the warehouse, with all that was done, and that it was done in the desk's book, so that what a viewer
+/// or another pass knows can be compared with it.
+#[derive(Drop)]
+pub struct History<P: Planner = Box<dyn Planner>> {
+    pub warehouse: Warehouse<P>,
+    pub front: Front,
 }
 
 impl<N: DeskName, H: Wait + Drop, P: Planner> Model for Journal<N, H, P> {
@@ -47,7 +58,7 @@ impl<N: DeskName, H: Wait + Drop, P: Planner> Model for Journal<N, H, P> {
 
     ghost view = { λ j. record { history = j.warehouse.book.history; state = j.warehouse.book.state; capacity = j.capacity; shown = j.publisher.shown.history; planners = j.warehouse.planners } };
 
-    ghost invariant = { λ j. JournalKeeps N.origin N.cells N.book N.callers (past_of j.warehouse.book) j.capacity j.rows.items j.notes.items j.publisher };
+    ghost invariant = { λ j. JournalKeeps N.origin N.cells N.book N.callers (past_of j.warehouse.book) j.capacity j.rows.items j.notes.items j.cells j.publisher };
 }
 
 impl<N: DeskName, H: Wait + Drop, P: Planner> Journal<N, H, P> {
@@ -55,20 +66,20 @@ impl<N: DeskName, H: Wait + Drop, P: Planner> Journal<N, H, P> {
     pub fn new(
         alloc: Global,
         warehouse: Warehouse<P>,
-        cells: &Cells,
+        cells: Cells,
         publisher: Publisher<H>,
         callers: u32,
     ) -> Result<Journal<N, H, P>, AllocError>
         requires origin { origin_of warehouse.book ≡ N.origin }
         requires history { warehouse.book.history ≡ [] }
-        requires named { cells.now ≡ N.cells }
+        requires named { cells ≡ N.cells }
         requires book { publisher.book ≡ N.book }
         requires added { publisher.added ≡ past_of warehouse.book }
         requires shown { publisher.shown ≡ past_of warehouse.book }
         requires callers { callers ≡ N.callers }
         ensures history { IfOk result (λ j. j.history ≡ []) }
         ensures state { IfOk result (λ j. j.state ≡ warehouse.book.state) }
-        ensures capacity { IfOk result (λ j. j.capacity ≡ length cells.now) }
+        ensures capacity { IfOk result (λ j. j.capacity ≡ length cells) }
         ensures shown { IfOk result (λ j. j.shown ≡ []) }
         ensures planners { IfOk result (λ j. j.planners ≡ warehouse.planners) }
     {
@@ -78,6 +89,7 @@ impl<N: DeskName, H: Wait + Drop, P: Planner> Journal<N, H, P> {
             capacity: cells.len(),
             rows,
             notes: Vec::new(alloc),
+            cells: CellRow::new(cells),
             publisher,
             name: PhantomData,
         })
@@ -94,6 +106,7 @@ impl<N: DeskName, H: Wait + Drop, P: Planner> Journal<N, H, P> {
     /// What is known of the history: all of it.
     fn front(&self) -> &Front
         ensures book { result.now.book ≡ N.book }
+        ensures origin { result.now.past.origin ≡ N.origin }
         ensures history { result.now.past.history ≡ self.now.history }
     {
         self.publisher.front()
@@ -108,14 +121,16 @@ impl<N: DeskName, H: Wait + Drop, P: Planner> Journal<N, H, P> {
         self.publisher.viewer()
     }
 
-    /// Whether the pass has all that its caller did. If so, its receipts are the caller's entries in this history.
+    /// Whether the pass has all that its caller did, and knows of no longer history. If so, its receipts are the caller's
+    /// entries in this history, and it knows of a beginning of it.
     pub fn knows(&self, pass: &Pass<N>) -> bool
         ensures current { result ≡ is_current self.now.history pass.now }
         ensures whole { result ≡ true → pass.now.list ≡ entries_of self.now.history pass.now.caller }
+        ensures begins { result ≡ true → IsPrefix pass.now.known self.now.history }
     {
         let row = self.row(pass.caller());
         let mine = pass.row();
-        if row.count != mine.count || row.last != mine.last {
+        if row.count != mine.count || row.last != mine.last || self.len() < pass.known() {
             return false;
         }
         pass.agrees(self.front());
@@ -126,6 +141,7 @@ impl<N: DeskName, H: Wait + Drop, P: Planner> Journal<N, H, P> {
     pub fn knows_all(&self, passes: &[Pass<N>]) -> bool
         ensures current { IsTrue result ↔ All (λ p. is_current self.now.history p ≡ true) passes.now }
         ensures whole { result ≡ true → All (λ p. p.list ≡ entries_of self.now.history p.caller) passes.now }
+        ensures begin { result ≡ true → AllBegin self.now.history passes.now }
     {
         for each in passes {
             if !self.knows(each) {
@@ -158,9 +174,10 @@ impl<N: DeskName, H: Wait + Drop, P: Planner> Journal<N, H, P> {
         self.warehouse.history().len() as u64
     }
 
-    /// Whether it has as many as it may have.
+    /// Whether it has as many as it may have: one for each cell.
     pub fn is_full(&self) -> bool
-        ensures { IsTrue result ↔ (self.now.capacity ≤ length self.now.history) }
+        ensures full { IsTrue result ↔ (self.now.capacity ≤ length self.now.history) }
+        ensures cells { IsTrue result → length self.now.history ≡ length N.cells }
     {
         self.capacity <= self.warehouse.history().len() as u64
     }
@@ -181,74 +198,90 @@ impl<N: DeskName, H: Wait + Drop, P: Planner> Journal<N, H, P> {
         Ok(Met { length })
     }
 
-    /// The warehouse. All its entries are of the callers, and there are no more of them than cells.
-    pub fn into_warehouse(self) -> Warehouse<P>
-        ensures origin { origin_of result.book ≡ N.origin }
-        ensures run { Run N.origin.site N.origin.opening result.book.history result.book.state }
-        ensures history { result.book.history ≡ self.history }
-        ensures state { result.book.state ≡ self.state }
-        ensures planners { result.planners ≡ self.planners }
+    /// What it leaves. All its entries are of the callers, and there are no more of them than cells. The run is from an
+    /// opening state, and on a well-formed instance none of its requests is refused for want of a path.
+    pub fn into_history(self) -> History<P>
+        ensures origin { origin_of result.warehouse.book ≡ N.origin }
+        ensures opening { IsOpening N.origin.site N.origin.opening }
+        ensures run { Run N.origin.site N.origin.opening result.warehouse.book.history result.warehouse.book.state }
+        ensures served { NoneWantsPath N.origin result.warehouse.book.history }
+        ensures history { result.warehouse.book.history ≡ self.history }
+        ensures state { result.warehouse.book.state ≡ self.state }
+        ensures planners { result.warehouse.planners ≡ self.planners }
+        ensures book { result.front.book ≡ N.book }
+        ensures past { result.front.past ≡ past_of result.warehouse.book }
         ensures callers { All (λ entry. entry.caller < N.callers) self.history }
         ensures within { length self.history ≤ length N.cells }
     {
+        let front = self.publisher.front().again();
         let Journal {
             warehouse,
             capacity: _,
             rows: _,
             notes: _,
+            cells: _,
             publisher: _,
             name: _,
         } = self;
         let _run = warehouse.history();
-        warehouse
+        History { warehouse, front }
     }
 
     /// Appends an entry of the caller's, hands the pass its receipt and publishes the board. E95 comes first, where the pass has
-    /// not all that its caller did, then E11, where the journal is full, then E90 or E91. A refusal changes neither journal nor
-    /// pass, but for what a planner that was asked has learned, and gives the planner that was handed in back.
+    /// not all that its caller did, then E11, where the journal is full: no planner is asked before these. Then come E90 and
+    /// E91. A refusal changes neither journal nor pass, but for what a planner that was asked has learned, and that a pass that
+    /// is told of a full journal knows its history; it gives the planner that was handed in back.
     pub fn enter(
         &mut self,
         alloc: Global,
-        cells: &Cells,
         pass: &mut Pass<N>,
         command: Command,
         spare: Option<P>,
     ) -> Answer<P>
-        requires { cells.now ≡ N.cells }
         ensures ok { IfOk result.outcome (λ r. Entered N.origin self.old pass.old command self.new pass.new r.position r.entry) }
         ensures served { IfOk result.outcome (λ r. IsFormed N.origin.site → r.entry.reply ≢ Answered.Refused Reason.NoPath) }
         ensures tells { IfOk result.outcome (λ r. TellsFor P.fits_map P.slot_count N.origin.site.grid spare r.entry.event) }
         ensures shown { IfOk result.outcome (λ r. IsTrue r.shown ↔ IsSome r.told) }
         ensures told { IfOk result.outcome (λ r. IfSome r.told (λ t. (t.book ≡ N.book) × (t.past ≡ record { origin = N.origin; history = self.new.history }) × (self.new.shown ≡ self.new.history))) }
         ensures lags { IfOk result.outcome (λ r. IfNone r.told (self.new.shown ≡ self.old.shown)) }
-        ensures err { OnErr result.outcome (TellsTheSame self.old self.new × (pass.new ≡ pass.old)) }
+        ensures err { IfErr result.outcome (λ fault. Untouched self.old fault self.new) }
+        ensures pass { IfErr result.outcome (λ fault. Refuses (length N.cells) pass.old fault pass.new) }
         ensures still { OnErr result.outcome (StaySeated command self.old.planners self.new.planners) }
         ensures stale { (result.outcome ≡ Err DeskFault.Stale) ↔ (is_current self.old.history pass.old ≡ false) }
         ensures full { (result.outcome ≡ Err DeskFault.Full) ↔ ((is_current self.old.history pass.old ≡ true) × (self.old.capacity ≤ length self.old.history)) }
         ensures back { MatchResult result.outcome (λ r. HandsBack P.fits_map N.origin.site.grid (replaced_agent r.entry) spare result.back) (λ _. result.back ≡ spare) }
-        ensures reseats { IfOk result.outcome (λ r. Reseats (replaced_agent r.entry) self.old.planners spare self.new.planners result.back) }
+        ensures reseats { IfOk result.outcome (λ r. Reseats command (replaced_agent r.entry) self.old.planners spare self.new.planners result.back) }
     {
         if !self.knows(pass) {
             return Answer::refused(DeskFault::Stale, spare);
         }
         if self.is_full() {
+            self.tell_all(pass);
             return Answer::refused(DeskFault::Full, spare);
         }
-        self.append(alloc, cells, pass, command, spare)
+        self.append(alloc, pass, command, spare)
+    }
+
+    /// The pass comes to know of the whole history. It has all that its caller did there.
+    fn tell_all(&self, pass: &mut Pass<N>)
+        requires whole { pass.old.list ≡ entries_of self.now.history pass.old.caller }
+        ensures { pass.new ≡ record { caller = pass.old.caller; list = pass.old.list; known = self.now.history } }
+    {
+        self.is_run();
+        pass.learn(self.front(), self.len());
     }
 
     /// Appends an entry, once the pass is known to have all that its caller did.
     fn append(
         &mut self,
         alloc: Global,
-        cells: &Cells,
         pass: &mut Pass<N>,
         command: Command,
         spare: Option<P>,
     ) -> Answer<P>
-        requires named { cells.now ≡ N.cells }
         requires room { length self.old.history < self.old.capacity }
         requires whole { pass.old.list ≡ entries_of self.old.history pass.old.caller }
+        requires begins { IsPrefix pass.old.known self.old.history }
         ensures ok { IfOk result.outcome (λ r. Entered N.origin self.old pass.old command self.new pass.new r.position r.entry) }
         ensures served { IfOk result.outcome (λ r. IsFormed N.origin.site → r.entry.reply ≢ Answered.Refused Reason.NoPath) }
         ensures tells { IfOk result.outcome (λ r. TellsFor P.fits_map P.slot_count N.origin.site.grid spare r.entry.event) }
@@ -259,12 +292,14 @@ impl<N: DeskName, H: Wait + Drop, P: Planner> Journal<N, H, P> {
         ensures still { OnErr result.outcome (StaySeated command self.old.planners self.new.planners) }
         ensures fault { IfErr result.outcome (λ fault. (fault ≢ DeskFault.Stale) × (fault ≢ DeskFault.Full)) }
         ensures back { MatchResult result.outcome (λ r. HandsBack P.fits_map N.origin.site.grid (replaced_agent r.entry) spare result.back) (λ _. result.back ≡ spare) }
-        ensures reseats { IfOk result.outcome (λ r. Reseats (replaced_agent r.entry) self.old.planners spare self.new.planners result.back) }
+        ensures reseats { IfOk result.outcome (λ r. Reseats command (replaced_agent r.entry) self.old.planners spare self.new.planners result.back) }
     {
         let position = self.warehouse.history().len() as u64;
         let caller = pass.caller;
         let made = make_ready(
             &mut self.warehouse,
+            &mut self.publisher,
+            &mut self.cells,
             &mut self.notes,
             &mut pass.held,
             alloc,
@@ -272,30 +307,21 @@ impl<N: DeskName, H: Wait + Drop, P: Planner> Journal<N, H, P> {
             command,
             spare,
         );
-        let Made {
-            ready,
-            entry,
-            boxed,
-        } = match made {
+        let Made { ready, entry, note } = match made {
             Ok(made) => made,
-            Err(back) => return Answer::refused(DeskFault::NoMemory, back),
+            Err((fault, back)) => return Answer::refused(fault, back),
         };
-        let Some(note) = write_into(cells.cell(position), boxed) else {
-            return Answer::refused(DeskFault::CellTaken, ready.withdraw());
-        };
-        if !self.publisher.add(self.warehouse.book(), ready.entry()) {
-            let back = ready.withdraw();
-            return Answer::refused(DeskFault::CellTaken, back);
-        }
         note_down(&mut self.notes, &mut pass.held, position, entry, note);
         pass.front = self.publisher.front().again();
         pass.last = position;
+        pass.known = position + 1;
         self.rows[caller as usize] = Row {
             count: pass.held.len() as u64,
             last: position,
         };
         let _seated = self.warehouse.planners();
         let Committed { entry, back } = self.warehouse.commit(ready);
+        let _run = self.warehouse.history();
         let told = self.publisher.publish(self.warehouse.book());
         Answer {
             outcome: Ok(Receipt {

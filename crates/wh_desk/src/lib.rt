@@ -12,11 +12,11 @@ mod pass;
 
 pub use answer::{Answer, DeskFault, Met, Receipt, Stale};
 pub use cells::Cells;
-pub use desk::{Desk, History};
-pub use journal::Journal;
+pub use desk::Desk;
+pub use journal::{History, Journal};
 pub use naming::DeskName;
 pub use pass::{Held, Pass, Row};
 
 // handed on, for callers: what the items below take, return and speak of
-pub use wh_board::{Publisher, Viewer, ViewerFault};
+pub use wh_board::{Front, Publisher, Told, Viewer, ViewerFault};
 pub use wh_token::{OpenFault, Warehouse};

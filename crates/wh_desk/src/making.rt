@@ -1,36 +1,46 @@
-//! All that a call of the desk needs before it commits: the memory, the step, and the copies of its entry.
+//! All that a call of the desk needs before it commits: the memory, the step, the copies of its entry, the book and the cell.
 #![tactic(auto)]
 
-ghost use Rattle.std.specs.Prelude.{◌≡◌, ◌∷◌, ◌++◌, ◌<◌, [], vec_len, vec_capacity, IfOk, IfSome, MatchResult};
-ghost use Rattle.once_cell.specs.Once.{cell_name};
+ghost use Rattle.std.specs.Prelude.{◌≡◌, ◌≢◌, ◌+◌, ◌∷◌, ◌++◌, ◌<◌, [], Some, length, slice_get, vec_len, vec_capacity, IfOk, IfErr, OnErr, MatchResult};
 ghost use Rattle.wh_book.specs.Drafts.{IsSame, IsReady};
 ghost use Rattle.wh_token.specs.Fleet.{StaySeated, TellsFor};
+ghost use Rattle.wh_board.specs.Pasts.{grown, past_of};
 ghost use Rattle.wh_desk.specs.Calls.{IsAskedBy};
 
+use crate::answer::DeskFault;
+use crate::cells::CellRow;
 use crate::pass::Held;
-use once_cell::race::{Note, OnceBox};
+use once_cell::race::Note;
 use std::alloc::{AllocError, Global};
+use std::sync::Wait;
+use wh_board::Publisher;
+use wh_book::Book;
 use wh_event::{Command, Entry};
 use wh_planner::Planner;
 use wh_token::{NoMemory, Ready, Warehouse};
 
-/// A step that was worked out, with the copies of its entry: for the pass, and for the receipt's cell.
+/// A step that was worked out, with the copy of its entry for the pass, and the note of the receipt's cell.
 pub(crate) struct Made<P> {
     pub ready: Ready<P>,
     pub entry: Entry,
-    pub boxed: Box<Entry>,
+    pub note: Note<Entry>,
 }
 
-/// Works the step out. After it nothing of the call wants memory but the board. On a refusal the planner comes back.
-pub(crate) fn make_ready<P: Planner>(
+/// Works the step out, adds its entry to the book and writes it into the next cell. After it nothing of the call is refused,
+/// and nothing wants memory but the board. On a refusal the planner comes back, and neither book nor cells have changed.
+pub(crate) fn make_ready<H: Wait + Drop, P: Planner>(
     warehouse: &mut Warehouse<P>,
+    publisher: &mut Publisher<H>,
+    cells: &mut CellRow,
     notes: &mut Vec<Note<Entry>>,
     held: &mut Vec<Held>,
     alloc: Global,
     caller: u32,
     command: Command,
     spare: Option<P>,
-) -> Result<Made<P>, Option<P>>
+) -> Result<Made<P>, (DeskFault, Option<P>)>
+    requires added { publisher.old.added ≡ past_of warehouse.old.book }
+    requires room { cells.old.count < length cells.old.names }
     ensures same { IsSame warehouse.old.book warehouse.new.book }
     ensures notes { notes.new.items ≡ notes.old.items }
     ensures held { held.new.items ≡ held.old.items }
@@ -41,24 +51,92 @@ pub(crate) fn make_ready<P: Planner>(
     ensures event { IfOk result (λ made. IsAskedBy command made.ready.draft.entry.event) }
     ensures tells { IfOk result (λ made. TellsFor P.fits_map P.slot_count warehouse.old.book.site.grid spare made.ready.draft.entry.event) }
     ensures entry { IfOk result (λ made. made.entry ≡ made.ready.draft.entry) }
-    ensures boxed { IfOk result (λ made. made.boxed.value ≡ made.ready.draft.entry) }
-    ensures spare { MatchResult result (λ made. made.ready.spare ≡ spare) (λ back. back ≡ spare) }
+    ensures book { publisher.new.book ≡ publisher.old.book }
+    ensures shown { publisher.new.shown ≡ publisher.old.shown }
+    ensures added { IfOk result (λ made. publisher.new.added ≡ grown publisher.old.added made.ready.draft.entry) }
+    ensures not_added { OnErr result (publisher.new.added ≡ publisher.old.added) }
+    ensures names { cells.new.names ≡ cells.old.names }
+    ensures count { MatchResult result (λ _. cells.new.count ≡ cells.old.count + 1) (λ _. cells.new.count ≡ cells.old.count) }
+    ensures cell { IfOk result (λ made. slice_get cells.old.names cells.old.count ≡ Some made.note.cell) }
+    ensures known { IfOk result (λ made. made.note.known ≡ Some made.ready.draft.entry) }
+    ensures spare { MatchResult result (λ made. made.ready.spare ≡ spare) (λ fault. fault.1 ≡ spare) }
+    ensures fault { IfErr result (λ fault. (fault.0 ≢ DeskFault.Stale) × (fault.0 ≢ DeskFault.Full)) }
     ensures still { StaySeated command warehouse.old.planners warehouse.new.planners }
 {
     if make_room(notes, held).is_err() {
-        return Err(spare);
+        return Err((DeskFault::NoMemory, spare));
     }
     let ready = match warehouse.prepare(alloc, caller, command, spare) {
         Ok(ready) => ready,
-        Err((NoMemory, spare)) => return Err(spare),
+        Err((NoMemory, spare)) => return Err((DeskFault::NoMemory, spare)),
     };
-    match copies(alloc, ready.entry()) {
-        Ok((entry, boxed)) => Ok(Made {
-            ready,
-            entry,
-            boxed,
-        }),
-        Err(AllocError) => Err(ready.withdraw()),
+    match write_down(publisher, cells, alloc, warehouse.book(), ready.entry()) {
+        Ok((entry, note)) => Ok(Made { ready, entry, note }),
+        Err(fault) => Err((fault, ready.withdraw())),
+    }
+}
+
+/// Copies the entry, adds it to the book and writes it into the next cell. The copy and the note of the cell come back. On a
+/// refusal neither book nor cells have changed.
+fn write_down<H: Wait + Drop>(
+    publisher: &mut Publisher<H>,
+    cells: &mut CellRow,
+    alloc: Global,
+    book: &Book,
+    entry: &Entry,
+) -> Result<(Entry, Note<Entry>), DeskFault>
+    requires added { publisher.old.added ≡ past_of book.now }
+    requires room { cells.old.count < length cells.old.names }
+    ensures entry { IfOk result (λ both. both.0 ≡ entry.now) }
+    ensures book { publisher.new.book ≡ publisher.old.book }
+    ensures shown { publisher.new.shown ≡ publisher.old.shown }
+    ensures added { MatchResult result (λ _. publisher.new.added ≡ grown publisher.old.added entry.now) (λ _. publisher.new.added ≡ publisher.old.added) }
+    ensures names { cells.new.names ≡ cells.old.names }
+    ensures count { MatchResult result (λ _. cells.new.count ≡ cells.old.count + 1) (λ _. cells.new.count ≡ cells.old.count) }
+    ensures cell { IfOk result (λ both. slice_get cells.old.names cells.old.count ≡ Some both.1.cell) }
+    ensures known { IfOk result (λ both. both.1.known ≡ Some entry.now) }
+    ensures fault { IfErr result (λ fault. (fault ≢ DeskFault.Stale) × (fault ≢ DeskFault.Full)) }
+{
+    match copies(alloc, entry) {
+        Ok((mine, boxed)) => match add_and_fill(publisher, cells, book, entry, boxed) {
+            Ok(note) => Ok((mine, note)),
+            Err(fault) => Err(fault),
+        },
+        Err(AllocError) => Err(DeskFault::NoMemory),
+    }
+}
+
+/// Adds the entry to the book, and then writes its copy into the next cell: a cell is set last of all, so that no refused call
+/// leaves one set. E90: the book refused the entry; E91: the cell refused the copy. On a refusal neither has changed.
+fn add_and_fill<H: Wait + Drop>(
+    publisher: &mut Publisher<H>,
+    cells: &mut CellRow,
+    book: &Book,
+    entry: &Entry,
+    boxed: Box<Entry>,
+) -> Result<Note<Entry>, DeskFault>
+    requires added { publisher.old.added ≡ past_of book.now }
+    requires room { cells.old.count < length cells.old.names }
+    ensures book { publisher.new.book ≡ publisher.old.book }
+    ensures shown { publisher.new.shown ≡ publisher.old.shown }
+    ensures added { MatchResult result (λ _. publisher.new.added ≡ grown publisher.old.added entry.now) (λ _. publisher.new.added ≡ publisher.old.added) }
+    ensures names { cells.new.names ≡ cells.old.names }
+    ensures count { MatchResult result (λ _. cells.new.count ≡ cells.old.count + 1) (λ _. cells.new.count ≡ cells.old.count) }
+    ensures cell { IfOk result (λ note. slice_get cells.old.names cells.old.count ≡ Some note.cell) }
+    ensures known { IfOk result (λ note. note.known ≡ Some boxed.value) }
+    ensures fault { IfErr result (λ fault. (fault ≢ DeskFault.Stale) × (fault ≢ DeskFault.Full)) }
+{
+    let before = publisher.front().again();
+    if publisher.add(book, entry) {
+        match cells.fill(boxed) {
+            Some(note) => Ok(note),
+            None => {
+                publisher.go_back(before);
+                Err(DeskFault::CellTaken)
+            }
+        }
+    } else {
+        Err(DeskFault::NoMemory)
     }
 }
 
@@ -81,16 +159,6 @@ fn copies(alloc: Global, entry: &Entry) -> Result<(Entry, Box<Entry>), AllocErro
     let mine = entry.copy(alloc)?;
     let kept = entry.copy(alloc)?;
     Ok((mine, Box::new(alloc, kept)?))
-}
-
-/// Writes the entry into the cell. The note knows it then. `None`: the cell has a value already.
-pub(crate) fn write_into(cell: &OnceBox<Entry>, boxed: Box<Entry>) -> Option<Note<Entry>>
-    ensures cell { IfSome result (λ note. note.cell ≡ cell_name cell.now) }
-    ensures known { IfSome result (λ note. note.known ≡ Some boxed.value) }
-{
-    let mut note = cell.note();
-    cell.set_as(boxed, &mut note).ok()?;
-    Some(note)
 }
 
 /// Keeps the note for the journal, and a receipt with it for the pass. It takes no memory.

@@ -1,10 +1,11 @@
 //! What one caller received.
 #![tactic(auto)]
 
-ghost use Rattle.std.specs.Prelude.{◌≡◌, ℕ, ◌<◌, [], List, length, Some, slice_get};
-ghost use Rattle.wh_desk.specs.Lists.{entries_of};
+ghost use Rattle.std.specs.Prelude.{◌≡◌, ℕ, ◌<◌, ◌≤◌, [], List, length, Some, slice_get};
+ghost use mathlib.Core.List.{IsPrefix};
+ghost use Rattle.wh_desk.specs.Lists.{IsRunFrom, entries_of};
 ghost use Rattle.wh_desk.specs.Kept.{RowOf};
-ghost use Rattle.wh_desk.specs.Calls.{NoteOf};
+ghost use Rattle.wh_desk.specs.Calls.{Agreed, NoteOf};
 
 use crate::naming::DeskName;
 use once_cell::race::Note;
@@ -28,11 +29,13 @@ pub struct Held {
     pub(crate) note: Note<Entry>,
 }
 
-/// All that one caller received. Contracts see it as the caller's number, and the entries with their positions.
+/// All that one caller received. Contracts see it as the caller's number, the entries with their positions, and the history
+/// of which it knows.
 #[derive(Drop)]
 pub struct Pass<N: DeskName> {
     pub(crate) caller: u32,
     pub(crate) last: u64,
+    pub(crate) known: u64,
     pub(crate) held: Vec<Held>,
     pub(crate) front: Front,
     pub(crate) name: PhantomData<N>,
@@ -44,9 +47,9 @@ impl<N: DeskName> Model for Pass<N> {
 
     ghost Value = { Received };
 
-    ghost view = { λ p. record { caller = p.caller; list = list_of p.held.items } };
+    ghost view = { λ p. record { caller = p.caller; list = list_of p.held.items; known = p.front.past.history } };
 
-    ghost invariant = { λ p. PassKeeps N.cells N.book N.callers p.caller p.last p.held.items p.front };
+    ghost invariant = { λ p. PassKeeps N.origin N.cells N.book N.callers p.caller p.last p.known p.held.items p.front };
 }
 
 impl<N: DeskName> Pass<N> {
@@ -57,11 +60,12 @@ impl<N: DeskName> Pass<N> {
         requires book { front.now.book ≡ N.book }
         requires empty { front.now.past.history ≡ [] }
         requires within { caller < N.callers }
-        ensures { result ≡ record { caller = caller; list = [] } }
+        ensures { result ≡ record { caller = caller; list = []; known = [] } }
     {
         Pass {
             caller,
             last: 0,
+            known: 0,
             held: Vec::new(alloc),
             front: front.again(),
             name: PhantomData,
@@ -83,6 +87,25 @@ impl<N: DeskName> Pass<N> {
         self.held.len() as u64
     }
 
+    /// How many entries the history has of which it knows.
+    pub(crate) fn known(&self) -> u64
+        ensures { result ≡ length self.now.known }
+    {
+        self.known
+    }
+
+    /// It comes to know of a history, which has so many entries. It has all that its caller did there.
+    pub(crate) fn learn(&mut self, history: &Front, long: u64)
+        requires book { history.now.book ≡ N.book }
+        requires run { IsRunFrom N.origin history.now.past.history }
+        requires long { long ≡ length history.now.past.history }
+        requires whole { self.old.list ≡ entries_of history.now.past.history self.old.caller }
+        ensures { self.new ≡ record { caller = self.old.caller; list = self.old.list; known = history.now.past.history } }
+    {
+        self.front = history.again();
+        self.known = long;
+    }
+
     /// What it received, as a row of the journal.
     pub(crate) fn row(&self) -> Row
         ensures { RowOf self.now.list result }
@@ -93,18 +116,23 @@ impl<N: DeskName> Pass<N> {
         }
     }
 
-    /// Where a history of the book has as many entries of the caller as the pass, they are the pass's.
+    /// Where a history of the book has as many entries of the caller as the pass, they are the pass's. Where it is no shorter
+    /// than what the pass knows of, it goes on from that.
     pub(crate) fn agrees(&self, history: &Front)
         requires book { history.now.book ≡ N.book }
         requires many { length (entries_of history.now.past.history self.now.caller) ≡ length self.now.list }
-        ensures { self.now.list ≡ entries_of history.now.past.history self.now.caller }
+        requires long { length self.now.known ≤ length history.now.past.history }
+        ensures whole { self.now.list ≡ entries_of history.now.past.history self.now.caller }
+        ensures begins { IsPrefix self.now.known history.now.past.history }
     {
         self.front.meets(history);
     }
 
-    /// The receipts of one position have the same entry, whichever passes they stand in.
+    /// The receipts of both passes stand in one run, which one of them knows. So those of one position have the same entry.
+    /// It takes no lock.
     pub fn agree(&self, other: &Pass<N>)
-        ensures { (m n : ℕ) (x y : ℕ × Entry) → slice_get self.now.list m ≡ Some x → slice_get other.now.list n ≡ Some y → x.0 ≡ y.0 → x.1 ≡ y.1 }
+        ensures one_run { Agreed N.origin self.now other.now }
+        ensures one_entry { (m n : ℕ) (x y : ℕ × Entry) → slice_get self.now.list m ≡ Some x → slice_get other.now.list n ≡ Some y → x.0 ≡ y.0 → x.1 ≡ y.1 }
     {
         self.front.meets(&other.front);
     }
