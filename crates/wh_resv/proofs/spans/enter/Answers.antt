@@ -1,5 +1,4 @@
-use Rattle.std.proofs.Common.{arith}
-use Rattle.wh_resv.proofs.Spanning.{keeps_same, keeps_keeps, entered}
+use Rattle.wh_resv.proofs.Spanning.{keeps_keeps, entered}
 use Rattle.wh_resv.proofs.spans.enter.Goals as goal
 
 pub loop-k-preserved : goal.loop-k-preserved

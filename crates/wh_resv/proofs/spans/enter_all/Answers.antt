@@ -1,7 +1,6 @@
-use Rattle.std.proofs.Common.{◌≡◌, ℕ, ◌<◌, inl, inr, List, get_or, subst, ◌∙◌, arith}
+use Rattle.std.proofs.Common.{◌≡◌, ℕ, inl, inr, get_or, subst, ◌∙◌, arith}
 use Rattle.std.proofs.lemmas.Bool.{cases_lt}
 use Rattle.std.proofs.lemmas.List.{get_or_read}
-use Rattle.wh_grid.specs.declared.cell.Cell.{Cell}
 use Rattle.wh_resv.specs.Spans.{IsSpanned}
 use Rattle.wh_resv.proofs.Spanning.{keeps_keeps, keeps_spanned}
 use Rattle.wh_resv.proofs.spans.enter_all.Goals as goal

@@ -1,4 +1,4 @@
-use Rattle.std.proofs.Common.{◌≡◌, ℕ, ◌<◌, ◌≤◌, List, sym, subst, ◌∙◌, ap}
+use Rattle.std.proofs.Common.{◌≡◌, ◌<◌, ◌≤◌, List, sym, subst, ◌∙◌, ap}
 use Rattle.wh_resv.specs.Calls.{IsVacant}
 use Rattle.wh_resv.specs.Others.{Others}
 use Rattle.wh_resv.specs.Spans.{span_of}
