@@ -11,6 +11,6 @@ pub use worker::{Missed, Report, work_through};
 
 // handed on, for callers: what the items below take, return and speak of
 pub use wh_desk::{
-    Answer, Cells, Desk, DeskFault, DeskName, Front, History, OpenFault, Pass, Publisher, Receipt, Viewer,
-    ViewerFault, Warehouse,
+    Answer, Cells, Desk, DeskFault, DeskName, Front, History, OpenFault, Pass, Publisher, Receipt,
+    Viewer, ViewerFault, Warehouse,
 };

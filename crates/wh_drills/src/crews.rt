@@ -16,7 +16,7 @@ use std::sync::atomic::Ordering::SeqCst;
 use std::test::*;
 use std::thread::{Threads, join, yield_now};
 use wh_board::{Publisher, Viewer};
-use wh_crew::{CrewFault, Crewed, Gate, crew};
+use wh_crew::{CrewFault, Crewed, Gate, Missed, crew};
 use wh_desk::{Cells, Desk, DeskName, Warehouse};
 use wh_edge::{Work, agent_work, client_work, clock_work};
 use wh_event::{Entry, Reply};
@@ -38,7 +38,7 @@ enum Chore {
 #[derive(Drop)]
 struct Left {
     entries: Vec<Entry>,
-    missed: Vec<u64>,
+    missed: Vec<Missed>,
     seen: Seen,
 }
 
@@ -186,6 +186,13 @@ fn crewed<R: Threads + Wait + Sync, G: Gate>(
     run_made(rt, alloc, capacity, chores, gate, count, &make)
 }
 
+/// No call was refused.
+const NONE: Missed = Missed {
+    full: 0,
+    memory: 0,
+    other: 0,
+};
+
 /// Two workers, each of whom submits and then ticks.
 const TWO: [Chore; 2] = [
     Chore::Client("submit x A B\ntick\n"),
@@ -201,7 +208,7 @@ fn gate_orders_workers(rt: HostRuntime) -> Result<(), Fail> {
     };
     let left = crewed(&rt, rt.alloc(), 10, &TWO, &gate, 0)?;
     assert_eq!(rt; gate.limits.load(SeqCst), 0);
-    assert_eq!(rt; left.missed.as_slice(), [0u64, 0].as_slice());
+    assert_eq!(rt; left.missed.as_slice(), [NONE, NONE].as_slice());
     in_turn(&rt, left.entries.as_slice());
     Ok(())
 }
@@ -230,7 +237,7 @@ fn both_begin(rt: HostRuntime) -> Result<(), Fail> {
     let gate = together(2);
     let left = crewed(&rt, rt.alloc(), 10, &TWO, &gate, 0)?;
     assert_eq!(rt; gate.limits.load(SeqCst), 0);
-    assert_eq!(rt; left.missed.as_slice(), [0u64, 0].as_slice());
+    assert_eq!(rt; left.missed.as_slice(), [NONE, NONE].as_slice());
     assert_eq!(rt; left.entries.len(), 4);
     Ok(())
 }
@@ -240,7 +247,7 @@ fn eight_begin(rt: HostRuntime) -> Result<(), Fail> {
     let gate = together(8);
     let left = crewed(&rt, rt.alloc(), 10, &[Chore::Clock(1); 8], &gate, 0)?;
     assert_eq!(rt; gate.limits.load(SeqCst), 0);
-    assert_eq!(rt; left.missed.as_slice(), [0u64; 8].as_slice());
+    assert_eq!(rt; left.missed.as_slice(), [NONE; 8].as_slice());
     assert_eq!(rt; left.entries.len(), 8);
     Ok(())
 }
@@ -263,7 +270,7 @@ fn journal_of_ten(rt: HostRuntime) -> Result<(), Fail> {
         Chore::Clock(8),
     ];
     let left = crewed(&rt, rt.alloc(), 10, &chores, &gate, 0)?;
-    let missed = (left.missed.iter()).fold(0u64, |sum, n| sum.saturating_add(*n));
+    let missed = (left.missed.iter()).fold(0u64, |sum, n| sum.saturating_add(n.full));
     assert_eq!(rt; (left.entries.len(), missed), (10, 17));
     assert_eq!(rt;
         (gate.begun.load(SeqCst), gate.ended.load(SeqCst)),

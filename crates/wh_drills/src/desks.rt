@@ -1,7 +1,7 @@
 //! One caller after another at a desk.
 #![tactic(auto)]
 
-ghost use Rattle.std.specs.Prelude.{◌≡◌};
+ghost use Rattle.std.specs.Prelude.{◌≡◌, IfOk};
 
 use super::parts::{finish_one, finish_two, task};
 use super::stage::{Drill, drilled};
@@ -30,12 +30,14 @@ pub fn receipts<N: DeskName, H: Wait + Drop, P: Planner, R: Wait + Abort>(
     let mut zero = passes.pop().ok_or("pass 0")?;
     first_submit(rt, alloc, &desk, &mut zero, &mut viewer)?;
     took_and_ticked(rt, alloc, &desk, &mut one)?;
+    zero.agree(&one);
     let (client, stops) = task().ok_or("a task")?;
     let full = desk.submit(rt, alloc, &mut zero, client, stops);
     assert!(rt; matches!(full, Err(DeskFault::Full)));
     assert_eq!(rt; viewer.look().entries, 3);
     let history = finish_two(alloc, desk, zero, one)?;
     three_entries(rt, history.warehouse.history());
+    assert!(rt; !history.front.is_before(viewer.front()));
     assert_eq!(rt; viewer.look().entries, 3);
     Ok(())
 }
@@ -54,6 +56,7 @@ fn first_submit<N: DeskName, H: Wait + Drop, P: Planner, R: Wait + Abort>(
     viewer: &mut Viewer,
 ) -> Result<(), Fail>
     requires { viewer.old.book ≡ N.book }
+    ensures { IfOk result (λ _. viewer.new.book ≡ N.book) }
 {
     let (client, stops) = task().ok_or("a task")?;
     let Ok(receipt) = desk.submit(rt, alloc, pass, client, stops) else {
@@ -67,9 +70,14 @@ fn first_submit<N: DeskName, H: Wait + Drop, P: Planner, R: Wait + Abort>(
     } = receipt;
     assert_eq!(rt; (position, shown), (0, true));
     assert!(rt; matches!(entry.reply, Reply::Accepted { task: 0 }));
-    viewer.learn(&told.ok_or("what was told")?);
+    let told = told.ok_or("what was told")?;
+    viewer.learn(&told);
     let board = viewer.look();
     assert_eq!(rt; (board.entries, board.open_tasks), (1, 1));
+    let Ok(mut later) = desk.viewer_after(rt, &told) else {
+        return Err("a later viewer".into());
+    };
+    assert_eq!(rt; later.look().entries, 1);
     Ok(())
 }
 

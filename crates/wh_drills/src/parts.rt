@@ -166,6 +166,7 @@ pub fn finish_two<N: DeskName, H: Wait + Drop, P: Planner>(
     one: Pass<N>,
 ) -> Result<History<P>, Fail>
     requires { N.callers ≡ 2 }
+    ensures { IfOk result (λ h. h.front.book ≡ N.book) }
 {
     if zero.caller() != 0 {
         return Err("the pass of caller 0".into());

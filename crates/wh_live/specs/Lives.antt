@@ -4,6 +4,7 @@ use Rattle.wh_words.specs.Lines.{text_of}
 use Rattle.wh_grid.specs.Grids.{Floor}
 use Rattle.wh_points.specs.Points.{Site}
 use Rattle.wh_event.specs.declared.entry.Entry.{Entry}
+use Rattle.wh_core.specs.Laws.{IsOpening}
 use Rattle.wh_core.specs.States.{State, opened}
 use Rattle.wh_core.specs.Steps.{Run}
 use Rattle.wh_crew.specs.Fleet.{IsTied}
@@ -12,25 +13,31 @@ use Rattle.wh_log.specs.declared.version.Version.TheVariants.{Two}
 use Rattle.wh_edge.specs.declared.work.Work.{Work}
 use Rattle.wh_crew.specs.Pasts.{Origin}
 use Rattle.wh_crew.specs.Lists.{Received}
-use Rattle.wh_crew.specs.Calls.{AllEmpty, InOrder}
-use Rattle.wh_crew.specs.Work.{AllWorked}
+use Rattle.wh_crew.specs.Calls.{AllEmpty, InOrder, NoneWantsPath}
+use Rattle.wh_crew.specs.Work.{AllWorked, MissedWithCause}
+use Rattle.wh_crew.specs.declared.worker.Missed.{Missed}
 use Rattle.wh_crew.specs.declared.threads.CrewFault.{CrewFault}
 use Rattle.wh_crew.specs.declared.threads.CrewFault.TheVariants as crew
 use Rattle.wh_edge.specs.declared.trouble.Trouble.{Trouble}
 use Rattle.wh_edge.specs.declared.trouble.Trouble.TheVariants as trouble
 
--- The history is one run from there, by these workers alone, and has no more entries than the journal has positions. Each
--- worker had nothing before, and what it did are its commands, in order, without as many as it missed.
+-- The history is one run from there, an opening state, by these workers alone, and has no more entries than the journal has
+-- positions. Each worker had nothing before, and what it did are its commands, in order, without as many as it missed: where
+-- one was missed since the journal was full, the history has just as many entries as positions, and else one was missed for
+-- want of memory alone. On a well-formed site no request is refused for want of a path.
 pub record WorkedFrom {X : Type 0} (fits : X → Floor → Bool) (count : X → ℕ) (origin : Origin) (works : List (Work X)) (journal : ℕ)
     (history : List Entry) (state : State) : Type 0 where
+  pub is_opening : IsOpening origin.site origin.opening
   pub run : Run origin.site origin.opening history state
+  pub served : NoneWantsPath origin history
   pub within : length history ≤ journal
   pub callers : All (λ entry. entry.caller < length works) history
   pub passes : List Received
   pub in_order : InOrder (length works) passes
   pub empty : AllEmpty passes
-  pub missed : List ℕ
-  pub worked : AllWorked fits count origin.site.grid works passes history missed
+  pub missed : List Missed
+  pub worked : AllWorked fits count origin.site.grid journal works passes history missed
+  pub with_cause : MissedWithCause journal history missed
 
 -- The warehouse was opened at clock 0 with these planners, the workers did their works over a journal of so many positions,
 -- and the text is the log of it.

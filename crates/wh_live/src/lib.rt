@@ -10,4 +10,6 @@ pub use run::run_crew;
 pub use works::works_of;
 
 // handed on, for callers: what the items below take, return and speak of
-pub use wh_crew::{Cells, Desk, DeskFault, DeskName, Pass, Publisher, Receipt, Viewer};
+pub use wh_crew::{
+    Cells, Desk, DeskFault, DeskName, Front, Missed, Pass, Publisher, Receipt, Viewer,
+};

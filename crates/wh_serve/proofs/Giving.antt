@@ -6,13 +6,26 @@ use Rattle.wh_event.specs.declared.event.Command.{Command}
 use Rattle.wh_event.specs.declared.entry.Entry.{Entry}
 use Rattle.wh_event.specs.declared.fault.LineFault.{LineFault}
 use Rattle.wh_desk.specs.declared.answer.DeskFault.{DeskFault}
+use Rattle.std.specs.Prelude.{IfErr, OnErr}
+use Rattle.wh_desk.specs.declared.answer.Receipt.{Receipt}
 use Rattle.wh_desk.specs.Lists.{Received}
+use Rattle.wh_desk.specs.Calls.{Refuses}
+use Rattle.wh_desk.proofs.Telling.{refused_keeps}
 use Rattle.wh_replay.specs.Answers.{asked, commands_of}
 use Rattle.wh_serve.specs.Texts.{fault_text}
 use Rattle.wh_serve.specs.Outcomes.{Outcome, receipts_of, line_text, answers, replies_to, Made, Gives, IsOutputOf}
 use Rattle.wh_serve.specs.Calls.{Receives}
 
 -- ---- calls
+
+-- what a refused call leaves of a pass
+pub refused_pass : (cells : ℕ) (had : Received) (fault : DeskFault) (has : Received) → Refuses cells had fault has → (has.caller ≡ had.caller) × (has.list ≡ had.list)
+refused_pass cells had fault has r = (let keeps = refused_keeps cells had fault has r in (keeps.0, keeps.1))
+
+pub refused_call : {X : Type 0} (cells : ℕ) (had has : Received) (answer : Result Receipt DeskFault) (spares left : List X) → IfErr answer (λ fault. Refuses cells had fault has) → left ≡ spares
+    → OnErr answer ((has.caller ≡ had.caller) × (has.list ≡ had.list) × (left ≡ spares))
+refused_call cells had has (Ok r) spares left refused kept = tt
+refused_call cells had has (Err fault) spares left refused kept = (let keeps = refused_keeps cells had fault has refused in (keeps.0, keeps.1, kept))
 
 made_append : {X : Type 0} (fits : X → Floor → Bool) (count : X → ℕ) (grid : Floor) (cs : List Command) (os : List Outcome) (ds : List Command) (ps : List Outcome) (spares left rest : List X)
     → Made fits count grid cs os spares left → Made fits count grid ds ps left rest → Made fits count grid (cs ++ ds) (os ++ ps) spares rest
@@ -102,13 +115,13 @@ module _ {X : Type 0} (fits : X → Floor → Bool) (count : X → ℕ) (grid : 
       (record { outcomes = Ok receipt ∷ []; replies_are = refl; made = (rest, (r.answers, r.takes), refl); caller_is = r.caller_is; gained = r.gained })
 
   pub answered_refusal : (old : Received) (spares : List X) (command : Command) (fault : DeskFault) (new : Received) (rest : List X)
-      → Ok (Some command) ≡ line → new ≡ old → rest ≡ spares → Gives fits count grid (asked line) (answers text line) old spares new rest (fault_text fault ∷ [])
-  answered_refusal old spares command fault new rest e same kept =
+      → Ok (Some command) ≡ line → new.caller ≡ old.caller → new.list ≡ old.list → rest ≡ spares → Gives fits count grid (asked line) (answers text line) old spares new rest (fault_text fault ∷ [])
+  answered_refusal old spares command fault new rest e mine same kept =
       subst (λ (k : Result (Option Command) LineFault). Gives fits count grid (asked k) (answers text k) old spares new rest (fault_text fault ∷ [])) e
       (record {
         outcomes = Err fault ∷ [];
         replies_are = refl;
         made = (rest, kept, refl);
-        caller_is = ap (λ (p : Received). p.caller) same;
-        gained = ap (λ (p : Received). p.list) same ∙ sym (append-nil old.list);
+        caller_is = mine;
+        gained = same ∙ sym (append-nil old.list);
       })

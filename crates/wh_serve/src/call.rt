@@ -10,7 +10,8 @@ use wh_desk::{Answer, Desk, DeskFault, DeskName, Pass, Receipt};
 use wh_event::Command;
 use wh_planner::Planner;
 
-/// One call of the desk for the command. Where it is refused, the pass and the spares stay as they were.
+/// One call of the desk for the command. Where it is refused, the pass has what it had, and the spares stay as they were.
+#[tactic(auto, using(crate::proofs::Giving::refused_call))]
 pub(crate) fn call_desk<N: DeskName, H: Wait + Drop, P: Planner, X: Wait>(
     rt: &X,
     alloc: Global,
@@ -20,7 +21,7 @@ pub(crate) fn call_desk<N: DeskName, H: Wait + Drop, P: Planner, X: Wait>(
     spares: &mut Vec<P>,
 ) -> Result<Receipt, DeskFault>
     ensures ok { IfOk result (λ r. Receives P.fits_map P.slot_count N.origin.site.grid command pass.old spares.old.items (r.position, r.entry) pass.new spares.new.items) }
-    ensures err { OnErr result ((pass.new ≡ pass.old) × (spares.new.items ≡ spares.old.items)) }
+    ensures err { OnErr result ((pass.new.caller ≡ pass.old.caller) × (pass.new.list ≡ pass.old.list) × (spares.new.items ≡ spares.old.items)) }
 {
     match command {
         Command::Submit { client, stops } => desk.submit(rt, alloc, pass, client, stops),
@@ -32,6 +33,7 @@ pub(crate) fn call_desk<N: DeskName, H: Wait + Drop, P: Planner, X: Wait>(
 }
 
 /// Lends the last spare. What comes back after an answer is dropped; after a refusal the spare goes back to its place.
+#[tactic(auto, using(crate::proofs::Giving::refused_pass))]
 fn lend<N: DeskName, H: Wait + Drop, P: Planner, X: Wait>(
     rt: &X,
     alloc: Global,
@@ -41,7 +43,7 @@ fn lend<N: DeskName, H: Wait + Drop, P: Planner, X: Wait>(
     spares: &mut Vec<P>,
 ) -> Result<Receipt, DeskFault>
     ensures ok { IfOk result (λ r. Receives P.fits_map P.slot_count N.origin.site.grid (Asked.Replace agent) pass.old spares.old.items (r.position, r.entry) pass.new spares.new.items) }
-    ensures err { OnErr result ((pass.new ≡ pass.old) × (spares.new.items ≡ spares.old.items)) }
+    ensures err { OnErr result ((pass.new.caller ≡ pass.old.caller) × (pass.new.list ≡ pass.old.list) × (spares.new.items ≡ spares.old.items)) }
 {
     let Answer { outcome, back } = desk.replace(rt, alloc, pass, agent, spares.pop());
     match outcome {

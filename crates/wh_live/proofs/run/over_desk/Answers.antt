@@ -9,7 +9,9 @@ returns-in-Ok-clause-ok g c =
     let done = c.in-Ok.ensures in
     let many = sym c.requires.callers in
     record {
+      is_opening = done.opening;
       run = done.run;
+      served = done.served;
       within = done.within;
       callers = subst (λ (n : ℕ). All (λ (entry : Entry). entry.caller < n) c.in-Ok.crewed.history.warehouse.book.history) many done.callers;
       passes = c.in_ok-desk.passes.items;
@@ -17,4 +19,5 @@ returns-in-Ok-clause-ok g c =
       empty = c.in_ok-desk.ensures.empty;
       missed = c.in-Ok.crewed.missed.items;
       worked = done.workers;
+      with_cause = done.cause;
     }

@@ -13,4 +13,4 @@ returns-in-Ok g c =
 pub returns-in-Err-call_desk : goal.returns-in-Err-call_desk
 returns-in-Err-call_desk g c =
     let says : Ok (Some c.in-Ok-Some.command) ≡ said (short_line c.args.line.now) = cc (c.in-Ok-Some.is, c.in-Ok-Some.field-0-is, c.read_kept.ensures) in
-    answered_refusal g.P.Planner.fits_map g.P.Planner.slot_count g.N.DeskName.origin.site.grid (receipt_text c.args.form) _ _ _ c.in-Ok-Some.command _ _ _ says c.in-Err-call_desk.ensures.err.0 c.in-Err-call_desk.ensures.err.1
+    answered_refusal g.P.Planner.fits_map g.P.Planner.slot_count g.N.DeskName.origin.site.grid (receipt_text c.args.form) _ _ _ c.in-Ok-Some.command _ _ _ says c.in-Err-call_desk.ensures.err.0 c.in-Err-call_desk.ensures.err.1 c.in-Err-call_desk.ensures.err.2
