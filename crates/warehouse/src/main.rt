@@ -8,22 +8,21 @@
 ghost use Rattle.std.specs.Prelude.{◌≡◌, true, IfOk};
 ghost use Rattle.wh_claims.specs.Claim.{claim_amount};
 ghost use Rattle.wh_edge.specs.Trouble.{status_of};
-ghost use Rattle.wh_service.specs.Fleets.{HasRange, IsOfFleet, MakesPlanners};
 
 use std::alloc::AllocError;
 use std::env;
 use std::fs::{File, Files};
-use std::io::{self, BufWriter, ErrorKind};
+use std::io::{self, BufWriter, ErrorKind, Write};
 use std::path::Path;
 use std::process::ExitCode;
 use std::sync::Wait;
 use std::thread::Threads;
 use wh_edge::{Status, Trouble};
 use wh_lines::Lines;
-use wh_options::{LiveOptions, Options, PlannerKind, Refusal, ReplayOptions, options, refusal_of};
+use wh_options::PlannerKind;
 use wh_planner::Planner;
 use wh_planners::{Patient, Sharing};
-use wh_service::{FileJournal, PlannerParts, ended, host, judge, judge_log, serve, serve_kept};
+use wh_service::{FileJournal, PlannerParts, run};
 
 /// How many bytes of output are written at a time.
 const OUTPUT_BUFFER: usize = 65_536;
@@ -43,30 +42,6 @@ fn words<R: AllocGlobal + Eprint + env::Env>(rt: &R) -> Result<Vec<String>, Stat
     }
 }
 
-/// The options that the words give, or the status with which the process ends at once.
-fn given<'a, R: AllocGlobal + Print + Eprint>(
-    rt: &R,
-    words: &'a [String],
-) -> Result<Options<'a>, Status>
-    ensures { IfOk result HasRange }
-{
-    match options(rt.alloc(), words) {
-        Ok(options) => Ok(options),
-        Err(error) => Err(refused(rt, &error)),
-    }
-}
-
-/// The text of words that give no options: help on standard output, the rest on standard error. Want of memory is told as
-/// everywhere.
-fn refused<R: Print + Eprint>(rt: &R, error: &clap::Error) -> Status {
-    let refusal = refusal_of(error);
-    let is_shown = refusal != Refusal::NoMemory && error.print(rt).is_ok();
-    match ended(refusal, is_shown) {
-        Ok(status) => status,
-        Err(trouble) => told(rt, &trouble),
-    }
-}
-
 /// One line on standard error tells what stopped the program.
 fn told<R: Eprint>(rt: &R, trouble: &Trouble) -> Status
     ensures { result ≡ status_of trouble.now }
@@ -78,77 +53,12 @@ fn told<R: Eprint>(rt: &R, trouble: &Trouble) -> Status
     trouble.status()
 }
 
-/// Replays standard input to standard output, over the log file where the options name one.
-fn replay<
-    R: AllocGlobal + Print + Input + Files<File = File>,
-    P: Planner,
-    F: Fn(PlannerParts) -> Result<P, AllocError>,
->(rt: &R, options: &ReplayOptions<'_>, make: F) -> Result<Status, Trouble>
-    requires range { IsOfFleet options.now.fleet }
-    requires callable { F.IsAlwaysCallable make }
-    requires makes { MakesPlanners P.fits_map P.slot_count (F.post make) }
-{
-    let mut lines = Lines::new(rt.reader());
-    let Ok(mut output) = BufWriter::with_capacity(rt.alloc(), OUTPUT_BUFFER, io::writer(rt)) else {
-        return Err(Trouble::NoMemory);
-    };
-    let Some(path) = options.log else {
-        let _replayed = serve(rt.alloc(), &mut lines, &mut output, options, make)?;
-        return Ok(Status::Done);
-    };
-    let mut file = FileJournal::new(rt, Path::new(path));
-    serve_kept(
-        rt.alloc(),
-        &mut lines,
-        &mut output,
-        options,
-        &mut file,
-        make,
-    )?;
-    Ok(Status::Done)
-}
-
-/// Checks the site of standard input, and tells the verdict on standard output.
-fn check<R: AllocGlobal + Print + Input + Threads + Sync>(rt: &R) -> Result<Status, Trouble> {
-    let mut lines = Lines::new(rt.reader());
-    judge(rt, rt.alloc(), &mut lines, &mut io::writer(rt))
-}
-
-/// Verifies the log of standard input, and tells on standard output what it is.
-fn verify<R: AllocGlobal + Print + Input>(rt: &R) -> Result<Status, Trouble> {
-    let mut lines = Lines::new(rt.reader());
-    judge_log(rt.alloc(), &mut lines, &mut io::writer(rt))
-}
-
-/// Has the clients of standard input, the agents and a clock work in threads, and writes the log to standard output.
-fn live<
-    R: AllocGlobal + Print + Input + Threads + Wait + Sync,
-    P: Planner,
-    F: Fn(PlannerParts) -> Result<P, AllocError>,
->(rt: &R, options: &LiveOptions, make: F) -> Result<Status, Trouble>
-    requires range { IsOfFleet options.now.fleet }
-    requires callable { F.IsAlwaysCallable make }
-    requires makes { MakesPlanners P.fits_map P.slot_count (F.post make) }
-{
-    let mut lines = Lines::new(rt.reader());
-    host(
-        rt,
-        rt.alloc(),
-        &mut lines,
-        &mut io::writer(rt),
-        options,
-        make,
-    )?;
-    Ok(Status::Done)
-}
-
-/// Does what the options ask for. All planners are made here.
-fn obey<R: AllocGlobal + Print + Eprint + Input + Files<File = File> + Threads + Wait + Sync>(
-    rt: &R,
-    options: &Options<'_>,
-) -> Status
-    requires { HasRange options.now }
-{
+/// Does what the words ask for, over the process's streams. All planners are made here.
+fn obey<
+    'w,
+    R: AllocGlobal + Print + Eprint + Input + Files<File = File> + Threads + Wait + Sync,
+    E: Write,
+>(rt: &'w R, words: &'w [String], errors: &mut E) -> Status {
     let alloc = rt.alloc();
     let make = |parts: PlannerParts| -> Result<Box<dyn Planner>, AllocError>
         ensures on_grid { IfOk result (λ b. fits_map b parts.grid.value ≡ true) }
@@ -167,30 +77,27 @@ fn obey<R: AllocGlobal + Print + Eprint + Input + Files<File = File> + Threads +
             }
         }
     };
-    let done = match options {
-        Options::Replay(options) => replay(rt, options, make),
-        Options::Check => check(rt),
-        Options::Verify => verify(rt),
-        Options::Live(options) => live(rt, options, make),
+    let log_file = |name| FileJournal::new(rt, Path::new(name));
+    let mut lines = Lines::new(rt.reader());
+    let Ok(mut output) = BufWriter::with_capacity(alloc, OUTPUT_BUFFER, io::writer(rt)) else {
+        return told(rt, &Trouble::NoMemory);
     };
-    match done {
-        Ok(status) => status,
-        Err(trouble) => told(rt, &trouble),
-    }
-}
-
-/// Does what the process's words ask for.
-fn run<
-    R: AllocGlobal + Print + Eprint + Input + env::Env + Files<File = File> + Threads + Wait + Sync,
->(rt: &R) -> Result<Status, Status> {
-    let words = words(rt)?;
-    let options = given(rt, words.as_slice())?;
-    Ok(obey(rt, &options))
+    run(
+        rt,
+        alloc,
+        words,
+        &mut lines,
+        &mut output,
+        errors,
+        log_file,
+        make,
+    )
 }
 
 fn main(rt: HostRuntime) -> ExitCode {
-    let status = match run(&rt) {
-        Ok(status) | Err(status) => status,
+    let status = match words(&rt) {
+        Ok(words) => obey(&rt, words.as_slice(), &mut rt.stderr()),
+        Err(status) => status,
     };
     ExitCode::from(status.number())
 }

@@ -13,4 +13,6 @@ mod machine;
 #[cfg(test)]
 mod options;
 #[cfg(test)]
+mod program;
+#[cfg(test)]
 mod rows;

@@ -10,3 +10,4 @@ mod Lasting
 pub mod Logged
 pub mod Openings
 pub mod Replayed
+pub mod Whole

@@ -1,7 +1,8 @@
 -- What a whole run of `check` does.
 use Rattle.std.specs.Prelude.{◌≡◌, ◌<◌, ℕ, List, [], ◌∷◌, ◌++◌, codes, decimal, length, Option}
-use Rattle.std.specs.Io.KnownBytes.{Appends}
+use Rattle.std.specs.Io.KnownBytes.{Appends, Keeps}
 use Rattle.wh_lines.specs.Input.{Input}
+use Rattle.wh_lines.specs.Output.{WritesFront}
 use Rattle.wh_points.specs.Points.{Layout, Site, point_at}
 use Rattle.wh_edge.specs.Site.{SiteRead, SiteFault}
 use Rattle.wh_edge.specs.declared.trouble.Trouble.{Trouble}
@@ -47,12 +48,16 @@ pub record Judges (old new : Input) (had has : Option (List ℕ)) (ended : Statu
   pub appends : Appends had has (verdict_text site.layout verdict)
   pub ended_is : ended ≡ status_of verdict
 
--- a site was read
-pub record ReadsSite (old new : Input) : Type 0 where
+-- a site was read, and of the line of its verdict a front was written
+pub record JudgesUnwritten (old new : Input) (had has : Option (List ℕ)) : Type 0 where
   pub site : Site
   pub site_read : SiteRead old new site.grid site.layout
+  pub verdict : Verdict
+  pub verdict_is : IsVerdict site verdict
+  pub front : WritesFront had has (verdict_text site.layout verdict)
 
--- why no verdict was told: there is no site, or memory was wanting, or the verdict could not be written
-abbrev pub IsWhyUnjudged : Trouble → Input → Input → Type 0
-IsWhyUnjudged trouble.Unwritten old new = ReadsSite old new
-IsWhyUnjudged told old new = SiteFault told old new
+-- Why no verdict was told: there is no site, or memory was wanting, and nothing is written; or the line of the verdict was not
+-- written to its end.
+abbrev pub IsWhyUnjudged : Trouble → Input → Input → Option (List ℕ) → Option (List ℕ) → Type 0
+IsWhyUnjudged trouble.Unwritten old new had has = JudgesUnwritten old new had has
+IsWhyUnjudged told old new had has = SiteFault told old new × Keeps had has

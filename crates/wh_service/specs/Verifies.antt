@@ -1,7 +1,8 @@
 -- What a whole run of `verify` does.
 use Rattle.std.specs.Prelude.{◌≡◌, ◌⊎◌, ℕ, ◌≤◌, List, [], ◌∷◌, ◌++◌, codes, decimal, length, Option}
-use Rattle.std.specs.Io.KnownBytes.{Appends}
+use Rattle.std.specs.Io.KnownBytes.{Appends, Keeps}
 use Rattle.wh_lines.specs.Input.{Input}
+use Rattle.wh_lines.specs.Output.{WritesFront}
 use Rattle.wh_lines.specs.Section.{Overflows, Sectioned}
 use Rattle.wh_points.specs.Points.{Site}
 use Rattle.wh_edge.specs.Site.{Breaks, SiteRead, SiteFault}
@@ -40,11 +41,14 @@ pub record Verifies (old new : Input) (had has : Option (List ℕ)) (ended : Sta
   pub appends : Appends had has (verified_text verified)
   pub ended_is : ended ≡ status_of_log verified
 
--- a site and a text were read
-pub record ReadsLog (old new : Input) : Type 0 where
+-- a site and a text were read, and of the line that tells what the text is a front was written
+pub record VerifiesUnwritten (old new : Input) (had has : Option (List ℕ)) : Type 0 where
   pub site : Site
   pub log : List ℕ
   pub log_read : LogRead old new site log
+  pub verified : Verified
+  pub says : Says site log verified
+  pub front : WritesFront had has (verified_text verified)
 
 -- why the section of the log was not read
 abbrev pub IsWhyNoLog : Trouble → Input → Input → Type 0
@@ -61,8 +65,9 @@ pub record LogFault (told : Trouble) (old new : Input) : Type 0 where
   pub site_read : SiteRead old between site.grid site.layout
   pub why : IsWhyNoLog told between new
 
--- why nothing was told: there is no site, or behind it no log, or memory was wanting, or the line could not be written
-abbrev pub IsWhyUnverified : Trouble → Input → Input → Type 0
-IsWhyUnverified trouble.Unwritten old new = ReadsLog old new
-IsWhyUnverified trouble.NoMemory old new = Unit {0}
-IsWhyUnverified told old new = SiteFault told old new ⊎ LogFault told old new
+-- Why nothing was told: there is no site, or behind it no log, or memory was wanting, and nothing is written; or the line was
+-- not written to its end.
+abbrev pub IsWhyUnverified : Trouble → Input → Input → Option (List ℕ) → Option (List ℕ) → Type 0
+IsWhyUnverified trouble.Unwritten old new had has = VerifiesUnwritten old new had has
+IsWhyUnverified trouble.NoMemory old new had has = Keeps had has
+IsWhyUnverified told old new had has = (SiteFault told old new ⊎ LogFault told old new) × Keeps had has

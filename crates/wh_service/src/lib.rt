@@ -9,15 +9,18 @@ mod kept;
 mod live;
 mod parts;
 mod program;
+mod running;
 mod tail;
 mod verdict;
 mod verified;
+mod writing;
 
 pub use fleet::{claim, equip};
 pub use kept::serve_kept;
 pub use live::host;
 pub use parts::PlannerParts;
 pub use program::{ended, play, serve};
+pub use running::run;
 pub use verdict::judge;
 pub use verified::judge_log;
 

@@ -1,15 +1,14 @@
 //! What `live` does.
 
-ghost use Rattle.std.specs.Prelude.{◌≡◌, ◌≤◌, IfErr, IfOk, OnErr, OnOk, map};
+ghost use Rattle.std.specs.Prelude.{◌≡◌, ◌≤◌, IfErr, IfOk, OnOk, map};
 ghost use Rattle.std.specs.Arc.{arc_value};
-ghost use Rattle.std.specs.Io.KnownBytes.{Appends};
 ghost use Rattle.wh_claims.specs.Bank.{Belongs};
-ghost use Rattle.wh_replay.specs.Scripts.{WritesFront};
 ghost use Rattle.wh_service.specs.Fleets.{IsOfFleet, IsWhyUnclaimed, MakesPlanners};
 ghost use Rattle.wh_service.specs.Hosts.{HaveSpares, HostsTo, IsTeam, IsWhyUnhosted};
 
 use crate::fleet::members;
 use crate::parts::PlannerParts;
+use crate::writing::write_text;
 use std::alloc::{AllocError, Global};
 use std::io::{Read, Write};
 use std::sync::{Arc, Wait};
@@ -21,7 +20,6 @@ use wh_lines::Lines;
 use wh_live::{read_clients, run_crew, works_of};
 use wh_options::{Fleet, LiveOptions};
 use wh_planner::Planner;
-use wh_replay::write_all;
 
 /// The clients, each with as many spare planners as the options name, with their claims on the bank.
 fn with_spares<P: Planner, F: Fn(PlannerParts) -> Result<P, AllocError>>(
@@ -78,21 +76,6 @@ fn make_team<P: Planner, F: Fn(PlannerParts) -> Result<P, AllocError>>(
     let clients = with_spares(alloc, fleet, grid, &bank, &mut seat, make, clients)?;
     let works = works_of(alloc, clients, agents as u32, options.turns)?;
     Ok(Team { planners, works })
-}
-
-/// Writes a text, and flushes the writer. The error tells that one of the two failed.
-fn write_text<W: Write>(output: &mut W, text: &[u8]) -> Result<(), Trouble>
-    ensures ok { OnOk result (Appends (W.contents output.old) (W.contents output.new) text.now) }
-    ensures fault { IfErr result (λ told. told ≡ Trouble.Unwritten) }
-    ensures front { OnErr result (WritesFront (W.contents output.old) (W.contents output.new) text.now) }
-{
-    match write_all(output, text) {
-        Ok(()) => match output.flush() {
-            Ok(()) => Ok(()),
-            Err(_) => Err(Trouble::Unwritten),
-        },
-        Err(_) => Err(Trouble::Unwritten),
-    }
 }
 
 /// Reads a site and then its clients, makes one planner for each agent and then the spare ones of each client, all of the

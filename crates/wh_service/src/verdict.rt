@@ -1,10 +1,10 @@
 //! What `check` does.
 
-ghost use Rattle.std.specs.Prelude.{◌≡◌, ◌<◌, ◌≤◌, ◌++◌, IfErr, IfOk, OnOk, length};
-ghost use Rattle.std.specs.Io.KnownBytes.{Appends};
+ghost use Rattle.std.specs.Prelude.{◌≡◌, ◌<◌, ◌≤◌, ◌++◌, IfErr, IfOk, length};
 ghost use Rattle.wh_formed.specs.Verdicts.{IsVerdict};
 ghost use Rattle.wh_service.specs.Checks.{IsNamed, IsWhyUnjudged, Judges, status_of, verdict_text};
 
+use crate::writing::write_text;
 use arrayvec::ArrayVec;
 use std::alloc::Global;
 use std::io::{Read, Write};
@@ -14,20 +14,6 @@ use wh_event::{put, put_number};
 use wh_formed::{NoMemory, Verdict, check};
 use wh_lines::Lines;
 use wh_points::Points;
-
-/// Writes a line, and flushes the writer. The error tells that one of the two failed.
-pub(crate) fn write_line<W: Write>(output: &mut W, line: &[u8]) -> Result<(), Trouble>
-    ensures ok { OnOk result (Appends (W.contents output.old) (W.contents output.new) line.now) }
-    ensures fault { IfErr result (λ told. told ≡ Trouble.Unwritten) }
-{
-    match output.write_all(line) {
-        Ok(()) => match output.flush() {
-            Ok(()) => Ok(()),
-            Err(_) => Err(Trouble::Unwritten),
-        },
-        Err(_) => Err(Trouble::Unwritten),
-    }
-}
 
 /// The line that tells a verdict, with its line feed. The points of a cut are told by their names.
 #[tactic(auto, unfolding(crate::specs::Checks::verdict_text))]
@@ -64,7 +50,7 @@ pub fn status(verdict: Verdict) -> Status
 }
 
 /// Reads a site, and writes in one line whether it is well-formed. What follows the points is not looked at. What can go
-/// wrong is told in this order: the site, want of memory for the check, the writer.
+/// wrong is told in this order: the site, want of memory for the check, the writer. Before the writer fails nothing is written.
 pub fn judge<R: Read, W: Write>(
     rt: &(impl Threads + Sync),
     alloc: Global,
@@ -72,7 +58,7 @@ pub fn judge<R: Read, W: Write>(
     output: &mut W,
 ) -> Result<Status, Trouble>
     ensures ok { IfOk result (λ status. Judges lines.old lines.new (W.contents output.old) (W.contents output.new) status) }
-    ensures fault { IfErr result (λ told. IsWhyUnjudged told lines.old lines.new) }
+    ensures fault { IfErr result (λ told. IsWhyUnjudged told lines.old lines.new (W.contents output.old) (W.contents output.new)) }
 {
     let Site { grid, points } = read_site(lines, alloc)?;
     let verdict = match check(rt, alloc, &grid, &points) {
@@ -80,7 +66,7 @@ pub fn judge<R: Read, W: Write>(
         Err(NoMemory) => return Err(Trouble::NoMemory),
     };
     let line = text(&points, verdict);
-    match write_line(output, line.as_slice()) {
+    match write_text(output, line.as_slice()) {
         Ok(()) => Ok(status(verdict)),
         Err(trouble) => Err(trouble),
     }

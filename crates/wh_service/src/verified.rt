@@ -5,7 +5,7 @@ ghost use Rattle.wh_lines.specs.Section.{Sectioned};
 ghost use Rattle.wh_edge.specs.Site.{SiteFault};
 ghost use Rattle.wh_service.specs.Verifies.{IsWhyNoLog, IsWhyUnverified, Verifies, status_of_log, verified_text};
 
-use crate::verdict::write_line;
+use crate::writing::write_text;
 use arrayvec::ArrayVec;
 use std::alloc::Global;
 use std::io::{Read, Write};
@@ -60,14 +60,14 @@ fn status(verified: Verified) -> Status
 /// Reads a site and the section of a log, at most 268,435,456 bytes, and writes in one line `run N` where the log's N
 /// entries are a run over the site, and else `bad L` with the first line with which no such log begins. What follows the
 /// log's section is not looked at. What can go wrong is told in this order: the site, the section of the log, want of
-/// memory, the writer.
+/// memory, the writer. Before the writer fails nothing is written.
 pub fn judge_log<R: Read, W: Write>(
     alloc: Global,
     lines: &mut Lines<R>,
     output: &mut W,
 ) -> Result<Status, Trouble>
     ensures ok { IfOk result (λ status. Verifies lines.old lines.new (W.contents output.old) (W.contents output.new) status) }
-    ensures fault { IfErr result (λ told. IsWhyUnverified told lines.old lines.new) }
+    ensures fault { IfErr result (λ told. IsWhyUnverified told lines.old lines.new (W.contents output.old) (W.contents output.new)) }
 {
     let Site { grid, points } = match read_site(lines, alloc) {
         Ok(site) => site,
@@ -82,7 +82,7 @@ pub fn judge_log<R: Read, W: Write>(
         Err(NoMemory) => return Err(Trouble::NoMemory),
     };
     let line = text(verified);
-    match write_line(output, line.as_slice()) {
+    match write_text(output, line.as_slice()) {
         Ok(()) => Ok(status(verified)),
         Err(trouble) => Err(trouble),
     }

@@ -1,6 +1,6 @@
 use Rattle.std.proofs.KnownBytes.{Appends-kept}
 use Rattle.wh_replay.proofs.Written.{front_all}
-use Rattle.wh_service.proofs.live.write_text.Goals as goal
+use Rattle.wh_service.proofs.writing.write_text.Goals as goal
 
 pub returns-in-Err-flush-clause-front : goal.returns-in-Err-flush-clause-front
 returns-in-Err-flush-clause-front g c =

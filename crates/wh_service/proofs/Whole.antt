@@ -1,0 +1,79 @@
+-- What the whole program comes to.
+use Rattle.std.proofs.Common.{◌≡◌, ◌≢◌, ◌⊎◌, ◌≤◌, ℕ, Bool, true, false, List, Option, Some, None, Result, Ok, Err, MatchOption, codes, inl, inr, refl, subst, sym, ◌∙◌, ap, arith}
+use Rattle.std.specs.Prelude.{OnOk, OnErr}
+use Rattle.std.specs.Io.KnownBytes.{Appends}
+use Rattle.wh_lines.specs.Input.{Input}
+use Rattle.wh_lines.specs.Output.{WritesFront}
+use Rattle.wh_lines.proofs.Written.{front_all}
+use Rattle.wh_edge.specs.Trouble.{status_of, trouble_text}
+use Rattle.wh_edge.specs.declared.trouble.Status.{Status}
+use Rattle.wh_edge.specs.declared.trouble.Status.TheVariants as status
+use Rattle.wh_edge.specs.declared.trouble.Trouble.{Trouble}
+use Rattle.wh_options.specs.Options.{GivesFleet, IsWritten, WordsGive}
+use Rattle.wh_options.specs.Requests.{AsksBy, help_flags, version_flags}
+use Rattle.wh_options.specs.Setting.{Setting, Text, value_of}
+use Rattle.wh_options.specs.declared.chosen.Fleet.{Fleet}
+use Rattle.wh_options.specs.declared.chosen.Options.{Options}
+use Rattle.wh_options.specs.declared.chosen.Options.TheVariants.{Check, Replay, Verify, Live}
+use Rattle.wh_options.specs.declared.refused.Refusal.{Refusal}
+use Rattle.wh_options.specs.declared.refused.Refusal.TheVariants as refusal
+use Rattle.wh_service.specs.Fleets.{HasRange, IsOfFleet}
+use Rattle.wh_service.specs.Programs.{Declines, Ends}
+use Rattle.wh_service.specs.Serves.{ended_by}
+
+-- ---- what is written
+
+-- all of a text, or a front of it
+pub shown : {V E : Type 0} (r : Result V E) (had has : Option (List ℕ)) (text : List ℕ) → OnOk r (Appends had has text) → OnErr r (WritesFront had has text) → WritesFront had has text
+shown (Ok v) had has text all front = front_all had has text all
+shown (Err e) had has text all front = front
+
+pub told : (came : Result Status Trouble) (trouble : Trouble) (ended : Status) (had has : Option (List ℕ)) (text : List ℕ) → came ≡ Err trouble → ended ≡ status_of trouble → text ≡ trouble_text trouble
+    → WritesFront had has text → Ends came ended had has
+told came trouble ended had has text is ends says front =
+    subst (λ (c : Result Status Trouble). Ends c ended had has) (sym is) (ends, subst (WritesFront had has) says front)
+
+-- ---- words
+
+ranged : (value : Option Text) (n : ℕ) → MatchOption value (n ≡ 4) (λ text. IsWritten n text × (2 ≤ n) × (n ≤ 64)) → (2 ≤ n) × (n ≤ 64)
+ranged None n e = (omega (arith, e), omega (arith, e))
+ranged (Some text) n said = (said.1, said.2)
+
+pub in_range : (words : List Text) (o : Options) → WordsGive words o → HasRange o
+in_range words Check gives = tt
+in_range words (Replay o) gives = ranged (value_of (codes "slots") gives.1) o.fleet.slots gives.3.2.slots
+in_range words Verify gives = tt
+in_range words (Live o) gives = ranged (value_of (codes "slots") gives.1) o.fleet.slots gives.3.2.slots
+
+-- Where help or the version was asked for, and where memory was wanting, nothing is told of a mistake. The three kinds of a
+-- refusal of words that are told apart are named by whoever knows them.
+asked : (shown : Bool) (ended : Status) (had has : Option (List ℕ)) → Ends (ended_by refusal.Asked shown) ended had has → ended ≢ status.CommandLine
+asked true ended had has ends bad = let e : status.Done ≡ status.CommandLine = sym ends.0 ∙ bad in absurd (grind arith)
+asked false ended had has ends bad = let e : status.Failed ≡ status.CommandLine = sym ends.0 ∙ bad in absurd (grind arith)
+
+memory : (shown : Bool) (ended : Status) (had has : Option (List ℕ)) → Ends (ended_by refusal.NoMemory shown) ended had has → ended ≡ status.NoMemory
+memory shown ended had has ends = ends.0
+
+module _ {K : Type 0} (helping showing starving : K) (words : List Text) (of : K) (why : Refusal) (came : Result Status Trouble) (ended : Status) (input : Input) (had has : Option (List ℕ)) (shown : Bool)
+    (is_asked : (of ≡ helping) ⊎ (of ≡ showing) → why ≡ refusal.Asked) (is_memory : of ≡ starving → why ≡ refusal.NoMemory)
+    (came_is : came ≡ ended_by why shown) (ends : Ends came ended had has) where
+  as_told : (w : Refusal) → why ≡ w → Ends (ended_by w shown) ended had has
+  as_told w e = subst (λ (c : Result Status Trouble). Ends c ended had has) (came_is ∙ ap (λ (x : Refusal). ended_by x shown) e) ends
+
+  at_memory : of ≡ starving → ended ≡ status.NoMemory
+  at_memory e = memory shown ended had has (as_told refusal.NoMemory (is_memory e))
+
+  no_mistake : (of ≡ helping) ⊎ (of ≡ showing) → ended ≢ status.CommandLine
+  no_mistake e = asked shown ended had has (as_told refusal.Asked (is_asked e))
+
+  none_at_memory : of ≡ starving → ended ≢ status.CommandLine
+  none_at_memory e bad = let no : status.NoMemory ≡ status.CommandLine = sym (at_memory e) ∙ bad in absurd (grind arith)
+
+  pub declines : ((o : Options) → WordsGive words o → of ≡ starving) → (AsksBy help_flags words → (of ≡ helping) ⊎ (of ≡ starving))
+      → (AsksBy version_flags words → (of ≡ showing) ⊎ (of ≡ starving)) → Declines words ended input input
+  declines refused help version = record {
+    none = λ o gives. at_memory (refused o gives);
+    help = λ asks. elim (help asks) [ inl e ↦ no_mistake (inl e) | inr e ↦ none_at_memory e ];
+    version = λ asks. elim (version asks) [ inl e ↦ no_mistake (inr e) | inr e ↦ none_at_memory e ];
+    unread = refl;
+  }

@@ -1,0 +1,114 @@
+-- What the whole program comes to: from its words and its input to its output and its status.
+use Rattle.std.specs.Prelude.{◌≡◌, ◌≢◌, ◌⊎◌, ℕ, Bool, List, Option, Some, None, option_map, Result, Ok, Err}
+use Rattle.std.specs.Borrow.{Bor}
+use Rattle.std.specs.declared.alloc.AllocError.{AllocError}
+use Rattle.std.specs.Io.KnownBytes.{Keeps}
+use Rattle.wh_lines.specs.Input.{Input}
+use Rattle.wh_lines.specs.Output.{WritesFront}
+use Rattle.wh_grid.specs.Grids.{Floor}
+use Rattle.wh_edge.specs.Trouble.{status_of, trouble_text}
+use Rattle.wh_edge.specs.declared.trouble.Status.{Status}
+use Rattle.wh_edge.specs.declared.trouble.Status.TheVariants.{Done, CommandLine, NoMemory}
+use Rattle.wh_edge.specs.declared.trouble.Trouble.{Trouble}
+use Rattle.wh_options.specs.Options.{WordsGive}
+use Rattle.wh_options.specs.Requests.{AsksBy, help_flags, version_flags}
+use Rattle.wh_options.specs.Setting.{Text}
+use Rattle.wh_options.specs.declared.chosen.LiveOptions.{LiveOptions}
+use Rattle.wh_options.specs.declared.chosen.Options.{Options}
+use Rattle.wh_options.specs.declared.chosen.Options.TheVariants.{Check, Replay, Verify, Live}
+use Rattle.wh_options.specs.declared.chosen.ReplayOptions.{ReplayOptions}
+use Rattle.wh_service.specs.Checks.{IsWhyUnjudged, Judges}
+use Rattle.wh_service.specs.Hosts.{HostsTo, IsWhyUnhosted}
+use Rattle.wh_service.specs.Kept.{IsWhyUnkept, ServesKept}
+use Rattle.wh_service.specs.Plays.{text_by}
+use Rattle.wh_service.specs.Serves.{IsWhyUnserved, ServesByFleet}
+use Rattle.wh_service.specs.Verifies.{IsWhyUnverified, Verifies}
+use Rattle.wh_service.specs.declared.parts.PlannerParts.{PlannerParts}
+
+-- `check` came to this
+abbrev pub Checked : Result Status Trouble → Input → Input → Option (List ℕ) → Option (List ℕ) → Type 0
+Checked (Ok status) old new had has = Judges old new had has status
+Checked (Err told) old new had has = IsWhyUnjudged told old new had has
+
+-- `verify` came to this
+abbrev pub Verified : Result Status Trouble → Input → Input → Option (List ℕ) → Option (List ℕ) → Type 0
+Verified (Ok status) old new had has = Verifies old new had has status
+Verified (Err told) old new had has = IsWhyUnverified told old new had has
+
+-- `live` came to this. Here and below fits and count say what a planner answers, and gives what makes it.
+abbrev pub Lived : {X : Type 0} → (X → Floor → Bool) → (X → ℕ) → (PlannerParts → Result X AllocError → Type 0) → LiveOptions → Result Status Trouble
+    → Input → Input → Option (List ℕ) → Option (List ℕ) → Type 0
+Lived fits count gives options (Ok status) old new had has = (status ≡ Done) × HostsTo fits count gives options old new had has
+Lived fits count gives options (Err told) old new had has = IsWhyUnhosted fits count gives options told old new had has
+
+-- `replay` over no file came to this
+abbrev pub Replayed : {X : Type 0} → (X → Floor → Bool) → (X → ℕ) → (PlannerParts → Result X AllocError → Type 0) → ReplayOptions → Result Status Trouble
+    → Input → Input → Option (List ℕ) → Option (List ℕ) → Type 0
+Replayed fits count gives o (Ok status) old new had has =
+    (status ≡ Done) × ((written : ℕ) × ServesByFleet fits count (text_by o.replies) gives o.fleet o.tail old new had has written)
+Replayed fits count gives o (Err told) old new had has = IsWhyUnserved (text_by o.replies) o.fleet o.tail told old new had has
+
+-- `replay` over a file that told these bytes came to this; then it tells others, and so many of them outlive a kill.
+abbrev pub Kept : {X : Type 0} → (X → Floor → Bool) → (X → ℕ) → (PlannerParts → Result X AllocError → Type 0) → ReplayOptions → Result Status Trouble
+    → Input → Input → (had has file : Option (List ℕ)) → Type 0
+Kept fits count gives o (Ok status) old new had has file =
+    (status ≡ Done) × ((synced holds : Option (List ℕ)) × ServesKept fits count (text_by o.replies) gives o.fleet o.tail old new had has file synced holds)
+Kept fits count gives o (Err told) old new had has file =
+    (failed : Bool) × (synced holds : Option (List ℕ)) × IsWhyUnkept fits count (text_by o.replies) gives o.fleet o.tail told old new had has file failed synced holds
+
+-- over the file that was opened, or over none; file says what it told
+abbrev pub ReplayedOver : {X : Type 0} → (X → Floor → Bool) → (X → ℕ) → (PlannerParts → Result X AllocError → Type 0) → ReplayOptions
+    → (file : Option (Option (List ℕ))) → Result Status Trouble → Input → Input → Option (List ℕ) → Option (List ℕ) → Type 0
+ReplayedOver fits count gives o None came old new had has = Replayed fits count gives o came old new had has
+ReplayedOver fits count gives o (Some file) came old new had has = Kept fits count gives o came old new had has file
+
+-- what the options ask for was done, and came to this
+abbrev pub Did : {X : Type 0} → (X → Floor → Bool) → (X → ℕ) → (PlannerParts → Result X AllocError → Type 0) → Options
+    → (file : Option (Option (List ℕ))) → Result Status Trouble → Input → Input → Option (List ℕ) → Option (List ℕ) → Type 0
+Did fits count gives Check file came old new had has = Checked came old new had has
+Did fits count gives Verify file came old new had has = Verified came old new had has
+Did fits count gives (Live o) file came old new had has = Lived fits count gives o came old new had has
+Did fits count gives (Replay o) file came old new had has = ReplayedOver fits count gives o file came old new had has
+
+-- a file was opened by the name that is given, and none where none is
+abbrev pub OpensBy : {Y : Type 0} → (Bor Text → Y → Type 0) → Option (Bor Text) → Option Y → Type 0
+OpensBy opens None None = Unit {0}
+OpensBy opens (Some name) (Some file) = opens name file
+OpensBy opens _ _ = ⊥
+
+-- the log file that the options name was opened, or they name none
+abbrev pub Opens : {Y : Type 0} → (Bor Text → Y → Type 0) → Options → Option Y → Type 0
+Opens opens (Replay o) file = OpensBy opens o.log file
+Opens opens _ file = file ≡ None
+
+-- Its status tells what it came to, and a line on standard error tells a trouble, as far as that takes it.
+abbrev pub Ends : Result Status Trouble → Status → Option (List ℕ) → Option (List ℕ) → Type 0
+Ends (Ok status) ended had has = (ended ≡ status) × Keeps had has
+Ends (Err told) ended had has = (ended ≡ status_of told) × WritesFront had has (trouble_text told)
+
+-- The words give options, and what these ask for was done. Opens says what gives the log file of a name, contents what a file
+-- tells.
+pub record Obeys {X Y : Type 0} (fits : X → Floor → Bool) (count : X → ℕ) (gives : PlannerParts → Result X AllocError → Type 0)
+    (opens : Bor Text → Y → Type 0) (contents : Y → Option (List ℕ)) (words : List Text) (ended : Status)
+    (old new : Input) (had has blamed blames : Option (List ℕ)) : Type 0 where
+  pub options : Options
+  pub given : WordsGive words options
+  pub file : Option Y
+  pub opened : Opens opens options file
+  pub came : Result Status Trouble
+  pub did : Did fits count gives options (option_map contents file) came old new had has
+  pub ends : Ends came ended blamed blames
+
+-- The words give no options, or memory was wanting to read them; no input was read. Who asks for help or the version by a flag
+-- is told of no mistake.
+pub record Declines (words : List Text) (ended : Status) (old new : Input) : Type 0 where
+  pub none : (options : Options) → WordsGive words options → ended ≡ NoMemory
+  pub help : AsksBy help_flags words → ended ≢ CommandLine
+  pub version : AsksBy version_flags words → ended ≢ CommandLine
+  pub unread : new ≡ old
+
+-- What the program comes to. Blamed and blames are what stood on standard error before, and stands there after.
+abbrev pub Comes : {X Y : Type 0} → (X → Floor → Bool) → (X → ℕ) → (PlannerParts → Result X AllocError → Type 0) → (Bor Text → Y → Type 0)
+    → (Y → Option (List ℕ)) → List Text → Status → (old new : Input) → (had has blamed blames : Option (List ℕ)) → Type 0
+Comes fits count gives opens contents words ended old new had has blamed blames =
+    Obeys fits count gives opens contents words ended old new had has blamed blames ⊎ Declines words ended old new
