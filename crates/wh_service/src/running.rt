@@ -47,13 +47,13 @@ fn replay<R: Read, W: Write, L: LogFile, P: Planner, F: Fn(PlannerParts) -> Resu
     lines: &mut Lines<R>,
     output: &mut W,
     options: &ReplayOptions<'_>,
-    file: Option<&mut L>,
+    file: &mut Option<L>,
     make: F,
 ) -> Result<Status, Trouble>
     requires range { IsOfFleet options.now.fleet }
     requires callable { F.IsAlwaysCallable make }
     requires makes { MakesPlanners P.fits_map P.slot_count (F.post make) }
-    ensures { ReplayedOver P.fits_map P.slot_count (F.post make) options.now (option_map (λ f. L.contents f.old) file) result lines.old lines.new (W.contents output.old) (W.contents output.new) }
+    ensures { ReplayedOver P.fits_map P.slot_count (F.post make) options.now (option_map L.contents file.old) result lines.old lines.new (W.contents output.old) (W.contents output.new) }
 {
     match file {
         None => match serve(alloc, lines, output, options, make) {
@@ -81,13 +81,13 @@ fn obey<
     lines: &mut Lines<R>,
     output: &mut W,
     options: &Options<'_>,
-    file: Option<&mut L>,
+    file: &mut Option<L>,
     make: F,
 ) -> Result<Status, Trouble>
     requires range { HasRange options.now }
     requires callable { F.IsAlwaysCallable make }
     requires makes { MakesPlanners P.fits_map P.slot_count (F.post make) }
-    ensures { Did P.fits_map P.slot_count (F.post make) options.now (option_map (λ f. L.contents f.old) file) result lines.old lines.new (W.contents output.old) (W.contents output.new) }
+    ensures { Did P.fits_map P.slot_count (F.post make) options.now (option_map L.contents file.old) result lines.old lines.new (W.contents output.old) (W.contents output.new) }
 {
     match options {
         Options::Check => judge(rt, alloc, lines, output),
@@ -168,7 +168,7 @@ pub fn run<
     match options(alloc, words) {
         Ok(options) => {
             let mut file = opened(&options, log_file);
-            let came = obey(rt, alloc, lines, output, &options, file.as_mut(), make);
+            let came = obey(rt, alloc, lines, output, &options, &mut file, make);
             end(errors, came)
         }
         Err(error) => {
