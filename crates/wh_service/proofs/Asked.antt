@@ -195,11 +195,11 @@ worked_keeps {X} fits count origin works journal history state few keep worked =
     (elim works as (λ ws. ws ≡ works → AllByRecursion ReceiptKeeps (entries_of history caller)) [
       | [] ↦ λ is. absurd (let none = ap length is in omega arith)
       | work ∷ rest ↦ λ is.
-          let pass : Received = record { caller = 0; list = [] } in
+          let pass : Received = record { caller = 0; list = []; known = [] } in
           let w = get_or works caller work in
           let had = get_or worked.passes caller pass in
-          let n = get_or worked.missed caller 0 in
-          let seen = worked.worked.each caller w had n (slice_get-get_or works caller work less) (slice_get-get_or worked.passes caller pass (omega arith)) (slice_get-get_or worked.missed caller 0 (omega arith)) in
+          let n = get_or worked.missed caller (record { full = 0; memory = 0; other = 0 }) in
+          let seen = worked.worked.each caller w had n (slice_get-get_or works caller work less) (slice_get-get_or worked.passes caller pass (omega arith)) (slice_get-get_or worked.missed caller (record { full = 0; memory = 0; other = 0 }) (omega arith)) in
           let good = all caller work less in
           let had_none : had.list ≡ [] = worked.empty caller pass (omega arith) in
           let goes : entries_of history caller ≡ seen.received = seen.goes_on ∙ ap (λ l. l ++ seen.received) had_none in
