@@ -13,7 +13,6 @@ use std::alloc::AllocError;
 use std::env;
 use std::fs::{File, Files};
 use std::io::{self, BufWriter, ErrorKind, Write};
-use std::path::Path;
 use std::process::ExitCode;
 use std::sync::Wait;
 use std::thread::Threads;
@@ -22,7 +21,7 @@ use wh_lines::Lines;
 use wh_options::PlannerKind;
 use wh_planner::Planner;
 use wh_planners::{Patient, Sharing};
-use wh_service::{FileJournal, PlannerParts, run};
+use wh_service::{PlannerParts, run};
 
 /// How many bytes of output are written at a time.
 const OUTPUT_BUFFER: usize = 65_536;
@@ -77,21 +76,11 @@ fn obey<
             }
         }
     };
-    let log_file = |name| FileJournal::new(rt, Path::new(name));
     let mut lines = Lines::new(rt.reader());
     let Ok(mut output) = BufWriter::with_capacity(alloc, OUTPUT_BUFFER, io::writer(rt)) else {
         return told(rt, &Trouble::NoMemory);
     };
-    run(
-        rt,
-        alloc,
-        words,
-        &mut lines,
-        &mut output,
-        errors,
-        log_file,
-        make,
-    )
+    run(rt, alloc, words, &mut lines, &mut output, errors, make)
 }
 
 fn main(rt: HostRuntime) -> ExitCode {

@@ -6,10 +6,10 @@ ghost use Rattle.wh_claims.specs.Claim.{claim_amount};
 
 use crate::answers::{AGENTS, MAP, POINTS};
 use std::alloc::{AllocError, AllocGlobal};
+use std::fs::{File, Files};
 use std::sync::Wait;
 use std::test::*;
 use std::thread::Threads;
-use wh_journal::MemoryJournal;
 use wh_lines::Lines;
 use wh_options::PlannerKind;
 use wh_planner::Planner;
@@ -25,7 +25,7 @@ struct Shown {
 }
 
 /// Calls the program with these words behind its name.
-fn call<R: AllocGlobal + Threads + Wait + Sync>(
+fn call<R: AllocGlobal + Threads + Wait + Sync + Files<File = File>>(
     rt: &R,
     words: &[&str],
     input: &[u8],
@@ -48,20 +48,10 @@ fn call<R: AllocGlobal + Threads + Wait + Sync>(
             }
         }
     };
-    let log_file = |_name: &str| MemoryJournal::new(alloc);
     let mut lines = Lines::new(input);
     let mut output = Vec::new(alloc);
     let mut errors = Vec::new(alloc);
-    let status = run(
-        rt,
-        alloc,
-        words,
-        &mut lines,
-        &mut output,
-        &mut errors,
-        log_file,
-        make,
-    );
+    let status = run(rt, alloc, words, &mut lines, &mut output, &mut errors, make);
     Ok(Shown {
         status: status.number(),
         output,
@@ -90,7 +80,7 @@ const RUN: &str =
 const PASSED_BY: &str =
     "wlog 2\nstart 0 slots 4 4\n0 submit x A B = accepted 0\n0 token 0 = took 0 path 0,1 1,1 2,1 3,1 3,0\n0 tick = clock 1 picked 0 dropped 0\nend 3\n";
 
-const ROWS: [Row; 16] = [
+const ROWS: [Row; 15] = [
     Row {
         words: &["warehouse", "check"],
         points: POINTS,
@@ -177,14 +167,6 @@ const ROWS: [Row; 16] = [
         rest: "submit x A B\ntick\n",
         status: 0,
         output: "accepted 0\nclock 1 picked 0 dropped 0\n%%\nwlog 2\nstart 0 slots 4 4\n0 submit x A B = accepted 0\n0 tick = clock 1 picked 0 dropped 0\nend 2\n",
-        errors: "",
-    },
-    Row {
-        words: &["warehouse", "replay", "--log", "any"],
-        points: POINTS,
-        rest: "tick\nclose\n",
-        status: 0,
-        output: "entries 0\nclock 1 picked 0 dropped 0\nclosed\n",
         errors: "",
     },
     Row {

@@ -1,6 +1,6 @@
 -- What the whole program comes to.
 use Rattle.std.proofs.Common.{◌≡◌, ◌≢◌, ◌⊎◌, ◌≤◌, ℕ, Bool, true, false, List, Option, Some, None, Result, Ok, Err, MatchOption, codes, inl, inr, refl, subst, sym, ◌∙◌, ap, arith}
-use Rattle.std.specs.Prelude.{OnOk, OnErr}
+use Rattle.std.specs.Prelude.{OnOk, OnErr, is_some, option_map}
 use Rattle.std.specs.Io.KnownBytes.{Appends}
 use Rattle.wh_lines.specs.Input.{Input}
 use Rattle.wh_lines.specs.Output.{WritesFront}
@@ -32,6 +32,12 @@ pub told : (came : Result Status Trouble) (trouble : Trouble) (ended : Status) (
     → WritesFront had has text → Ends came ended had has
 told came trouble ended had has text is ends says front =
     subst (λ (c : Result Status Trouble). Ends c ended had has) (sym is) (ends, subst (WritesFront had has) says front)
+
+-- ---- a file
+
+pub is_some_map : {X Y : Type 0} (f : X → Y) (o : Option X) → is_some (option_map f o) ≡ is_some o
+is_some_map f None = refl
+is_some_map f (Some x) = refl
 
 -- ---- words
 

@@ -1,6 +1,5 @@
 -- What the whole program comes to: from its words and its input to its output and its status.
-use Rattle.std.specs.Prelude.{◌≡◌, ◌≢◌, ◌⊎◌, ℕ, Bool, List, Option, Some, None, option_map, Result, Ok, Err}
-use Rattle.std.specs.Borrow.{Bor}
+use Rattle.std.specs.Prelude.{◌≡◌, ◌≢◌, ◌⊎◌, ℕ, Bool, List, false, Option, Some, None, is_some, Result, Ok, Err}
 use Rattle.std.specs.declared.alloc.AllocError.{AllocError}
 use Rattle.std.specs.Io.KnownBytes.{Keeps}
 use Rattle.wh_lines.specs.Input.{Input}
@@ -70,33 +69,25 @@ Did fits count gives Verify file came old new had has = Verified came old new ha
 Did fits count gives (Live o) file came old new had has = Lived fits count gives o came old new had has
 Did fits count gives (Replay o) file came old new had has = ReplayedOver fits count gives o file came old new had has
 
--- a file was opened by the name that is given, and none where none is
-abbrev pub OpensBy : {Y : Type 0} → (Bor Text → Y → Type 0) → Option (Bor Text) → Option Y → Type 0
-OpensBy opens None None = Unit {0}
-OpensBy opens (Some name) (Some file) = opens name file
-OpensBy opens _ _ = ⊥
-
--- the log file that the options name was opened, or they name none
-abbrev pub Opens : {Y : Type 0} → (Bor Text → Y → Type 0) → Options → Option Y → Type 0
-Opens opens (Replay o) file = OpensBy opens o.log file
-Opens opens _ file = file ≡ None
+-- whether the options name a log file
+abbrev pub names_file : Options → Bool
+names_file (Replay o) = is_some o.log
+names_file _ = false
 
 -- Its status tells what it came to, and a line on standard error tells a trouble, as far as that takes it.
 abbrev pub Ends : Result Status Trouble → Status → Option (List ℕ) → Option (List ℕ) → Type 0
 Ends (Ok status) ended had has = (ended ≡ status) × Keeps had has
 Ends (Err told) ended had has = (ended ≡ status_of told) × WritesFront had has (trouble_text told)
 
--- The words give options, and what these ask for was done. Opens says what gives the log file of a name, contents what a file
--- tells.
-pub record Obeys {X Y : Type 0} (fits : X → Floor → Bool) (count : X → ℕ) (gives : PlannerParts → Result X AllocError → Type 0)
-    (opens : Bor Text → Y → Type 0) (contents : Y → Option (List ℕ)) (words : List Text) (ended : Status)
-    (old new : Input) (had has blamed blames : Option (List ℕ)) : Type 0 where
+-- The words give options, and what these ask for was done, over a log file where they name one.
+pub record Obeys {X : Type 0} (fits : X → Floor → Bool) (count : X → ℕ) (gives : PlannerParts → Result X AllocError → Type 0)
+    (words : List Text) (ended : Status) (old new : Input) (had has blamed blames : Option (List ℕ)) : Type 0 where
   pub options : Options
   pub given : WordsGive words options
-  pub file : Option Y
-  pub opened : Opens opens options file
+  pub file : Option (Option (List ℕ))
+  pub named : is_some file ≡ names_file options
   pub came : Result Status Trouble
-  pub did : Did fits count gives options (option_map contents file) came old new had has
+  pub did : Did fits count gives options file came old new had has
   pub ends : Ends came ended blamed blames
 
 -- The words give no options, or memory was wanting to read them; no input was read. Who asks for help or the version by a flag
@@ -108,7 +99,7 @@ pub record Declines (words : List Text) (ended : Status) (old new : Input) : Typ
   pub unread : new ≡ old
 
 -- What the program comes to. Blamed and blames are what stood on standard error before, and stands there after.
-abbrev pub Comes : {X Y : Type 0} → (X → Floor → Bool) → (X → ℕ) → (PlannerParts → Result X AllocError → Type 0) → (Bor Text → Y → Type 0)
-    → (Y → Option (List ℕ)) → List Text → Status → (old new : Input) → (had has blamed blames : Option (List ℕ)) → Type 0
-Comes fits count gives opens contents words ended old new had has blamed blames =
-    Obeys fits count gives opens contents words ended old new had has blamed blames ⊎ Declines words ended old new
+abbrev pub Comes : {X : Type 0} → (X → Floor → Bool) → (X → ℕ) → (PlannerParts → Result X AllocError → Type 0) → List Text → Status
+    → (old new : Input) → (had has blamed blames : Option (List ℕ)) → Type 0
+Comes fits count gives words ended old new had has blamed blames =
+    Obeys fits count gives words ended old new had has blamed blames ⊎ Declines words ended old new

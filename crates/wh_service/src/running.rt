@@ -1,8 +1,8 @@
 //! The whole program: from its words and its input to its output and its status.
 
-ghost use Rattle.std.specs.Prelude.{◌≡◌, Bool, map, option_map};
+ghost use Rattle.std.specs.Prelude.{◌≡◌, Bool, is_some, map, option_map};
 ghost use Rattle.wh_service.specs.Fleets.{HasRange, IsOfFleet, MakesPlanners};
-ghost use Rattle.wh_service.specs.Programs.{Comes, Did, Ends, Opens, ReplayedOver};
+ghost use Rattle.wh_service.specs.Programs.{Comes, Did, Ends, ReplayedOver, names_file};
 ghost use Rattle.wh_service.specs.Serves.{ended_by};
 
 use crate::kept::serve_kept;
@@ -15,26 +15,27 @@ use crate::writing::write_text;
 use std::alloc::{AllocError, Global};
 use std::convert::AsStr;
 use std::fmt::Display;
+use std::fs::{File, Files};
 use std::io::{Read, Write};
+use std::path::Path;
 use std::sync::Wait;
 use std::thread::Threads;
-use wh_continue::LogFile;
+use wh_continue::{FileJournal, LogFile};
 use wh_edge::{Status, Trouble};
 use wh_lines::Lines;
 use wh_options::{Options, Refusal, ReplayOptions, options, refusal_of};
 use wh_planner::Planner;
 
-/// The log file that the options name, if they name one.
-fn opened<'a, L: LogFile + Drop, O: Fn(&'a str) -> L>(
+/// The log file that the options name, if they name one. It is not opened yet.
+fn log_file<'a, T: Files<File = File>>(
+    rt: &'a T,
     options: &Options<'a>,
-    log_file: O,
-) -> Option<L>
-    requires opens { O.IsAlwaysCallable log_file }
-    ensures { Opens (O.post log_file) options.now result }
+) -> Option<FileJournal<'a, T>>
+    ensures { is_some result ≡ names_file options.now }
 {
     match options {
         Options::Replay(options) => match options.log {
-            Some(name) => Some(log_file(name)),
+            Some(name) => Some(FileJournal::new(rt, Path::new(name))),
             None => None,
         },
         Options::Check | Options::Verify | Options::Live(_) => None,
@@ -135,39 +136,35 @@ fn end<E: Write>(errors: &mut E, came: Result<Status, Trouble>) -> Status
     }
 }
 
-/// Does what the words ask for, over this input: the first word is the program's name, and `log_file` makes the log file of a name.
-/// `make` makes one planner of its parts, and its error tells that memory is wanting. The answer is the status with which the
-/// program ends; one line on standard error tells what stopped it.
-#[tactic(auto, using(crate::proofs::Whole::in_range))]
+/// Does what the words ask for, over this input: the first word is the program's name. `make` makes one planner of its parts, and
+/// its error tells that memory is wanting. The answer is the status with which the program ends; one line on standard error
+/// tells what stopped it. A log file lies where `rt` finds files.
+#[tactic(auto, using(crate::proofs::Whole::in_range, crate::proofs::Whole::is_some_map))]
 pub fn run<
     'a,
-    T: Threads + Wait + Sync,
+    T: Threads + Wait + Sync + Files<File = File>,
     S: AsStr,
     R: Read,
     W: Write,
     E: Write,
-    L: LogFile + Drop,
     P: Planner,
-    O: Fn(&'a str) -> L,
     F: Fn(PlannerParts) -> Result<P, AllocError>,
 >(
-    rt: &T,
+    rt: &'a T,
     alloc: Global,
     words: &'a [S],
     lines: &mut Lines<R>,
     output: &mut W,
     errors: &mut E,
-    log_file: O,
     make: F,
 ) -> Status
-    requires opens { O.IsAlwaysCallable log_file }
     requires callable { F.IsAlwaysCallable make }
     requires makes { MakesPlanners P.fits_map P.slot_count (F.post make) }
-    ensures { Comes P.fits_map P.slot_count (F.post make) (O.post log_file) L.contents (map S.text words.now) result lines.old lines.new (W.contents output.old) (W.contents output.new) (E.contents errors.old) (E.contents errors.new) }
+    ensures { Comes P.fits_map P.slot_count (F.post make) (map S.text words.now) result lines.old lines.new (W.contents output.old) (W.contents output.new) (E.contents errors.old) (E.contents errors.new) }
 {
     match options(alloc, words) {
         Ok(options) => {
-            let mut file = opened(&options, log_file);
+            let mut file = log_file(rt, &options);
             let came = obey(rt, alloc, lines, output, &options, &mut file, make);
             end(errors, came)
         }
