@@ -16,7 +16,7 @@ import counting
 
 ROOT = os.path.dirname(os.path.dirname(os.path.abspath(__file__)))
 PROGRAM = os.environ.get('WAREHOUSE', os.path.join(ROOT, 'warehouse'))
-MEMORY, SECONDS = 400 << 20, 10    # of address space, with the program's own
+MEMORY, SECONDS = 700 << 20, 10    # of address space, with the program's own
 
 
 def made(*words: object) -> str:
