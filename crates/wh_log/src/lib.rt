@@ -27,7 +27,7 @@ mod writer;
 pub use entry_lines::entries_are;
 pub use fault::NoMemory;
 pub use follow_log::{Followed, follow};
-pub use form::{Form, tell};
+pub use form::{Form, tell, tell_full};
 pub use front_log::{Front, follow_front};
 pub use judge::Judge;
 pub use laws::{cuts_are_found, logs_are, replies_are};

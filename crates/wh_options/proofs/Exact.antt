@@ -29,7 +29,7 @@ use Rattle.wh_options.specs.declared.chosen.PlannerKind.TheVariants.{Near, Patie
 use Rattle.wh_options.specs.declared.chosen.Tail.{Tail}
 use Rattle.wh_options.specs.declared.chosen.Tail.TheVariants.{Nothing, Log, Ledger}
 use Rattle.wh_options.specs.declared.chosen.Replies.{Replies}
-use Rattle.wh_options.specs.declared.chosen.Replies.TheVariants.{Short, Full}
+use Rattle.wh_options.specs.declared.chosen.Replies.TheVariants.{Short, Full, Placed}
 use Rattle.wh_options.proofs.Shapes.{bytes_same}
 use Rattle.wh_options.proofs.Leaf.{ArePlain, IsOption, long_plain}
 use Rattle.wh_options.proofs.Turns.{idle_at}
@@ -237,6 +237,7 @@ tail_listed Ledger = refl
 replies_listed : (replies : Replies) → list_any (λ w. bytes_eq w (replies_text replies)) replies_words ≡ true
 replies_listed Short = refl
 replies_listed Full = refl
+replies_listed Placed = refl
 
 -- a file's name
 name_taken : (text : Text) → Some text ≢ Some [] → accepts false vp.NonEmptyString text ≡ true

@@ -15,7 +15,7 @@ use Rattle.wh_options.specs.declared.chosen.PlannerKind.TheVariants.{Near, Patie
 use Rattle.wh_options.specs.declared.chosen.Tail.{Tail}
 use Rattle.wh_options.specs.declared.chosen.Tail.TheVariants.{Nothing, Log, Ledger}
 use Rattle.wh_options.specs.declared.chosen.Replies.{Replies}
-use Rattle.wh_options.specs.declared.chosen.Replies.TheVariants.{Short, Full}
+use Rattle.wh_options.specs.declared.chosen.Replies.TheVariants.{Short, Full, Placed}
 use Rattle.wh_options.proofs.Shapes.{bytes_same, is_equals}
 use Rattle.wh_options.proofs.Spells.{cut_at_equals, has_equals}
 use Rattle.wh_options.proofs.Menus.{other_word}
@@ -178,6 +178,11 @@ replies_same Short Short e = refl
 replies_same Short Full e = absurd (other_word (codes "short") (codes "full") refl e)
 replies_same Full Short e = absurd (other_word (codes "full") (codes "short") refl e)
 replies_same Full Full e = refl
+replies_same Short Placed e = absurd (other_word (codes "short") (codes "placed") refl e)
+replies_same Full Placed e = absurd (other_word (codes "full") (codes "placed") refl e)
+replies_same Placed Short e = absurd (other_word (codes "placed") (codes "short") refl e)
+replies_same Placed Full e = absurd (other_word (codes "placed") (codes "full") refl e)
+replies_same Placed Placed e = refl
 
 one_replies : (v : Option Text) (p q : Replies) → MatchOption v (p ≡ Short) (λ text. text ≡ replies_text p) → MatchOption v (q ≡ Short) (λ text. text ≡ replies_text q) → p ≡ q
 one_replies None p q a b = a ∙ sym b

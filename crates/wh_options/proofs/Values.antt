@@ -164,11 +164,12 @@ tail_given c settings tail taken choices words r is case parser o same reads =
         let one = one_of_words choices tail_words text words (rw (case, parser) at t) in
         tail_text_is text _ _ _ refl refl refl one ∙ ap tail_text (sym p)
 
-replies_text_is : (text : Text) (short full : Bool) → bytes_eq (codes "short") text ≡ short → bytes_eq (codes "full") text ≡ full
-    → (short || (full || false)) ≡ true → text ≡ replies_text (replies_of (Some text))
-replies_text_is text short true s f e = subst (λ t. t ≡ replies_text (replies_of (Some t))) (bytes_same (codes "full") text f) refl
-replies_text_is text true false s f e = subst (λ t. t ≡ replies_text (replies_of (Some t))) (bytes_same (codes "short") text s) refl
-replies_text_is text false false s f e = cc
+replies_text_is : (text : Text) (short full placed : Bool) → bytes_eq (codes "short") text ≡ short → bytes_eq (codes "full") text ≡ full → bytes_eq (codes "placed") text ≡ placed
+    → (short || (full || (placed || false))) ≡ true → text ≡ replies_text (replies_of (Some text))
+replies_text_is text short full true s f p e = subst (λ t. t ≡ replies_text (replies_of (Some t))) (bytes_same (codes "placed") text p) refl
+replies_text_is text short true false s f p e = subst (λ t. t ≡ replies_text (replies_of (Some t))) (bytes_same (codes "full") text f) refl
+replies_text_is text true false false s f p e = subst (λ t. t ≡ replies_text (replies_of (Some t))) (bytes_same (codes "short") text s) refl
+replies_text_is text false false false s f p e = cc
 
 pub replies_given : (c : List Rule) (settings : List Setting) (replies : Replies) → AllByRecursion (IsTaken c) settings
     → (choices : Choices) → texts choices.now ≡ replies_words
@@ -182,7 +183,7 @@ replies_given c settings replies taken choices words r is case parser o same rea
     go (Some text) e p =
         let t = taken_value c settings (codes "replies") text r taken is e in
         let one = one_of_words choices replies_words text words (rw (case, parser) at t) in
-        replies_text_is text _ _ refl refl one ∙ ap replies_text (sym p)
+        replies_text_is text _ _ _ refl refl refl one ∙ ap replies_text (sym p)
 
 -- ---- a file
 

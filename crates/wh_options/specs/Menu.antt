@@ -47,7 +47,7 @@ abbrev pub tail_words : List Text
 tail_words = codes "none" ∷ codes "log" ∷ codes "ledger" ∷ []
 
 abbrev pub replies_words : List Text
-replies_words = codes "short" ∷ codes "full" ∷ []
+replies_words = codes "short" ∷ codes "full" ∷ codes "placed" ∷ []
 
 -- the options that say which planners there are
 abbrev pub fleet_app : Text → Choices → App

@@ -9,7 +9,7 @@ use Rattle.wh_options.specs.declared.chosen.PlannerKind.TheVariants.{Near, Patie
 use Rattle.wh_options.specs.declared.chosen.Tail.{Tail}
 use Rattle.wh_options.specs.declared.chosen.Tail.TheVariants.{Nothing, Log, Ledger}
 use Rattle.wh_options.specs.declared.chosen.Replies.{Replies}
-use Rattle.wh_options.specs.declared.chosen.Replies.TheVariants.{Short, Full}
+use Rattle.wh_options.specs.declared.chosen.Replies.TheVariants.{Short, Full, Placed}
 use Rattle.wh_options.specs.declared.chosen.Fleet.{Fleet}
 use Rattle.wh_options.specs.declared.chosen.ReplayOptions.{ReplayOptions}
 use Rattle.wh_options.specs.declared.chosen.Options.{Options}
@@ -37,6 +37,7 @@ tail_text Ledger = codes "ledger"
 abbrev pub replies_text : Replies → Text
 replies_text Short = codes "short"
 replies_text Full = codes "full"
+replies_text Placed = codes "placed"
 
 -- the planner given by its word, or `near`
 abbrev pub GivesPlanner : List Setting → PlannerKind → Type 0

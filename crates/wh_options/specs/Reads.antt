@@ -9,7 +9,7 @@ use Rattle.wh_options.specs.declared.chosen.PlannerKind.TheVariants.{Near, Patie
 use Rattle.wh_options.specs.declared.chosen.Tail.{Tail}
 use Rattle.wh_options.specs.declared.chosen.Tail.TheVariants.{Nothing, Log, Ledger}
 use Rattle.wh_options.specs.declared.chosen.Replies.{Replies}
-use Rattle.wh_options.specs.declared.chosen.Replies.TheVariants.{Short, Full}
+use Rattle.wh_options.specs.declared.chosen.Replies.TheVariants.{Short, Full, Placed}
 use Rattle.wh_options.specs.declared.chosen.Fleet.{Fleet}
 use Rattle.wh_options.specs.declared.chosen.ReplayOptions.{ReplayOptions}
 use Rattle.wh_options.specs.declared.chosen.LiveOptions.{LiveOptions}
@@ -34,7 +34,8 @@ tail_of (Some text) = if bytes_eq text (codes "log") then Log
 
 abbrev pub replies_of : Option Text → Replies
 replies_of None = Short
-replies_of (Some text) = if bytes_eq text (codes "full") then Full else Short
+replies_of (Some text) = if bytes_eq text (codes "full") then Full
+    else (if bytes_eq text (codes "placed") then Placed else Short)
 
 -- the planners read from what was found
 pub record ReadsFleet (given : Text → Option Text) (fleet : Fleet) : Type 0 where

@@ -20,13 +20,15 @@ pub enum Tail {
     Ledger,
 }
 
-/// How the replies of a replay tell paths.
+/// How the replies of a replay are told.
 #[derive(Clone, Copy, Debug, PartialEq, Eq)]
 pub enum Replies {
-    /// The end of a path alone.
+    /// Of a path its end alone.
     Short,
     /// In the log's own words, each cell of a path.
     Full,
+    /// Behind the place of the entry and the clock before it, in the log's own words.
+    Placed,
 }
 
 /// The planners that a run is given, and the slots that they share.
@@ -49,7 +51,7 @@ pub struct ReplayOptions<'a> {
     pub fleet: Fleet,
     /// What follows the replies.
     pub tail: Tail,
-    /// How the replies tell paths.
+    /// How the replies are told.
     pub replies: Replies,
     /// The name of the file that keeps the run's log, if one is to; never empty.
     pub log: Option<&'a str>,

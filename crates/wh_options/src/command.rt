@@ -13,7 +13,7 @@ static PLANNERS: [&str; 2] = ["near", "patient"];
 
 static TAILS: [&str; 3] = ["none", "log", "ledger"];
 
-static REPLIES: [&str; 2] = ["short", "full"];
+static REPLIES: [&str; 3] = ["short", "full", "placed"];
 
 // An option whose value is a number from `least` to `most`.
 fn number_arg<'a>(alloc: Global, name: &'a str, least: u64, most: u64, help: &'a str) -> Arg<'a>
@@ -116,7 +116,7 @@ fn replay_command<'a>(alloc: Global) -> Result<Command<'a>, AllocError>
         alloc,
         "replies",
         REPLIES.as_slice(),
-        "How a reply tells a path: short, its end alone; full, each cell [default: short]",
+        "How a reply is told: short, of a path its end; full, each cell; placed, full behind its entry's number and the clock [default: short]",
     );
     let log = file_arg(
         alloc,

@@ -60,6 +60,8 @@ fn replies(matches: &ArgMatches<'_>) -> Replies
         Some(text) => {
             if text == "full" {
                 Replies::Full
+            } else if text == "placed" {
+                Replies::Placed
             } else {
                 Replies::Short
             }

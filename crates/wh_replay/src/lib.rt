@@ -2,8 +2,10 @@
 #![tactic(auto)]
 
 mod answer;
+mod laws;
 mod script;
 
+pub use laws::clocks_are;
 pub use script::{ReplayFault, Replayed, replay, serve};
 
 // handed on, for callers: what the items below take, return and speak of
