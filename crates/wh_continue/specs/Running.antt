@@ -5,7 +5,7 @@ use Rattle.wh_points.specs.Points.{Site}
 use Rattle.wh_grid.specs.Grids.{Floor}
 use Rattle.wh_words.specs.Lines.{text_of as lines_text}
 use Rattle.wh_resume.specs.Drafts.{Seen}
-use Rattle.wh_event.specs.declared.reply.Reply.{Reply}
+use Rattle.wh_log.specs.Told.{Answered}
 use Rattle.wh_lines.specs.Input.{Input}
 use Rattle.wh_log.specs.declared.version.Version.TheVariants.{Two}
 use Rattle.wh_log.specs.Logs.{end_line, log_lines, head_line, start_line}
@@ -74,7 +74,7 @@ pub record Counts (book : Seen) (had counted file begun : Option (List ℕ)) : T
 
 -- That was told, the script was served to its end, each reply told when its entry was synced, and the file was given the
 -- line that ends the log: it is the log of the whole run.
-pub record RunsOn {X : Type 0} (fits : X → Floor → Bool) (count : X → ℕ) (text : Reply → List ℕ) (before after : Input) (book : Seen) (spares : List X) (new : Seen) (rest : List X)
+pub record RunsOn {X : Type 0} (fits : X → Floor → Bool) (count : X → ℕ) (text : Answered → List ℕ) (before after : Input) (book : Seen) (spares : List X) (new : Seen) (rest : List X)
     (had has file synced holds : Option (List ℕ)) : Type 0 where
   pub counted : Option (List ℕ)
   pub begun : Option (List ℕ)
@@ -87,7 +87,7 @@ pub record RunsOn {X : Type 0} (fits : X → Floor → Bool) (count : X → ℕ)
   pub whole : IfSome file (λ _. IsWholeLog holds new)
 
 -- Why a run was not brought to its end.
-abbrev pub StopsRun : {X : Type 0} → (X → Floor → Bool) → (X → ℕ) → (Reply → List ℕ) → RunFault → (before after : Input) → Start → (planners spares rest : List X)
+abbrev pub StopsRun : {X : Type 0} → (X → Floor → Bool) → (X → ℕ) → (Answered → List ℕ) → RunFault → (before after : Input) → Start → (planners spares rest : List X)
     → (had has file : Option (List ℕ)) → Bool → (synced holds : Option (List ℕ)) → Type 0
 StopsRun fits count text (Begin fault) before after start planners spares rest had has file failed synced holds =
     (after ≡ before) × (rest ≡ spares) × (has ≡ had) × BeginsShort fault start file holds failed

@@ -9,7 +9,7 @@ use Rattle.wh_lines.specs.Input.{Input, left, with_failed, Takes}
 use Rattle.wh_grid.specs.Grids.{Floor}
 use Rattle.wh_token.specs.Drafts.{Seen}
 use Rattle.wh_event.specs.declared.entry.Entry.{Entry}
-use Rattle.wh_event.specs.declared.reply.Reply.{Reply}
+use Rattle.wh_log.specs.Told.{Answered}
 use Rattle.wh_log.specs.Spelling.{entry_line}
 use Rattle.wh_log.proofs.Fronts.{text-append}
 use Rattle.wh_replay.specs.Answers.{text_of}
@@ -69,7 +69,7 @@ failed_cause Unwritten after failed n h = tt
 failed_cause Unjournaled after failed n h = h
 failed_cause NoMemory after failed n h = tt
 
-module _ {X : Type 0} (fits : X → Floor → Bool) (count : X → ℕ) (text : Reply → List ℕ) where
+module _ {X : Type 0} (fits : X → Floor → Bool) (count : X → ℕ) (text : Answered → List ℕ) where
   -- the reader was told to give no more
   pub journaled_failed : (fault : JournaledFault) (before after now : Input) (old : Seen) (spares : List X) (new : Seen) (rest : List X) (had has journal : Option (List ℕ)) (failed : Bool) (synced holds : Option (List ℕ))
       → now ≡ with_failed after true → Journaled fits count text fault before after old spares new rest had has journal failed synced holds

@@ -7,7 +7,7 @@ use Rattle.wh_lines.specs.Input.{Input, left, Takes}
 use Rattle.wh_grid.specs.Grids.{Floor}
 use Rattle.wh_token.specs.Drafts.{Seen}
 use Rattle.wh_event.specs.declared.entry.Entry.{Entry}
-use Rattle.wh_event.specs.declared.reply.Reply.{Reply}
+use Rattle.wh_log.specs.Told.{Answered}
 use Rattle.wh_replay.specs.Answers.{text_of}
 use Rattle.wh_replay.specs.Scripts.{WritesFront}
 use Rattle.wh_replay.proofs.Written.{front_after, front_all}
@@ -18,7 +18,7 @@ use Rattle.wh_journal.proofs.Joining.{serves_nothing, serves_join, replies_text,
 use Rattle.wh_journal.proofs.Rounded.{lines_append, more_cause}
 
 -- All that was served is told and stands in the journal, which is synced: one line at least in each round.
-pub record Standing {X : Type 0} (fits : X → Floor → Bool) (count : X → ℕ) (text : Reply → List ℕ) (before now : Input) (old : Seen) (spares : List X) (new : Seen) (rest : List X)
+pub record Standing {X : Type 0} (fits : X → Floor → Bool) (count : X → ℕ) (text : Answered → List ℕ) (before now : Input) (old : Seen) (spares : List X) (new : Seen) (rest : List X)
     (had has journal synced holds : Option (List ℕ)) (rounds : ℕ) : Type 0 where
   pub read : List ℕ
   pub takes : Takes before now read
@@ -30,7 +30,7 @@ pub record Standing {X : Type 0} (fits : X → Floor → Bool) (count : X → �
   pub told : Appends had has (text_of replies)
   pub many : rounds ≤ length (lines_of read)
 
-module _ {X : Type 0} (fits : X → Floor → Bool) (count : X → ℕ) (text : Reply → List ℕ) where
+module _ {X : Type 0} (fits : X → Floor → Bool) (count : X → ℕ) (text : Answered → List ℕ) where
   pub standing_start : (i : Input) (old : Seen) (spares : List X) (had journal synced : Option (List ℕ)) → synced ≡ journal
       → Standing fits count text i i old spares old spares had had journal synced journal 0
   standing_start i old spares had journal synced same = record {

@@ -12,7 +12,7 @@ use Rattle.wh_lines.specs.declared.lines.ReadFault.TheVariants as reads
 use Rattle.wh_grid.specs.Grids.{Floor}
 use Rattle.wh_token.specs.Drafts.{Seen}
 use Rattle.wh_event.specs.declared.entry.Entry.{Entry}
-use Rattle.wh_event.specs.declared.reply.Reply.{Reply}
+use Rattle.wh_log.specs.Told.{Answered}
 use Rattle.wh_token.specs.Runs.{entries_of}
 use Rattle.wh_replay.specs.Answers.{text_of, said}
 use Rattle.wh_replay.specs.Scripts.{Serves, ServesUnwritten}
@@ -23,7 +23,7 @@ use Rattle.wh_journal.specs.Journals.{ServesLines, Gathers, GathersUntil}
 use Rattle.wh_journal.proofs.Joining.{serves_nothing, serves_join, serves_line, replies_text, lines_more, one_line_long}
 
 -- What was served so far: a line in each turn of the loop.
-pub record Gathering {X : Type 0} (fits : X → Floor → Bool) (count : X → ℕ) (text : Reply → List ℕ) (before now : Input) (old : Seen) (spares : List X) (new : Seen) (rest : List X) (had has : Option (List ℕ))
+pub record Gathering {X : Type 0} (fits : X → Floor → Bool) (count : X → ℕ) (text : Answered → List ℕ) (before now : Input) (old : Seen) (spares : List X) (new : Seen) (rest : List X) (had has : Option (List ℕ))
     (gathered : List ℕ) (turns : ℕ) : Type 0 where
   pub read : List ℕ
   pub takes : Takes before now read
@@ -39,7 +39,7 @@ read_cause (Read reads.Broken) after lines h = tt
 read_cause (Read reads.Endless) after lines h = inl (h refl)
 read_cause Flush after lines h = tt
 
-module _ {X : Type 0} (fits : X → Floor → Bool) (count : X → ℕ) (text : Reply → List ℕ) where
+module _ {X : Type 0} (fits : X → Floor → Bool) (count : X → ℕ) (text : Answered → List ℕ) where
   pub gathering_start : (i : Input) (old : Seen) (spares : List X) (had : Option (List ℕ)) → Gathering fits count text i i old spares old spares had had [] 0
   gathering_start i old spares had = record {
     read = [];

@@ -21,7 +21,7 @@ use Rattle.wh_edge.specs.declared.trouble.Trouble.TheVariants as trouble
 use Rattle.wh_service.specs.Fleets.{AreSeated, IsMember, IsWhyUnclaimed, IsWhyUnseated, with_slots}
 use Rattle.wh_service.specs.Kept.{IsSeated, IsWhyUnkept, ServesKept, StartsFrom, StartsOver, first_slots, run_trouble}
 use Rattle.wh_service.specs.Tails.{IsWhyNoTail, tail_after}
-use Rattle.wh_event.specs.declared.reply.Reply.{Reply}
+use Rattle.wh_log.specs.Told.{Answered}
 use Rattle.wh_lines.specs.Input.{Input}
 use Rattle.wh_core.specs.Laws.{IsOpening}
 use Rattle.wh_core.specs.Steps.{Run}
@@ -67,10 +67,10 @@ start_of_file fleet site file held start from same = subst (λ (h : Option (List
 
 -- ---- what the whole call says
 
-module _ {X : Type 0} (fits : X → Floor → Bool) (count : X → ℕ) (text : Reply → List ℕ) (gives : PlannerParts → Result X AllocError → Type 0) (fleet : Fleet)
+module _ {X : Type 0} (fits : X → Floor → Bool) (count : X → ℕ) (text : Answered → List ℕ) (gives : PlannerParts → Result X AllocError → Type 0) (fleet : Fleet)
     (old between new : Input) (had has file synced holds : Option (List ℕ)) (site : Site) (start : Start) (planners spares rest : List X)
     (site_read : SiteRead old between site.grid site.layout) (from : StartsFrom fleet site file start) (slots : List ℕ) (slots_are : slots ≡ start.book.state.slots)
-    (seated : IsSeated gives fleet site.grid slots planners spares) (told_as : Reply → List ℕ) (same : told_as ≡ text)
+    (seated : IsSeated gives fleet site.grid slots planners spares) (told_as : Answered → List ℕ) (same : told_as ≡ text)
     (held : Option (List ℕ)) (unchanged : held ≡ file) where
   starts : StartsOver gives fleet old between file site start planners spares
   starts = record {
@@ -95,7 +95,7 @@ module _ {X : Type 0} (fits : X → Floor → Bool) (count : X → ℕ) (text : 
       starts = starts;
       rest = rest;
       stops = subst (λ (f : Option (List ℕ)). StopsRun fits count text fault between new start planners spares rest had has f failed synced holds) unchanged
-          (subst (λ (t : Reply → List ℕ). StopsRun fits count t fault between new start planners spares rest had has held failed synced holds) same stops);
+          (subst (λ (t : Answered → List ℕ). StopsRun fits count t fault between new start planners spares rest had has held failed synced holds) same stops);
     },
   )))
 
@@ -103,7 +103,7 @@ module _ {X : Type 0} (fits : X → Floor → Bool) (count : X → ℕ) (text : 
       (ran : RunsOn fits count told_as between new start.book spares final rest had replied held synced holds) where
     runs : RunsOn fits count text between new start.book spares final rest had replied file synced holds
     runs = subst (λ (f : Option (List ℕ)). RunsOn fits count text between new start.book spares final rest had replied f synced holds) unchanged
-        (subst (λ (t : Reply → List ℕ). RunsOn fits count t between new start.book spares final rest had replied held synced holds) same ran)
+        (subst (λ (t : Answered → List ℕ). RunsOn fits count t between new start.book spares final rest had replied held synced holds) same ran)
 
     -- it was, and what is to follow the replies does
     pub serves_kept : IsOpening final.site final.opening → Run final.site final.opening final.history final.state → (IsFormed final.site → AllServed final.history)

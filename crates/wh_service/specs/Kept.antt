@@ -8,7 +8,7 @@ use Rattle.wh_points.specs.Points.{Site}
 use Rattle.wh_points.specs.Formed.{IsFormed}
 use Rattle.wh_claims.specs.Bank.{bank_total}
 use Rattle.wh_claims.specs.declared.bank.Bank.{Bank}
-use Rattle.wh_event.specs.declared.reply.Reply.{Reply}
+use Rattle.wh_log.specs.Told.{Answered}
 use Rattle.wh_core.specs.Laws.{IsOpening}
 use Rattle.wh_core.specs.Steps.{Run}
 use Rattle.wh_verify.specs.Drafts.{AllServed, Seen}
@@ -61,7 +61,7 @@ pub record StartsOver {X : Type 0} (gives : PlannerParts → Result X AllocError
 
 -- The run went on from there: the script behind the site was served to its end, with planners for its agents, over the file,
 -- which is the log of the whole run now, and what is to follow the replies follows them.
-pub record ServesKept {X : Type 0} (fits : X → Floor → Bool) (count : X → ℕ) (text : Reply → List ℕ) (gives : PlannerParts → Result X AllocError → Type 0) (fleet : Fleet) (tail : Tail)
+pub record ServesKept {X : Type 0} (fits : X → Floor → Bool) (count : X → ℕ) (text : Answered → List ℕ) (gives : PlannerParts → Result X AllocError → Type 0) (fleet : Fleet) (tail : Tail)
     (old new : Input) (had has file synced holds : Option (List ℕ)) : Type 0 where
   pub site : Site
   pub between : Input
@@ -124,7 +124,7 @@ pub record EndsAtStart (fleet : Fleet) (told : Trouble) (old new : Input) (file 
   pub why : IsWhyNotStarted fleet site file told ⊎ IsUnequipped fleet site file told
 
 -- The run started, and was not brought to its end.
-pub record StopsKept {X : Type 0} (fits : X → Floor → Bool) (count : X → ℕ) (text : Reply → List ℕ) (gives : PlannerParts → Result X AllocError → Type 0) (fleet : Fleet) (fault : RunFault)
+pub record StopsKept {X : Type 0} (fits : X → Floor → Bool) (count : X → ℕ) (text : Answered → List ℕ) (gives : PlannerParts → Result X AllocError → Type 0) (fleet : Fleet) (fault : RunFault)
     (old new : Input) (had has file : Option (List ℕ)) (failed : Bool) (synced holds : Option (List ℕ)) : Type 0 where
   pub site : Site
   pub between : Input
@@ -136,7 +136,7 @@ pub record StopsKept {X : Type 0} (fits : X → Floor → Bool) (count : X → �
   pub stops : StopsRun fits count text fault between new start planners spares rest had has file failed synced holds
 
 -- The run was brought to its end, and what is to follow the replies does not.
-pub record KeptWithoutTail {X : Type 0} (fits : X → Floor → Bool) (count : X → ℕ) (text : Reply → List ℕ) (gives : PlannerParts → Result X AllocError → Type 0) (fleet : Fleet) (tail : Tail)
+pub record KeptWithoutTail {X : Type 0} (fits : X → Floor → Bool) (count : X → ℕ) (text : Answered → List ℕ) (gives : PlannerParts → Result X AllocError → Type 0) (fleet : Fleet) (tail : Tail)
     (told : Trouble) (old new : Input) (had has file synced holds : Option (List ℕ)) : Type 0 where
   pub site : Site
   pub between : Input
@@ -152,7 +152,7 @@ pub record KeptWithoutTail {X : Type 0} (fits : X → Floor → Bool) (count : X
 
 -- Why it ended otherwise, in this order: the site, the file, the bank and the planners, the run, what is to follow the
 -- replies. Before the run starts nothing is written, and the file is as it was.
-abbrev pub IsWhyUnkept : {X : Type 0} → (X → Floor → Bool) → (X → ℕ) → (Reply → List ℕ) → (PlannerParts → Result X AllocError → Type 0) → Fleet → Tail → Trouble
+abbrev pub IsWhyUnkept : {X : Type 0} → (X → Floor → Bool) → (X → ℕ) → (Answered → List ℕ) → (PlannerParts → Result X AllocError → Type 0) → Fleet → Tail → Trouble
     → (old new : Input) → (had has file : Option (List ℕ)) → Bool → (synced holds : Option (List ℕ)) → Type 0
 IsWhyUnkept fits count text gives fleet tail told old new had has file failed synced holds =
     (SiteFault told old new × Keeps had has × (holds ≡ file))
