@@ -23,7 +23,7 @@ use wh_lines::Lines;
 use wh_options::{LiveOptions, Options, PlannerKind, Refusal, ReplayOptions, options, refusal_of};
 use wh_planner::Planner;
 use wh_planners::{Patient, Sharing};
-use wh_service::{FileJournal, PlannerParts, ended, host, judge, judge_log, serve, serve_kept};
+use wh_service::{FileJournal, PlannerParts, ended, host, judge, judge_log, serve, serve_kept, serve_late};
 
 /// How many bytes of output are written at a time.
 const OUTPUT_BUFFER: usize = 65_536;
@@ -80,7 +80,7 @@ fn told<R: Eprint>(rt: &R, trouble: &Trouble) -> Status
 
 /// Replays standard input to standard output, over the log file where the options name one.
 fn replay<
-    R: AllocGlobal + Print + Input + Files<File = File>,
+    R: AllocGlobal + Print + Eprint + Input + Files<File = File>,
     P: Planner,
     F: Fn(PlannerParts) -> Result<P, AllocError>,
 >(rt: &R, options: &ReplayOptions<'_>, make: F) -> Result<Status, Trouble>
@@ -92,6 +92,20 @@ fn replay<
     let Ok(mut output) = BufWriter::with_capacity(rt.alloc(), OUTPUT_BUFFER, io::writer(rt)) else {
         return Err(Trouble::NoMemory);
     };
+    if let Some(vehicles) = options.vehicles {
+        let left = serve_late(
+            rt.alloc(),
+            &mut lines,
+            &mut output,
+            options,
+            vehicles,
+            make,
+        )?;
+        if left > 0 {
+            let _ = eprintln!(rt; "vehicles on their way: {left}");
+        }
+        return Ok(Status::Done);
+    }
     let Some(path) = options.log else {
         let _replayed = serve(rt.alloc(), &mut lines, &mut output, options, make)?;
         return Ok(Status::Done);

@@ -72,6 +72,8 @@ pub enum Trouble {
     Log { line: u64 },
     /// The log file cannot be opened, read, written or synced, or another program has it.
     Unkept,
+    /// Vehicles would stand still for ever, since agents may follow.
+    MayFollow,
     /// Memory was wanting.
     NoMemory,
 }
@@ -170,6 +172,7 @@ impl Trouble {
             Trouble::Differs => put(&mut line, b"E95"),
             Trouble::Log { line: number } => put_place(&mut line, b"L1", number),
             Trouble::Unkept => put(&mut line, b"X5"),
+            Trouble::MayFollow => put(&mut line, b"V4"),
             Trouble::NoMemory => put(&mut line, b"E90"),
         }
         put(&mut line, b"\n");
@@ -188,6 +191,7 @@ impl Trouble {
             Trouble::Broken | Trouble::Endless | Trouble::Unwritten => Status::Failed,
             Trouble::NoThread | Trouble::Differs => Status::Failed,
             Trouble::Unkept => Status::Failed,
+            Trouble::MayFollow => Status::Refused,
             Trouble::NoMemory => Status::NoMemory,
         }
     }

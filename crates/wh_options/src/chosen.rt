@@ -42,6 +42,15 @@ pub struct Fleet {
     pub spares: u32,
 }
 
+/// How late vehicles may be, and how far ahead they are told.
+#[derive(Clone, Copy, Debug, PartialEq, Eq)]
+pub struct VehicleOptions {
+    /// The clock waits while a vehicle is so many steps behind, 1 to 1000.
+    pub behind: u32,
+    /// How many cells ahead a vehicle may be told, 1 to 1000.
+    pub ahead: u32,
+}
+
 /// The options of `replay`. They keep a text of the words that gave them.
 #[derive(Clone, Copy, Debug, PartialEq, Eq)]
 pub struct ReplayOptions<'a> {
@@ -53,6 +62,8 @@ pub struct ReplayOptions<'a> {
     pub replies: Replies,
     /// The name of the file that keeps the run's log, if one is to; never empty.
     pub log: Option<&'a str>,
+    /// How vehicles carry out the plan, if they do at their own pace.
+    pub vehicles: Option<VehicleOptions>,
 }
 
 /// The options of `live`.

@@ -54,6 +54,11 @@ fn file_arg<'a>(alloc: Global, name: &'a str, help: &'a str) -> Arg<'a>
         .value_parser(ValueParser::NonEmptyString)
 }
 
+// An option without a value.
+fn flag_arg<'a>(alloc: Global, name: &'a str, help: &'a str) -> Arg<'a> {
+    Arg::new(alloc, name).long(name).help(help).action(ArgAction::SetTrue)
+}
+
 fn plain_command<'a>(alloc: Global, name: &'a str, about: &'a str) -> Command<'a>
     ensures { HasShape result (new_app name.entry.now) }
 {
@@ -123,11 +128,36 @@ fn replay_command<'a>(alloc: Global) -> Result<Command<'a>, AllocError>
         "log",
         "Keeps the log of the run in FILE, and goes on from the log that FILE has",
     );
+    let vehicles = flag_arg(
+        alloc,
+        "vehicles",
+        "Vehicles carry out the plan, each at its own pace: takes `at AGENT STEP`, tells `go AGENT STEP X,Y`",
+    )
+    .conflicts_with("log")?;
+    let behind = number_arg(
+        alloc,
+        "behind",
+        1,
+        1000,
+        "Steps that a vehicle may be behind before the clock waits, 1 to 1000 [default: 8]",
+    )
+    .requires_arg("vehicles")?;
+    let ahead = number_arg(
+        alloc,
+        "ahead",
+        1,
+        1000,
+        "Cells ahead that a vehicle may be told, 1 to 1000 [default: 1]",
+    )
+    .requires_arg("vehicles")?;
     let about = "Answers each command of a script (input: map, points, script)";
     fleet_command(alloc, "replay", about)?
         .arg(tail)?
         .arg(replies)?
-        .arg(log)
+        .arg(log)?
+        .arg(vehicles)?
+        .arg(behind)?
+        .arg(ahead)
 }
 
 fn live_command<'a>(alloc: Global) -> Result<Command<'a>, AllocError>

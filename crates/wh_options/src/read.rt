@@ -5,7 +5,7 @@ ghost use Rattle.wh_options.specs.Options.{AreSame, WordsGive};
 ghost use Rattle.wh_options.specs.Requests.{AsksBy, IsKind, help_flags, version_flags};
 ghost use Rattle.wh_options.specs.Reads.{Reads, ReadsFleet, ReadsLive, ReadsNumber, ReadsReplay, planner_of, replies_of, tail_of};
 
-use crate::chosen::{Fleet, LiveOptions, Options, PlannerKind, ReplayOptions, Replies, Tail};
+use crate::chosen::{Fleet, LiveOptions, Options, PlannerKind, ReplayOptions, Replies, Tail, VehicleOptions};
 use crate::command::warehouse_command;
 use clap::error::ErrorKind;
 use clap::{ArgMatches, Error};
@@ -79,6 +79,17 @@ fn fleet(matches: &ArgMatches<'_>) -> Fleet
     }
 }
 
+fn vehicles(matches: &ArgMatches<'_>) -> Option<VehicleOptions> {
+    if matches.get_flag("vehicles") {
+        Some(VehicleOptions {
+            behind: number(matches, "behind", 8),
+            ahead: number(matches, "ahead", 1),
+        })
+    } else {
+        None
+    }
+}
+
 fn replay_options<'a>(matches: &ArgMatches<'a>) -> ReplayOptions<'a>
     ensures { ReadsReplay (first_value (found_of matches.now)) result }
 {
@@ -87,6 +98,7 @@ fn replay_options<'a>(matches: &ArgMatches<'a>) -> ReplayOptions<'a>
         tail: tail(matches),
         replies: replies(matches),
         log: matches.get_str("log"),
+        vehicles: vehicles(matches),
     }
 }
 

@@ -83,7 +83,7 @@ fn tell_outcome<W: Write>(
 }
 
 /// Runs a command, and tells its reply.
-fn obey<W: Write, P: Planner>(
+pub fn obey<W: Write, P: Planner>(
     command: &Command,
     alloc: Global,
     form: Form,
@@ -101,7 +101,7 @@ fn obey<W: Write, P: Planner>(
 }
 
 /// Reads a line, of which a front is kept, into a room: whether it asks for a command, which then stands there.
-fn read_kept(line: &CommandLine, command: &mut Command) -> Result<bool, LineFault>
+pub fn read_kept(line: &CommandLine, command: &mut Command) -> Result<bool, LineFault>
     ensures { Reads result command.old command.new (said (short_line line.now)) }
 {
     match line.text() {

@@ -4,6 +4,7 @@
 mod answer;
 mod script;
 
+pub use answer::{obey, read_kept};
 pub use script::{ReplayFault, Replayed, replay, serve};
 
 // handed on, for callers: what the items below take, return and speak of

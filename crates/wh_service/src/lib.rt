@@ -11,6 +11,7 @@ mod parts;
 mod program;
 mod tail;
 mod verdict;
+mod vehicles;
 mod verified;
 
 pub use fleet::{claim, equip};
@@ -18,6 +19,7 @@ pub use kept::serve_kept;
 pub use live::host;
 pub use parts::PlannerParts;
 pub use program::{ended, play, serve};
+pub use vehicles::serve_late;
 pub use verdict::judge;
 pub use verified::judge_log;
 

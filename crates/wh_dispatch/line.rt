@@ -1,0 +1,194 @@
+//! What one line of a script is answered, and what it lets vehicles do.
+
+ghost use Rattle.std.specs.Prelude.{◌≡◌, ◌↔◌, Ok, Some, true, IsTrue, IfErr, OnOk, MatchOption};
+ghost use Rattle.wh_lines.specs.Text.{short_line};
+ghost use Rattle.wh_log.specs.Told.{told_text};
+ghost use Rattle.wh_replay.specs.Answers.{said};
+ghost use Rattle.wh_drive.specs.Drives.{Drive};
+ghost use Rattle.wh_order.specs.Orders.{Represents};
+ghost use Rattle.wh_vehicles.specs.Driving.{NoneIsLate};
+ghost use Rattle.wh_dispatch.specs.Lines.{AsksToGoOn, Reported, Asked, heard_in};
+ghost use Rattle.wh_dispatch.specs.Scripts.{TellsAll, TellsSome, Hears, HearsSome, ServesFrom, BeginsFrom, SomeManned};
+
+use crate::fleet::Vehicles;
+use crate::script::DispatchFault;
+use crate::telling::{tell, tell_notice, tell_steps};
+use std::alloc::Global;
+use std::io::Write;
+use wh_event::{Command, LineFault};
+use wh_lines::CommandLine;
+use wh_log::Form;
+use wh_planner::Planner;
+use wh_replay::{Warehouse, obey, read_kept};
+use wh_vehicles::{Report, read_report};
+
+/// The report that a line is, of which a front is kept.
+fn reported(line: &CommandLine) -> Option<Report>
+{
+    match line.text() {
+        Some(text) => read_report(text),
+        None => None,
+    }
+}
+
+/// Vehicles go on as far as they may, and are told so.
+fn go_on<W: Write, P: Planner>(writer: &mut W, vehicles: &mut Vehicles, warehouse: &Warehouse<P>) -> Result<(), DispatchFault>
+{
+    if vehicles.settle().is_err() {
+        return Err(DispatchFault::NoMemory);
+    }
+    vehicles.tell_visits(writer, warehouse)?;
+    tell_steps(writer, vehicles.told())
+}
+
+/// Runs a tick for which room is made, and has the vehicles go on.
+fn tick<W: Write, P: Planner>(
+    command: &Command,
+    alloc: Global,
+    form: Form,
+    writer: &mut W,
+    warehouse: &mut Warehouse<P>,
+    spares: &mut Vec<P>,
+    vehicles: &mut Vehicles,
+) -> Result<(), DispatchFault>
+{
+    let _history = warehouse.history();
+    let before = warehouse.clock();
+    if obey(command, alloc, form, writer, warehouse, spares).is_err() {
+        return Err(DispatchFault::Unwritten);
+    }
+    if warehouse.clock() == before {
+        return Ok(());
+    }
+    vehicles.tick(warehouse);
+    go_on(writer, vehicles, warehouse)
+}
+
+/// Runs a tick, unless the clock waits for a vehicle, or memory is wanting.
+fn tick_in_time<W: Write, P: Planner>(
+    command: &Command,
+    alloc: Global,
+    form: Form,
+    writer: &mut W,
+    warehouse: &mut Warehouse<P>,
+    spares: &mut Vec<P>,
+    vehicles: &mut Vehicles,
+) -> Result<(), DispatchFault>
+{
+    if let Some(notice) = vehicles.late() {
+        return tell_notice(writer, &notice);
+    }
+    if vehicles.reserve().is_err() {
+        return tell(writer, b"refused E90\n");
+    }
+    tick(command, alloc, form, writer, warehouse, spares, vehicles)
+}
+
+/// Runs a command at which the clock stays.
+fn run_still<W: Write, P: Planner>(
+    command: &Command,
+    alloc: Global,
+    form: Form,
+    writer: &mut W,
+    warehouse: &mut Warehouse<P>,
+    spares: &mut Vec<P>,
+    vehicles: &mut Vehicles,
+) -> Result<(), DispatchFault>
+{
+    let before = warehouse.history().len();
+    if vehicles.reserve_task().is_err() {
+        return tell(writer, b"refused E90\n");
+    }
+    if obey(command, alloc, form, writer, warehouse, spares).is_err() {
+        return Err(DispatchFault::Unwritten);
+    }
+    if warehouse.history().len() > before {
+        if let [.., wh_event::Entry { reply: wh_event::Reply::Took { task, .. }, .. }] = warehouse.history() {
+            let task = *task;
+            if vehicles.took(task).is_err() { return Err(DispatchFault::NoMemory); }
+            return vehicles.tell_visits(writer, warehouse);
+        }
+    }
+    Ok(())
+}
+
+/// Whether the clock is to go on, and may.
+fn asks_to_go_on<P: Planner>(command: &Command, warehouse: &Warehouse<P>) -> bool
+{
+    let is_tick = match command {
+        Command::Tick => true,
+        _ => false,
+    };
+    is_tick && !warehouse.closed() && warehouse.clock() < 1_000_000_000
+}
+
+/// Runs a command.
+fn run<W: Write, P: Planner>(
+    command: &Command,
+    alloc: Global,
+    form: Form,
+    writer: &mut W,
+    warehouse: &mut Warehouse<P>,
+    spares: &mut Vec<P>,
+    vehicles: &mut Vehicles,
+) -> Result<(), DispatchFault>
+{
+    if asks_to_go_on(command, warehouse) {
+        tick_in_time(command, alloc, form, writer, warehouse, spares, vehicles)
+    } else {
+        run_still(command, alloc, form, writer, warehouse, spares, vehicles)
+    }
+}
+
+/// Answers a report, and has the vehicles go on.
+fn hear<W: Write, P: Planner>(
+    report: Report,
+    writer: &mut W,
+    warehouse: &Warehouse<P>,
+    vehicles: &mut Vehicles,
+) -> Result<(), DispatchFault>
+{
+    let notice = vehicles.hear(report);
+    tell_notice(writer, &notice)?;
+    go_on(writer, vehicles, warehouse)
+}
+
+/// Answers a line that is no report, of which a front is kept.
+fn serve_command<W: Write, P: Planner>(
+    line: &CommandLine,
+    command: &mut Command,
+    alloc: Global,
+    form: Form,
+    writer: &mut W,
+    warehouse: &mut Warehouse<P>,
+    spares: &mut Vec<P>,
+    vehicles: &mut Vehicles,
+) -> Result<(), DispatchFault>
+{
+    match read_kept(line, command) {
+        Ok(true) => run(command, alloc, form, writer, warehouse, spares, vehicles),
+        Ok(false) => Ok(()),
+        Err(LineFault::Form) => tell(writer, b"refused C1\n"),
+        Err(LineFault::TooLong) => tell(writer, b"refused C2\n"),
+    }
+}
+
+/// Serves a line, of which a front is kept. The command is a room for what it asks.
+pub(crate) fn serve<W: Write, P: Planner>(
+    line: &CommandLine,
+    command: &mut Command,
+    alloc: Global,
+    form: Form,
+    writer: &mut W,
+    warehouse: &mut Warehouse<P>,
+    spares: &mut Vec<P>,
+    vehicles: &mut Vehicles,
+) -> Result<(), DispatchFault>
+{
+    match reported(line) {
+        Some(report) => hear(report, writer, warehouse, vehicles),
+        None => serve_command(
+            line, command, alloc, form, writer, warehouse, spares, vehicles,
+        ),
+    }
+}
