@@ -1,0 +1,244 @@
+-- a script that is served line by line
+use Rattle.std.proofs.Common.{◌≡◌, ℕ, ◌∙◌, List, [], ◌∷◌, ◌++◌, length, Option, Some, None, Err, inl, inr, sym, subst, refl, ap, append-nil, append_assoc, Bool, true, cond}
+use Rattle.std.specs.Io.KnownBytes.{Keeps}
+use Rattle.std.proofs.KnownBytes.{Keeps-refl, Consumes-nil, Consumes-trans, Appends-nil, Appends-kept}
+use Rattle.std.proofs.lemmas.Bool.{lt-ltb}
+use Rattle.std.proofs.lemmas.Bool.Decides.{leb_tells}
+use Rattle.wh_text.specs.Lines.{lines_of, without_cr}
+use Rattle.wh_text.specs.Words.{words_of}
+use Rattle.wh_text.proofs.CutLemmas.{lines-feed, lines-last}
+use Rattle.wh_lines.specs.Text.{short_line}
+use Rattle.wh_lines.proofs.Cuts.{whole_next}
+use Rattle.wh_lines.specs.Input.{Input, left, with_failed, Takes, Gathered, Taken}
+use Rattle.wh_lines.specs.declared.lines.Next.{Next}
+use Rattle.wh_lines.specs.declared.lines.Next.TheVariants.{Whole, Last, End}
+use Rattle.wh_grid.specs.Grids.{Floor}
+use Rattle.wh_book.specs.Drafts.{Seen}
+use Rattle.wh_event.specs.CommandLines.{command_by}
+use Rattle.wh_event.specs.declared.reply.Reply.{Reply}
+use Rattle.wh_event.specs.declared.fault.LineFault.TheVariants.{TooLong}
+use Rattle.wh_replay.specs.Answers.{text_of}
+use Rattle.wh_drive.specs.Drives.{Drive}
+use Rattle.wh_order.specs.Orders.{Order}
+use Rattle.wh_vehicles.specs.Reports.{report_by}
+use Rattle.wh_dispatch.specs.declared.script.DispatchFault.{DispatchFault}
+use Rattle.wh_dispatch.specs.declared.script.DispatchFault.TheVariants.{Unwritten}
+use Rattle.wh_dispatch.specs.Crews.{IsManned}
+use Rattle.wh_dispatch.specs.Lines.{Depot, Heard, heard_by, heard, heard_in, TakesLine, ServesLine, ServesAll, LeavesOff}
+use Rattle.wh_dispatch.specs.Scripts.{Serves, Begins, Follows, Dispatches, Stops, ServesFrom, BeginsFrom, DispatchesFrom, StopsFrom, SomeManned}
+use Rattle.wh_dispatch.proofs.Texts.{all_then, until_then, until_all}
+
+-- what a line says is told by what is kept of it
+heard_is : (raw : List ℕ) → heard_in (short_line raw) ≡ heard (without_cr raw)
+heard_is raw =
+    let text = without_cr raw in
+    elim (leb_tells (length text) 256) [
+      | inl short ↦ ap (λ b. heard_in (cond b (Some text) None)) short.0
+      | inr long ↦ ap (λ b. heard_in (cond b (Some text) None)) long.0
+          ∙ sym (ap (λ (b : Bool). heard_by (cond b None (report_by (words_of text))) (cond b (Err TooLong) (command_by (words_of text)))) (lt-ltb 256 (length text) long.1))
+    ]
+
+module _ {X : Type 0} (fits : X → Floor → Bool) (count : X → ℕ) (text : Reply → List ℕ) (bound : ℕ) where
+  all_push : (lines : List (List ℕ)) (line : List ℕ) (old mid new : Depot X) (first more : List (List ℕ)) → ServesAll fits count text bound lines old mid first →
+      ServesLine fits count text bound (heard line) mid new more → ServesAll fits count text bound (lines ++ line ∷ []) old new (first ++ more)
+  all_push [] line old mid new first more p q = (
+    new,
+    more,
+    [],
+    subst (λ (x : Depot X). ServesLine fits count text bound (heard line) x new more) p.0 q,
+    (refl, refl),
+    ap (λ (f : List (List ℕ)). f ++ more) p.1 ∙ sym (append-nil more),
+  )
+  all_push (l ∷ lines) line old mid new first more p q =
+      (p.0, p.1, p.2 ++ more, p.3, all_push lines line p.0 mid new p.2 more p.4 q, ap (λ (f : List (List ℕ)). f ++ more) p.5 ∙ append_assoc p.1 p.2 more)
+
+  pub follows_start : (i : Input) (old : Depot X) (had : Option (List ℕ)) → Follows fits count text bound i i old old had had
+  follows_start i old had = record {
+    read = [];
+    takes = Consumes-nil (left i);
+    whole = λ more. refl;
+    texts = [];
+    serves = (refl, refl);
+    appends = Appends-nil had;
+  }
+
+  module _ (i j k : Input) (old mid new : Depot X) (a b c d : Option (List ℕ)) (kept : List ℕ) (f : Follows fits count text bound i j old mid a b) (flushed : Keeps b c) where
+    -- the line itself
+    line_served : (raw : List ℕ) → short_line kept ≡ short_line raw → (s : Serves fits count text bound (heard_in (short_line kept)) mid new c d) →
+        ServesLine fits count text bound (heard (without_cr raw)) mid new s.texts
+    line_served raw says s = subst (λ (h : Heard). ServesLine fits count text bound h mid new s.texts) (ap heard_in says ∙ heard_is raw) s.serves
+
+    lines_served : (bytes raw : List ℕ) → lines_of bytes ≡ without_cr raw ∷ [] → short_line kept ≡ short_line raw → (s : Serves fits count text bound (heard_in (short_line kept)) mid new c d) →
+        ServesAll fits count text bound (lines_of (f.read ++ bytes)) old new (f.texts ++ s.texts)
+    lines_served bytes raw one says s =
+        subst (λ ls. ServesAll fits count text bound ls old new (f.texts ++ s.texts)) (sym (f.whole bytes ∙ ap (λ l. lines_of f.read ++ l) one))
+        (all_push (lines_of f.read) (without_cr raw) old mid new f.texts s.texts f.serves (line_served raw says s))
+
+    lines_begun : (fault : DispatchFault) (bytes raw : List ℕ) → lines_of bytes ≡ without_cr raw ∷ [] → short_line kept ≡ short_line raw →
+        (s : Begins fits count text bound fault (heard_in (short_line kept)) mid new c d) → LeavesOff fits count text bound (lines_of (f.read ++ bytes)) old new (f.texts ++ s.texts)
+    lines_begun fault bytes raw one says s = record {
+      before = lines_of f.read;
+      line = without_cr raw;
+      lines_are = f.whole bytes ∙ ap (λ l. lines_of f.read ++ l) one;
+      mid = mid;
+      first = f.texts;
+      all = f.serves;
+      last = s.texts;
+      takes = subst (λ (h : Heard). TakesLine fits count text bound h mid new s.texts) (ap heard_in says ∙ heard_is raw) s.takes;
+      texts_are = refl;
+    }
+
+    follows_whole : Gathered Whole j k kept → Serves fits count text bound (heard_in (short_line kept)) mid new c d → Follows fits count text bound i k old new a d
+    follows_whole g s =
+        let bytes = g.raw ++ 10 ∷ [] in
+        record {
+          read = f.read ++ bytes;
+          takes = Consumes-trans (left i) (left j) (left k) f.read bytes f.takes g.ends;
+          whole = whole_next f.read g.raw f.whole g.plain;
+          texts = f.texts ++ s.texts;
+          serves = lines_served bytes g.raw (lines-feed g.raw [] g.plain) g.says s;
+          appends = all_then a c d f.texts s.texts (Appends-kept a b c (text_of f.texts) f.appends flushed) s.appends;
+        }
+
+    pub dispatches_last : (e : Option (List ℕ)) → Gathered Last j k kept → Serves fits count text bound (heard_in (short_line kept)) mid new c d → Keeps d e →
+        Dispatches fits count text bound i k old new a e
+    dispatches_last e g s after = record {
+      read = f.read ++ g.raw;
+      takes = Consumes-trans (left i) (left j) (left k) f.read g.raw f.takes g.ends.0;
+      ended = g.ends.2;
+      texts = f.texts ++ s.texts;
+      serves = lines_served g.raw g.raw (lines-last g.raw g.plain g.ends.1) g.says s;
+      appends = Appends-kept a d e (text_of (f.texts ++ s.texts)) (all_then a c d f.texts s.texts (Appends-kept a b c (text_of f.texts) f.appends flushed) s.appends) after;
+    }
+
+    -- the last line was served, and the writer could not be flushed
+    pub stops_flush : (e : Option (List ℕ)) → Gathered Last j k kept → Serves fits count text bound (heard_in (short_line kept)) mid new c d → Keeps d e →
+        Stops fits count text bound Unwritten i k old new a e
+    stops_flush e g s after =
+        let r = dispatches_last e g s after in
+        record {
+          read = r.read;
+          begun = [];
+          takes = subst (λ l. Takes i k l) (sym (append-nil r.read)) r.takes;
+          texts = r.texts;
+          serves = inl r.serves;
+          writes = until_all Unwritten a e r.texts r.appends;
+        }
+
+    stops_at : (fault : DispatchFault) (bytes raw : List ℕ) → Takes j k bytes → lines_of bytes ≡ without_cr raw ∷ [] → short_line kept ≡ short_line raw →
+        Begins fits count text bound fault (heard_in (short_line kept)) mid new c d → Stops fits count text bound fault i k old new a d
+    stops_at fault bytes raw taken one says s = record {
+      read = f.read ++ bytes;
+      begun = [];
+      takes = subst (λ l. Takes i k l) (sym (append-nil (f.read ++ bytes))) (Consumes-trans (left i) (left j) (left k) f.read bytes f.takes taken);
+      texts = f.texts ++ s.texts;
+      serves = inr (lines_begun fault bytes raw one says s);
+      writes = until_then fault a c d f.texts s.texts (Appends-kept a b c (text_of f.texts) f.appends flushed) s.writes;
+    }
+
+    -- a line that was begun, be it the last one or not
+    pub stops_begun : (fault : DispatchFault) (next : Next) → ¬ (next ≡ End) → Gathered next j k kept → Begins fits count text bound fault (heard_in (short_line kept)) mid new c d →
+        Stops fits count text bound fault i k old new a d
+    stops_begun fault Whole some g s = stops_at fault (g.raw ++ 10 ∷ []) g.raw g.ends (lines-feed g.raw [] g.plain) g.says s
+    stops_begun fault Last some g s = stops_at fault g.raw g.raw g.ends.0 (lines-last g.raw g.plain g.ends.1) g.says s
+    stops_begun fault End some g s = absurd (some refl)
+
+    -- a line that was served, and is not the last one
+    pub follows_served : (next : Next) → ¬ (next ≡ End) → ¬ (next ≡ Last) → Gathered next j k kept → Serves fits count text bound (heard_in (short_line kept)) mid new c d →
+        Follows fits count text bound i k old new a d
+    follows_served Whole some more g s = follows_whole g s
+    follows_served Last some more g s = absurd (more refl)
+    follows_served End some more g s = absurd (some refl)
+
+  module _ (i j k : Input) (old mid : Depot X) (a b c : Option (List ℕ)) (f : Follows fits count text bound i j old mid a b) (flushed : Keeps b c) where
+    pub dispatches_end : (kept : List ℕ) → Gathered End j k kept → Dispatches fits count text bound i k old mid a c
+    dispatches_end kept g = record {
+      read = f.read;
+      takes = subst (λ l. Takes i k l) (ap (λ l. f.read ++ l) g.ends.1 ∙ append-nil f.read) (Consumes-trans (left i) (left j) (left k) f.read g.raw f.takes g.ends.0);
+      ended = g.ends.2;
+      texts = f.texts;
+      serves = f.serves;
+      appends = Appends-kept a b c (text_of f.texts) f.appends flushed;
+    }
+
+    -- no next line
+    pub stops_between : (fault : DispatchFault) → Taken j k → Stops fits count text bound fault i k old mid a c
+    stops_between fault t = record {
+      read = f.read;
+      begun = t.bytes;
+      takes = Consumes-trans (left i) (left j) (left k) f.read t.bytes f.takes t.takes;
+      texts = f.texts;
+      serves = inl f.serves;
+      writes = until_all fault a c f.texts (Appends-kept a b c (text_of f.texts) f.appends flushed);
+    }
+
+  -- nothing more was taken
+  pub stops_now : (i j : Input) (old mid : Depot X) (a b : Option (List ℕ)) (fault : DispatchFault) → Follows fits count text bound i j old mid a b →
+      Stops fits count text bound fault i j old mid a b
+  stops_now i j old mid a b fault f = stops_between i j j old mid a b b f (Keeps-refl b) fault (record { bytes = []; takes = Consumes-nil (left j) })
+
+  -- from each drive of the vehicles so far
+  abbrev pub FollowsFrom : Input → Input → Seen → List X → Order → Seen → List X → Order → Option (List ℕ) → Option (List ℕ) → Type 0
+  FollowsFrom before after old spares order new rest next had has =
+      (d : Drive) → IsManned old order d → (e : Drive) × IsManned new next e
+      × Follows fits count text bound before after (record { book = old; spares = spares; drive = d }) (record { book = new; spares = rest; drive = e }) had has
+
+  pub manned_on : (i j : Input) (old : Seen) (spares : List X) (o : Order) (new : Seen) (rest : List X) (p : Order) (a b : Option (List ℕ)) → FollowsFrom i j old spares o new rest p a b →
+      SomeManned old o → SomeManned new p
+  manned_on i j old spares o new rest p a b f m = (let r = f m.0 m.1 in (r.0, r.1))
+
+  module _ (i j k : Input) (old : Seen) (spares : List X) (o : Order) (mid : Seen) (held : List X) (q : Order) (a b c : Option (List ℕ)) (f : FollowsFrom i j old spares o mid held q a b)
+      (flushed : Keeps b c) where
+    pub from_end : (kept : List ℕ) → Gathered End j k kept → DispatchesFrom fits count text bound i k old spares o mid held q a c
+    from_end kept g d m = (let r = f d m in (r.0, r.1, dispatches_end i j k _ _ a b c r.2 flushed kept g))
+
+    pub from_between : (fault : DispatchFault) → Taken j k → StopsFrom fits count text bound fault i k old spares o mid held a c
+    from_between fault t d m = (let r = f d m in (r.0, stops_between i j k _ _ a b c r.2 flushed fault t))
+
+    module _ (new : Seen) (rest : List X) (p : Order) (has : Option (List ℕ)) (kept : List ℕ) (n : ℕ) (same : n ≡ bound) where
+      here : ServesFrom fits count text n (heard_in (short_line kept)) mid held q new rest p c has → ServesFrom fits count text bound (heard_in (short_line kept)) mid held q new rest p c has
+      here s = subst (λ m. ServesFrom fits count text m (heard_in (short_line kept)) mid held q new rest p c has) same s
+
+      pub from_served : (next : Next) → ¬ (next ≡ End) → ¬ (next ≡ Last) → Gathered next j k kept → ServesFrom fits count text n (heard_in (short_line kept)) mid held q new rest p c has →
+          FollowsFrom i k old spares o new rest p a has
+      from_served next some more g s d m =
+          let r = f d m in
+          let t = here s r.0 r.1 in
+          (t.0, t.1, follows_served i j k _ _ _ a b c has kept r.2 flushed next some more g t.2)
+
+      pub from_begun : (fault : DispatchFault) (next : Next) → ¬ (next ≡ End) → Gathered next j k kept → BeginsFrom fits count text n (heard_in (short_line kept)) fault mid held q new rest c has →
+          StopsFrom fits count text bound fault i k old spares o new rest a has
+      from_begun fault next some g s d m =
+          let r = f d m in
+          let t = subst (λ m. BeginsFrom fits count text m (heard_in (short_line kept)) fault mid held q new rest c has) same s r.0 r.1 in
+          (t.0, stops_begun i j k _ _ _ a b c has kept r.2 flushed fault next some g t.1)
+
+      pub from_last : (e : Option (List ℕ)) → Gathered Last j k kept → ServesFrom fits count text n (heard_in (short_line kept)) mid held q new rest p c has → Keeps has e →
+          DispatchesFrom fits count text bound i k old spares o new rest p a e
+      from_last e g s after d m =
+          let r = f d m in
+          let t = here s r.0 r.1 in
+          (t.0, t.1, dispatches_last i j k _ _ _ a b c has kept r.2 flushed e g t.2 after)
+
+      pub from_flush : (e : Option (List ℕ)) → Gathered Last j k kept → ServesFrom fits count text n (heard_in (short_line kept)) mid held q new rest p c has → Keeps has e →
+          StopsFrom fits count text bound Unwritten i k old spares o new rest a e
+      from_flush e g s after d m =
+          let r = f d m in
+          let t = here s r.0 r.1 in
+          (t.0, stops_flush i j k _ _ _ a b c has kept r.2 flushed e g t.2 after)
+
+  pub from_start : (i : Input) (old : Seen) (spares : List X) (o : Order) (had : Option (List ℕ)) → FollowsFrom i i old spares o old spares o had had
+  from_start i old spares o had d m = (d, m, follows_start i _ had)
+
+  pub from_now : (i j : Input) (old : Seen) (spares : List X) (o : Order) (mid : Seen) (held : List X) (q : Order) (a b : Option (List ℕ)) (fault : DispatchFault) →
+      FollowsFrom i j old spares o mid held q a b → StopsFrom fits count text bound fault i j old spares o mid held a b
+  from_now i j old spares o mid held q a b fault f d m = (let r = f d m in (r.0, stops_now i j _ _ a b fault r.2))
+
+  -- a reader that has failed has left what it had
+  pub from_failed : (fault : DispatchFault) (i j k : Input) (old : Seen) (spares : List X) (o : Order) (mid : Seen) (held : List X) (a b : Option (List ℕ)) → k ≡ with_failed j true →
+      StopsFrom fits count text bound fault i j old spares o mid held a b → StopsFrom fits count text bound fault i k old spares o mid held a b
+  from_failed fault i j k old spares o mid held a b e s d m =
+      let r = s d m in
+      let t : Stops fits count text bound fault i (with_failed j true) (record { book = old; spares = spares; drive = d }) (record { book = mid; spares = held; drive = r.0 }) a b =
+      record { read = r.1.read; begun = r.1.begun; takes = r.1.takes; texts = r.1.texts; serves = r.1.serves; writes = r.1.writes } in
+      (r.0, subst (λ (x : Input). Stops fits count text bound fault i x (record { book = old; spares = spares; drive = d }) (record { book = mid; spares = held; drive = r.0 }) a b) (sym e) t)

@@ -1,0 +1,6 @@
+pub mod Crews
+pub mod Lines
+pub mod Scripts
+pub mod Laws
+-- handed on, for the crates above
+pub use Rattle.wh_vehicles.specs.Plans

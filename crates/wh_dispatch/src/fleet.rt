@@ -1,0 +1,150 @@
+//! The vehicles of a warehouse.
+
+ghost use Rattle.std.specs.Prelude.{◌≡◌, ◌≢◌, ℕ, ◌+◌, ◌^◌, ◌<◌, ◌≤◌, [], List, Option, OnOk, OnErr, IfOk, IfSome, IfNone, Bool, length, true};
+ghost use Rattle.std.specs.List.{AllPairs};
+ghost use Rattle.wh_drive.specs.Drives.{Drive, MayTick, opened, ticked};
+ghost use Rattle.wh_order.specs.Orders.{Represents};
+ghost use Rattle.wh_order.specs.Settling.{IsQuiet, Settles};
+ghost use Rattle.wh_vehicles.specs.Driving.{AnswersReport, TellsLate, NoneIsLate};
+ghost use Rattle.wh_vehicles.specs.Plans.{places};
+ghost use Rattle.wh_dispatch.specs.Crews.{IsManned};
+
+use std::alloc::{AllocError, Global};
+use std::marker::Model;
+use wh_grid::Cell;
+use wh_order::{Told, VisitOrder};
+use wh_planner::Planner;
+use wh_replay::Warehouse;
+use wh_vehicles::{Notice, Report, answer_report, late};
+
+/// The vehicles of a warehouse, each at its own pace.
+#[derive(Drop)]
+pub struct Vehicles {
+    order: VisitOrder,
+    /// The clock waits while a vehicle is so many steps behind.
+    bound: u64,
+    /// A room for where the agents are.
+    row: Vec<Cell>,
+    /// What was told last.
+    told: Vec<Told>,
+}
+
+impl Model for Vehicles {
+    ghost use Rattle.wh_dispatch.specs.Crews.{Crew};
+
+    ghost Value = { Crew };
+
+    ghost view = { λ v. record { order = v.order; bound = v.bound; told = v.told.items; row = v.row.items } };
+}
+
+/// Where the agents are.
+fn row_of<P: Planner>(alloc: Global, warehouse: &Warehouse<P>) -> Result<Vec<Cell>, AllocError>
+    ensures { IfOk result (λ row. row.items ≡ places warehouse.now.book.state) }
+{
+    let mut row = Vec::new(alloc);
+    for agent in 0..warehouse.agents() {
+        row.push(warehouse.cell(agent))?;
+    }
+    Ok(row)
+}
+
+/// Writes over a row where the agents are.
+fn write_row<P: Planner>(row: &mut Vec<Cell>, warehouse: &Warehouse<P>)
+    requires { length row.old.items ≡ length warehouse.now.book.state.paths }
+    ensures { row.new.items ≡ places warehouse.now.book.state }
+{
+    for agent in 0..warehouse.agents() {
+        row[agent as usize] = warehouse.cell(agent);
+    }
+}
+
+impl Vehicles {
+    /// A vehicle for each agent of a warehouse at its opening, where the agent stands. The clock waits while one is `behind`
+    /// steps or more behind; each may be told `ahead` cells ahead.
+    pub fn open<P: Planner>(
+        alloc: Global,
+        warehouse: &Warehouse<P>,
+        behind: u64,
+        ahead: u64,
+    ) -> Result<Vehicles, AllocError>
+        requires opening { warehouse.now.book.history ≡ [] }
+        requires some { 1 ≤ ahead }
+        ensures manned { IfOk result (λ v. IsManned warehouse.now.book v.order (opened warehouse.now.book.site.layout.nofollow ahead (places warehouse.now.book.state))) }
+        ensures bound { IfOk result (λ v. v.bound ≡ behind) }
+    {
+        let _agents = warehouse.agents();
+        let _opening = warehouse.history();
+        let row = row_of(alloc, warehouse)?;
+        let order = VisitOrder::open(alloc, row.as_slice(), ahead)?;
+        let mut told = Vec::new(alloc);
+        told.reserve(row.len())?;
+        Ok(Vehicles {
+            order,
+            bound: behind,
+            row,
+            told,
+        })
+    }
+
+    /// What a report is answered.
+    pub(crate) fn hear(&mut self, report: Report) -> Notice
+        ensures drive { (d : Drive) → Represents self.old.order d → (e : Drive) × AnswersReport d report result e × Represents self.new.order e }
+        ensures bound { self.new.bound ≡ self.old.bound }
+    {
+        answer_report(&mut self.order, report)
+    }
+
+    /// Why the clock may not go on yet.
+    pub(crate) fn late(&self) -> Option<Notice>
+        ensures some { IfSome result (TellsLate self.now.order self.now.bound) }
+        ensures none { IfNone result (NoneIsLate self.now.order self.now.bound) }
+    {
+        late(&self.order, self.bound)
+    }
+
+    /// Makes room for the next tick, which then cannot fail.
+    pub(crate) fn reserve<P: Planner>(
+        &mut self,
+        alloc: Global,
+        warehouse: &Warehouse<P>,
+    ) -> Result<(), AllocError>
+        ensures ok { OnOk result (self.new.order ≡ record self.old.order { ready = true }) }
+        ensures row { OnOk result (length self.new.row ≡ length warehouse.now.book.state.paths) }
+        ensures err { OnErr result ((ready : Bool) × (self.new.order ≡ record self.old.order { ready = ready })) }
+        ensures bound { self.new.bound ≡ self.old.bound }
+    {
+        self.row = row_of(alloc, warehouse)?;
+        self.order.reserve()
+    }
+
+    /// The plan has gone on to where the agents are.
+    pub(crate) fn tick<P: Planner>(&mut self, warehouse: &Warehouse<P>)
+        requires ready { self.old.order.ready ≡ true }
+        requires fits { self.old.order.clock + 1 < 2 ^ 64 }
+        requires row { length self.old.row ≡ length warehouse.now.book.state.paths }
+        requires all { length warehouse.now.book.state.paths ≡ length self.old.order.vehicles }
+        requires differ { AllPairs (λ a b. a ≢ b) (places warehouse.now.book.state) }
+        ensures drive { (d : Drive) → Represents self.old.order d → MayTick d (places warehouse.now.book.state) → Represents self.new.order (ticked (places warehouse.now.book.state) d) }
+        ensures bound { self.new.bound ≡ self.old.bound }
+    {
+        write_row(&mut self.row, warehouse);
+        self.order.tick(self.row.as_slice());
+    }
+
+    /// All that may be told to vehicles is told, and kept.
+    pub(crate) fn settle(&mut self) -> Result<(), AllocError>
+        ensures drive { OnOk result ((d : Drive) → Represents self.old.order d → Settles d self.new.order [] self.new.told) }
+        ensures quiet { OnOk result ((d : Drive) → Represents self.new.order d → IsQuiet d) }
+        ensures bound { self.new.bound ≡ self.old.bound }
+    {
+        self.told.clear();
+        self.order.settle(&mut self.told)
+    }
+
+    /// What was told last.
+    pub(crate) fn told(&self) -> &[Told]
+        ensures { result.now ≡ self.now.told }
+    {
+        self.told.as_slice()
+    }
+}

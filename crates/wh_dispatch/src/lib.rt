@@ -1,0 +1,12 @@
+//! A script of commands and of reports of vehicles, served line by line: the warehouse goes on, and each vehicle carries out
+//! its agent's part at its own pace.
+#![tactic(auto)]
+
+mod fleet;
+pub mod laws;
+mod line;
+mod script;
+mod telling;
+
+pub use fleet::Vehicles;
+pub use script::{DispatchFault, dispatch};

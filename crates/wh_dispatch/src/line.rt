@@ -1,0 +1,221 @@
+//! What one line of a script is answered, and what it lets vehicles do.
+
+ghost use Rattle.std.specs.Prelude.{◌≡◌, ◌↔◌, Ok, Some, true, IsTrue, IfErr, OnOk, MatchOption, length};
+ghost use Rattle.wh_lines.specs.Text.{short_line};
+ghost use Rattle.wh_log.specs.Told.{told_text};
+ghost use Rattle.wh_replay.specs.Answers.{said};
+ghost use Rattle.wh_drive.specs.Drives.{Drive};
+ghost use Rattle.wh_order.specs.Orders.{Represents};
+ghost use Rattle.wh_vehicles.specs.Driving.{NoneIsLate};
+ghost use Rattle.wh_dispatch.specs.Lines.{AsksToGoOn, Reported, Asked, heard_in};
+ghost use Rattle.wh_dispatch.specs.Scripts.{TellsAll, TellsSome, Hears, HearsSome, ServesFrom, BeginsFrom, SomeManned};
+
+use crate::fleet::Vehicles;
+use crate::script::DispatchFault;
+use crate::telling::{tell, tell_notice, tell_steps};
+use std::alloc::Global;
+use std::io::Write;
+use wh_event::{Command, LineFault};
+use wh_lines::CommandLine;
+use wh_log::Form;
+use wh_planner::Planner;
+use wh_replay::{Warehouse, obey, read_kept};
+use wh_vehicles::{Report, read_report};
+
+/// The report that a line is, of which a front is kept.
+fn reported(line: &CommandLine) -> Option<Report>
+    ensures { MatchOption result (heard_in (short_line line.now) ≡ Asked (said (short_line line.now))) (λ report. heard_in (short_line line.now) ≡ Reported report) }
+{
+    match line.text() {
+        Some(text) => read_report(text),
+        None => None,
+    }
+}
+
+/// Vehicles go on as far as they may, and are told so.
+fn go_on<W: Write>(writer: &mut W, vehicles: &mut Vehicles) -> Result<(), DispatchFault>
+    ensures ok { OnOk result ((d : Drive) → Represents vehicles.old.order d → (e : Drive) × Represents vehicles.new.order e × TellsAll d e (W.contents writer.old) (W.contents writer.new)) }
+    ensures err { IfErr result (λ fault. (d : Drive) → Represents vehicles.old.order d → (e : Drive) × TellsSome fault d e (W.contents writer.old) (W.contents writer.new)) }
+    ensures bound { vehicles.new.bound ≡ vehicles.old.bound }
+{
+    match vehicles.settle() {
+        Ok(()) => tell_steps(writer, vehicles.told()),
+        Err(_) => Err(DispatchFault::NoMemory),
+    }
+}
+
+/// Runs a tick for which room is made, and has the vehicles go on.
+fn tick<W: Write, P: Planner>(
+    command: &Command,
+    alloc: Global,
+    form: Form,
+    writer: &mut W,
+    warehouse: &mut Warehouse<P>,
+    spares: &mut Vec<P>,
+    vehicles: &mut Vehicles,
+) -> Result<(), DispatchFault>
+    requires manned { SomeManned warehouse.old.book vehicles.old.order }
+    requires asks { AsksToGoOn warehouse.old.book.state (Ok (Some command.now)) }
+    requires keep_up { NoneIsLate vehicles.old.order vehicles.old.bound }
+    requires ready { vehicles.old.order.ready ≡ true }
+    requires row { length vehicles.old.row ≡ length warehouse.old.book.state.paths }
+    ensures ok { OnOk result (ServesFrom P.fits_map P.slot_count (told_text form) vehicles.old.bound (Asked (Ok (Some command.now))) warehouse.old.book spares.old.items vehicles.old.order warehouse.new.book spares.new.items vehicles.new.order (W.contents writer.old) (W.contents writer.new)) }
+    ensures err { IfErr result (λ fault. BeginsFrom P.fits_map P.slot_count (told_text form) vehicles.old.bound (Asked (Ok (Some command.now))) fault warehouse.old.book spares.old.items vehicles.old.order warehouse.new.book spares.new.items (W.contents writer.old) (W.contents writer.new)) }
+    ensures bound { vehicles.new.bound ≡ vehicles.old.bound }
+{
+    let before = warehouse.clock();
+    match obey(command, alloc, form, writer, warehouse, spares) {
+        Ok(_) => {}
+        Err(_) => return Err(DispatchFault::Unwritten),
+    }
+    if warehouse.clock() == before {
+        return Ok(());
+    }
+    vehicles.tick(warehouse);
+    go_on(writer, vehicles)
+}
+
+/// Runs a tick, unless the clock waits for a vehicle, or memory is wanting.
+fn tick_in_time<W: Write, P: Planner>(
+    command: &Command,
+    alloc: Global,
+    form: Form,
+    writer: &mut W,
+    warehouse: &mut Warehouse<P>,
+    spares: &mut Vec<P>,
+    vehicles: &mut Vehicles,
+) -> Result<(), DispatchFault>
+    requires manned { SomeManned warehouse.old.book vehicles.old.order }
+    requires asks { AsksToGoOn warehouse.old.book.state (Ok (Some command.now)) }
+    ensures ok { OnOk result (ServesFrom P.fits_map P.slot_count (told_text form) vehicles.old.bound (Asked (Ok (Some command.now))) warehouse.old.book spares.old.items vehicles.old.order warehouse.new.book spares.new.items vehicles.new.order (W.contents writer.old) (W.contents writer.new)) }
+    ensures err { IfErr result (λ fault. BeginsFrom P.fits_map P.slot_count (told_text form) vehicles.old.bound (Asked (Ok (Some command.now))) fault warehouse.old.book spares.old.items vehicles.old.order warehouse.new.book spares.new.items (W.contents writer.old) (W.contents writer.new)) }
+    ensures bound { vehicles.new.bound ≡ vehicles.old.bound }
+{
+    if let Some(notice) = vehicles.late() {
+        return tell_notice(writer, &notice);
+    }
+    match vehicles.reserve(alloc, warehouse) {
+        Ok(()) => tick(command, alloc, form, writer, warehouse, spares, vehicles),
+        Err(_) => tell(writer, b"refused E90\n"),
+    }
+}
+
+/// Runs a command at which the clock stays.
+fn run_still<W: Write, P: Planner>(
+    command: &Command,
+    alloc: Global,
+    form: Form,
+    writer: &mut W,
+    warehouse: &mut Warehouse<P>,
+    spares: &mut Vec<P>,
+    vehicles: &mut Vehicles,
+) -> Result<(), DispatchFault>
+    requires manned { SomeManned warehouse.old.book vehicles.old.order }
+    requires still { ¬ AsksToGoOn warehouse.old.book.state (Ok (Some command.now)) }
+    ensures ok { OnOk result (ServesFrom P.fits_map P.slot_count (told_text form) vehicles.old.bound (Asked (Ok (Some command.now))) warehouse.old.book spares.old.items vehicles.old.order warehouse.new.book spares.new.items vehicles.new.order (W.contents writer.old) (W.contents writer.new)) }
+    ensures err { IfErr result (λ fault. BeginsFrom P.fits_map P.slot_count (told_text form) vehicles.old.bound (Asked (Ok (Some command.now))) fault warehouse.old.book spares.old.items vehicles.old.order warehouse.new.book spares.new.items (W.contents writer.old) (W.contents writer.new)) }
+    ensures bound { vehicles.new.bound ≡ vehicles.old.bound }
+{
+    match obey(command, alloc, form, writer, warehouse, spares) {
+        Ok(_) => Ok(()),
+        Err(_) => Err(DispatchFault::Unwritten),
+    }
+}
+
+/// Whether the clock is to go on, and may.
+fn asks_to_go_on<P: Planner>(command: &Command, warehouse: &Warehouse<P>) -> bool
+    ensures { IsTrue result ↔ AsksToGoOn warehouse.now.book.state (Ok (Some command.now)) }
+{
+    let is_tick = match command {
+        Command::Tick => true,
+        _ => false,
+    };
+    is_tick && !warehouse.closed() && warehouse.clock() < 1_000_000_000
+}
+
+/// Runs a command.
+fn run<W: Write, P: Planner>(
+    command: &Command,
+    alloc: Global,
+    form: Form,
+    writer: &mut W,
+    warehouse: &mut Warehouse<P>,
+    spares: &mut Vec<P>,
+    vehicles: &mut Vehicles,
+) -> Result<(), DispatchFault>
+    requires manned { SomeManned warehouse.old.book vehicles.old.order }
+    ensures ok { OnOk result (ServesFrom P.fits_map P.slot_count (told_text form) vehicles.old.bound (Asked (Ok (Some command.now))) warehouse.old.book spares.old.items vehicles.old.order warehouse.new.book spares.new.items vehicles.new.order (W.contents writer.old) (W.contents writer.new)) }
+    ensures err { IfErr result (λ fault. BeginsFrom P.fits_map P.slot_count (told_text form) vehicles.old.bound (Asked (Ok (Some command.now))) fault warehouse.old.book spares.old.items vehicles.old.order warehouse.new.book spares.new.items (W.contents writer.old) (W.contents writer.new)) }
+    ensures bound { vehicles.new.bound ≡ vehicles.old.bound }
+{
+    if asks_to_go_on(command, warehouse) {
+        tick_in_time(command, alloc, form, writer, warehouse, spares, vehicles)
+    } else {
+        run_still(command, alloc, form, writer, warehouse, spares, vehicles)
+    }
+}
+
+/// Answers a report, and has the vehicles go on.
+fn hear<W: Write>(
+    report: Report,
+    writer: &mut W,
+    vehicles: &mut Vehicles,
+) -> Result<(), DispatchFault>
+    ensures ok { OnOk result ((d : Drive) → Represents vehicles.old.order d → (e : Drive) × Represents vehicles.new.order e × Hears report d e (W.contents writer.old) (W.contents writer.new)) }
+    ensures err { IfErr result (λ fault. (d : Drive) → Represents vehicles.old.order d → (e : Drive) × HearsSome fault report d e (W.contents writer.old) (W.contents writer.new)) }
+    ensures bound { vehicles.new.bound ≡ vehicles.old.bound }
+{
+    let notice = vehicles.hear(report);
+    match tell_notice(writer, &notice) {
+        Ok(()) => go_on(writer, vehicles),
+        Err(fault) => Err(fault),
+    }
+}
+
+/// Answers a line that is no report, of which a front is kept.
+fn serve_command<W: Write, P: Planner>(
+    line: &CommandLine,
+    command: &mut Command,
+    alloc: Global,
+    form: Form,
+    writer: &mut W,
+    warehouse: &mut Warehouse<P>,
+    spares: &mut Vec<P>,
+    vehicles: &mut Vehicles,
+) -> Result<(), DispatchFault>
+    requires manned { SomeManned warehouse.old.book vehicles.old.order }
+    ensures ok { OnOk result (ServesFrom P.fits_map P.slot_count (told_text form) vehicles.old.bound (Asked (said (short_line line.now))) warehouse.old.book spares.old.items vehicles.old.order warehouse.new.book spares.new.items vehicles.new.order (W.contents writer.old) (W.contents writer.new)) }
+    ensures err { IfErr result (λ fault. BeginsFrom P.fits_map P.slot_count (told_text form) vehicles.old.bound (Asked (said (short_line line.now))) fault warehouse.old.book spares.old.items vehicles.old.order warehouse.new.book spares.new.items (W.contents writer.old) (W.contents writer.new)) }
+    ensures bound { vehicles.new.bound ≡ vehicles.old.bound }
+{
+    match read_kept(line, command) {
+        Ok(true) => run(command, alloc, form, writer, warehouse, spares, vehicles),
+        Ok(false) => Ok(()),
+        Err(LineFault::Form) => tell(writer, b"refused C1\n"),
+        Err(LineFault::TooLong) => tell(writer, b"refused C2\n"),
+    }
+}
+
+/// Serves a line, of which a front is kept. The command is a room for what it asks.
+pub(crate) fn serve<W: Write, P: Planner>(
+    line: &CommandLine,
+    command: &mut Command,
+    alloc: Global,
+    form: Form,
+    writer: &mut W,
+    warehouse: &mut Warehouse<P>,
+    spares: &mut Vec<P>,
+    vehicles: &mut Vehicles,
+) -> Result<(), DispatchFault>
+    requires manned { SomeManned warehouse.old.book vehicles.old.order }
+    ensures ok { OnOk result (ServesFrom P.fits_map P.slot_count (told_text form) vehicles.old.bound (heard_in (short_line line.now)) warehouse.old.book spares.old.items vehicles.old.order warehouse.new.book spares.new.items vehicles.new.order (W.contents writer.old) (W.contents writer.new)) }
+    ensures err { IfErr result (λ fault. BeginsFrom P.fits_map P.slot_count (told_text form) vehicles.old.bound (heard_in (short_line line.now)) fault warehouse.old.book spares.old.items vehicles.old.order warehouse.new.book spares.new.items (W.contents writer.old) (W.contents writer.new)) }
+    ensures bound { vehicles.new.bound ≡ vehicles.old.bound }
+{
+    match reported(line) {
+        Some(report) => hear(report, writer, vehicles),
+        None => serve_command(
+            line, command, alloc, form, writer, warehouse, spares, vehicles,
+        ),
+    }
+}
