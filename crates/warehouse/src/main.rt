@@ -23,7 +23,9 @@ use wh_lines::Lines;
 use wh_options::{LiveOptions, Options, PlannerKind, Refusal, ReplayOptions, options, refusal_of};
 use wh_planner::Planner;
 use wh_planners::{Patient, Sharing};
-use wh_service::{FileJournal, PlannerParts, ended, host, judge, judge_log, serve, serve_kept, serve_late};
+use wh_service::{
+    FileJournal, PlannerParts, ended, host, judge, judge_log, serve, serve_kept, serve_late,
+};
 
 /// How many bytes of output are written at a time.
 const OUTPUT_BUFFER: usize = 65_536;
@@ -93,14 +95,7 @@ fn replay<
         return Err(Trouble::NoMemory);
     };
     if let Some(vehicles) = options.vehicles {
-        let left = serve_late(
-            rt.alloc(),
-            &mut lines,
-            &mut output,
-            options,
-            vehicles,
-            make,
-        )?;
+        let left = serve_late(rt.alloc(), &mut lines, &mut output, options, vehicles, make)?;
         if left > 0 {
             let _ = eprintln!(rt; "vehicles on their way: {left}");
         }

@@ -9,7 +9,10 @@ ghost use Rattle.wh_vehicles.specs.Driving.{AnswersReport, TellsLate, NoneIsLate
 ghost use Rattle.wh_vehicles.specs.Plans.{places};
 ghost use Rattle.wh_dispatch.specs.Crews.{IsManned};
 
+use crate::script::DispatchFault;
+use crate::visits::{Pending, tell_all};
 use std::alloc::{AllocError, Global};
+use std::io::Write;
 use std::marker::Model;
 use wh_grid::Cell;
 use wh_order::{Told, VisitOrder};
@@ -27,6 +30,8 @@ pub struct Vehicles {
     row: Vec<Cell>,
     /// What was told last.
     told: Vec<Told>,
+    /// The tasks of which not all visits were told, in the order in which they were taken.
+    pending: Vec<Pending>,
 }
 
 impl Model for Vehicles {
@@ -83,6 +88,7 @@ impl Vehicles {
             bound: behind,
             row,
             told,
+            pending: Vec::new(alloc),
         })
     }
 
@@ -139,6 +145,38 @@ impl Vehicles {
     {
         self.told.clear();
         self.order.settle(&mut self.told)
+    }
+
+    /// Makes room for a task that is taken next.
+    pub(crate) fn reserve_task(&mut self) -> Result<(), AllocError> {
+        self.pending.reserve(1)
+    }
+
+    /// An agent has taken the task.
+    pub(crate) fn took(&mut self, task: u32) -> Result<(), AllocError> {
+        self.pending.push(Pending { task, told: 0 })?;
+        Ok(())
+    }
+
+    /// Tells the visits that vehicles have made and that were not told.
+    pub(crate) fn tell_visits<W: Write, P: Planner>(
+        &mut self,
+        writer: &mut W,
+        warehouse: &Warehouse<P>,
+    ) -> Result<(), DispatchFault> {
+        tell_all(writer, &mut self.pending, warehouse, &self.order)
+    }
+
+    /// How many vehicles are on their way to a step that they were told to make.
+    pub fn on_their_way(&self) -> u32 {
+        let mut count = 0;
+        for agent in 0..self.order.agents() {
+            let vehicle = self.order.vehicle(agent);
+            if vehicle.reached < vehicle.told {
+                count += 1;
+            }
+        }
+        count
     }
 
     /// What was told last.

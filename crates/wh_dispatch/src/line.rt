@@ -15,7 +15,7 @@ use crate::script::DispatchFault;
 use crate::telling::{tell, tell_notice, tell_steps};
 use std::alloc::Global;
 use std::io::Write;
-use wh_event::{Command, LineFault};
+use wh_event::{Command, Entry, LineFault, Reply};
 use wh_lines::CommandLine;
 use wh_log::Form;
 use wh_planner::Planner;
@@ -33,13 +33,20 @@ fn reported(line: &CommandLine) -> Option<Report>
 }
 
 /// Vehicles go on as far as they may, and are told so.
-fn go_on<W: Write>(writer: &mut W, vehicles: &mut Vehicles) -> Result<(), DispatchFault>
+fn go_on<W: Write, P: Planner>(
+    writer: &mut W,
+    vehicles: &mut Vehicles,
+    warehouse: &Warehouse<P>,
+) -> Result<(), DispatchFault>
     ensures ok { OnOk result ((d : Drive) → Represents vehicles.old.order d → (e : Drive) × Represents vehicles.new.order e × TellsAll d e (W.contents writer.old) (W.contents writer.new)) }
     ensures err { IfErr result (λ fault. (d : Drive) → Represents vehicles.old.order d → (e : Drive) × TellsSome fault d e (W.contents writer.old) (W.contents writer.new)) }
     ensures bound { vehicles.new.bound ≡ vehicles.old.bound }
 {
     match vehicles.settle() {
-        Ok(()) => tell_steps(writer, vehicles.told()),
+        Ok(()) => {
+            vehicles.tell_visits(writer, warehouse)?;
+            tell_steps(writer, vehicles.told())
+        }
         Err(_) => Err(DispatchFault::NoMemory),
     }
 }
@@ -72,7 +79,7 @@ fn tick<W: Write, P: Planner>(
         return Ok(());
     }
     vehicles.tick(warehouse);
-    go_on(writer, vehicles)
+    go_on(writer, vehicles, warehouse)
 }
 
 /// Runs a tick, unless the clock waits for a vehicle, or memory is wanting.
@@ -116,10 +123,31 @@ fn run_still<W: Write, P: Planner>(
     ensures err { IfErr result (λ fault. BeginsFrom P.fits_map P.slot_count (told_text form) vehicles.old.bound (Asked (Ok (Some command.now))) fault warehouse.old.book spares.old.items vehicles.old.order warehouse.new.book spares.new.items (W.contents writer.old) (W.contents writer.new)) }
     ensures bound { vehicles.new.bound ≡ vehicles.old.bound }
 {
-    match obey(command, alloc, form, writer, warehouse, spares) {
-        Ok(_) => Ok(()),
-        Err(_) => Err(DispatchFault::Unwritten),
+    let before = warehouse.history().len();
+    if vehicles.reserve_task().is_err() {
+        return tell(writer, b"refused E90\n");
     }
+    match obey(command, alloc, form, writer, warehouse, spares) {
+        Ok(_) => {}
+        Err(_) => return Err(DispatchFault::Unwritten),
+    }
+    if warehouse.history().len() > before {
+        if let [
+            ..,
+            Entry {
+                reply: Reply::Took { task, .. },
+                ..
+            },
+        ] = warehouse.history()
+        {
+            let task = *task;
+            if vehicles.took(task).is_err() {
+                return Err(DispatchFault::NoMemory);
+            }
+            return vehicles.tell_visits(writer, warehouse);
+        }
+    }
+    Ok(())
 }
 
 /// Whether the clock is to go on, and may.
@@ -156,9 +184,10 @@ fn run<W: Write, P: Planner>(
 }
 
 /// Answers a report, and has the vehicles go on.
-fn hear<W: Write>(
+fn hear<W: Write, P: Planner>(
     report: Report,
     writer: &mut W,
+    warehouse: &Warehouse<P>,
     vehicles: &mut Vehicles,
 ) -> Result<(), DispatchFault>
     ensures ok { OnOk result ((d : Drive) → Represents vehicles.old.order d → (e : Drive) × Represents vehicles.new.order e × Hears report d e (W.contents writer.old) (W.contents writer.new)) }
@@ -167,7 +196,7 @@ fn hear<W: Write>(
 {
     let notice = vehicles.hear(report);
     match tell_notice(writer, &notice) {
-        Ok(()) => go_on(writer, vehicles),
+        Ok(()) => go_on(writer, vehicles, warehouse),
         Err(fault) => Err(fault),
     }
 }
@@ -213,7 +242,7 @@ pub(crate) fn serve<W: Write, P: Planner>(
     ensures bound { vehicles.new.bound ≡ vehicles.old.bound }
 {
     match reported(line) {
-        Some(report) => hear(report, writer, vehicles),
+        Some(report) => hear(report, writer, warehouse, vehicles),
         None => serve_command(
             line, command, alloc, form, writer, warehouse, spares, vehicles,
         ),

@@ -56,7 +56,10 @@ fn file_arg<'a>(alloc: Global, name: &'a str, help: &'a str) -> Arg<'a>
 
 // An option without a value.
 fn flag_arg<'a>(alloc: Global, name: &'a str, help: &'a str) -> Arg<'a> {
-    Arg::new(alloc, name).long(name).help(help).action(ArgAction::SetTrue)
+    Arg::new(alloc, name)
+        .long(name)
+        .help(help)
+        .action(ArgAction::SetTrue)
 }
 
 fn plain_command<'a>(alloc: Global, name: &'a str, about: &'a str) -> Command<'a>

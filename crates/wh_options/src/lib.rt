@@ -9,6 +9,8 @@ mod command;
 mod read;
 mod refused;
 
-pub use chosen::{Fleet, LiveOptions, Options, PlannerKind, ReplayOptions, Replies, Tail, VehicleOptions};
+pub use chosen::{
+    Fleet, LiveOptions, Options, PlannerKind, ReplayOptions, Replies, Tail, VehicleOptions,
+};
 pub use read::options;
 pub use refused::{Refusal, refusal_of};

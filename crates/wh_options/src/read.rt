@@ -5,7 +5,9 @@ ghost use Rattle.wh_options.specs.Options.{AreSame, WordsGive};
 ghost use Rattle.wh_options.specs.Requests.{AsksBy, IsKind, help_flags, version_flags};
 ghost use Rattle.wh_options.specs.Reads.{Reads, ReadsFleet, ReadsLive, ReadsNumber, ReadsReplay, planner_of, replies_of, tail_of};
 
-use crate::chosen::{Fleet, LiveOptions, Options, PlannerKind, ReplayOptions, Replies, Tail, VehicleOptions};
+use crate::chosen::{
+    Fleet, LiveOptions, Options, PlannerKind, ReplayOptions, Replies, Tail, VehicleOptions,
+};
 use crate::command::warehouse_command;
 use clap::error::ErrorKind;
 use clap::{ArgMatches, Error};

@@ -10,8 +10,8 @@ mod live;
 mod parts;
 mod program;
 mod tail;
-mod verdict;
 mod vehicles;
+mod verdict;
 mod verified;
 
 pub use fleet::{claim, equip};
