@@ -1,6 +1,7 @@
 -- a row of where the agents are
-use Rattle.std.proofs.Common.{◌≡◌, ◌≢◌, ℕ, ◌+◌, ◌<◌, ◌≤◌, ◌∙◌, inl, inr, List, [], length, Bool, sym, subst, refl, ap, arith}
-use Rattle.std.specs.List.{AllPairs}
+use Rattle.std.proofs.Common.{◌≡◌, ◌≢◌, ℕ, ◌+◌, ◌<◌, ◌≤◌, ◌∙◌, inl, inr, List, [], length, Bool, sym, subst, refl, ap, arith, take, get_or, cond, true, false}
+use Rattle.std.specs.List.{AllPairs, count_by}
+use Rattle.std.proofs.lemmas.List.Sums.{count_by_more_yes, count_by_more_no}
 use Rattle.std.proofs.Math.ListN.{set}
 use Rattle.std.proofs.lemmas.Bool.{cases_lt}
 use Rattle.std.proofs.lemmas.List.{length-map, get_or-map, get_or_default, same_lists, get_or-set_same, get_or-set_other}
@@ -89,3 +90,11 @@ manned_opened book order ahead o same none some r = record {
   };
   quiet = quiet_opened book.site.layout.nofollow ahead (places book.state);
 }
+
+-- one vehicle more is counted
+pub count_more : (p : Vehicle → Bool) (xs : List Vehicle) (i : ℕ) → i < length xs → count_by p (take (i + 1) xs) ≡ count_by p (take i xs) + cond (p (get_or xs i idle)) 1 0
+count_more p xs i h = go (p (get_or xs i idle)) refl
+  where
+    go : (b : Bool) → p (get_or xs i idle) ≡ b → count_by p (take (i + 1) xs) ≡ count_by p (take i xs) + cond b 1 0
+    go true e = count_by_more_yes p xs i idle h e
+    go false e = (let more = count_by_more_no p xs i idle h e in omega arith)

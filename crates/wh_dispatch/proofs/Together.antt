@@ -1,11 +1,11 @@
 -- lines one after another
-use Rattle.std.proofs.Common.{◌≡◌, ℕ, ◌∙◌, List, [], ◌∷◌, ◌++◌, sym, subst, refl, ap, append-nil, append_assoc, Bool}
+use Rattle.std.proofs.Common.{◌≡◌, ℕ, ◌∙◌, List, [], ◌∷◌, ◌++◌, sym, subst, ap, append-nil, append_assoc, Bool}
 use Rattle.wh_grid.specs.Grids.{Floor}
 use Rattle.wh_points.specs.Points.{Site}
 use Rattle.wh_event.specs.declared.reply.Reply.{Reply}
 use Rattle.wh_event.specs.declared.entry.Entry.{Entry}
 use Rattle.wh_vehicles.specs.Plans.{AllHappen, entries_of}
-use Rattle.wh_dispatch.specs.Lines.{Depot, heard, ServesAll}
+use Rattle.wh_dispatch.specs.Lines.{Depot, heard}
 use Rattle.wh_dispatch.specs.Laws.{fleet_of, HasHappened, EachScriptHappens}
 use Rattle.wh_dispatch.proofs.Happening.{happens_join, entries_join}
 use Rattle.wh_dispatch.proofs.Serving.{taken_on}

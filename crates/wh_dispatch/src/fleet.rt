@@ -1,13 +1,13 @@
 //! The vehicles of a warehouse.
 
-ghost use Rattle.std.specs.Prelude.{◌≡◌, ◌≢◌, ℕ, ◌+◌, ◌^◌, ◌<◌, ◌≤◌, [], List, Option, OnOk, OnErr, IfOk, IfSome, IfNone, Bool, length, true};
-ghost use Rattle.std.specs.List.{AllPairs};
+ghost use Rattle.std.specs.Prelude.{◌≡◌, ◌≢◌, ℕ, ◌+◌, ◌^◌, ◌<◌, ◌≤◌, [], List, Option, OnOk, OnErr, IfOk, IfSome, IfNone, Bool, cond, length, true};
+ghost use Rattle.std.specs.List.{AllPairs, count_by};
 ghost use Rattle.wh_drive.specs.Drives.{Drive, MayTick, opened, ticked};
-ghost use Rattle.wh_order.specs.Orders.{Represents};
+ghost use Rattle.wh_order.specs.Orders.{Represents, vehicle_in};
 ghost use Rattle.wh_order.specs.Settling.{IsQuiet, Settles};
 ghost use Rattle.wh_vehicles.specs.Driving.{AnswersReport, TellsLate, NoneIsLate};
 ghost use Rattle.wh_vehicles.specs.Plans.{places};
-ghost use Rattle.wh_dispatch.specs.Crews.{IsManned};
+ghost use Rattle.wh_dispatch.specs.Crews.{IsManned, is_under_way};
 
 use crate::script::DispatchFault;
 use crate::visits::{Pending, tell_all};
@@ -147,34 +147,30 @@ impl Vehicles {
         self.order.settle(&mut self.told)
     }
 
-    /// Makes room for a task that is taken next.
-    pub(crate) fn reserve_task(&mut self) -> Result<(), AllocError> {
-        self.pending.reserve(1)
+    /// How many vehicles there are.
+    fn agents(&self) -> u32
+        ensures { result ≡ length self.now.order.vehicles }
+    {
+        self.order.agents()
     }
 
-    /// An agent has taken the task.
-    pub(crate) fn took(&mut self, task: u32) -> Result<(), AllocError> {
-        self.pending.push(Pending { task, told: 0 })?;
-        Ok(())
-    }
-
-    /// Tells the visits that vehicles have made and that were not told.
-    pub(crate) fn tell_visits<W: Write, P: Planner>(
-        &mut self,
-        writer: &mut W,
-        warehouse: &Warehouse<P>,
-    ) -> Result<(), DispatchFault> {
-        tell_all(writer, &mut self.pending, warehouse, &self.order)
+    /// 1 where a vehicle is on its way to a step that it was told to make, else 0.
+    fn under_way(&self, agent: u32) -> u32
+        requires { agent < length self.now.order.vehicles }
+        ensures value { result ≡ cond (is_under_way (vehicle_in self.now.order.vehicles agent)) 1 0 }
+        ensures one { result ≤ 1 }
+    {
+        let vehicle = self.order.vehicle(agent);
+        if vehicle.reached < vehicle.told { 1 } else { 0 }
     }
 
     /// How many vehicles are on their way to a step that they were told to make.
-    pub fn on_their_way(&self) -> u32 {
-        let mut count = 0;
-        for agent in 0..self.order.agents() {
-            let vehicle = self.order.vehicle(agent);
-            if vehicle.reached < vehicle.told {
-                count += 1;
-            }
+    pub fn on_their_way(&self) -> u32
+        ensures { result ≡ count_by is_under_way self.now.order.vehicles }
+    {
+        let mut count = 0u32;
+        for agent in 0..self.agents() {
+            count += self.under_way(agent);
         }
         count
     }
