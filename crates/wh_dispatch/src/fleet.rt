@@ -175,6 +175,26 @@ impl Vehicles {
         count
     }
 
+    /// Makes room for a task that is taken next.
+    pub(crate) fn reserve_task(&mut self) -> Result<(), AllocError> {
+        self.pending.reserve(1)
+    }
+
+    /// An agent has taken the task.
+    pub(crate) fn took(&mut self, task: u32) -> Result<(), AllocError> {
+        self.pending.push(Pending { task, told: 0 })?;
+        Ok(())
+    }
+
+    /// Tells the visits that vehicles have made and that were not told.
+    pub(crate) fn tell_visits<W: Write, P: Planner>(
+        &mut self,
+        writer: &mut W,
+        warehouse: &Warehouse<P>,
+    ) -> Result<(), DispatchFault> {
+        tell_all(writer, &mut self.pending, warehouse, &self.order)
+    }
+
     /// What was told last.
     pub(crate) fn told(&self) -> &[Told]
         ensures { result.now ≡ self.now.told }
