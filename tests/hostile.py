@@ -34,6 +34,8 @@ EVENT = (rf'(submit {NAME}( {NAME}){{2,8}}|token {NUMBER}|tick|close'
 ANSWER = (rf'(accepted {NUMBER}|took {NUMBER} {PATH}|rested|parked {NAME} {PATH}'
           rf'|clock {NUMBER} picked {NUMBER} dropped {NUMBER}|replaced {NUMBER}|closed|{REFUSAL})')
 FULL_REPLY = re.compile(ANSWER)
+# behind its place and the clock; a line without an entry has neither
+PLACED_REPLY = re.compile(rf'({NUMBER} {NUMBER} (?!refused (C1|C2|E90)){ANSWER}|refused (C1|C2|E90))')
 LOG = re.compile(rf'(wlog 2|start {NUMBER} slots {NUMBER}( {NUMBER})*|{NUMBER} {EVENT} = {ANSWER}|end {NUMBER})')
 VERDICT = re.compile(rf'(formed|few parkings {NUMBER} {NUMBER}|cut {NAME} {NAME})')
 VERIFIED = re.compile(rf'(run {NUMBER}|bad {NUMBER})')
@@ -129,7 +131,7 @@ def wrong_words(chance):
     return chance.choice([[], ['go'], ['replay', '--slots', '1'], ['replay', '--slots=65'], ['replay', 'x'],
                           ['check', '--slots', '4'], ['replay', '--slots', '4', '--slots', '4'],
                           ['verify', '--tail', 'log'], ['live', '--turns', '0'], ['replay', '--bank', '-0'],
-                          ['replay', '--replies', 'long'], ['live', '--replies=full']])
+                          ['replay', '--replies', 'long'], ['live', '--replies=full'], ['replay', '--told', '0']])
 
 
 def is_text_of(form, text):
@@ -140,7 +142,8 @@ def is_text_of(form, text):
 
 def reply_form(words):
     """What a reply is, by the words of `replay`."""
-    return FULL_REPLY if '--replies full' in ' '.join(words).replace('=', ' ') else REPLY
+    said = ' '.join(words).replace('=', ' ')
+    return FULL_REPLY if '--replies full' in said else PLACED_REPLY if '--replies placed' in said else REPLY
 
 
 def is_output(words, status, text):
@@ -213,7 +216,7 @@ def one_run(program, seed, kinds, limit):
         words = ['replay', f'--log={file}'] + fleet_words(chance) + chance.choice([[], ['--tail=log'], ['--tail=ledger']])
     else:
         words = ['replay'] + fleet_words(chance) + chance.choice([[], [f'--tail={kind}'] if kind != 'replay' else []])
-        words += chance.choice([[], ['--replies=full'], ['--replies', 'short']])
+        words += chance.choice([[], ['--replies=full'], ['--replies', 'short'], ['--replies=placed']])
     parts = [level, points, commands]
     if chance.random() < 0.7:
         parts[chance.randrange(3)] = None    # this section alone is spoiled
@@ -228,8 +231,9 @@ def one_run(program, seed, kinds, limit):
     except subprocess.TimeoutExpired:
         return words, text, 'no end', None
     finally:
-        if file:
-            os.remove(file)
+        for name in (file, file + '.site') if file else ():
+            if os.path.exists(name):
+                os.remove(name)
     output, errors = done.stdout.decode(errors='replace'), done.stderr.decode(errors='replace')
     wrong = None
     if not 0 <= done.returncode <= 4:

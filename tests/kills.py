@@ -139,8 +139,7 @@ def hang_up(chance: random.Random, life: Life) -> str:
 
 def run(chance: random.Random, whole: Whole, file: str, kills: int, seen: collections.Counter) -> None:
     """One run, with so many kills at most."""
-    if os.path.exists(file):
-        os.remove(file)
+    remove(file)
     killed = before = told = 0
     start = starting(whole, file)
     while killed < kills:
@@ -173,15 +172,22 @@ def run(chance: random.Random, whole: Whole, file: str, kills: int, seen: collec
 
 
 def starting(whole: Whole, file: str) -> float:
-    """How long the program takes to its first line; the file is as it was."""
+    """How long the program takes to its first line; there is no file then, as before."""
     began = time.monotonic()
     life = Life(whole, file)
     life.send(whole.site)
     life.await_lines(1)
     took = time.monotonic() - began
     life.end()
-    os.remove(file)
+    remove(file)
     return took
+
+
+def remove(file: str) -> None:
+    """Away with the file, and the one beside it."""
+    for name in (file, file + '.site'):
+        if os.path.exists(name):
+            os.remove(name)
 
 
 def note(seen: collections.Counter, end: str, life: Life, text: bytes, kept: int, told: int) -> None:

@@ -64,6 +64,11 @@ class Whole:
         """The log's text with so many entries."""
         return self.head + b''.join(entry + b'\n' for entry in self.entries[:count]) + (b'end %d\n' % count if ended else b'')
 
+    def beside(self) -> bytes:
+        """What stands beside the file of a log."""
+        level, points, _ = self.site.split(b'%%\n')
+        return b'wsite %d %d\n' % (len(level), len(points)) + level + points
+
     def kept(self, text: bytes | None, told: int) -> int:
         """How many entries stand whole in what a life left of the file: a front of the log, and all that were told. A
         life that came to the end of what it was sent has an end line too."""

@@ -7,6 +7,7 @@ The program is that of WAREHOUSE, else the one of crates/warehouse. What is expe
 the same script at one go, `replay --tail log`. A full disk is a small one of its own, mounted where a user may (`unshare`);
 where none may be, that is said, and tests/order.py has the same by a library. The last line is `N passed, M failed`.
 """
+import fcntl
 import os
 import resource
 import shutil
@@ -25,10 +26,11 @@ REFUSED = b''    # what stands on the standard output where a run does not begin
 
 
 def path(name: str = 'log', text: bytes | None = None) -> str:
-    """A file with this text, or none of that name."""
+    """A file with this text, or none of that name; and no file beside it."""
     found = os.path.join(SCRATCH.name, name)
-    if os.path.lexists(found):
-        os.remove(found)
+    for old in (found, found + '.site'):
+        if os.path.lexists(old):
+            os.remove(old)
     if text is not None:
         write_file(found, text)
     return found
@@ -43,10 +45,11 @@ def replay(text: bytes, file: str, *words: str, **how: object) -> tuple[bytes, b
     return done.stdout, done.stderr, done.returncode
 
 
-def is_left(file: str, outcome: tuple[bytes, bytes, int], errors: bytes, status: int, text: bytes) -> None:
-    """The run does not begin, and no byte of the file is changed."""
+def is_left(file: str, outcome: tuple[bytes, bytes, int], errors: bytes, status: int, text: bytes | None) -> None:
+    """The run does not begin, and no byte of the file is changed; nor is one beside it made that was not whole before."""
     same(outcome, (REFUSED, errors, status))
     same(read_file(file), text)
+    demand(read_file(file + '.site') in (None, CROSS.beside()), f'beside it stands {read_file(file + ".site")!r}')
 
 
 def script(*lines: str, site: bytes = CROSS.site) -> bytes:
@@ -121,6 +124,115 @@ def test_planners_have_the_slots_of_the_state() -> None:
     same(replay(CROSS.site, file, '--bank', '10')[::2], (b'entries 4\n', 0))
     is_left(file, replay(CROSS.site, file, '--bank', '13', '--spares', '1'), b'refused B1 free 3\n', 1, text)
     same(replay(CROSS.site, file, '--bank', '14', '--spares', '1')[::2], (b'entries 4\n', 0))
+
+
+# ----------------------------------------------------------------------------------------- what is told again
+
+def test_told_again() -> None:
+    lines = CROSS.text(5).splitlines(True)[2:]
+    for first in range(6):
+        for text in (CROSS.text(5), CROSS.text(5, True), CROSS.text(5) + b'0 tok'):
+            file = path('log', text)
+            told = b'entries 5\n' + b''.join(lines[first:])
+            same(replay(CROSS.site, file, '--told', str(first)), (told, b'', 0))
+            same(read_file(file), CROSS.text(5, True))
+    # the replies follow, in their own form
+    file = path('log', CROSS.text(5))
+    same(replay(script('close'), file, '--told', '4', '--tail', 'log')[0],
+         b'entries 5\n' + lines[4] + b'closed\n%%\n' + CROSS.text(5) + b'0 close = closed\nend 6\n')
+    file = path()
+    same(replay(script('tick'), file, '--told', '0'), (b'entries 0\nclock 1 picked 0 dropped 0\n', b'', 0))
+
+
+def test_told_again_from_an_entry_that_is_not_there() -> None:
+    # the first line that is wanting: two lines stand before the entries
+    for text, first, line in ((CROSS.text(5), 6, 8), (CROSS.text(5, True), 999999999, 8), (CROSS.text(5) + b'0 to', 6, 8), (CROSS.head, 1, 3),
+                              (b'', 1, 3), (None, 1, 3)):
+        file = path('log', text)
+        is_left(file, replay(script('tick'), file, '--told', str(first)), b'refused L1 line %d\n' % line, 1, text)
+    # before the bank, and behind the file
+    file = path('log', CROSS.text(5))
+    is_left(file, replay(CROSS.site, file, '--told', '6', '--bank', '7'), b'refused L1 line 8\n', 1, CROSS.text(5))
+    file = path('log', b'notes\n')
+    is_left(file, replay(CROSS.site, file, '--told', '6'), b'refused L1 line 1\n', 1, b'notes\n')
+
+
+def test_told_again_of_no_file() -> None:
+    done = subprocess.run([PROGRAM, 'replay', '--told', '0'], input=script('tick'), capture_output=True, timeout=60)
+    same((done.stdout, done.returncode), (REFUSED, 2))
+    demand(done.stderr.startswith(b"error: the argument '--told <N>' needs '--log <FILE>'"), done.stderr)
+    for words in (('--told',), ('--told', 'x'), ('--told', '-1'), ('--told', '1000000000'), ('--told', '0', '--told', '0')):
+        file = path('log', CROSS.text(5))
+        same(replay(CROSS.site, file, *words)[::2], (REFUSED, 2))
+        same(read_file(file), CROSS.text(5))
+
+
+# --------------------------------------------------------------------------------- what stands beside the file
+
+OTHER_SITES = [CROSS.site.replace(b'agent P0\nagent P1', b'agent P1\nagent P0'),
+               CROSS.site.replace(b'station A', b'station E'),
+               CROSS.site.replace(b'type octile\n', b'type octile\r\n'),    # the same site in other bytes
+               CROSS.site.replace(b'agent P1\n', b'agent P1\n\n')]
+
+
+def test_the_site_is_kept() -> None:
+    for text, first in ((None, 0), (b'', 0), (CROSS.head[:9], 0), (CROSS.text(5), 5), (CROSS.log, len(CROSS.entries))):
+        file = path('log', text)
+        same(replay(CROSS.site, file), (b'entries %d\n' % first, b'', 0))
+        same(read_file(file + '.site'), CROSS.beside())
+    whole = CROSS.beside()
+    for length in (*range(0, len(whole), 9), len(whole) - 1, len(whole)):
+        file = path('log', CROSS.text(5))
+        write_file(file + '.site', whole[:length])
+        same(replay(CROSS.site, file), (b'entries 5\n', b'', 0))
+        same((read_file(file), read_file(file + '.site')), (CROSS.text(5, True), whole))
+    # before the log, which cannot be made here
+    file = path()
+    os.symlink('none/there', file)
+    same(replay(CROSS.site, file), (REFUSED, b'refused X5\n', 3))
+    same(read_file(file + '.site'), whole)
+
+
+def test_the_site_of_another() -> None:
+    for site in OTHER_SITES:
+        for text in (None, b'', CROSS.text(5), CROSS.log, b'notes\n'):
+            file = path('log', text)
+            write_file(file + '.site', CROSS.beside())
+            is_left(file, replay(site, file), b'refused L1 line 0\n', 1, text)
+            # before the bank
+            is_left(file, replay(site, file, '--bank', '7'), b'refused L1 line 0\n', 1, text)
+            same(read_file(file + '.site'), CROSS.beside())
+
+
+def test_another_text_beside() -> None:
+    whole = CROSS.beside()
+    for held in (whole + b'x', whole + b'\0', b'x' + whole, b'notes\n', b'\n', b'\0', bytes(len(whole)), whole[:30] + b'\0', whole[:-1] + b'\0',
+                 b'wsite 0 0\n', whole.replace(b'wsite ', b'wsite 0', 1)):
+        file = path()
+        write_file(file + '.site', held)
+        same(replay(CROSS.site, file), (REFUSED, b'refused L1 line 0\n', 1))
+        same((read_file(file), read_file(file + '.site')), (None, held))
+
+
+def test_no_file_beside() -> None:
+    # a short bank, a bad log and a log that is not there to tell again make none
+    for words, text, errors in ((('--bank', '7'), None, b'refused B1 free 3\n'), ((), b'notes\n', b'refused L1 line 1\n'),
+                                (('--told', '1'), None, b'refused L1 line 3\n')):
+        file = path('log', text)
+        is_left(file, replay(CROSS.site, file, *words), errors, 1, text)
+        demand(not os.path.lexists(file + '.site'), 'a file was made beside the log')
+    # a folder and a pipe are no such files, nor is one that another has
+    for make in (os.mkdir, os.mkfifo):
+        file = path()
+        make(file + '.site')
+        same(replay(CROSS.site, file), (REFUSED, b'refused X5\n', 3))
+        demand(not os.path.lexists(file), 'the log was made')
+        (os.rmdir if make is os.mkdir else os.remove)(file + '.site')
+    file = path('log', CROSS.text(5))
+    write_file(file + '.site', CROSS.beside())
+    with open(file + '.site', 'rb') as held:
+        fcntl.flock(held, fcntl.LOCK_EX)
+        is_left(file, replay(CROSS.site, file), b'refused X5\n', 3, CROSS.text(5))
 
 
 # -------------------------------------------------------------------------------------- what is a line, and when
@@ -273,11 +385,13 @@ def test_what_goes_wrong_before_the_file() -> None:
 def test_names() -> None:
     here = os.path.join(SCRATCH.name, 'here')
     os.makedirs(os.path.join(here, 'in'), exist_ok=True)
-    for name in ('log', './log2', 'in/log', '-', 'a log=1', 'h\N{LATIN SMALL LETTER E WITH ACUTE}', 'x' * 255):
+    for name in ('log', './log2', 'in/log', '-', 'a log=1', 'h\N{LATIN SMALL LETTER E WITH ACUTE}', 'x' * 250):
         for number in (0, 1):
             same(replay(script('tick'), name, cwd=here)[::2], (b'entries %d\nclock %d picked 0 dropped 0\n' % (number, number + 1), 0))
         same(read_file(os.path.join(here, name)).count(b'tick'), 2)
-    same(replay(script('tick'), 'x' * 256, cwd=here), (REFUSED, b'refused X5\n', 3))
+    # the name of the file beside it is longer
+    same(replay(script('tick'), 'x' * 251, cwd=here), (REFUSED, b'refused X5\n', 3))
+    demand(not os.path.exists(os.path.join(here, 'x' * 251)), 'the log was made')
     # a link leads to its file
     os.symlink('log', os.path.join(here, 'link'))
     same(replay(script('tick'), 'link', cwd=here)[0], b'entries 2\nclock 3 picked 0 dropped 0\n')

@@ -1,5 +1,5 @@
-/* Notes the calls by which the program that it is loaded into (LD_PRELOAD) keeps one file, and what it writes to its
- * standard output; and has one of them fail, or ends the program before one.
+/* Notes the calls by which the program that it is loaded into (LD_PRELOAD) keeps one file and the one beside it, F.site, and
+ * what it writes to its standard output; and has one of them fail, or ends the program before one.
  *
  *   ORDER_FILE=F    the file, by the very path by which the program is told of it
  *   ORDER_TRACE=T   each call is a line of the file T, below
@@ -10,8 +10,9 @@
  *   ORDER_STOP=K    right before the Kth call signal 9 ends the program
  *
  * Counted, and numbered in their lines, are `open FLAGS`, `lock`, `get`, `put BYTES`, `cut LENGTH` and `sync` of the file,
- * and `folder` (its folder opened) and `folder sync`. Not counted: `tell BYTES` (standard output) and `ask` (a read of the
- * standard input). Behind each stands `= RESULT LENGTH`: what the call gave, and how long the file then is (-1: there is none).
+ * the same behind `site` of the one beside it, and `folder` (their folder opened) and `folder sync`. Not counted: `tell BYTES`
+ * (standard output) and `ask` (a read of the standard input). Behind each stands `= RESULT LENGTH`: what the call gave, and how
+ * long the file then is, or behind `site` the one beside it (-1: there is none).
  *
  * tests/order.py builds and uses it. */
 #define _GNU_SOURCE
@@ -29,11 +30,11 @@
 #include <unistd.h>
 
 enum { MOST_FILES = 1024 };
-enum kind { OTHER, KEPT, FOLDER };
+enum kind { OTHER, KEPT, BESIDE, FOLDER };
 
 static enum kind kinds[MOST_FILES];
 static const char *kept;
-static char folder[4096];
+static char folder[4096], beside[4096];
 static int trace = -1, error = EIO, on;
 static long calls, failing, shortened, stopping;
 
@@ -50,6 +51,7 @@ __attribute__((constructor)) static void begin(void)
     if (!kept || !path)
         return;
     slash = strrchr(kept, '/');
+    snprintf(beside, sizeof beside, "%s.site", kept);
     snprintf(folder, sizeof folder, "%.*s", slash ? (int)(slash - kept) : 1, slash ? kept : ".");
     failing = number_of("ORDER_FAIL");
     shortened = number_of("ORDER_SHORT");
@@ -65,13 +67,19 @@ static enum kind kind_of(int file)
     return trace >= 0 && file >= 0 && file < MOST_FILES ? kinds[file] : OTHER;
 }
 
+/* Whether the file is one of the two that are kept. */
+static int is_kept(int file)
+{
+    return kind_of(file) == KEPT || kind_of(file) == BESIDE;
+}
+
 /* Notes a call with what it gave. */
-static void note(const char *call, long result)
+static void note(enum kind kind, const char *call, long result)
 {
     char line[200];
     struct stat found;
     int kept_errno = errno;
-    long length = stat(kept, &found) == 0 ? (long)found.st_size : -1;
+    long length = stat(kind == BESIDE ? beside : kept, &found) == 0 ? (long)found.st_size : -1;
     int size = snprintf(line, sizeof line, "%s = %ld %ld\n", call, result, length);
     syscall(SYS_write, trace, line, (size_t)size);
     errno = kept_errno;
@@ -90,7 +98,7 @@ static int is_refused(void)
     return 0;
 }
 
-static long noted(long result, const char *form, ...)
+static long noted(enum kind kind, long result, const char *form, ...)
 {
     char call[100], whole[120];
     int kept_errno = errno;
@@ -98,9 +106,9 @@ static long noted(long result, const char *form, ...)
     va_start(rest, form);
     vsnprintf(call, sizeof call, form, rest);
     va_end(rest);
-    snprintf(whole, sizeof whole, "%ld %s", calls, call);
+    snprintf(whole, sizeof whole, "%ld %s%s", calls, kind == BESIDE ? "site " : "", call);
     errno = kept_errno;
-    note(whole, result);
+    note(kind, whole, result);
     return result;
 }
 
@@ -108,15 +116,16 @@ static long noted(long result, const char *form, ...)
 
 static int open_any(int at, const char *path, int flags, unsigned mode)
 {
-    enum kind kind = trace < 0 || !path ? OTHER : !strcmp(path, kept) ? KEPT : !strcmp(path, folder) ? FOLDER : OTHER;
+    enum kind kind = trace < 0 || !path ? OTHER : !strcmp(path, kept) ? KEPT : !strcmp(path, beside) ? BESIDE
+        : !strcmp(path, folder) ? FOLDER : OTHER;
     int refused = kind != OTHER && is_refused();
     int file = refused ? -1 : (int)syscall(SYS_openat, at, path, flags, mode);
     if (file >= 0 && file < MOST_FILES)
         kinds[file] = kind;
-    if (kind == KEPT)
-        noted(file, "open %s%s%s", flags & O_CREAT ? "create" : "there", flags & O_EXCL ? "-new" : "", flags & O_TRUNC ? "-empty" : "");
+    if (kind == KEPT || kind == BESIDE)
+        noted(kind, file, "open %s%s%s", flags & O_CREAT ? "create" : "there", flags & O_EXCL ? "-new" : "", flags & O_TRUNC ? "-empty" : "");
     if (kind == FOLDER)
-        noted(file, "folder");
+        noted(kind, file, "folder");
     return file;
 }
 
@@ -143,20 +152,20 @@ int close(int file)
 
 int flock(int file, int operation)
 {
-    if (kind_of(file) != KEPT)
+    if (!is_kept(file))
         return (int)syscall(SYS_flock, file, operation);
-    return (int)noted(is_refused() ? -1 : syscall(SYS_flock, file, operation), "lock");
+    return (int)noted(kind_of(file), is_refused() ? -1 : syscall(SYS_flock, file, operation), "lock");
 }
 
 /* ---- what is read and written */
 
 ssize_t read(int file, void *bytes, size_t size)
 {
-    if (kind_of(file) == KEPT)
-        return noted(is_refused() ? -1 : syscall(SYS_read, file, bytes, size), "get");
+    if (is_kept(file))
+        return noted(kind_of(file), is_refused() ? -1 : syscall(SYS_read, file, bytes, size), "get");
     ssize_t result = syscall(SYS_read, file, bytes, size);
     if (file == 0 && trace >= 0)
-        note("- ask", result);
+        note(OTHER, "- ask", result);
     return result;
 }
 
@@ -167,27 +176,27 @@ static ssize_t put(int file, const void *bytes, size_t size)
         if (half && (error == ENOSPC || error == EFBIG))
             syscall(SYS_write, file, bytes, half);
         errno = error;
-        return noted(-1, "put %zu", size);
+        return noted(kind_of(file), -1, "put %zu", size);
     }
-    return noted(syscall(SYS_write, file, bytes, calls == shortened && half ? half : size), "put %zu", size);
+    return noted(kind_of(file), syscall(SYS_write, file, bytes, calls == shortened && half ? half : size), "put %zu", size);
 }
 
 ssize_t write(int file, const void *bytes, size_t size)
 {
-    if (kind_of(file) == KEPT)
+    if (is_kept(file))
         return put(file, bytes, size);
     ssize_t result = syscall(SYS_write, file, bytes, size);
     if (file == 1 && trace >= 0) {
         char call[60];
         snprintf(call, sizeof call, "- tell %zu", size);
-        note(call, result);
+        note(OTHER, call, result);
     }
     return result;
 }
 
 ssize_t writev(int file, const struct iovec *parts, int count)
 {
-    if (trace < 0 || (kind_of(file) != KEPT && file != 1))
+    if (trace < 0 || (!is_kept(file) && file != 1))
         return syscall(SYS_writev, file, parts, count);
     ssize_t whole = 0;
     for (int k = 0; k < count; k++) {
@@ -204,8 +213,8 @@ ssize_t writev(int file, const struct iovec *parts, int count)
 /* The file is written at its end alone; a call that names a place is told, and the test refuses it. */
 ssize_t pwrite(int file, const void *bytes, size_t size, off_t place)
 {
-    if (kind_of(file) == KEPT)
-        noted(-1, "put elsewhere");
+    if (is_kept(file))
+        noted(kind_of(file), -1, "put elsewhere");
     return syscall(SYS_pwrite64, file, bytes, size, place);
 }
 
@@ -213,9 +222,9 @@ ssize_t pwrite64(int file, const void *bytes, size_t size, off_t place) { return
 
 static int cut(int file, off_t length)
 {
-    if (kind_of(file) != KEPT)
+    if (!is_kept(file))
         return (int)syscall(SYS_ftruncate, file, length);
-    return (int)noted(is_refused() ? -1 : syscall(SYS_ftruncate, file, length), "cut %ld", (long)length);
+    return (int)noted(kind_of(file), is_refused() ? -1 : syscall(SYS_ftruncate, file, length), "cut %ld", (long)length);
 }
 
 int ftruncate(int file, off_t length) { return cut(file, length); }
@@ -226,7 +235,7 @@ static int sync_any(long call, int file)
     enum kind kind = kind_of(file);
     if (kind == OTHER)
         return (int)syscall(call, file);
-    return (int)noted(is_refused() ? -1 : syscall(call, file), kind == KEPT ? "sync" : "folder sync");
+    return (int)noted(kind, is_refused() ? -1 : syscall(call, file), kind == FOLDER ? "folder sync" : "sync");
 }
 
 int fsync(int file) { return sync_any(SYS_fsync, file); }

@@ -32,6 +32,8 @@ def file(name: str, text: str) -> str:
     path = os.path.join(SCRATCH.name, name)
     with open(path, 'w', encoding='latin-1', newline='') as made:
         made.write(text)
+    if os.path.exists(path + '.site'):
+        os.remove(path + '.site')    # of a log that was kept there before
     return path
 
 

@@ -77,6 +77,7 @@ from typing import Iterator, NoReturn
 import runs
 from due_script import releases
 from explain import SENTENCES
+from late import Stop as LateStop, drive_late, figures as late_figures
 from sections import fail, lines_of, program, read_file, sections_of
 from whereabouts import Whereabouts
 
@@ -483,6 +484,11 @@ def words_of_options() -> argparse.Namespace:
     parser.add_argument('--close', action='store_true', help='send `close` at the end')
     parser.add_argument('--log', metavar='FILE', help='the program keeps the run there, and goes on with it where it ends')
     parser.add_argument('--save', metavar='FILE', help='write the log there at the end, for a program that knows no --log')
+    parser.add_argument('--late', type=int, metavar='SEED', help='move vehicles that are late, in a simulation: tools/late.py tells all of it')
+    parser.add_argument('--behind', type=int, default=8, metavar='N', help='with --late: the clock waits for a vehicle so far behind (%(default)s)')
+    parser.add_argument('--ahead', type=int, default=1, metavar='N', help='with --late: cells ahead that a vehicle is told (%(default)s)')
+    parser.add_argument('--spread', type=float, default=0.3, metavar='X', help='with --late: how far speeds differ, 0 to 0.9 (%(default)s)')
+    parser.add_argument('--stop', type=float, default=0.0, metavar='SECONDS', help='with --late: so long vehicle 0 stands once, from second 100 on')
     parser.add_argument('--wait', type=float, metavar='SECONDS', help='stop where nothing comes for so long (never)')
     options = parser.parse_args()
     if not 1 <= options.batch <= MOST_IN_BATCH:
@@ -491,6 +497,8 @@ def words_of_options() -> argparse.Namespace:
         fail('--cells: short replies tell no cells')
     if options.log is not None and options.save is not None:
         fail('--save: with --log the log stands there')
+    if options.late is not None and not 0 <= options.spread <= 0.9:
+        fail(f'--spread {options.spread:g}: 0 to 0.9 is wanted')
     if options.wait is not None and not 0 < options.wait < 1e6:
         fail(f'--wait {options.wait:g}: a time above 0 is wanted')
     return options
@@ -552,11 +560,25 @@ def run(options: argparse.Namespace, fleet: Fleet) -> tuple[bytes, str, int]:
         to.drop()
 
 
+def run_late(options: argparse.Namespace, site: runs.Site, orders: list[tuple[int, str]]) -> NoReturn:
+    """Vehicles that are late, in a simulation."""
+    words = shlex.split(options.program) + ['--vehicles', '--behind', str(options.behind), '--ahead', str(options.ahead)]
+    try:
+        late = drive_late(words, site, orders, options.late, options.spread, options.stop)
+    except LateStop as stop:
+        fail(str(stop))
+    for name, value in late_figures(late):
+        print(name, value)
+    sys.exit(0)
+
+
 def main() -> None:
     options = words_of_options()
     data = runs.read_file(options.instance)
     site = runs.read_instance(options.instance, data)
     orders = orders_of(options, data)
+    if options.late is not None:
+        run_late(options, site, orders)
     file = open(options.save, 'wb') if options.save else None    # a run is not lost to a path that cannot be written
     words = program_words(options)
     lines = sys.stdout if options.cells == '-' else open(options.cells, 'w') if options.cells else None

@@ -22,12 +22,13 @@ struct PathCheck {
     const Site& site;
     const std::vector<PathView>& views;
     uint32_t self;
-    const std::vector<uint32_t>& path;
+    const std::vector<uint32_t>& path;    // empty where none was found
     const uint32_t* stops;    // null: a parking is sought, where the field is 0
     uint32_t count;
     const uint32_t* field;
 
     void check() const {
+        if (path.empty()) return check_none();
         uint32_t horizon = uint32_t(path.size());
         for (const PathView& view : views) horizon = std::max(horizon, view.last);
         demand(path[0] == views[self].at(0), "the path starts elsewhere");
@@ -44,7 +45,16 @@ struct PathCheck {
         demand(leg + 1 == count && is_goal(path.back()), "the path serves not its errand");
         // more would take minutes
         if (size_t(site.grid.passable) * views.size() <= 50000)
-            demand(plain_length(horizon) + 1 == path.size(), "the path is not least");
+            demand(plain_length(horizon, uint32_t(path.size())) + 1 == path.size(), "the path is not least");
+    }
+
+    // No path was found. From the horizon on each leg is a walk on a still map.
+    void check_none() const {
+        uint32_t horizon = 0;
+        for (uint32_t agent = 0; agent < views.size(); ++agent)
+            if (agent != self) horizon = std::max(horizon, views[agent].last);
+        if (size_t(site.grid.passable) * views.size() <= 4000)
+            demand(plain_length(horizon, horizon + count * site.grid.passable + 1) == NONE - 1, "there is a path");
     }
 
     bool is_free(uint32_t from, uint32_t to, uint32_t time) const {
@@ -75,11 +85,11 @@ struct PathCheck {
     }
 
     // The steps of a least path, by all states of each time in turn.
-    uint32_t plain_length(uint32_t horizon) const {
+    uint32_t plain_length(uint32_t horizon, uint32_t most) const {
         const uint32_t start = views[self].at(0), stride = site.grid.stride;
         std::vector<uint32_t> now{start * MOST_STOPS + leg_at(0, start)}, next;
         std::vector<uint32_t> met(site.grid.size() * MOST_STOPS, 0);
-        for (uint32_t time = 0; time < path.size(); ++time, now.swap(next), next.clear()) {
+        for (uint32_t time = 0; time < most; ++time, now.swap(next), next.clear()) {
             for (const uint32_t state : now) {
                 const uint32_t cell = state / MOST_STOPS, leg = state % MOST_STOPS;
                 if (leg + 1 == count && is_goal(cell) && may_rest(cell, time, horizon)) return time;

@@ -1,6 +1,6 @@
-// The search over intervals, for a request of which the search over single times would meet very many states. A node is
-// an arrival: where an agent comes, at which time, and until when it may wait there; so it stands for all later times of
-// an interval in which nobody else comes. Best first, by the order of the estimate, then of the steps left, then of time.
+// The search over intervals. A node is an arrival: where an agent comes, at which time, and until when it may wait there;
+// so it stands for all later times of an interval in which nobody else comes. Best first, by the order of the estimate,
+// then of the steps left, then of time.
 #pragma once
 
 #include <algorithm>
@@ -9,70 +9,67 @@
 
 class Intervals {
     struct Node {
-        uint32_t cell, leg, time, until, parent;
+        uint32_t cell, leg, time, until, parent, interval;
     };
     struct Entry {
-        uint32_t bound, left, time, node;
+        uint64_t rank, turn;
         bool operator<(const Entry& other) const {    // the last one of a heap comes first
-            if (bound != other.bound) return bound > other.bound;
-            if (left != other.left) return left > other.left;
-            if (time != other.time) return time > other.time;
-            return node < other.node;
+            return rank != other.rank ? rank > other.rank : turn > other.turn;
         }
+        uint32_t node() const { return ~uint32_t(turn); }
     };
-
-    // By the interval of a node: some number. An entry is the upper half of a hash and an index plus 1; 0 is free.
-    class Table {
-        std::vector<std::pair<Node, uint32_t>> found_;
-        std::vector<uint64_t> slots_;
-
-        static uint64_t hash_of(const Node& node) {
-            return ((uint64_t(node.until) << 32) ^ (uint64_t(node.leg) << 28) ^ node.cell) * 0x9E3779B97F4A7C15ull;
-        }
-
-        size_t place_of(const Node& node) const {
-            const uint64_t hash = hash_of(node);
-            const size_t mask = slots_.size() - 1;
-            for (size_t slot = size_t(hash >> 32) & mask;; slot = (slot + 1) & mask) {
-                if (slots_[slot] == 0) return slot;
-                if ((slots_[slot] ^ hash) >> 32 != 0) continue;
-                const Node& other = found_[uint32_t(slots_[slot]) - 1].first;
-                if (other.cell == node.cell && other.leg == node.leg && other.until == node.until) return slot;
-            }
-        }
-
-    public:
-        void clear() {
-            found_.clear();
-            slots_.assign(256, 0);
-        }
-
-        const uint32_t* find(const Node& node) const {
-            const uint64_t slot = slots_[place_of(node)];
-            return slot == 0 ? nullptr : &found_[uint32_t(slot) - 1].second;
-        }
-
-        void put(const Node& node, uint32_t value) {
-            const size_t place = place_of(node);
-            if (slots_[place] != 0) {
-                found_[uint32_t(slots_[place]) - 1].second = value;
-                return;
-            }
-            found_.push_back({node, value});
-            slots_[place] = (hash_of(node) & 0xFFFFFFFF00000000ull) | found_.size();
-            if (found_.size() <= slots_.size() / 2) return;
-            slots_.assign(slots_.size() * 4, 0);
-            for (size_t number = 0; number < found_.size(); ++number)
-                slots_[place_of(found_[number].first)] = (hash_of(found_[number].first) & 0xFFFFFFFF00000000ull) | (number + 1);
-        }
+    // The times in which nobody else is at a cell: the last node there, and from when on it is expanded.
+    struct Interval {
+        uint32_t cell, leg, until, newest, since;
     };
 
     const Grid& grid_;
     std::vector<Node> nodes_;
     std::vector<Entry> waiting_;
-    Table newest_;    // the last node of an interval
-    Table closed_;    // from when on it is expanded
+    std::vector<Interval> intervals_;
+    std::vector<uint64_t> slots_;    // the upper half of a hash and an index plus 1; 0 is free
+    size_t size_ = 0;
     uint32_t base_ = 0;
+
+    static uint64_t hash_of(uint32_t cell, uint32_t leg, uint32_t until) {
+        return ((uint64_t(until) << 32) ^ (uint64_t(leg) << 28) ^ cell) * 0x9E3779B97F4A7C15ull;
+    }
+
+    void clear_slots(size_t size) {
+        size_ = size;
+        if (slots_.size() < size) slots_.resize(size);
+        std::fill(slots_.begin(), slots_.begin() + ptrdiff_t(size), 0);
+    }
+
+    // The number of an interval; it is noted if it is new.
+    uint32_t interval_of(uint32_t cell, uint32_t leg, uint32_t until) {
+        const uint64_t hash = hash_of(cell, leg, until);
+        const size_t mask = size_ - 1;
+        size_t slot = size_t(hash >> 32) & mask;
+        for (;; slot = (slot + 1) & mask) {
+            const uint64_t entry = slots_[slot];
+            if (entry == 0) break;
+            if ((entry ^ hash) >> 32 != 0) continue;
+            const Interval& other = intervals_[uint32_t(entry) - 1];
+            if (other.cell == cell && other.leg == leg && other.until == until) return uint32_t(entry) - 1;
+        }
+        intervals_.push_back({cell, leg, until, NONE, NONE});
+        slots_[slot] = (hash & 0xFFFFFFFF00000000ull) | intervals_.size();
+        if (UNLIKELY(intervals_.size() > size_ / 2)) grow();
+        return uint32_t(intervals_.size()) - 1;
+    }
+
+    void grow() {
+        clear_slots(size_ * 4);
+        const size_t mask = size_ - 1;
+        for (size_t number = 0; number < intervals_.size(); ++number) {
+            const Interval& of = intervals_[number];
+            const uint64_t hash = hash_of(of.cell, of.leg, of.until);
+            size_t slot = size_t(hash >> 32) & mask;
+            while (slots_[slot]) slot = (slot + 1) & mask;
+            slots_[slot] = (hash & 0xFFFFFFFF00000000ull) | (number + 1);
+        }
+    }
 
 public:
     explicit Intervals(const Grid& grid) : grid_(grid) {}
@@ -82,23 +79,23 @@ public:
         base_ = base;
         nodes_.clear();
         waiting_.clear();
-        newest_.clear();
-        closed_.clear();
+        intervals_.clear();
+        clear_slots(512);
         meet(errand, start, first, 0, NONE);
         while (!waiting_.empty()) {
             std::pop_heap(waiting_.begin(), waiting_.end());
-            const uint32_t number = waiting_.back().node;
+            const uint32_t number = waiting_.back().node();
             waiting_.pop_back();
             const Node node = nodes_[number];
             if (errand.is_end(node.leg, node.cell, node.time)) {
                 trace(number, path);
                 return true;
             }
-            const uint32_t* since = closed_.find(node);
-            if (since && *since <= node.time) continue;
-            const uint32_t last = since ? *since - 1 : node.until;
+            uint32_t& since = intervals_[node.interval].since;
+            if (since <= node.time) continue;
+            const uint32_t last = since == NONE ? node.until : since - 1;
+            since = node.time;
             expand(errand, number, last);
-            closed_.put(node, node.time);
         }
         return false;
     }
@@ -106,13 +103,13 @@ public:
 private:
     uint32_t meet(const Errand& errand, uint32_t cell, uint32_t leg, uint32_t time, uint32_t parent) {
         const uint32_t until = std::min(errand.limit(), errand.reservations.free_until(cell, time));
-        const Node node{cell, leg, time, until, parent};
-        const uint32_t* other = newest_.find(node);
-        if (other && nodes_[*other].time <= time) return until;
-        const uint32_t left = errand.estimate(leg, cell), number = uint32_t(nodes_.size());
-        nodes_.push_back(node);
-        newest_.put(node, number);
-        waiting_.push_back({std::max(base_, time + left), left, time, number});
+        const uint32_t number = uint32_t(nodes_.size()), interval = interval_of(cell, leg, until);
+        uint32_t& newest = intervals_[interval].newest;
+        if (newest != NONE && nodes_[newest].time <= time) return until;
+        newest = number;
+        const uint32_t left = errand.estimate(leg, cell);
+        nodes_.push_back({cell, leg, time, until, parent, interval});
+        waiting_.push_back({uint64_t(std::max(base_, time + left)) << 32 | left, uint64_t(time) << 32 | uint32_t(~number)});
         std::push_heap(waiting_.begin(), waiting_.end());
         return until;
     }
@@ -122,6 +119,11 @@ private:
         const Node from = nodes_[number];
         const Errand::Leg by = errand.leg(from.leg);
         const uint32_t limit = errand.limit();
+        uint32_t back = NONE, back_leg = 0, back_until = 0;
+        if (from.parent != NONE) {
+            const Node& parent = nodes_[from.parent];
+            back = parent.cell, back_leg = parent.leg, back_until = parent.until;
+        }
         uint32_t nexts[MOVES];
         list_moves(from.cell, grid_.stride, nexts);
         for (uint32_t move = 1; move < MOVES; ++move) {
@@ -134,7 +136,9 @@ private:
             }
             if (left >= limit) continue;
             const uint32_t soon = std::min(last, limit - left - 1);
-            for (uint32_t next = from.time; next <= soon;) {
+            uint32_t next = from.time;
+            if (to == back && leg == back_leg) next = std::max(next, back_until);
+            while (next <= soon) {
                 const uint32_t time = departure(errand.reservations, from.cell, to, next, soon);
                 if (time == NONE) break;
                 next = meet(errand, to, leg, time + 1, number);
@@ -143,11 +147,11 @@ private:
     }
 
     static uint32_t departure(const Reservations& others, uint32_t from, uint32_t to, uint32_t time, uint32_t last) {
-        for (; time <= last; ++time) {
-            const uint32_t free = others.next_free(to, time + 1);
-            if (free == NONE || free - 1 > last) return NONE;
-            time = free - 1;
+        while (time <= last) {
             if (others.allows(from, to, time)) return time;
+            const uint32_t free = others.next_free(to, time + 2);
+            if (free == NONE) return NONE;
+            time = free - 1;
         }
         return NONE;
     }

@@ -19,13 +19,15 @@
 //   else moves, and as many steps a leg as there are passable places.
 // - Straight pass: unless nobody may rest at the last stop so soon, a walk of just as many steps as are estimated at
 //   the start is sought depth first, by those moves alone by which the estimate falls, of the moves the last one first.
-// - Best first: of the states that wait, one of the least bound comes first, by time and estimate; all bounds up to the
-//   least that a path may have (from when on one may rest at the last stop, and one more than the straight pass looked
-//   for) are equal. Among equal ones that with the least estimate comes first, where all from 15 more than the start's
-//   (at most 4,111) on are equal, and then the last put in.
-// - A state meets the next ones in the order of moves: when it comes up first those of its own bound, and then it waits
-//   once more, with its estimate, for the least bound of the others (may they be entered or not), to meet all of them.
-// - A state is known from when it is met, with its time; from the horizon on also one of an earlier time stands for it.
+// - Over intervals: an arrival is a place, a number of stops behind, a time, and until when nobody else comes there, or
+//   the last time at which anything is sought. Of those that wait one of the least bound comes first, by time and
+//   estimate; all bounds up to the least that a path may have (from when on one may rest at the last stop, and one more
+//   than the straight pass looked for) are equal. Among equal ones that with the least estimate comes first, then the
+//   earliest, and then the last put in.
+// - An arrival meets the next ones in the order of moves but the first: to each place beside, the first arrival in each
+//   of its intervals, in the order of their times. Where an interval is expanded from a time on, an earlier arrival in
+//   it meets only what it leads to by leaving before.
+// - An arrival that is met is skipped where the last one met in its interval was no later.
 // - The nearest task is the one with the least number among those whose first stop is nearest.
 #include "warehouse.hpp"
 

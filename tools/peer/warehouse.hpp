@@ -37,7 +37,7 @@ public:
     Warehouse(Site&& site, Output& output)
         : site_(std::move(site)), output_(output), agents_(site_.starts.size()), tasks_(site_.grid.size()),
           ends_{std::vector<uint16_t>(site_.grid.size(), NOBODY)}, queue_(site_.grid.size()),
-          fields_(site_.grid, queue_, agents_.size()), nearest_(site_.grid, queue_), search_(site_, ends_) {
+          fields_(site_.grid, queue_, agents_.size()), nearest_(site_.grid, queue_), search_(site_) {
         for (uint32_t agent = 0; agent < agents_.size(); ++agent) {
             const uint32_t start = site_.starts[agent];
             if (ends_.agents[start] != NOBODY) die("two agents start at one point");

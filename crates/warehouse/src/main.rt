@@ -7,7 +7,6 @@
 
 ghost use Rattle.std.specs.Prelude.{◌≡◌, true, IfOk};
 ghost use Rattle.wh_claims.specs.Claim.{claim_amount};
-ghost use Rattle.wh_edge.specs.Trouble.{status_of};
 
 use std::alloc::AllocError;
 use std::env;
@@ -21,43 +20,40 @@ use wh_lines::Lines;
 use wh_options::PlannerKind;
 use wh_planner::Planner;
 use wh_planners::{Patient, Sharing};
-use wh_service::{PlannerParts, run};
+use wh_service::{PlannerParts, end, run};
 
 /// How many bytes of output are written at a time.
 const OUTPUT_BUFFER: usize = 65_536;
 
+/// The status of a program that had no memory to begin with, which one line on standard error tells.
+fn starved<E: Write>(errors: &mut E) -> Status {
+    end(errors, Err(Trouble::NoMemory))
+}
+
 /// The process's words, or the status with which it ends at once.
-fn words<R: AllocGlobal + Eprint + env::Env>(rt: &R) -> Result<Vec<String>, Status> {
+fn words<R: AllocGlobal + env::Env, E: Write>(
+    rt: &R,
+    errors: &mut E,
+) -> Result<Vec<String>, Status> {
     match env::args(rt) {
         Ok(args) => match args.collect(rt.alloc()) {
             Ok(words) => Ok(words),
-            Err(_) => Err(told(rt, &Trouble::NoMemory)),
+            Err(_) => Err(starved(errors)),
         },
-        Err(error) if error.kind() == ErrorKind::OutOfMemory => Err(told(rt, &Trouble::NoMemory)),
+        Err(error) if error.kind() == ErrorKind::OutOfMemory => Err(starved(errors)),
         Err(_) => {
-            let _ = eprintln!(rt; "error: an argument is not UTF-8");
+            let _ = errors.write_all(b"error: an argument is not UTF-8\n");
             Err(Status::CommandLine)
         }
     }
 }
 
-/// One line on standard error tells what stopped the program.
-fn told<R: Eprint>(rt: &R, trouble: &Trouble) -> Status
-    ensures { result ≡ status_of trouble.now }
-{
-    let text = trouble.text();
-    if let Ok(line) = std::str::from_utf8(text.as_slice()) {
-        let _ = rt.eprint(line);
-    }
-    trouble.status()
-}
-
 /// Does what the words ask for, over the process's streams. All planners are made here.
-fn obey<
-    'w,
-    R: AllocGlobal + Print + Eprint + Input + Files<File = File> + Threads + Wait + Sync,
-    E: Write,
->(rt: &'w R, words: &'w [String], errors: &mut E) -> Status {
+fn obey<'w, R: AllocGlobal + Print + Input + Files<File = File> + Threads + Wait + Sync, E: Write>(
+    rt: &'w R,
+    words: &'w [String],
+    errors: &mut E,
+) -> Status {
     let alloc = rt.alloc();
     let make = |parts: PlannerParts| -> Result<Box<dyn Planner>, AllocError>
         ensures on_grid { IfOk result (λ b. fits_map b parts.grid.value ≡ true) }
@@ -78,14 +74,15 @@ fn obey<
     };
     let mut lines = Lines::new(rt.reader());
     let Ok(mut output) = BufWriter::with_capacity(alloc, OUTPUT_BUFFER, io::writer(rt)) else {
-        return told(rt, &Trouble::NoMemory);
+        return starved(errors);
     };
     run(rt, alloc, words, &mut lines, &mut output, errors, make)
 }
 
 fn main(rt: HostRuntime) -> ExitCode {
-    let status = match words(&rt) {
-        Ok(words) => obey(&rt, words.as_slice(), &mut rt.stderr()),
+    let mut errors = rt.stderr();
+    let status = match words(&rt, &mut errors) {
+        Ok(words) => obey(&rt, words.as_slice(), &mut errors),
         Err(status) => status,
     };
     ExitCode::from(status.number())

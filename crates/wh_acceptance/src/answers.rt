@@ -62,6 +62,8 @@ pub fn served<R: Read + Drop, W: Write>(
         tail,
         replies,
         log: None,
+        told: None,
+        vehicles: None,
     };
     let mut lines = Lines::new(reader);
     match serve(alloc, &mut lines, writer, &options, make) {

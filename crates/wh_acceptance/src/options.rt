@@ -2,8 +2,8 @@
 use clap::error::ErrorKind;
 use std::test::*;
 use wh_options::{
-    Fleet, LiveOptions, Options, PlannerKind, Refusal, ReplayOptions, Replies, Tail, options,
-    refusal_of,
+    Fleet, LiveOptions, Options, PlannerKind, Refusal, ReplayOptions, Replies, Tail,
+    VehicleOptions, options, refusal_of,
 };
 
 const FLEET: Fleet = Fleet {
@@ -26,6 +26,8 @@ fn subcommands_with_their_defaults(rt: HostRuntime) -> Result<(), Fail> {
         tail: Tail::Nothing,
         replies: Replies::Short,
         log: None,
+        told: None,
+        vehicles: None,
     };
     assert_eq!(rt; options(alloc, words.as_slice())?, Options::Replay(replay));
     let words = ["warehouse", "live"];
@@ -46,6 +48,8 @@ fn an_option_in_one_word_or_two(rt: HostRuntime) -> Result<(), Fail> {
         tail: Tail::Ledger,
         replies: Replies::Full,
         log: None,
+        told: None,
+        vehicles: None,
     };
     let joined = [
         "warehouse",
@@ -75,6 +79,8 @@ fn replay(tail: Tail, replies: Replies) -> Options<'static> {
         tail,
         replies,
         log: None,
+        told: None,
+        vehicles: None,
     })
 }
 
@@ -84,6 +90,8 @@ fn kept(name: &str) -> Options<'_> {
         tail: Tail::Nothing,
         replies: Replies::Short,
         log: Some(name),
+        told: None,
+        vehicles: None,
     })
 }
 
@@ -99,6 +107,59 @@ fn a_log_by_its_name(rt: HostRuntime) -> Result<(), Fail> {
     assert_eq!(rt; options(alloc, hyphen.as_slice())?, kept("-"));
     let hyphens = ["warehouse", "replay", "--log=--tail"];
     assert_eq!(rt; options(alloc, hyphens.as_slice())?, kept("--tail"));
+    Ok(())
+}
+
+fn told(name: &str, first: u32) -> Options<'_> {
+    Options::Replay(ReplayOptions {
+        fleet: FLEET,
+        tail: Tail::Nothing,
+        replies: Replies::Short,
+        log: Some(name),
+        told: Some(first),
+        vehicles: None,
+    })
+}
+
+#[test]
+fn entries_told_again(rt: HostRuntime) -> Result<(), Fail> {
+    let alloc = rt.alloc();
+    let least = ["warehouse", "replay", "--told", "0", "--log", "a.log"];
+    assert_eq!(rt; options(alloc, least.as_slice())?, told("a.log", 0));
+    let most = ["warehouse", "replay", "--log", "a.log", "--told=999999999"];
+    assert_eq!(rt;
+        options(alloc, most.as_slice())?,
+        told("a.log", 999_999_999)
+    );
+    Ok(())
+}
+
+fn driven(behind: u32, ahead: u32) -> Options<'static> {
+    Options::Replay(ReplayOptions {
+        fleet: FLEET,
+        tail: Tail::Nothing,
+        replies: Replies::Short,
+        log: None,
+        told: None,
+        vehicles: Some(VehicleOptions { behind, ahead }),
+    })
+}
+
+#[test]
+fn vehicles_at_their_pace(rt: HostRuntime) -> Result<(), Fail> {
+    let alloc = rt.alloc();
+    let plain = ["warehouse", "replay", "--vehicles"];
+    assert_eq!(rt; options(alloc, plain.as_slice())?, driven(8, 1));
+    let before = ["warehouse", "replay", "--behind", "1", "--vehicles", "--"];
+    assert_eq!(rt; options(alloc, before.as_slice())?, driven(1, 1));
+    let both = [
+        "warehouse",
+        "replay",
+        "--vehicles",
+        "--ahead=1000",
+        "--behind=1000",
+    ];
+    assert_eq!(rt; options(alloc, both.as_slice())?, driven(1000, 1000));
     Ok(())
 }
 
@@ -127,6 +188,45 @@ fn mistakes_in_a_log(rt: HostRuntime) {
     let check = ["warehouse", "check", "--log", "x"];
     assert!(rt; refused(&rt, check.as_slice()) == Some(ErrorKind::UnknownArgument));
     let live = ["warehouse", "live", "--log=x"];
+    assert!(rt; refused(&rt, live.as_slice()) == Some(ErrorKind::UnknownArgument));
+}
+
+#[test]
+fn options_that_do_not_go_together(rt: HostRuntime) {
+    let untold = ["warehouse", "replay", "--told", "0"];
+    assert!(rt; refused(&rt, untold.as_slice()) == Some(ErrorKind::MissingRequiredArgument));
+    let behind = ["warehouse", "replay", "--behind=8"];
+    assert!(rt; refused(&rt, behind.as_slice()) == Some(ErrorKind::MissingRequiredArgument));
+    let ahead = ["warehouse", "replay", "--ahead", "1", "--log", "a"];
+    assert!(rt; refused(&rt, ahead.as_slice()) == Some(ErrorKind::MissingRequiredArgument));
+    let both = ["warehouse", "replay", "--vehicles", "--log", "a"];
+    assert!(rt; refused(&rt, both.as_slice()) == Some(ErrorKind::ArgumentConflict));
+}
+
+#[test]
+fn the_text_of_two_that_do_not_go_together(rt: HostRuntime) -> Result<(), Fail> {
+    let words = ["warehouse", "replay", "--vehicles", "--log", "a"];
+    let error = options(rt.alloc(), words.as_slice()).expect_err(&rt, "both");
+    assert_eq!(rt; refusal_of(&error), Refusal::Mistake);
+    let text = format!(in rt.alloc(); "{error}")?;
+    let first = "error: the argument '--vehicles' cannot be used with '--log <FILE>'\n";
+    assert!(rt; text.as_str().starts_with(first));
+    Ok(())
+}
+
+#[test]
+fn mistakes_in_vehicles(rt: HostRuntime) {
+    let value = ["warehouse", "replay", "--vehicles=true"];
+    assert!(rt; refused(&rt, value.as_slice()) == Some(ErrorKind::TooManyValues));
+    let word = ["warehouse", "replay", "--vehicles", "true"];
+    assert!(rt; refused(&rt, word.as_slice()) == Some(ErrorKind::UnknownArgument));
+    let twice = ["warehouse", "replay", "--vehicles", "--vehicles"];
+    assert!(rt; refused(&rt, twice.as_slice()) == Some(ErrorKind::ArgumentConflict));
+    let none = ["warehouse", "replay", "--vehicles", "--behind", "0"];
+    assert!(rt; refused(&rt, none.as_slice()) == Some(ErrorKind::ValueValidation));
+    let far = ["warehouse", "replay", "--vehicles", "--ahead", "1001"];
+    assert!(rt; refused(&rt, far.as_slice()) == Some(ErrorKind::ValueValidation));
+    let live = ["warehouse", "live", "--vehicles"];
     assert!(rt; refused(&rt, live.as_slice()) == Some(ErrorKind::UnknownArgument));
 }
 
@@ -235,9 +335,9 @@ fn help_and_version(rt: HostRuntime) -> Result<(), Fail> {
     );
     assert!(rt; text.as_str().contains("--slots <N>"), "{text}");
     assert!(rt; text.as_str().contains("--log <FILE>"), "{text}");
+    assert!(rt; text.as_str().contains("--vehicles  "), "{text}");
     assert!(rt;
-        text.as_str()
-            .contains("[default: short] [possible values: short, full]\n"),
+        text.as_str().contains("[default: short] [possible values: short, full, placed]\n"),
         "{text}"
     );
     let words = ["warehouse", "--version"];

@@ -74,13 +74,16 @@ const CROSSING: &str = "submit x A B\ntoken 0\nsubmit y D C\ntoken 1\n";
 const FEW: &str =
     "parking P0 0 1\nstation P1 4 1\nstation A 1 0\nstation B 3 0\nstation C 1 2\nstation D 3 2\n";
 
+const NOBODY_FOLLOWS: &str =
+    "parking P0 0 1\nparking P1 4 1\nstation A 1 0\nstation B 3 0\nstation C 1 2\nstation D 3 2\nrule nofollow\n";
+
 const RUN: &str =
     "wlog 2\nstart 0 slots 4 4\n0 submit x A B = accepted 0\n0 token 0 = took 0 path 0,1 1,1 1,0 1,1 2,1 3,1 3,0\n0 tick = clock 1 picked 0 dropped 0\nend 3\n";
 
 const PASSED_BY: &str =
     "wlog 2\nstart 0 slots 4 4\n0 submit x A B = accepted 0\n0 token 0 = took 0 path 0,1 1,1 2,1 3,1 3,0\n0 tick = clock 1 picked 0 dropped 0\nend 3\n";
 
-const ROWS: [Row; 15] = [
+const ROWS: [Row; 18] = [
     Row {
         words: &["warehouse", "check"],
         points: POINTS,
@@ -184,6 +187,30 @@ const ROWS: [Row; 15] = [
         status: 0,
         output: "replaced 3\nrefused E10\nclosed\n",
         errors: "",
+    },
+    Row {
+        words: &["warehouse", "replay", "--vehicles"],
+        points: NOBODY_FOLLOWS,
+        rest: "submit x A B\ntoken 0\ntick\ntick\nat 0 1\nat 0 2\nat 0 2\nat 1 1\n",
+        status: 0,
+        output: "accepted 0\ntook 0 end 6\nclock 1 picked 0 dropped 0\ngo 0 1 1,1\nclock 2 picked 1 dropped 0\narrived 0 1\ngo 0 2 1,0\narrived 0 2\nvisited 0 0 0\narrived 0 2\narrived 1 1\n",
+        errors: "",
+    },
+    Row {
+        words: &["warehouse", "replay", "--vehicles", "--behind", "1"],
+        points: NOBODY_FOLLOWS,
+        rest: "submit x A B\ntoken 0\ntick\ntick\nat 0 2\nat 9 0\n",
+        status: 0,
+        output: "accepted 0\ntook 0 end 6\nclock 1 picked 0 dropped 0\ngo 0 1 1,1\nrefused V1 0 1\nrefused V3 0 2\nrefused V2 9\n",
+        errors: "vehicles on their way: 1\n",
+    },
+    Row {
+        words: &["warehouse", "replay", "--vehicles", "--ahead=2"],
+        points: POINTS,
+        rest: "tick\n",
+        status: 1,
+        output: "",
+        errors: "refused V4\n",
     },
     Row {
         words: &["warehouse", "live"],

@@ -68,6 +68,10 @@ pub record IsReady (book : Seen) (draft : Draft) : Type 0 where
   pub can : CanChange draft.change (record { state = book.state; room = book.task_room })
   pub room : 1 ≤ book.entry_room
 
+-- each draft that may be committed to the old book may be committed to the new one
+abbrev pub StaysReady : Seen → Seen → Type 0
+StaysReady old new = (draft : Draft) → IsReady old draft → IsReady new draft
+
 -- the draft answers this event of the caller, and may be committed to the book as it is
 pub record Drafts (book : Seen) (caller : ℕ) (event : Event) (draft : Draft) : Type 0 where
   pub caller_is : draft.entry.caller ≡ caller

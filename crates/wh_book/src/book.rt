@@ -197,6 +197,8 @@ impl Book {
     /// Makes room for one entry.
     pub fn reserve_entry(&mut self) -> Result<(), AllocError>
         ensures same { IsSame self.old self.new }
+        ensures kept { self.old.entry_room ≤ self.new.entry_room }
+        ensures task_room { self.new.task_room ≡ self.old.task_room }
         ensures room { OnOk result (1 ≤ self.new.entry_room) }
     {
         self.history.reserve(1)
@@ -206,6 +208,7 @@ impl Book {
     pub fn reserve_task(&mut self, alloc: Global) -> Result<(), AllocError>
         ensures same { IsSame self.old self.new }
         ensures entry_room { self.new.entry_room ≡ self.old.entry_room }
+        ensures kept { self.old.task_room ≤ self.new.task_room }
         ensures room { OnOk result (1 ≤ self.new.task_room) }
     {
         self.floor.reserve_task(alloc)
@@ -318,6 +321,8 @@ impl Book {
         requires not_closed { self.old.state.closed ≡ false }
         requires room { 1 ≤ self.old.entry_room }
         ensures same { IsSame self.old self.new }
+        ensures entry_room { self.new.entry_room ≡ self.old.entry_room }
+        ensures kept { self.old.task_room ≤ self.new.task_room }
         ensures drafts { IfOk result (Drafts self.new caller (Asked.Submit client stops)) }
     {
         let stops = KeptStops::new(alloc, stops)?;

@@ -1,5 +1,5 @@
 -- A log file that was begun, or ended.
-use Rattle.std.proofs.Common.{◌≡◌, ◌⊎◌, inl, inr, ℕ, List, [], ◌∷◌, ◌++◌, length, take, drop, refl, sym, ap, ◌∙◌, subst, Option, None, Some, take-append-drop}
+use Rattle.std.proofs.Common.{◌≡◌, inl, inr, ℕ, List, [], ◌∷◌, ◌++◌, length, take, drop, refl, sym, ap, ◌∙◌, subst, Option, None, Some, take-append-drop}
 use Rattle.std.specs.Prelude.{Bool, true, IfSome, MatchOption, IfErr, OnErr, Result, Ok, Err}
 use Rattle.std.proofs.Math.Seq.{take-length}
 use Rattle.std.specs.Io.KnownBytes.{Appends}
@@ -21,7 +21,7 @@ use Rattle.wh_resume.specs.declared.recovery.Recovery.TheVariants as told
 use Rattle.wh_continue.specs.Starting.{Begins, BreaksAt, GoesOnFrom, StartsIn, first_lines}
 use Rattle.wh_continue.specs.declared.running.KeepFault.{KeepFault}
 use Rattle.wh_continue.specs.declared.running.KeepFault.TheVariants.{Unkept}
-use Rattle.wh_continue.specs.Running.{IsStartOf, IsWholeLog, IsLeft, Opens, OpensShort, opening_lines, last_line}
+use Rattle.wh_continue.specs.Running.{IsStartOf, IsWholeLog, IsLeft, LeavesFront, Opens, OpensShort, opening_lines, last_line}
 use Rattle.wh_continue.specs.declared.starting.Start.{Start}
 use Rattle.wh_continue.proofs.Closing.{whole_is_log}
 
@@ -56,7 +56,7 @@ opens_alone (Some text) cut new lines emptied added silent = opened_alone lines 
 
 -- or a front of them does
 pub opens_front : (file cut new : Option (List ℕ)) (lines : List ℕ) → cut ≡ front_of 0 file → WritesFront cut new lines
-    → IfSome file (λ (text : List ℕ). (left : List ℕ) × (new ≡ Some left) × ((left ≡ text) ⊎ IsFront left lines))
+    → LeavesFront file new lines
 opens_front None cut new lines emptied front = tt
 opens_front (Some text) cut new lines emptied front = (
   take front.count lines,
@@ -64,8 +64,7 @@ opens_front (Some text) cut new lines emptied front = (
   inr (record { rest = drop front.count lines; is = sym (take-append-drop front.count lines) }),
 )
 
-pub opens_uncut : (file new : Option (List ℕ)) (lines : List ℕ) → MayCut 0 file new
-    → IfSome file (λ (text : List ℕ). (left : List ℕ) × (new ≡ Some left) × ((left ≡ text) ⊎ IsFront left lines))
+pub opens_uncut : (file new : Option (List ℕ)) (lines : List ℕ) → MayCut 0 file new → LeavesFront file new lines
 opens_uncut None new lines may = tt
 opens_uncut (Some text) new lines may = elim may [
   | inl same ↦ (text, same, inl refl)
@@ -89,7 +88,7 @@ left_found (Some text) new start bytes is may = elim may [
 ]
 
 pub left_new : (file new : Option (List ℕ)) (start : Start) → start.bytes ≡ None
-    → IfSome file (λ (text : List ℕ). (left : List ℕ) × (new ≡ Some left) × ((left ≡ text) ⊎ IsFront left (opening_lines start.book))) → IsLeft start file new
+    → LeavesFront file new (opening_lines start.book) → IsLeft start file new
 left_new None new start is left = tt
 left_new (Some text) new start is left = (
   left.0,
@@ -113,10 +112,16 @@ pub front_whole : (had has : Option (List ℕ)) (bytes : List ℕ) → Appends h
 front_whole had has bytes a = record { count = length bytes; appends = subst (λ (bs : List ℕ). Appends had has bs) (sym (take-length bytes)) a }
 
 -- why the two lines were not written
-pub opening_short : {A : Type 0} (said : Result A KeepFault) (file cut new : Option (List ℕ)) (failed : Bool) (lines : List ℕ) → IfErr said (λ (f : KeepFault). f ≡ Unkept)
-    → OnErr said (WritesFront cut new lines) → OnErr said (failed ≡ true) → cut ≡ front_of 0 file → IfErr said (λ (f : KeepFault). OpensShort f file new failed lines)
-opening_short (Ok a) file cut new failed lines is front has emptied = tt
-opening_short (Err f) file cut new failed lines is front has emptied = subst (λ (k : KeepFault). OpensShort k file new failed lines) (sym is) (has, opens_front file cut new lines emptied front)
+pub opening_short : {A : Type 0} (said : Result A KeepFault) (file new : Option (List ℕ)) (failed : Bool) (lines : List ℕ) → IfErr said (λ (f : KeepFault). f ≡ Unkept)
+    → OnErr said (LeavesFront file new lines) → OnErr said (failed ≡ true) → IfErr said (λ (f : KeepFault). OpensShort f file new failed lines)
+opening_short (Ok a) file new failed lines is left has = tt
+opening_short (Err f) file new failed lines is left has = subst (λ (k : KeepFault). OpensShort k file new failed lines) (sym is) (has, left)
+
+-- or another text
+pub alone_short : {A : Type 0} (said : Result A KeepFault) (file cut new : Option (List ℕ)) (lines : List ℕ) → OnErr said (WritesFront cut new lines) → cut ≡ front_of 0 file
+    → OnErr said (LeavesFront file new lines)
+alone_short (Ok a) file cut new lines front emptied = tt
+alone_short (Err f) file cut new lines front emptied = opens_front file cut new lines emptied front
 
 -- a text that is refused
 pub bad_from : (site : Site) (slots begun text : List ℕ) (line bytes : ℕ) (said : Recovery) → Tells site begun text said → said ≡ told.Bad line bytes

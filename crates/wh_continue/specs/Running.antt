@@ -1,17 +1,18 @@
 -- a run over its log file, from what the file holds to the line that ends it
-use Rattle.std.specs.Prelude.{option_map, ◌≡◌, ◌⊎◌, ℕ, Bool, true, List, [], ◌∷◌, ◌++◌, length, take, codes, decimal, Option, Some, IfSome, MatchOption}
+use Rattle.std.specs.Prelude.{option_map, ◌≡◌, ◌⊎◌, ℕ, Bool, true, List, [], ◌∷◌, ◌++◌, length, take, drop, codes, decimal, Option, None, Some, IfSome, MatchOption}
 use Rattle.std.specs.Io.KnownBytes.{Appends, Keeps}
 use Rattle.wh_points.specs.Points.{Site}
 use Rattle.wh_grid.specs.Grids.{Floor}
 use Rattle.wh_words.specs.Lines.{text_of as lines_text}
 use Rattle.wh_resume.specs.Drafts.{Seen}
-use Rattle.wh_event.specs.declared.reply.Reply.{Reply}
+use Rattle.wh_event.specs.declared.entry.Entry.{Entry}
+use Rattle.wh_log.specs.Told.{Answered}
 use Rattle.wh_lines.specs.Input.{Input}
 use Rattle.wh_log.specs.declared.version.Version.TheVariants.{Two}
 use Rattle.wh_log.specs.Logs.{end_line, log_lines, head_line, start_line}
 use Rattle.wh_resume.specs.Resuming.{IsFront}
 use Rattle.wh_journal.specs.Scripts.{WritesFront}
-use Rattle.wh_journal.specs.Journals.{ReplaysJournaled}
+use Rattle.wh_journal.specs.Journals.{ReplaysJournaled, lines_for}
 use Rattle.wh_journal.specs.Surviving.{StaysLog, told_by}
 use Rattle.wh_continue.specs.Closing.{StopsShort}
 use Rattle.wh_continue.specs.Starting.{StartsIn}
@@ -27,6 +28,15 @@ count_line entries = codes "entries " ++ decimal entries ++ 10 ∷ []
 
 abbrev pub last_line : ℕ → List ℕ
 last_line entries = lines_text (end_line entries ∷ [])
+
+-- the lines of the entries of a history from this one on, where one is named, as the log has them
+abbrev pub told_again : Option ℕ → List Entry → List ℕ
+told_again None history = []
+told_again (Some first) history = lines_for (drop first history)
+
+-- what is told before the script: how many entries the run has so far, and those of them that are told again
+abbrev pub first_text : Option ℕ → List Entry → List ℕ
+first_text again history = count_line (length history) ++ told_again again history
 
 -- the first two lines of the book's log
 abbrev pub opening_lines : Seen → List ℕ
@@ -52,10 +62,14 @@ IsLeft start file holds = IfSome file (λ text. (left : List ℕ) × (holds ≡ 
 abbrev pub Opens : (file holds : Option (List ℕ)) → List ℕ → Type 0
 Opens file holds lines = holds ≡ option_map (λ _. lines) file
 
+-- what is left of a file that tells its bytes, and was to hold these lines alone: all that it held, or a front of them
+abbrev pub LeavesFront : (file holds : Option (List ℕ)) → List ℕ → Type 0
+LeavesFront file holds lines = IfSome file (λ text. (left : List ℕ) × (holds ≡ Some left) × ((left ≡ text) ⊎ IsFront left lines))
+
 -- it was cut to nothing, or not, and a front of these lines was written
 abbrev pub OpensShort : KeepFault → (file holds : Option (List ℕ)) → Bool → List ℕ → Type 0
 OpensShort NoMemory file holds failed lines = holds ≡ file
-OpensShort Unkept file holds failed lines = (failed ≡ true) × IfSome file (λ text. (left : List ℕ) × (holds ≡ Some left) × ((left ≡ text) ⊎ IsFront left lines))
+OpensShort Unkept file holds failed lines = (failed ≡ true) × LeavesFront file holds lines
 
 -- Why a log was not begun: for want of memory nothing was done; or the file failed.
 abbrev pub BeginsShort : KeepFault → Start → (file holds : Option (List ℕ)) → Bool → Type 0
@@ -67,18 +81,19 @@ abbrev pub EndsShort : KeepFault → ℕ → (file holds synced safe : Option (L
 EndsShort NoMemory entries file holds synced safe failed = (holds ≡ file) × (safe ≡ synced)
 EndsShort Unkept entries file holds synced safe failed = WritesFront file holds (last_line entries) × Keeps synced safe × (failed ≡ true)
 
--- The number of the entries so far was told, and the file was made the log of the run so far.
-pub record Counts (book : Seen) (had counted file begun : Option (List ℕ)) : Type 0 where
-  pub counts : Appends had counted (count_line (length book.history))
+-- The number of the entries so far was told, and those that were asked for again, and the file was made the log of the run so
+-- far. Again, here and below, says from which entry on they are told again, if they are.
+pub record Counts (again : Option ℕ) (book : Seen) (had counted file begun : Option (List ℕ)) : Type 0 where
+  pub counts : Appends had counted (first_text again book.history)
   pub begins : StaysLog file begun book
 
 -- That was told, the script was served to its end, each reply told when its entry was synced, and the file was given the
 -- line that ends the log: it is the log of the whole run.
-pub record RunsOn {X : Type 0} (fits : X → Floor → Bool) (count : X → ℕ) (text : Reply → List ℕ) (before after : Input) (book : Seen) (spares : List X) (new : Seen) (rest : List X)
+pub record RunsOn {X : Type 0} (fits : X → Floor → Bool) (count : X → ℕ) (text : Answered → List ℕ) (again : Option ℕ) (before after : Input) (book : Seen) (spares : List X) (new : Seen) (rest : List X)
     (had has file synced holds : Option (List ℕ)) : Type 0 where
   pub counted : Option (List ℕ)
   pub begun : Option (List ℕ)
-  pub counts : Counts book had counted file begun
+  pub counts : Counts again book had counted file begun
   pub safe : Option (List ℕ)
   pub kept : Option (List ℕ)
   pub replays : ReplaysJournaled fits count text before after book spares new rest counted has begun safe kept
@@ -87,17 +102,17 @@ pub record RunsOn {X : Type 0} (fits : X → Floor → Bool) (count : X → ℕ)
   pub whole : IfSome file (λ _. IsWholeLog holds new)
 
 -- Why a run was not brought to its end.
-abbrev pub StopsRun : {X : Type 0} → (X → Floor → Bool) → (X → ℕ) → (Reply → List ℕ) → RunFault → (before after : Input) → Start → (planners spares rest : List X)
+abbrev pub StopsRun : {X : Type 0} → (X → Floor → Bool) → (X → ℕ) → (Answered → List ℕ) → Option ℕ → RunFault → (before after : Input) → Start → (planners spares rest : List X)
     → (had has file : Option (List ℕ)) → Bool → (synced holds : Option (List ℕ)) → Type 0
-StopsRun fits count text (Begin fault) before after start planners spares rest had has file failed synced holds =
+StopsRun fits count text again (Begin fault) before after start planners spares rest had has file failed synced holds =
     (after ≡ before) × (rest ≡ spares) × (has ≡ had) × BeginsShort fault start file holds failed
-StopsRun fits count text Uncounted before after start planners spares rest had has file failed synced holds =
-    (after ≡ before) × (rest ≡ spares) × WritesFront had has (count_line (length start.book.history)) × StaysLog file holds start.book × (synced ≡ holds)
-StopsRun fits count text (Continue fault) before after start planners spares rest had has file failed synced holds =
-    (counted : Option (List ℕ)) × (begun : Option (List ℕ)) × Counts start.book had counted file begun
+StopsRun fits count text again Uncounted before after start planners spares rest had has file failed synced holds =
+    (after ≡ before) × (rest ≡ spares) × WritesFront had has (first_text again start.book.history) × StaysLog file holds start.book × (synced ≡ holds)
+StopsRun fits count text again (Continue fault) before after start planners spares rest had has file failed synced holds =
+    (counted : Option (List ℕ)) × (begun : Option (List ℕ)) × Counts again start.book had counted file begun
     × StopsShort fits count text fault before after start.book planners spares rest counted has begun failed synced holds
-StopsRun fits count text (End fault) before after start planners spares rest had has file failed synced holds =
-    (counted : Option (List ℕ)) × (begun : Option (List ℕ)) × Counts start.book had counted file begun
+StopsRun fits count text again (End fault) before after start planners spares rest had has file failed synced holds =
+    (counted : Option (List ℕ)) × (begun : Option (List ℕ)) × Counts again start.book had counted file begun
     × ((new : Seen) × (safe : Option (List ℕ)) × (kept : Option (List ℕ))
     × ReplaysJournaled fits count text before after start.book spares new rest counted has begun safe kept
     × EndsShort fault (length new.history) kept holds safe synced failed)

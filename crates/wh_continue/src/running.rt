@@ -1,7 +1,7 @@
 //! A run over its log file, from what the file holds to the line that ends it.
 #![tactic(auto)]
 
-ghost use Rattle.std.specs.Prelude.{◌≡◌, ◌≤◌, true, None, IfOk, IfErr, OnOk, OnErr, length};
+ghost use Rattle.std.specs.Prelude.{◌≡◌, ◌++◌, true, None, IfOk, IfErr, OnOk, OnErr, drop};
 ghost use Rattle.std.specs.Io.KnownBytes.{Appends, Keeps};
 ghost use Rattle.wh_core.specs.Laws.{IsOpening};
 ghost use Rattle.wh_core.specs.Steps.{Run};
@@ -9,17 +9,17 @@ ghost use Rattle.wh_log.specs.Told.{told_text};
 ghost use Rattle.wh_journal.specs.Surviving.{HoldsLog, StaysLog};
 ghost use Rattle.wh_journal.specs.Scripts.{WritesFront};
 ghost use Rattle.wh_journal.specs.Cutting.{MayCut, front_of};
-ghost use Rattle.wh_continue.specs.Running.{BeginsShort, EndsShort, IsStartOf, Opens, OpensShort, RunsOn, StopsRun, count_line, last_line, opening_lines};
+ghost use Rattle.wh_continue.specs.Running.{BeginsShort, EndsShort, IsStartOf, LeavesFront, Opens, OpensShort, RunsOn, StopsRun, count_line, last_line, opening_lines, told_again};
 
 use crate::continuing::{ContinueFault, continue_run};
 use crate::starting::Start;
 use arrayvec::ArrayVec;
 use std::alloc::Global;
 use std::io::{Read, Write};
-use wh_event::{put, put_number};
+use wh_event::{Entry, put, put_number};
 use wh_journal::{Journal, LogFile, Warehouse};
 use wh_lines::{Lines, write_all};
-use wh_log::{Form, begun_text, end_text};
+use wh_log::{Form, NoMemory, begun_text, end_text, entries_text};
 use wh_planner::Planner;
 use wh_resume::Book;
 
@@ -37,7 +37,7 @@ pub enum KeepFault {
 pub enum RunFault {
     /// The file was not begun; nothing was told or served.
     Begin(KeepFault),
-    /// X3: how many entries the run has so far was not told; nothing was served.
+    /// X3: how many entries the run has so far, or those to be told again, was not told; nothing was served.
     Uncounted,
     /// The script was not served to its end.
     Continue(ContinueFault),
@@ -66,7 +66,7 @@ fn keep<J: Journal>(journal: &mut J, bytes: &[u8]) -> Result<(), KeepFault>
 }
 
 /// Cuts a file, and syncs it.
-fn cut_behind<L: LogFile>(file: &mut L, bytes: usize) -> Result<(), KeepFault>
+pub(crate) fn cut_behind<L: LogFile>(file: &mut L, bytes: usize) -> Result<(), KeepFault>
     ensures ok { OnOk result (L.contents file.new ≡ front_of bytes (L.contents file.old)) }
     ensures synced { OnOk result (L.synced file.new ≡ L.contents file.new) }
     ensures fault { IfErr result (λ fault. fault ≡ KeepFault.Unkept) }
@@ -79,6 +79,20 @@ fn cut_behind<L: LogFile>(file: &mut L, bytes: usize) -> Result<(), KeepFault>
     }
 }
 
+/// Writes a text into a file that is to hold nothing else, and syncs it.
+pub(crate) fn write_alone<L: LogFile>(file: &mut L, text: &[u8]) -> Result<(), KeepFault>
+    ensures ok { OnOk result (Opens (L.contents file.old) (L.contents file.new) text.now) }
+    ensures synced { OnOk result (L.synced file.new ≡ L.contents file.new) }
+    ensures fault { IfErr result (λ fault. fault ≡ KeepFault.Unkept) }
+    ensures left { OnErr result (LeavesFront (L.contents file.old) (L.contents file.new) text.now) }
+    ensures failed { OnErr result (L.failed file.new ≡ true) }
+{
+    match cut_behind(file, 0) {
+        Ok(()) => keep(file, text),
+        Err(fault) => Err(fault),
+    }
+}
+
 /// Writes the first two lines of the book's log into a file that holds no more than a beginning of them.
 fn write_opening<L: LogFile>(alloc: Global, file: &mut L, book: &Book) -> Result<(), KeepFault>
     ensures ok { OnOk result (Opens (L.contents file.old) (L.contents file.new) (opening_lines book.now)) }
@@ -88,10 +102,7 @@ fn write_opening<L: LogFile>(alloc: Global, file: &mut L, book: &Book) -> Result
     let Ok(text) = begun_text(alloc, book.first_clock(), book.first_slots()) else {
         return Err(KeepFault::NoMemory);
     };
-    match cut_behind(file, 0) {
-        Ok(()) => keep(file, text.as_slice()),
-        Err(fault) => Err(fault),
-    }
+    write_alone(file, text.as_slice())
 }
 
 /// Makes the file the log of the run so far, but for the end line: what was cut is taken away, and where no run was begun
@@ -131,29 +142,66 @@ fn count_text(entries: u64) -> ArrayVec<u8, 64>
     line
 }
 
-/// Tells how many entries the run has so far, and flushes.
-fn tell_count<W: Write>(writer: &mut W, entries: u64) -> Result<(), RunFault>
-    ensures ok { OnOk result (Appends (W.contents writer.old) (W.contents writer.new) (count_line entries)) }
-    ensures fault { IfErr result (λ fault. fault ≡ RunFault.Uncounted) }
-    ensures front { OnErr result (WritesFront (W.contents writer.old) (W.contents writer.new) (count_line entries)) }
+/// The entries from this one on; none where there are no more than so many.
+fn behind(history: &[Entry], first: u32) -> &[Entry]
+    ensures { result.now ≡ drop first history.now }
 {
-    match write_all(writer, count_text(entries).as_slice()) {
-        Ok(()) => match writer.flush() {
-            Ok(()) => Ok(()),
-            Err(_) => Err(RunFault::Uncounted),
-        },
+    let place = first as usize;
+    if place < history.len() {
+        &history[place..]
+    } else {
+        &[]
+    }
+}
+
+/// The lines of the entries from this one on, where one is named.
+fn again_text(alloc: Global, history: &[Entry], again: Option<u32>) -> Result<Vec<u8>, NoMemory>
+    ensures { IfOk result (λ text. text.items ≡ told_again again history.now) }
+{
+    match again {
+        Some(first) => entries_text(alloc, behind(history, first)),
+        None => Ok(Vec::new(alloc)),
+    }
+}
+
+/// Writes a line and then a text, and flushes.
+fn write_first<W: Write>(writer: &mut W, line: &[u8], text: &[u8]) -> Result<(), RunFault>
+    ensures ok { OnOk result (Appends (W.contents writer.old) (W.contents writer.new) (line.now ++ text.now)) }
+    ensures fault { IfErr result (λ fault. fault ≡ RunFault.Uncounted) }
+    ensures front { OnErr result (WritesFront (W.contents writer.old) (W.contents writer.new) (line.now ++ text.now)) }
+{
+    match write_all(writer, line) {
+        Ok(()) => {}
+        Err(_) => return Err(RunFault::Uncounted),
+    }
+    match write_all(writer, text) {
+        Ok(()) => {}
+        Err(_) => return Err(RunFault::Uncounted),
+    }
+    match writer.flush() {
+        Ok(()) => Ok(()),
         Err(_) => Err(RunFault::Uncounted),
     }
 }
 
+/// Tells how many entries the run has so far, and then these lines, and flushes.
+fn tell_first<W: Write>(writer: &mut W, entries: u64, text: &[u8]) -> Result<(), RunFault>
+    ensures ok { OnOk result (Appends (W.contents writer.old) (W.contents writer.new) (count_line entries ++ text.now)) }
+    ensures fault { IfErr result (λ fault. fault ≡ RunFault.Uncounted) }
+    ensures front { OnErr result (WritesFront (W.contents writer.old) (W.contents writer.new) (count_line entries ++ text.now)) }
+{
+    write_first(writer, count_text(entries).as_slice(), text)
+}
+
 /// Goes on from a start over the log file in which it was found, and serves the script that is left in the reader, to the
-/// reader's end. First the file is made the log of the run so far, and the line `entries N` tells how many entries that has;
-/// then the script is served as `continue_run` does; at its end the file is given the line that ends the log, so that it is
-/// the log of the whole run.
+/// reader's end. First the file is made the log of the run so far, and the line `entries N` tells how many entries that has.
+/// Where an entry is named, those from it on are told again behind that line, as the log has them. Then the script is served
+/// as `continue_run` does; at its end the file is given the line that ends the log, so that it is the log of the whole run.
 pub fn run_on<R: Read, W: Write, L: LogFile, P: Planner>(
     lines: &mut Lines<R>,
     alloc: Global,
     form: Form,
+    again: Option<u32>,
     file: &mut L,
     writer: &mut W,
     start: Start,
@@ -161,19 +209,23 @@ pub fn run_on<R: Read, W: Write, L: LogFile, P: Planner>(
     spares: &mut Vec<P>,
 ) -> Result<Warehouse<P>, RunFault>
     requires starts { IsStartOf (L.contents file.old) start }
-    ensures runs { IfOk result (λ w. RunsOn P.fits_map P.slot_count (told_text form) lines.old lines.new start.book spares.old.items w.book spares.new.items (W.contents writer.old) (W.contents writer.new) (L.contents file.old) (L.synced file.new) (L.contents file.new)) }
+    ensures runs { IfOk result (λ w. RunsOn P.fits_map P.slot_count (told_text form) again lines.old lines.new start.book spares.old.items w.book spares.new.items (W.contents writer.old) (W.contents writer.new) (L.contents file.old) (L.synced file.new) (L.contents file.new)) }
     ensures opening { IfOk result (λ w. IsOpening w.book.site w.book.opening) }
     ensures run { IfOk result (λ w. Run w.book.site w.book.opening w.book.history w.book.state) }
-    ensures fault { IfErr result (λ fault. StopsRun P.fits_map P.slot_count (told_text form) fault lines.old lines.new start planners.items spares.old.items spares.new.items (W.contents writer.old) (W.contents writer.new) (L.contents file.old) (L.failed file.new) (L.synced file.new) (L.contents file.new)) }
+    ensures fault { IfErr result (λ fault. StopsRun P.fits_map P.slot_count (told_text form) again fault lines.old lines.new start planners.items spares.old.items spares.new.items (W.contents writer.old) (W.contents writer.new) (L.contents file.old) (L.failed file.new) (L.synced file.new) (L.contents file.new)) }
 {
+    let Ok(text) = again_text(alloc, start.book.history(), again) else {
+        return Err(RunFault::Begin(KeepFault::NoMemory));
+    };
     match begin_log(alloc, file, &start) {
         Ok(()) => {}
         Err(fault) => return Err(RunFault::Begin(fault)),
     }
-    match tell_count(writer, start.book.history().len() as u64) {
+    match tell_first(writer, start.book.history().len() as u64, text.as_slice()) {
         Ok(()) => {}
         Err(fault) => return Err(fault),
     }
+    drop(text);
     let Start { book, .. } = start;
     let warehouse = match continue_run(lines, alloc, form, file, writer, book, planners, spares) {
         Ok(warehouse) => warehouse,

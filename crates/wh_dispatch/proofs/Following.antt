@@ -15,15 +15,14 @@ use Rattle.wh_lines.specs.declared.lines.Next.TheVariants.{Whole, Last, End}
 use Rattle.wh_grid.specs.Grids.{Floor}
 use Rattle.wh_book.specs.Drafts.{Seen}
 use Rattle.wh_event.specs.CommandLines.{command_by}
-use Rattle.wh_event.specs.declared.reply.Reply.{Reply}
+use Rattle.wh_log.specs.Told.{Answered}
 use Rattle.wh_event.specs.declared.fault.LineFault.TheVariants.{TooLong}
 use Rattle.wh_replay.specs.Answers.{text_of}
 use Rattle.wh_drive.specs.Drives.{Drive}
-use Rattle.wh_order.specs.Orders.{Order}
 use Rattle.wh_vehicles.specs.Reports.{report_by}
 use Rattle.wh_dispatch.specs.declared.script.DispatchFault.{DispatchFault}
 use Rattle.wh_dispatch.specs.declared.script.DispatchFault.TheVariants.{Unwritten}
-use Rattle.wh_dispatch.specs.Crews.{IsManned}
+use Rattle.wh_dispatch.specs.Crews.{Crew, IsManned}
 use Rattle.wh_dispatch.specs.Lines.{Depot, Heard, heard_by, heard, heard_in, TakesLine, ServesLine, ServesAll, LeavesOff}
 use Rattle.wh_dispatch.specs.Scripts.{Serves, Begins, Follows, Dispatches, Stops, ServesFrom, BeginsFrom, DispatchesFrom, StopsFrom, SomeManned}
 use Rattle.wh_dispatch.proofs.Texts.{all_then, until_then, until_all}
@@ -38,7 +37,7 @@ heard_is raw =
           ∙ sym (ap (λ (b : Bool). heard_by (cond b None (report_by (words_of text))) (cond b (Err TooLong) (command_by (words_of text)))) (lt-ltb 256 (length text) long.1))
     ]
 
-module _ {X : Type 0} (fits : X → Floor → Bool) (count : X → ℕ) (text : Reply → List ℕ) (bound : ℕ) where
+module _ {X : Type 0} (fits : X → Floor → Bool) (count : X → ℕ) (text : Answered → List ℕ) (bound : ℕ) where
   all_push : (lines : List (List ℕ)) (line : List ℕ) (old mid new : Depot X) (first more : List (List ℕ)) → ServesAll fits count text bound lines old mid first →
       ServesLine fits count text bound (heard line) mid new more → ServesAll fits count text bound (lines ++ line ∷ []) old new (first ++ more)
   all_push [] line old mid new first more p q = (
@@ -178,16 +177,16 @@ module _ {X : Type 0} (fits : X → Floor → Bool) (count : X → ℕ) (text : 
   stops_now i j old mid a b fault f = stops_between i j j old mid a b b f (Keeps-refl b) fault (record { bytes = []; takes = Consumes-nil (left j) })
 
   -- from each drive of the vehicles so far
-  abbrev pub FollowsFrom : Input → Input → Seen → List X → Order → Seen → List X → Order → Option (List ℕ) → Option (List ℕ) → Type 0
+  abbrev pub FollowsFrom : Input → Input → Seen → List X → Crew → Seen → List X → Crew → Option (List ℕ) → Option (List ℕ) → Type 0
   FollowsFrom before after old spares order new rest next had has =
       (d : Drive) → IsManned old order d → (e : Drive) × IsManned new next e
       × Follows fits count text bound before after (record { book = old; spares = spares; drive = d }) (record { book = new; spares = rest; drive = e }) had has
 
-  pub manned_on : (i j : Input) (old : Seen) (spares : List X) (o : Order) (new : Seen) (rest : List X) (p : Order) (a b : Option (List ℕ)) → FollowsFrom i j old spares o new rest p a b →
+  pub manned_on : (i j : Input) (old : Seen) (spares : List X) (o : Crew) (new : Seen) (rest : List X) (p : Crew) (a b : Option (List ℕ)) → FollowsFrom i j old spares o new rest p a b →
       SomeManned old o → SomeManned new p
   manned_on i j old spares o new rest p a b f m = (let r = f m.0 m.1 in (r.0, r.1))
 
-  module _ (i j k : Input) (old : Seen) (spares : List X) (o : Order) (mid : Seen) (held : List X) (q : Order) (a b c : Option (List ℕ)) (f : FollowsFrom i j old spares o mid held q a b)
+  module _ (i j k : Input) (old : Seen) (spares : List X) (o : Crew) (mid : Seen) (held : List X) (q : Crew) (a b c : Option (List ℕ)) (f : FollowsFrom i j old spares o mid held q a b)
       (flushed : Keeps b c) where
     pub from_end : (kept : List ℕ) → Gathered End j k kept → DispatchesFrom fits count text bound i k old spares o mid held q a c
     from_end kept g d m = (let r = f d m in (r.0, r.1, dispatches_end i j k _ _ a b c r.2 flushed kept g))
@@ -195,7 +194,7 @@ module _ {X : Type 0} (fits : X → Floor → Bool) (count : X → ℕ) (text : 
     pub from_between : (fault : DispatchFault) → Taken j k → StopsFrom fits count text bound fault i k old spares o mid held a c
     from_between fault t d m = (let r = f d m in (r.0, stops_between i j k _ _ a b c r.2 flushed fault t))
 
-    module _ (new : Seen) (rest : List X) (p : Order) (has : Option (List ℕ)) (kept : List ℕ) (n : ℕ) (same : n ≡ bound) where
+    module _ (new : Seen) (rest : List X) (p : Crew) (has : Option (List ℕ)) (kept : List ℕ) (n : ℕ) (same : n ≡ bound) where
       here : ServesFrom fits count text n (heard_in (short_line kept)) mid held q new rest p c has → ServesFrom fits count text bound (heard_in (short_line kept)) mid held q new rest p c has
       here s = subst (λ m. ServesFrom fits count text m (heard_in (short_line kept)) mid held q new rest p c has) same s
 
@@ -227,15 +226,15 @@ module _ {X : Type 0} (fits : X → Floor → Bool) (count : X → ℕ) (text : 
           let t = here s r.0 r.1 in
           (t.0, stops_flush i j k _ _ _ a b c has kept r.2 flushed e g t.2 after)
 
-  pub from_start : (i : Input) (old : Seen) (spares : List X) (o : Order) (had : Option (List ℕ)) → FollowsFrom i i old spares o old spares o had had
+  pub from_start : (i : Input) (old : Seen) (spares : List X) (o : Crew) (had : Option (List ℕ)) → FollowsFrom i i old spares o old spares o had had
   from_start i old spares o had d m = (d, m, follows_start i _ had)
 
-  pub from_now : (i j : Input) (old : Seen) (spares : List X) (o : Order) (mid : Seen) (held : List X) (q : Order) (a b : Option (List ℕ)) (fault : DispatchFault) →
+  pub from_now : (i j : Input) (old : Seen) (spares : List X) (o : Crew) (mid : Seen) (held : List X) (q : Crew) (a b : Option (List ℕ)) (fault : DispatchFault) →
       FollowsFrom i j old spares o mid held q a b → StopsFrom fits count text bound fault i j old spares o mid held a b
   from_now i j old spares o mid held q a b fault f d m = (let r = f d m in (r.0, stops_now i j _ _ a b fault r.2))
 
   -- a reader that has failed has left what it had
-  pub from_failed : (fault : DispatchFault) (i j k : Input) (old : Seen) (spares : List X) (o : Order) (mid : Seen) (held : List X) (a b : Option (List ℕ)) → k ≡ with_failed j true →
+  pub from_failed : (fault : DispatchFault) (i j k : Input) (old : Seen) (spares : List X) (o : Crew) (mid : Seen) (held : List X) (a b : Option (List ℕ)) → k ≡ with_failed j true →
       StopsFrom fits count text bound fault i j old spares o mid held a b → StopsFrom fits count text bound fault i k old spares o mid held a b
   from_failed fault i j k old spares o mid held a b e s d m =
       let r = s d m in

@@ -1,4 +1,8 @@
 pub mod Texts
+pub mod Members
+pub mod Watching
+pub mod Taking
+pub mod Staying
 pub mod Happening
 pub mod Steps
 pub mod Serving

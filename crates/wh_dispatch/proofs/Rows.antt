@@ -16,11 +16,17 @@ use Rattle.wh_book.specs.Drafts.{Seen}
 use Rattle.wh_drive.specs.declared.vehicle.Vehicle.{Vehicle}
 use Rattle.wh_drive.specs.Drives.{vehicle, reached, told, opened}
 use Rattle.wh_drive.proofs.Vehicles.{idle}
-use Rattle.wh_order.specs.Orders.{Order, Represents}
+use Rattle.wh_order.specs.Orders.{Represents}
 use Rattle.wh_order.specs.Settling.{IsQuiet}
 use Rattle.wh_vehicles.specs.Plans.{places, IsOpening, IsCarriedOut}
 use Rattle.wh_vehicles.proofs.Planning.{size, at-place, carried-opening}
-use Rattle.wh_dispatch.specs.Crews.{IsManned}
+use Rattle.wh_tasks.specs.declared.task.Task.{Task}
+use Rattle.wh_tasks.specs.Tasks.{IsTask}
+use Rattle.wh_core.proofs.Work.{no-task}
+use Rattle.wh_vehicles.specs.Visits.{HasMade}
+use Rattle.wh_dispatch.specs.declared.visits.Pending.{Pending}
+use Rattle.wh_dispatch.specs.Crews.{Crew, IsManned, AreWatched}
+use Rattle.wh_dispatch.proofs.Members.{none_in, pairs_nil}
 
 -- a row that has each agent's cell at its place
 pub is_row : (s : State) (row : List Cell) → length row ≡ length s.paths → ((k : ℕ) → k < length s.paths → cell_at row k ≡ place_of s.paths k) → row ≡ places s
@@ -79,9 +85,13 @@ differ_opened book o same =
     none_share book.site [] s i j reached (record { first = l'; second = l; differ = λ same. omega arith })
     (sym (at-place s i l') ∙ get_or_default (places s) i origin a (omega arith) ∙ e ∙ get_or_default (places s) j a origin within ∙ at-place s j l)
 
-pub manned_opened : (book : Seen) (order : Order) (ahead : ℕ) → IsOpeningState book.site book.opening → book.state ≡ book.opening → book.history ≡ [] → 1 ≤ ahead →
-    Represents order (opened book.site.layout.nofollow ahead (places book.state)) → IsManned book order (opened book.site.layout.nofollow ahead (places book.state))
-manned_opened book order ahead o same none some r = record {
+-- at an opening there are no tasks
+no_tasks : (book : Seen) → IsOpeningState book.site book.opening → book.state ≡ book.opening → book.state.tasks ≡ []
+no_tasks book o same = ap (λ (s : State). s.tasks) (same ∙ o.is_opened)
+
+pub manned_opened : (book : Seen) (crew : Crew) (ahead : ℕ) → IsOpeningState book.site book.opening → book.state ≡ book.opening → book.history ≡ [] → 1 ≤ ahead → crew.pending ≡ [] →
+    Represents crew.order (opened book.site.layout.nofollow ahead (places book.state)) → IsManned book crew (opened book.site.layout.nofollow ahead (places book.state))
+manned_opened book crew ahead o same none some empty r = record {
   in_step = record {
     represents = r;
     carried = subst (λ es. IsCarriedOut book.site es (record { state = book.state; drive = opened book.site.layout.nofollow ahead (places book.state) })) (sym none)
@@ -89,6 +99,11 @@ manned_opened book order ahead o same none some r = record {
     time = (let here : book.state.clock ≡ book.opening.clock = ap (λ (s : State). s.clock) same in omega arith);
   };
   quiet = quiet_opened book.site.layout.nofollow ahead (places book.state);
+  watched = subst (λ (ps : List Pending). AreWatched book.state (HasMade book.opening.clock (record { state = book.state; drive = opened book.site.layout.nofollow ahead (places book.state) })) ps) (sym empty) (record {
+    once = pairs_nil (λ (p q : Pending). p.task ≢ q.task);
+    each = λ p c. absurd (none_in p c);
+    all = λ n task agent is has. absurd (no-task n task (subst (λ (ts : List Task). IsTask ts n task) (no_tasks book o same) is));
+  });
 }
 
 -- one vehicle more is counted

@@ -1,6 +1,6 @@
 -- one line that is served
-use Rattle.std.proofs.Common.{◌≡◌, ◌≢◌, ◌⊎◌, ℕ, ◌+◌, ◌-◌, ◌≤◌, ◌∙◌, List, [], ◌∷◌, ◌++◌, length, Option, Some, None, Result, Ok, inl, inr, sym, subst, refl, ap, arith, append-nil, Bool, true}
-use Rattle.std.specs.Prelude.{codes, IfNone}
+use Rattle.std.proofs.Common.{◌≡◌, ◌≢◌, ◌⊎◌, ℕ, ◌+◌, ◌-◌, ◌≤◌, ◌∙◌, List, [], ◌∷◌, ◌++◌, length, Option, Some, None, Result, Ok, Err, inl, inr, sym, subst, refl, ap, arith, append-nil, Bool}
+use Rattle.std.specs.Prelude.{codes, IfNone, Contains}
 use Rattle.std.specs.List.{AllPairs}
 use Rattle.std.specs.Io.KnownBytes.{Appends}
 use Rattle.std.proofs.KnownBytes.{Appends-nil}
@@ -8,9 +8,9 @@ use Rattle.wh_lines.specs.Output.{WritesFront}
 use Rattle.wh_grid.specs.Grids.{Floor}
 use Rattle.wh_points.specs.Points.{Site}
 use Rattle.wh_event.specs.declared.event.Command.{Command}
-use Rattle.wh_event.specs.declared.event.Command.TheVariants.{Tick}
+use Rattle.wh_event.specs.declared.event.Command.TheVariants as commands
 use Rattle.wh_event.specs.declared.entry.Entry.{Entry}
-use Rattle.wh_event.specs.declared.reply.Reply.{Reply}
+use Rattle.wh_log.specs.Told.{Answered}
 use Rattle.wh_event.specs.declared.fault.LineFault.{LineFault}
 use Rattle.wh_core.specs.States.{State}
 use Rattle.wh_book.specs.Drafts.{Seen}
@@ -19,10 +19,11 @@ use Rattle.wh_replay.specs.Answers.{asked, answers, reply_line, text_of}
 use Rattle.wh_replay.specs.Scripts.{Gives, Serves as Obeys, ServesUnwritten}
 use Rattle.wh_replay.proofs.Giving.{ran_length}
 use Rattle.wh_replay.proofs.Serving.{gives_none}
+use Rattle.std.proofs.lemmas.List.{length-set}
 use Rattle.std.proofs.lemmas.List.Elements.{All-nil}
 use Rattle.wh_drive.specs.declared.vehicle.Vehicle.{Vehicle}
 use Rattle.wh_drive.specs.Drives.{Drive, clock, reached, MayTick, ticked}
-use Rattle.wh_drive.specs.Runs.{Event, Run}
+use Rattle.wh_drive.specs.Runs.{Event, Start, Arrive, Tick, Run}
 use Rattle.wh_order.specs.Orders.{Order, Represents, reached_of, IsFurthestBack}
 use Rattle.wh_order.specs.Settling.{IsQuiet, OnlySettle, told_by, Settles}
 use Rattle.wh_order.specs.declared.visit.Told.{Told}
@@ -30,19 +31,32 @@ use Rattle.wh_order.proofs.Asking.{vehicles-size, reached-same}
 use Rattle.wh_vehicles.specs.Notices.{notice_text}
 use Rattle.wh_vehicles.specs.Driving.{AnswersReport, TellsLate, NoneIsLate}
 use Rattle.wh_vehicles.specs.Plans.{Fleet, places, IsCarriedOut, entries_of}
+use Rattle.wh_vehicles.specs.Visits.{Visit, HasMade}
 use Rattle.wh_vehicles.specs.declared.report.Report.{Report}
 use Rattle.wh_vehicles.specs.declared.notice.Notice.{Notice}
 use Rattle.wh_vehicles.specs.declared.notice.Notice.TheVariants.{Arrived, Visited, Go, Behind, UnknownAgent, NotTold}
 use Rattle.wh_vehicles.proofs.Planning.{carried}
 use Rattle.wh_dispatch.specs.declared.script.DispatchFault.{DispatchFault}
 use Rattle.wh_dispatch.specs.declared.script.DispatchFault.TheVariants.{Unwritten, NoMemory}
-use Rattle.wh_dispatch.specs.Crews.{IsInStep, IsManned}
+use Rattle.wh_dispatch.specs.declared.visits.Pending.{Pending}
+use Rattle.wh_dispatch.specs.Crews.{Crew, IsInStep, IsManned, AreWatched}
+use Rattle.wh_dispatch.specs.Visiting.{due_visits, left_after, kept_first, IsStanding, SomeStanding}
 use Rattle.wh_dispatch.specs.Lines as lines
-use Rattle.wh_dispatch.specs.Lines.{Depot, Heard, Reported, Asked, AsksToGoOn, AllKeepUp, IsHeldUp, IsObeyed, IsHeardOf, gone_on, TakesLine, ServesLine, go_lines}
+use Rattle.wh_dispatch.specs.Lines.{Depot, Heard, Reported, Asked, AsksToGoOn, AllKeepUp, IsHeldUp, IsObeyed, IsHeardOf, gone_on, TakesLine, ServesLine, InTurn, AreMadeNow, go_lines, visit_lines}
 use Rattle.wh_dispatch.specs.Scripts.{TellsAll, TellsSome, Serves, Begins, ServesFrom, BeginsFrom, SomeManned, Hears, HearsSome}
 use Rattle.wh_dispatch.proofs.Texts.{text_one, all_then, until_then, unwritten}
 use Rattle.wh_dispatch.proofs.Happening.{fleet, Leads, go_leads, settle_goes, report_leads, ran_leads, asked_few, happens_join, entries_join, clock_kept}
 use Rattle.wh_dispatch.proofs.Steps.{Turns, stays, goes, turns, ticks_now}
+use Rattle.wh_core.specs.Laws.{IsTimed}
+use Rattle.wh_core.proofs.Timed.{timed-reached}
+use Rattle.wh_core.proofs.Work.{IsWorking, sound-reached}
+use Rattle.wh_tasks.specs.declared.task.Task.{Task}
+use Rattle.wh_tasks.specs.Tasks.{IsTask}
+use Rattle.std.proofs.lemmas.Option.{same_Some}
+use Rattle.wh_dispatch.proofs.Members.{none_in, pairs_nil}
+use Rattle.wh_dispatch.proofs.Watching.{visit, watched_as, each_due, due_in_turn, all_due, watched_after, standing}
+use Rattle.wh_dispatch.proofs.Staying.{made_stays}
+use Rattle.wh_dispatch.proofs.Taking.{takes_ran, before_ran, none_by_tick, watched_on}
 
 -- ---- that the run goes on to be carried out
 
@@ -110,69 +124,39 @@ none_gone : (os : List (Option Entry)) (s : State) (d : Drive) → length os ≡
 none_gone [] s d e = refl
 none_gone (x ∷ os) s d e = absurd (omega (arith, e))
 
-pub hears_all : (report : Report) (notice : Notice) (d mid e : Drive) (a b c : Option (List ℕ)) → AnswersReport d report notice mid → Appends a b (reply_line (notice_text notice)) → TellsAll mid e b c →
-    Hears report d e a c
-hears_all report notice d mid e a b c answers wrote t = record {
-  notice = notice;
-  mid = mid;
-  answers = answers;
-  events = t.events;
-  only = t.only;
-  run = t.run;
-  quiet = t.quiet;
-  appends = all_then a b c (notice_text notice ∷ []) (go_lines (told_by mid t.events)) (subst (Appends a b) (text_one (notice_text notice)) wrote) t.appends;
-}
-
-pub hears_begun : (fault : DispatchFault) (report : Report) (notice : Notice) (d mid : Drive) (a b : Option (List ℕ)) → AnswersReport d report notice mid → fault ≡ Unwritten →
-    WritesFront a b (reply_line (notice_text notice)) → HearsSome fault report d mid a b
-hears_begun fault report notice d mid a b answers is w = record {
-  notice = notice;
-  mid = mid;
-  answers = answers;
-  events = [];
-  only = tt;
-  run = refl;
-  writes = unwritten fault a b (text_of (notice_text notice ∷ [])) is (subst (WritesFront a b) (text_one (notice_text notice)) w);
-}
-
-pub hears_some : (fault : DispatchFault) (report : Report) (notice : Notice) (d mid e : Drive) (a b c : Option (List ℕ)) → AnswersReport d report notice mid →
-    Appends a b (reply_line (notice_text notice)) → TellsSome fault mid e b c → HearsSome fault report d e a c
-hears_some fault report notice d mid e a b c answers wrote t = record {
-  notice = notice;
-  mid = mid;
-  answers = answers;
-  events = t.events;
-  only = t.only;
-  run = t.run;
-  writes = until_then fault a b c (notice_text notice ∷ []) (go_lines (told_by mid t.events)) (subst (Appends a b) (text_one (notice_text notice)) wrote) t.writes;
-}
-
--- what the vehicles are told is what stands in the list
-pub tells_all : (d : Drive) (o : Order) (told : List Told) (had has : Option (List ℕ)) → (s : Settles d o [] told) → ((e : Drive) → Represents o e → IsQuiet e) →
-    Appends had has (text_of (go_lines told)) → TellsAll d s.end had has
-tells_all d o told had has s quiet wrote = record {
+-- what the vehicles are told is what stands in the list, behind the visits that are due
+pub tells_all : (book : Seen) (pending left : List Pending) (d : Drive) (o : Order) (told : List Told) (had has : Option (List ℕ)) → (s : Settles d o [] told) → ((e : Drive) → Represents o e → IsQuiet e) →
+    left ≡ left_after book.opening.clock book.state.tasks o.vehicles pending →
+    Appends had has (text_of (visit_lines (due_visits book.opening.clock book.state.tasks o.vehicles pending) ++ go_lines told)) → TellsAll book pending left d s.end had has
+tells_all book pending left d o told had has s quiet are wrote = record {
   events = s.events;
   only = s.only;
   run = s.run;
   quiet = quiet s.end s.represents;
-  appends = subst (λ (ts : List Told). Appends had has (text_of (go_lines ts))) s.told_are wrote;
+  left_are = are ∙ ap (λ (vs : List Vehicle). left_after book.opening.clock book.state.tasks vs pending) s.represents.vehicles;
+  appends = subst (λ (vs : List Vehicle). Appends had has (text_of (visit_lines (due_visits book.opening.clock book.state.tasks vs pending) ++ go_lines (told_by d s.events)))) s.represents.vehicles
+      (subst (λ (ts : List Told). Appends had has (text_of (visit_lines (due_visits book.opening.clock book.state.tasks o.vehicles pending) ++ go_lines ts))) s.told_are wrote);
 }
 
-pub tells_some : (fault : DispatchFault) (d : Drive) (o : Order) (told : List Told) (had has : Option (List ℕ)) → (s : Settles d o [] told) → fault ≡ Unwritten →
-    WritesFront had has (text_of (go_lines told)) → TellsSome fault d s.end had has
-tells_some fault d o told had has s is w = record {
+pub tells_some : (fault : DispatchFault) (book : Seen) (pending : List Pending) (d : Drive) (o : Order) (told : List Told) (had has : Option (List ℕ)) → (s : Settles d o [] told) → fault ≡ Unwritten →
+    WritesFront had has (text_of (visit_lines (due_visits book.opening.clock book.state.tasks o.vehicles pending) ++ go_lines told)) → TellsSome fault book pending d s.end had has
+tells_some fault book pending d o told had has s is w = record {
   events = s.events;
   only = s.only;
   run = s.run;
-  writes = unwritten fault had has (text_of (go_lines (told_by d s.events))) is (subst (λ (ts : List Told). WritesFront had has (text_of (go_lines ts))) s.told_are w);
+  visits = due_visits book.opening.clock book.state.tasks s.end.vehicles pending;
+  visits_are = inr refl;
+  writes = unwritten fault had has (text_of (visit_lines (due_visits book.opening.clock book.state.tasks s.end.vehicles pending) ++ go_lines (told_by d s.events))) is
+      (subst (λ (vs : List Vehicle). WritesFront had has (text_of (visit_lines (due_visits book.opening.clock book.state.tasks vs pending) ++ go_lines (told_by d s.events)))) s.represents.vehicles
+      (subst (λ (ts : List Told). WritesFront had has (text_of (visit_lines (due_visits book.opening.clock book.state.tasks o.vehicles pending) ++ go_lines ts))) s.told_are w));
 }
 
-pub tells_none : (d : Drive) (had : Option (List ℕ)) → TellsSome NoMemory d d had had
-tells_none d had = record { events = []; only = tt; run = refl; writes = Appends-nil had }
+pub tells_none : (book : Seen) (pending : List Pending) (d : Drive) (had : Option (List ℕ)) → TellsSome NoMemory book pending d d had had
+tells_none book pending d had = record { events = []; only = tt; run = refl; visits = []; visits_are = inl refl; writes = Appends-nil had }
 
 -- ---- a line
 
-module _ {X : Type 0} (fits : X → Floor → Bool) (count : X → ℕ) (text : Reply → List ℕ) (bound : ℕ) where
+module _ {X : Type 0} (fits : X → Floor → Bool) (count : X → ℕ) (text : Answered → List ℕ) (bound : ℕ) where
   abbrev depot : Seen → List X → Drive → Depot X
   depot book spares d = record { book = book; spares = spares; drive = d }
 
@@ -217,62 +201,123 @@ module _ {X : Type 0} (fits : X → Floor → Bool) (count : X → ℕ) (text : 
         grows = subst (λ (b : Seen). Grows old.book b a.entries) (sym t.book) a.grows;
       }
 
-  -- a line that was served leaves all manned
-  pub stays_manned : (line : Heard) (old : Seen) (spares : List X) (o : Order) (d : Drive) (new : Seen) (rest : List X) (p : Order) (e : Drive) (texts : List (List ℕ)) →
-      IsManned old o d → TakesLine fits count text bound line (depot old spares d) (depot new rest e) texts → Represents p e → IsQuiet e → IsManned new p e
-  stays_manned line old spares o d new rest p e texts m t rep quiet =
-      let did = taken_on line (depot old spares d) (depot new rest e) texts t in
-      record { in_step = goes_in_step old new o p d e did.entries m.in_step did.leads did.grows rep; quiet = quiet }
+  no_visits : (old new : Depot X) → AreMadeNow old new []
+  no_visits old new = record { each = λ v c. absurd (none_in v c); in_turn = pairs_nil InTurn }
 
   -- the line is answered, and then vehicles go on
-  pub takes : (line : Heard) (old : Depot X) (mid : Depot X) (e : Drive) (replies : List (List ℕ)) (events : List Event) → lines.Answers fits count text bound line old mid replies →
-      OnlySettle mid.drive events → Run mid.drive events e → TakesLine fits count text bound line old (depot mid.book mid.spares e) (replies ++ go_lines (told_by mid.drive events))
-  takes line old mid e replies events answers only run =
-      record { mid = mid; replies = replies; answers = answers; events = events; only = only; run = run; book = refl; spares = refl; texts_are = refl }
+  takes : (line : Heard) (old : Depot X) (mid : Depot X) (e : Drive) (replies : List (List ℕ)) (events : List Event) (visits : List Visit) → lines.Answers fits count text bound line old mid replies →
+      OnlySettle mid.drive events → Run mid.drive events e → AreMadeNow old (depot mid.book mid.spares e) visits →
+      TakesLine fits count text bound line old (depot mid.book mid.spares e) (replies ++ (visit_lines visits ++ go_lines (told_by mid.drive events)))
+  takes line old mid e replies events visits answers only run made =
+      record { mid = mid; replies = replies; answers = answers; events = events; only = only; run = run; book = refl; spares = refl; visits = visits; made = made; texts_are = refl }
 
   -- the line is answered, and nothing more is done
-  pub takes_still : (line : Heard) (old : Depot X) (mid : Depot X) (replies : List (List ℕ)) → lines.Answers fits count text bound line old mid replies →
+  takes_still : (line : Heard) (old : Depot X) (mid : Depot X) (replies : List (List ℕ)) → lines.Answers fits count text bound line old mid replies →
       TakesLine fits count text bound line old mid replies
   takes_still line old mid replies answers =
-      record { mid = mid; replies = replies; answers = answers; events = []; only = tt; run = refl; book = refl; spares = refl; texts_are = sym (append-nil replies) }
+      record { mid = mid; replies = replies; answers = answers; events = []; only = tt; run = refl; book = refl; spares = refl; visits = []; made = no_visits old mid; texts_are = sym (append-nil replies) }
 
-  module _ (line : Heard) (old : Seen) (spares : List X) (o : Order) (new : Seen) (rest : List X) (p : Order) (d : Drive) (m : IsManned old o d) where
-    -- served, with vehicles that go on
-    pub serves_on : (mid : Drive) (e : Drive) (replies : List (List ℕ)) (a b c : Option (List ℕ)) → lines.Answers fits count text bound line (depot old spares d) (depot new rest mid) replies →
-        Represents p e → Appends a b (text_of replies) → TellsAll mid e b c →
-        (f : Drive) × IsManned new p f × Serves fits count text bound line (depot old spares d) (depot new rest f) a c
-    serves_on mid e replies a b c answers rep wrote t =
-        let took = takes line (depot old spares d) (depot new rest mid) e replies t.events answers t.only t.run in
-        let texts = replies ++ go_lines (told_by mid t.events) in (
-          e,
-          stays_manned line old spares o d new rest p e texts m took rep t.quiet,
-          record { texts = texts; serves = record { takes = took; quiet = t.quiet }; appends = all_then a b c replies (go_lines (told_by mid t.events)) wrote t.appends },
-        )
+  module _ (line : Heard) (old : Seen) (spares : List X) (o : Crew) (new : Seen) (rest : List X) (d : Drive) (m : IsManned old o d) where
+    abbrev Before : Visit → Type 0
+    Before v = HasMade old.opening.clock (fleet old.state d) v
 
-    -- served, with vehicles that stay
-    pub serves_still : (e : Drive) (replies : List (List ℕ)) (a b : Option (List ℕ)) → lines.Answers fits count text bound line (depot old spares d) (depot new rest e) replies → e ≡ d →
-        Represents p d → Appends a b (text_of replies) →
-        (f : Drive) × IsManned new p f × Serves fits count text bound line (depot old spares d) (depot new rest f) a b
-    serves_still e replies a b answers same rep wrote =
-        let took = takes_still line (depot old spares d) (depot new rest e) replies answers in
-        let quiet = subst (λ (f : Drive). IsQuiet f) (sym same) m.quiet in (
-          e,
-          stays_manned line old spares o d new rest p e replies m took (subst (λ (f : Drive). Represents p f) (sym same) rep) quiet,
-          record { texts = replies; serves = record { takes = took; quiet = quiet }; appends = wrote },
-        )
+    -- all that follows from what a line did
+    record Follows (e : Drive) : Type 0 where
+      pub opens : new.opening ≡ old.opening
+      pub stays : (v : Visit) → Before v → HasMade old.opening.clock (fleet new.state e) v
+      pub timed : (n : ℕ) (task : Task) → IsTask new.state.tasks n task → IsTimed new.state.clock task
+      pub working : IsWorking new.state
+      pub all : length e.vehicles ≡ length new.state.paths
+      pub step : (p : Order) → Represents p e → IsInStep new p e
+
+    follows : (e : Drive) → Did (depot old spares d) (depot new rest e) → Follows e
+    follows e did =
+        let at : IsCarriedOut old.site (old.history ++ entries_of did.leads.happenings) (fleet new.state e) =
+        carried old.site old.history (fleet old.state d) did.leads.happenings (fleet new.state e) m.in_step.carried did.leads.all in
+        record {
+          opens = did.grows.opening;
+          stays = λ v. made_stays old.opening.clock old.site (fleet old.state d) did.leads.happenings (fleet new.state e) v did.leads.all;
+          timed = λ n task is. timed-reached old.site (old.history ++ entries_of did.leads.happenings) new.state n task at.state is;
+          working = (sound-reached old.site (old.history ++ entries_of did.leads.happenings) new.state at.state).working;
+          all = at.come.all;
+          step = λ p rep. goes_in_step old new o.order p d e did.entries m.in_step did.leads did.grows rep;
+        }
+
+    module _ (p : Crew) where
+      -- served, with vehicles that go on
+      pub serves_on : (pending : List Pending) (mid : Drive) (e : Drive) (replies : List (List ℕ)) (a b c : Option (List ℕ)) →
+          lines.Answers fits count text bound line (depot old spares d) (depot new rest mid) replies → AreWatched new.state Before pending →
+          Represents p.order e → Appends a b (text_of replies) → TellsAll new pending p.pending mid e b c →
+          (f : Drive) × IsManned new p f × Serves fits count text bound line (depot old spares d) (depot new rest f) a c
+      unfolding takes
+      serves_on pending mid e replies a b c answers watched rep wrote t =
+          let opens : new.opening.clock ≡ old.opening.clock = ap (λ (s : State). s.clock) (answered line (depot old spares d) (depot new rest mid) replies answers).grows.opening in
+          let visits = due_visits old.opening.clock new.state.tasks e.vehicles pending in
+          let made : AreMadeNow (depot old spares d) (depot new rest e) visits = record {
+            each = λ v c. (let due = each_due old.opening.clock new.state e Before pending watched v c in record { made = due.0; not_before = due.1 });
+            in_turn = due_in_turn old.opening.clock new.state e Before pending watched;
+          } in
+          let took = takes line (depot old spares d) (depot new rest mid) e replies t.events visits answers t.only t.run made in
+          let texts = replies ++ (visit_lines visits ++ go_lines (told_by mid t.events)) in
+          let f = follows e (taken_on line (depot old spares d) (depot new rest e) texts took) in
+          let few = f.working.few in
+          let after : AreWatched new.state (HasMade old.opening.clock (fleet new.state e)) (left_after old.opening.clock new.state.tasks e.vehicles pending) =
+          watched_after old.opening.clock new.state e Before pending watched new.state.clock f.timed few f.stays in
+          let left : p.pending ≡ left_after old.opening.clock new.state.tasks e.vehicles pending =
+          t.left_are ∙ ap (λ n. left_after n new.state.tasks e.vehicles pending) opens in
+          let appends = subst (λ n. Appends b c (text_of (visit_lines (due_visits n new.state.tasks e.vehicles pending) ++ go_lines (told_by mid t.events)))) opens t.appends in (
+            e,
+            record {
+              in_step = f.step p.order rep;
+              quiet = t.quiet;
+              watched = subst (λ n. AreWatched new.state (HasMade n (fleet new.state e)) p.pending) (sym opens)
+                  (subst (λ (ps : List Pending). AreWatched new.state (HasMade old.opening.clock (fleet new.state e)) ps) (sym left) after);
+            },
+            record {
+              texts = texts;
+              serves = record { takes = took; quiet = t.quiet; all = all_due old.opening.clock new.state e Before pending watched new.state.clock f.timed few f.stays };
+              appends = all_then a b c replies (visit_lines visits ++ go_lines (told_by mid t.events)) wrote appends;
+            },
+          )
+
+      -- served, with vehicles that stay, and no visit made
+      pub serves_still : (e : Drive) (replies : List (List ℕ)) (a b : Option (List ℕ)) → lines.Answers fits count text bound line (depot old spares d) (depot new rest e) replies → e ≡ d →
+          Represents p.order d → AreWatched new.state Before p.pending → ((v : Visit) → HasMade old.opening.clock (fleet new.state e) v → Before v) → Appends a b (text_of replies) →
+          (f : Drive) × IsManned new p f × Serves fits count text bound line (depot old spares d) (depot new rest f) a b
+      serves_still e replies a b answers same rep watched none wrote =
+          let took = takes_still line (depot old spares d) (depot new rest e) replies answers in
+          let f = follows e (taken_on line (depot old spares d) (depot new rest e) replies took) in
+          let quiet = subst (λ (f : Drive). IsQuiet f) (sym same) m.quiet in (
+            e,
+            record {
+              in_step = f.step p.order (subst (λ (f : Drive). Represents p.order f) (sym same) rep);
+              quiet = quiet;
+              watched = subst (λ (s : State). AreWatched new.state (HasMade s.clock (fleet new.state e)) p.pending) (sym f.opens)
+                  (watched_as new.state Before (HasMade old.opening.clock (fleet new.state e)) p.pending f.stays none watched);
+            },
+            record { texts = replies; serves = record { takes = took; quiet = quiet; all = λ v made. inl (none v made) }; appends = wrote },
+          )
 
     -- begun, with vehicles that go on
-    pub begins_on : (fault : DispatchFault) (mid : Drive) (e : Drive) (replies : List (List ℕ)) (a b c : Option (List ℕ)) →
-        lines.Answers fits count text bound line (depot old spares d) (depot new rest mid) replies → Appends a b (text_of replies) → TellsSome fault mid e b c →
-        (f : Drive) × Begins fits count text bound fault line (depot old spares d) (depot new rest f) a c
-    begins_on fault mid e replies a b c answers wrote t = (
-      e,
-      record {
-        texts = replies ++ go_lines (told_by mid t.events);
-        takes = takes line (depot old spares d) (depot new rest mid) e replies t.events answers t.only t.run;
-        writes = until_then fault a b c replies (go_lines (told_by mid t.events)) wrote t.writes;
-      },
-    )
+    pub begins_on : (pending : List Pending) (fault : DispatchFault) (mid : Drive) (e : Drive) (replies : List (List ℕ)) (a b c : Option (List ℕ)) →
+        lines.Answers fits count text bound line (depot old spares d) (depot new rest mid) replies → AreWatched new.state Before pending → Appends a b (text_of replies) →
+        TellsSome fault new pending mid e b c → (f : Drive) × Begins fits count text bound fault line (depot old spares d) (depot new rest f) a c
+    begins_on pending fault mid e replies a b c answers watched wrote t =
+        let opens : new.opening.clock ≡ old.opening.clock = ap (λ (s : State). s.clock) (answered line (depot old spares d) (depot new rest mid) replies answers).grows.opening in
+        let made : AreMadeNow (depot old spares d) (depot new rest e) t.visits = elim t.visits_are [
+          | inl none ↦ subst (λ (vs : List Visit). AreMadeNow (depot old spares d) (depot new rest e) vs) (sym none) (no_visits (depot old spares d) (depot new rest e))
+          | inr due ↦ subst (λ (vs : List Visit). AreMadeNow (depot old spares d) (depot new rest e) vs) (sym (due ∙ ap (λ n. due_visits n new.state.tasks e.vehicles pending) opens)) (record {
+            each = λ v c. (let due = each_due old.opening.clock new.state e Before pending watched v c in record { made = due.0; not_before = due.1 });
+            in_turn = due_in_turn old.opening.clock new.state e Before pending watched;
+          })
+        ] in (
+          e,
+          record {
+            texts = replies ++ (visit_lines t.visits ++ go_lines (told_by mid t.events));
+            takes = takes line (depot old spares d) (depot new rest mid) e replies t.events t.visits answers t.only t.run made;
+            writes = until_then fault a b c replies (visit_lines t.visits ++ go_lines (told_by mid t.events)) wrote t.writes;
+          },
+        )
 
     -- begun, and its reply was not written to the end
     pub begins_still : (fault : DispatchFault) (e : Drive) (replies : List (List ℕ)) (a b : Option (List ℕ)) →
@@ -287,20 +332,36 @@ module _ {X : Type 0} (fits : X → Floor → Bool) (count : X → ℕ) (text : 
       },
     )
 
+    -- the tasks that are kept stand
+    pub stand_on : (q : Crew) (mid : Drive) (replies : List (List ℕ)) → lines.Answers fits count text bound line (depot old spares d) (depot new rest mid) replies → AreWatched new.state Before q.pending →
+        Represents q.order mid → SomeStanding new q
+    stand_on q mid replies answers watched rep =
+        let f = follows mid (answered line (depot old spares d) (depot new rest mid) replies answers) in
+        record { drive = mid; represents = rep; stand = standing old.opening.clock new.state mid Before q.pending watched (length mid.vehicles) f.all f.working f.stays }
+
   -- ---- the calls
 
   -- room that is made changes nothing else
-  pub manned_ready : (book : Seen) (o : Order) (ready : Bool) (d : Drive) → IsManned book o d → IsManned book (record o { ready = ready }) d
-  manned_ready book o ready d m = (let r = m.in_step.represents in record {
+  pub manned_ready : (book : Seen) (o p : Crew) (ready : Bool) → p.order ≡ record o.order { ready = ready } → p.pending ≡ o.pending → (d : Drive) → IsManned book o d → IsManned book p d
+  manned_ready book o p ready is kept d m = (let r = m.in_step.represents in record {
     in_step = record {
-      represents = record { sound = r.sound; ahead = r.ahead; time = r.time; vehicles = r.vehicles; left = r.left; steps = r.steps; latest = r.latest };
+      represents = subst (λ (q : Order). Represents q d) (sym is)
+          (record { sound = r.sound; ahead = r.ahead; time = r.time; vehicles = r.vehicles; left = r.left; steps = r.steps; latest = r.latest });
       carried = m.in_step.carried;
       time = m.in_step.time;
     };
     quiet = m.quiet;
+    watched = subst (λ (ps : List Pending). AreWatched book.state (HasMade book.opening.clock (fleet book.state d)) ps) (sym kept) m.watched;
   })
 
-  module _ (c : Command) (old : Seen) (spares : List X) (o : Order) where
+  -- no visit was told of a task that nobody has
+  open_untold : (book : Seen) (d : Drive) (n : ℕ) (task : Task) → IsTask book.state.tasks n task → task.agent ≡ None → (agent number : ℕ) → ¬ HasMade book.opening.clock (fleet book.state d) (visit agent n number)
+  open_untold book d n task is is_open agent number m =
+      let same : m.task ≡ task = same_Some m.task task (sym m.is_task ∙ is) in
+      let clash : Some agent ≡ None = sym m.agent_is ∙ ap (λ (t : Task). t.agent) same ∙ is_open in
+      cc
+
+  module _ (c : Command) (old : Seen) (spares : List X) (o : Crew) where
     abbrev line_of : Heard
     line_of = Asked (Ok (Some c))
 
@@ -311,97 +372,153 @@ module _ {X : Type 0} (fits : X → Floor → Bool) (count : X → ℕ) (text : 
           lines.Answers fits count text bound line_of (depot old spares d) (depot new rest e) replies
       obeyed d e replies in_time g is = inr (record { in_time = in_time; gives = g; drive = is })
 
+      -- those that were kept and the one that was taken are kept
+      watched_by : (replies : List (List ℕ)) (g : Gives fits count (c ∷ []) (answers text (Ok (Some c))) old spares new rest replies) (d : Drive) → IsManned old o d →
+          AreWatched new.state (HasMade old.opening.clock (fleet old.state d)) (o.pending ++ kept_first (runs.entries_of g.outcomes) new.state.tasks)
+      watched_by replies g d m =
+          watched_on old.state new.state (HasMade old.opening.clock (fleet old.state d)) o.pending (kept_first (runs.entries_of g.outcomes) new.state.tasks) m.watched
+          (takes_ran fits count old.site c g.outcomes old.state spares new.state rest g.ran) (open_untold old d)
+
       -- its reply was not written to the end
       pub from_unwritten : ((d : Drive) → IsManned old o d → AsksToGoOn old.state (Ok (Some c)) → AllKeepUp d bound) →
           ServesUnwritten fits count text (Ok (Some c)) old spares new rest a b → BeginsFrom fits count text bound line_of Unwritten old spares o new rest a b
       from_unwritten in_time s d m =
           let e = gone_on s.gives.outcomes new.state d in
-          begins_still line_of old spares o new rest o d m Unwritten e s.replies a b (obeyed d e s.replies (in_time d m) s.gives refl) refl s.writes
+          begins_still line_of old spares o new rest d m Unwritten e s.replies a b (obeyed d e s.replies (in_time d m) s.gives refl) refl s.writes
 
-      -- the clock stays
-      pub from_still : (n : ℕ) → ((d : Drive) → IsManned old o d → AsksToGoOn old.state (Ok (Some c)) → AllKeepUp d bound) →
-          Obeys fits count text (Ok (Some c)) old spares new rest a b n → new.state.clock ≡ old.state.clock ⊎ (¬ AsksToGoOn old.state (Ok (Some c))) →
-          ServesFrom fits count text bound line_of old spares o new rest o a b
-      from_still n in_time s still d m =
-          let e = gone_on s.gives.outcomes new.state d in
-          let same : e ≡ d = stays_by (turns fits count old.site c s.gives.outcomes old.state spares new.state rest s.gives.ran) still in
-          serves_still line_of old spares o new rest o d m e s.replies a b (obeyed d e s.replies (in_time d m) s.gives refl) same m.in_step.represents s.appends
-        where
-          stays_by : {after : Drive → Drive} → Turns old.site old.state c new.state after → new.state.clock ≡ old.state.clock ⊎ (¬ AsksToGoOn old.state (Ok (Some c))) → after d ≡ d
-          stays_by (stays same none) still = none d
-          stays_by (goes later is asks entry step) (inl clock) = absurd (omega arith)
-          stays_by (goes later is asks entry step) (inr not) = absurd (not asks)
+      module _ (n : ℕ) (in_time : (d : Drive) → IsManned old o d → AsksToGoOn old.state (Ok (Some c)) → AllKeepUp d bound)
+          (s : Obeys fits count text (Ok (Some c)) old spares new rest a b n) where
+        -- where the clock stays, so do the vehicles
+        abbrev Stays : Type 0
+        Stays = new.state.clock ≡ old.state.clock ⊎ (¬ AsksToGoOn old.state (Ok (Some c)))
 
-      module _ (q p : Order) (f : Option (List ℕ)) (n : ℕ) (in_time : (d : Drive) → IsManned old o d → AsksToGoOn old.state (Ok (Some c)) → AllKeepUp d bound)
-          (s : Obeys fits count text (Ok (Some c)) old spares new rest a b n) (moved : new.state.clock ≢ old.state.clock)
-          (tick : (d : Drive) → Represents o d → MayTick d (places new.state) → Represents q (ticked (places new.state) d)) where
-        -- the clock goes on, and so do the vehicles
-        pub from_tick : ((d : Drive) → Represents q d → (e : Drive) × Represents p e × TellsAll d e b f) → ServesFrom fits count text bound line_of old spares o new rest p a f
-        from_tick go d m =
-            let t = ticks_now old o d new.state c (gone_on s.gives.outcomes new.state) m (turns fits count old.site c s.gives.outcomes old.state spares new.state rest s.gives.ran) moved in
-            let mid = ticked (places new.state) d in
-            let on = go mid (tick d m.in_step.represents t.may) in
-            serves_on line_of old spares o new rest p d m mid on.0 s.replies a b f (obeyed d mid s.replies (in_time d m) s.gives (sym t.is)) on.1 s.appends on.2
+        stays_by : {after : Drive → Drive} → Turns old.site old.state c new.state after → Stays → (new.state.clock ≡ old.state.clock) × ((d : Drive) → after d ≡ d)
+        stays_by (stays same none) still = (same, none)
+        stays_by (goes later is asks entry step) (inl clock) = absurd (omega arith)
+        stays_by (goes later is asks entry step) (inr not) = absurd (not asks)
 
-        pub from_tick_some : (fault : DispatchFault) → ((d : Drive) → Represents q d → (e : Drive) × TellsSome fault d e b f) →
-            BeginsFrom fits count text bound line_of fault old spares o new rest a f
-        from_tick_some fault go d m =
-            let t = ticks_now old o d new.state c (gone_on s.gives.outcomes new.state) m (turns fits count old.site c s.gives.outcomes old.state spares new.state rest s.gives.ran) moved in
-            let mid = ticked (places new.state) d in
-            let on = go mid (tick d m.in_step.represents t.may) in
-            begins_on line_of old spares o new rest p d m fault mid on.0 s.replies a b f (obeyed d mid s.replies (in_time d m) s.gives (sym t.is)) s.appends on.1
+        stays_here : Stays → (new.state.clock ≡ old.state.clock) × ((d : Drive) → gone_on s.gives.outcomes new.state d ≡ d)
+        stays_here still = stays_by (turns fits count old.site c s.gives.outcomes old.state spares new.state rest s.gives.ran) still
+
+        -- the clock stays, and no task is taken
+        pub from_still : (p : Crew) → p.order ≡ o.order → p.pending ≡ o.pending → kept_first (runs.entries_of s.gives.outcomes) new.state.tasks ≡ [] → Stays →
+            ServesFrom fits count text bound line_of old spares o new rest p a b
+        from_still p same kept none still d m =
+            let e = gone_on s.gives.outcomes new.state d in
+            let there = stays_here still in
+            let here : e ≡ d = there.1 d in
+            let before = before_ran fits count old.site c s.gives.outcomes old.state spares new.state rest s.gives.ran there.0 none in
+            let pending : o.pending ++ kept_first (runs.entries_of s.gives.outcomes) new.state.tasks ≡ p.pending =
+            ap (λ (ps : List Pending). o.pending ++ ps) none ∙ append-nil o.pending ∙ sym kept in
+            serves_still line_of old spares o new rest d m p e s.replies a b (obeyed d e s.replies (in_time d m) s.gives refl) here
+            (subst (λ (q : Order). Represents q d) (sym same) m.in_step.represents)
+            (subst (λ (ps : List Pending). AreWatched new.state (HasMade old.opening.clock (fleet old.state d)) ps) pending (watched_by s.replies s.gives d m))
+            (λ v made. (let now = subst (λ (f : Drive). HasMade old.opening.clock (fleet new.state f) v) here made in
+            record { task = now.task; is_task = before v.task v.agent now.task now.is_task now.agent_is; agent_is = now.agent_is; made = now.made }))
+            s.appends
+
+        module _ (q : Crew) (kept : q.pending ≡ o.pending ++ kept_first (runs.entries_of s.gives.outcomes) new.state.tasks)
+            (rep : (d : Drive) → IsManned old o d → Represents q.order (gone_on s.gives.outcomes new.state d)) where
+          watched_here : (d : Drive) → IsManned old o d → AreWatched new.state (HasMade old.opening.clock (fleet old.state d)) q.pending
+          watched_here d m = subst (λ (ps : List Pending). AreWatched new.state (HasMade old.opening.clock (fleet old.state d)) ps) (sym kept) (watched_by s.replies s.gives d m)
+
+          -- the vehicles go on behind it
+          pub from_gone : (p : Crew) (f : Option (List ℕ)) → ((d : Drive) → Represents q.order d → (e : Drive) × Represents p.order e × TellsAll new q.pending p.pending d e b f) →
+              ServesFrom fits count text bound line_of old spares o new rest p a f
+          from_gone p f go d m =
+              let mid = gone_on s.gives.outcomes new.state d in
+              let on = go mid (rep d m) in
+              serves_on line_of old spares o new rest d m p q.pending mid on.0 s.replies a b f (obeyed d mid s.replies (in_time d m) s.gives refl) (watched_here d m) on.1 s.appends on.2
+
+          pub from_gone_some : (fault : DispatchFault) (f : Option (List ℕ)) → ((d : Drive) → Represents q.order d → (e : Drive) × TellsSome fault new q.pending d e b f) →
+              BeginsFrom fits count text bound line_of fault old spares o new rest a f
+          from_gone_some fault f go d m =
+              let mid = gone_on s.gives.outcomes new.state d in
+              let on = go mid (rep d m) in
+              begins_on line_of old spares o new rest d m q.pending fault mid on.0 s.replies a b f (obeyed d mid s.replies (in_time d m) s.gives refl) (watched_here d m) s.appends on.1
+
+          pub stand_gone : SomeManned old o → SomeStanding new q
+          stand_gone some =
+              let d = some.0 in
+              let mid = gone_on s.gives.outcomes new.state d in
+              stand_on line_of old spares o new rest d some.1 q mid s.replies (obeyed d mid s.replies (in_time d some.1) s.gives refl) (watched_here d some.1) (rep d some.1)
+
+        -- a task was taken, or none
+        pub still_rep : (q : Crew) → q.order ≡ o.order → Stays → (d : Drive) → IsManned old o d → Represents q.order (gone_on s.gives.outcomes new.state d)
+        still_rep q same still d m =
+            subst (λ (e : Drive). Represents q.order e) (sym ((stays_here still).1 d)) (subst (λ (r : Order). Represents r d) (sym same) m.in_step.represents)
+
+        -- a tick takes none
+        pub none_asked : AsksToGoOn old.state (Ok (Some c)) → kept_first (runs.entries_of s.gives.outcomes) new.state.tasks ≡ []
+        none_asked asks = none_by_tick fits count old.site c s.gives.outcomes old.state spares new.state rest s.gives.ran
+            (same_Some c commands.Tick (ap (λ (r : Result (Option Command) LineFault). value_of r) asks.tick))
+          where
+            value_of : Result (Option Command) LineFault → Option Command
+            value_of (Ok x) = x
+            value_of (Err fault) = None
+
+        module _ (q : Crew) (same : q.pending ≡ o.pending) (asks : AsksToGoOn old.state (Ok (Some c))) (moved : new.state.clock ≢ old.state.clock)
+            (tick : (d : Drive) → Represents o.order d → MayTick d (places new.state) → Represents q.order (ticked (places new.state) d)) where
+          pub ticked_kept : q.pending ≡ o.pending ++ kept_first (runs.entries_of s.gives.outcomes) new.state.tasks
+          ticked_kept = same ∙ sym (append-nil o.pending) ∙ ap (λ (ps : List Pending). o.pending ++ ps) (sym (none_asked asks))
+
+          pub ticked_rep : (d : Drive) → IsManned old o d → Represents q.order (gone_on s.gives.outcomes new.state d)
+          ticked_rep d m =
+              let t = ticks_now old o d new.state c (gone_on s.gives.outcomes new.state) m (turns fits count old.site c s.gives.outcomes old.state spares new.state rest s.gives.ran) moved in
+              subst (λ (e : Drive). Represents q.order e) (sym t.is) (tick d m.in_step.represents t.may)
 
     module _ (a b : Option (List ℕ)) where
       -- the clock waits for a vehicle
-      held_up : (d : Drive) (notice : Notice) → IsManned old o d → AsksToGoOn old.state (Ok (Some c)) → TellsLate o bound notice →
+      held_up : (d : Drive) (notice : Notice) → IsManned old o d → AsksToGoOn old.state (Ok (Some c)) → TellsLate o.order bound notice →
           lines.Answers fits count text bound line_of (depot old spares d) (depot old spares d) (notice_text notice ∷ [])
       held_up d notice m asks late =
-          let l = late_one o bound notice d m.in_step.represents late in
+          let l = late_one o.order bound notice d m.in_step.represents late in
           inl (record { asks = asks; agent = l.0; last = l.1; late = l.2; same = refl; replies_are = ap (λ (n : Notice). notice_text n ∷ []) l.3 })
 
-      pub from_held : (notice : Notice) → AsksToGoOn old.state (Ok (Some c)) → TellsLate o bound notice → Appends a b (reply_line (notice_text notice)) →
+      pub from_held : (notice : Notice) → AsksToGoOn old.state (Ok (Some c)) → TellsLate o.order bound notice → Appends a b (reply_line (notice_text notice)) →
           ServesFrom fits count text bound line_of old spares o old spares o a b
       from_held notice asks late wrote d m =
-          serves_still line_of old spares o old spares o d m d (notice_text notice ∷ []) a b (held_up d notice m asks late) refl m.in_step.represents
+          serves_still line_of old spares o old spares d m o d (notice_text notice ∷ []) a b (held_up d notice m asks late) refl m.in_step.represents m.watched (λ v made. made)
           (subst (Appends a b) (text_one (notice_text notice)) wrote)
 
-      pub from_held_some : (notice : Notice) (fault : DispatchFault) → AsksToGoOn old.state (Ok (Some c)) → TellsLate o bound notice → fault ≡ Unwritten →
+      pub from_held_some : (notice : Notice) (fault : DispatchFault) → AsksToGoOn old.state (Ok (Some c)) → TellsLate o.order bound notice → fault ≡ Unwritten →
           WritesFront a b (reply_line (notice_text notice)) → BeginsFrom fits count text bound line_of fault old spares o old spares a b
       from_held_some notice fault asks late is w d m =
-          begins_still line_of old spares o old spares o d m fault d (notice_text notice ∷ []) a b (held_up d notice m asks late) is
+          begins_still line_of old spares o old spares d m fault d (notice_text notice ∷ []) a b (held_up d notice m asks late) is
           (subst (WritesFront a b) (text_one (notice_text notice)) w)
 
-      -- memory is wanting for a tick of the plan
-      starved : (d : Drive) → AllKeepUp d bound → lines.Answers fits count text bound line_of (depot old spares d) (depot old spares d) (codes "refused E90" ∷ [])
-      starved d keep = inr (record {
-        in_time = λ asks. keep;
-        gives = record {
-          outcomes = None ∷ [];
-          replies_are = refl;
-          ran = (old.state, spares, (refl, refl), (refl, refl));
-          history = sym (append-nil old.history);
-          run = refl;
-          served = λ formed. All-nil _;
-          site = refl;
-          opening = refl;
-        };
-        drive = refl;
-      })
+      module _ (in_time : (d : Drive) → IsManned old o d → AsksToGoOn old.state (Ok (Some c)) → AllKeepUp d bound) where
+        -- memory is wanting for a tick of the plan, or for a task that is taken
+        starved : (d : Drive) → IsManned old o d → lines.Answers fits count text bound line_of (depot old spares d) (depot old spares d) (codes "refused E90" ∷ [])
+        starved d m = inr (record {
+          in_time = in_time d m;
+          gives = record {
+            outcomes = None ∷ [];
+            replies_are = refl;
+            ran = (old.state, spares, (refl, refl), (refl, refl));
+            history = sym (append-nil old.history);
+            run = refl;
+            served = λ formed. All-nil _;
+            site = refl;
+            opening = refl;
+          };
+          drive = refl;
+        })
 
-      pub from_starved : (ready : Bool) → NoneIsLate o bound → Appends a b (reply_line (codes "refused E90")) → ServesFrom fits count text bound line_of old spares o old spares (record o { ready = ready }) a b
-      from_starved ready keep wrote d m =
-          serves_still line_of old spares o old spares (record o { ready = ready }) d m d (codes "refused E90" ∷ []) a b (starved d (keep_up o bound d m.in_step.represents keep)) refl
-          (manned_ready old o ready d m).in_step.represents (subst (Appends a b) (text_one (codes "refused E90")) wrote)
+        pub from_starved : (p : Crew) → ((d : Drive) → IsManned old o d → IsManned old p d) → Appends a b (reply_line (codes "refused E90")) → ServesFrom fits count text bound line_of old spares o old spares p a b
+        from_starved p manned wrote d m =
+            serves_still line_of old spares o old spares d m p d (codes "refused E90" ∷ []) a b (starved d m) refl (manned d m).in_step.represents (manned d m).watched (λ v made. made)
+            (subst (Appends a b) (text_one (codes "refused E90")) wrote)
 
-      pub from_starved_some : (fault : DispatchFault) → NoneIsLate o bound → fault ≡ Unwritten → WritesFront a b (reply_line (codes "refused E90")) →
-          BeginsFrom fits count text bound line_of fault old spares o old spares a b
-      from_starved_some fault keep is w d m =
-          begins_still line_of old spares o old spares o d m fault d (codes "refused E90" ∷ []) a b (starved d (keep_up o bound d m.in_step.represents keep)) is
-          (subst (WritesFront a b) (text_one (codes "refused E90")) w)
+        pub from_starved_some : (fault : DispatchFault) → fault ≡ Unwritten → WritesFront a b (reply_line (codes "refused E90")) →
+            BeginsFrom fits count text bound line_of fault old spares o old spares a b
+        from_starved_some fault is w d m =
+            begins_still line_of old spares o old spares d m fault d (codes "refused E90" ∷ []) a b (starved d m) is
+            (subst (WritesFront a b) (text_one (codes "refused E90")) w)
 
   -- a line that is no command, or asks for nothing
-  module _ (kind here : Result (Option Command) LineFault) (old : Seen) (spares : List X) (o : Order) (a b : Option (List ℕ)) (none : asked here ≡ []) (says : kind ≡ here)
-      (no_tick : here ≢ Ok (Some Tick)) where
+  module _ (kind here : Result (Option Command) LineFault) (old : Seen) (spares : List X) (o : Crew) (a b : Option (List ℕ)) (none : asked here ≡ []) (says : kind ≡ here)
+      (no_tick : here ≢ Ok (Some commands.Tick)) where
     answered_none : (d : Drive) → lines.Answers fits count text bound (Asked kind) (depot old spares d) (depot old spares d) (answers text here [])
     answered_none d =
         let g = gives_none fits count text kind old spares here none says in
@@ -415,67 +532,110 @@ module _ {X : Type 0} (fits : X → Floor → Bool) (count : X → ℕ) (text : 
 
     pub from_none : Appends a b (text_of (answers text here [])) → ServesFrom fits count text bound (Asked kind) old spares o old spares o a b
     from_none wrote d m =
-        serves_still (Asked kind) old spares o old spares o d m d (answers text here []) a b (answered_none d) refl m.in_step.represents wrote
+        serves_still (Asked kind) old spares o old spares d m o d (answers text here []) a b (answered_none d) refl m.in_step.represents m.watched (λ v made. made) wrote
 
     pub from_none_some : (fault : DispatchFault) → fault ≡ Unwritten → WritesFront a b (text_of (answers text here [])) →
         BeginsFrom fits count text bound (Asked kind) fault old spares o old spares a b
     from_none_some fault is w d m =
-        begins_still (Asked kind) old spares o old spares o d m fault d (answers text here []) a b (answered_none d) is w
+        begins_still (Asked kind) old spares o old spares d m fault d (answers text here []) a b (answered_none d) is w
 
   -- a report
-  module _ (report : Report) (old : Seen) (spares : List X) (o : Order) (a b : Option (List ℕ)) where
-    pub from_report : (p : Order) → ((d : Drive) → Represents o d → (e : Drive) × Represents p e × Hears report d e a b) →
+  module _ (report : Report) (old : Seen) (spares : List X) (o : Crew) (a b : Option (List ℕ)) where
+    heard_of : (d mid : Drive) (notice : Notice) → AnswersReport d report notice mid → lines.Answers fits count text bound (Reported report) (depot old spares d) (depot old spares mid) (notice_text notice ∷ [])
+    heard_of d mid notice answers = record { notice = notice; answers = answers; book = refl; spares = refl; replies_are = refl }
+
+    pub from_report : (p : Crew) → ((d : Drive) → Represents o.order d → (e : Drive) × Represents p.order e × Hears report old o.pending p.pending d e a b) →
         ServesFrom fits count text bound (Reported report) old spares o old spares p a b
     from_report p hear d m =
-        let h = hear d m.in_step.represents in
-        let replies = notice_text h.2.notice ∷ [] in
-        let answers : lines.Answers fits count text bound (Reported report) (depot old spares d) (depot old spares h.2.mid) replies =
-        record { notice = h.2.notice; answers = h.2.answers; book = refl; spares = refl; replies_are = refl } in
-        let took = takes (Reported report) (depot old spares d) (depot old spares h.2.mid) h.0 replies h.2.events answers h.2.only h.2.run in (
-          h.0,
-          stays_manned (Reported report) old spares o d old spares p h.0 (replies ++ go_lines (told_by h.2.mid h.2.events)) m took h.1 h.2.quiet,
-          record { texts = replies ++ go_lines (told_by h.2.mid h.2.events); serves = record { takes = took; quiet = h.2.quiet }; appends = h.2.appends },
-        )
+        let on = hear d m.in_step.represents in
+        let h = on.2 in
+        serves_on (Reported report) old spares o old spares d m p o.pending h.mid on.0 (notice_text h.notice ∷ []) a h.between b (heard_of d h.mid h.notice h.answers) m.watched on.1
+        (subst (Appends a h.between) (text_one (notice_text h.notice)) h.wrote) h.tells
 
-    pub from_report_some : (fault : DispatchFault) → ((d : Drive) → Represents o d → (e : Drive) × HearsSome fault report d e a b) →
+    pub from_report_some : (fault : DispatchFault) → ((d : Drive) → Represents o.order d → (e : Drive) × HearsSome fault report old o.pending d e a b) →
         BeginsFrom fits count text bound (Reported report) fault old spares o old spares a b
     from_report_some fault hear d m =
-        let h = hear d m.in_step.represents in
-        let replies = notice_text h.1.notice ∷ [] in
-        let answers : lines.Answers fits count text bound (Reported report) (depot old spares d) (depot old spares h.1.mid) replies =
-        record { notice = h.1.notice; answers = h.1.answers; book = refl; spares = refl; replies_are = refl } in (
-          h.0,
-          record {
-            texts = replies ++ go_lines (told_by h.1.mid h.1.events);
-            takes = takes (Reported report) (depot old spares d) (depot old spares h.1.mid) h.0 replies h.1.events answers h.1.only h.1.run;
-            writes = h.1.writes;
-          },
-        )
+        let on = hear d m.in_step.represents in
+        let h = on.1 in
+        elim h.some [
+          | inl cut ↦ begins_still (Reported report) old spares o old spares d m fault h.mid (notice_text h.notice ∷ []) a b (heard_of d h.mid h.notice h.answers) cut.0
+              (subst (WritesFront a b) (text_one (notice_text h.notice)) cut.2)
+          | inr tells ↦ begins_on (Reported report) old spares o old spares d m o.pending fault h.mid on.0 (notice_text h.notice ∷ []) a tells.0 b (heard_of d h.mid h.notice h.answers) m.watched
+              (subst (Appends a tells.0) (text_one (notice_text h.notice)) tells.1) tells.2
+        ]
 
   -- what a line says, by another name
-  pub served_as : (x y : Heard) (old : Seen) (spares : List X) (o : Order) (new : Seen) (rest : List X) (p : Order) (a b : Option (List ℕ)) → x ≡ y →
+  pub served_as : (x y : Heard) (old : Seen) (spares : List X) (o : Crew) (new : Seen) (rest : List X) (p : Crew) (a b : Option (List ℕ)) → x ≡ y →
       ServesFrom fits count text bound y old spares o new rest p a b → ServesFrom fits count text bound x old spares o new rest p a b
   served_as x y old spares o new rest p a b e s = subst (λ (z : Heard). ServesFrom fits count text bound z old spares o new rest p a b) (sym e) s
 
-  pub begun_as : (x y : Heard) (fault : DispatchFault) (old : Seen) (spares : List X) (o : Order) (new : Seen) (rest : List X) (a b : Option (List ℕ)) → x ≡ y →
+  pub begun_as : (x y : Heard) (fault : DispatchFault) (old : Seen) (spares : List X) (o : Crew) (new : Seen) (rest : List X) (a b : Option (List ℕ)) → x ≡ y →
       BeginsFrom fits count text bound y fault old spares o new rest a b → BeginsFrom fits count text bound x fault old spares o new rest a b
   begun_as x y fault old spares o new rest a b e s = subst (λ (z : Heard). BeginsFrom fits count text bound z fault old spares o new rest a b) (sym e) s
 
   -- room was made before
-  pub from_reserved : (line : Heard) (n : ℕ) (old : Seen) (spares : List X) (o ready : Order) (new : Seen) (rest : List X) (p : Order) (a b : Option (List ℕ)) → n ≡ bound →
-      ready ≡ record o { ready = true } → ServesFrom fits count text n line old spares ready new rest p a b → ServesFrom fits count text bound line old spares o new rest p a b
-  from_reserved line n old spares o ready new rest p a b same is s d m =
-      subst (λ k. ServesFrom fits count text k line old spares ready new rest p a b) same s d
-      (subst (λ (q : Order). IsManned old q d) (sym is) (manned_ready old o true d m))
+  pub from_reserved : (line : Heard) (n : ℕ) (old : Seen) (spares : List X) (o ready : Crew) (new : Seen) (rest : List X) (p : Crew) (a b : Option (List ℕ)) → n ≡ bound →
+      ((d : Drive) → IsManned old o d → IsManned old ready d) → ServesFrom fits count text n line old spares ready new rest p a b → ServesFrom fits count text bound line old spares o new rest p a b
+  from_reserved line n old spares o ready new rest p a b same manned s d m =
+      subst (λ k. ServesFrom fits count text k line old spares ready new rest p a b) same s d (manned d m)
 
-  pub differ_now : (c : Command) (old : Seen) (spares : List X) (o : Order) (new : Seen) (rest : List X) (a b : Option (List ℕ)) (n : ℕ) → SomeManned old o →
+  pub begun_reserved : (line : Heard) (fault : DispatchFault) (n : ℕ) (old : Seen) (spares : List X) (o ready : Crew) (new : Seen) (rest : List X) (a b : Option (List ℕ)) → n ≡ bound →
+      ((d : Drive) → IsManned old o d → IsManned old ready d) → BeginsFrom fits count text n line fault old spares ready new rest a b → BeginsFrom fits count text bound line fault old spares o new rest a b
+  begun_reserved line fault n old spares o ready new rest a b same manned s d m =
+      subst (λ k. BeginsFrom fits count text k line fault old spares ready new rest a b) same s d (manned d m)
+
+  pub differ_now : (c : Command) (old : Seen) (spares : List X) (o : Crew) (new : Seen) (rest : List X) (a b : Option (List ℕ)) (n : ℕ) → SomeManned old o →
       Obeys fits count text (Ok (Some c)) old spares new rest a b n → new.state.clock ≢ old.state.clock → AllPairs (λ x y. x ≢ y) (places new.state)
   differ_now c old spares o new rest a b n m s moved =
       (ticks_now old o m.0 new.state c (gone_on s.gives.outcomes new.state) m.1 (turns fits count old.site c s.gives.outcomes old.state spares new.state rest s.gives.ran) moved).may.differ
 
-  pub served_left : (line : Heard) (old : Seen) (spares : List X) (o : Order) (new : Seen) (rest : List X) (p q : Order) (a b : Option (List ℕ)) → q ≡ p →
-      ServesFrom fits count text bound line old spares o new rest p a b → ServesFrom fits count text bound line old spares o new rest q a b
-  served_left line old spares o new rest p q a b e s = subst (λ (x : Order). ServesFrom fits count text bound line old spares o new rest x a b) (sym e) s
+-- a run of vehicles keeps their number
+run_size : (d : Drive) (events : List Event) (e : Drive) → Run d events e → length e.vehicles ≡ length d.vehicles
+run_size d [] e run = ap (λ (f : Drive). length f.vehicles) run
+run_size d (Start agent ∷ events) e run = run_size run.0 events e run.2 ∙ ap (λ (f : Drive). length f.vehicles) run.1.1 ∙ length-set d.vehicles agent _
+run_size d (Arrive agent step ∷ events) e run = run_size run.0 events e run.2 ∙ ap (λ (f : Drive). length f.vehicles) run.1.1 ∙ length-set d.vehicles agent _
+run_size d (Tick cells ∷ events) e run = run_size run.0 events e run.2 ∙ ap (λ (f : Drive). length f.vehicles) run.1.1
+
+stand_as : (tasks : List Task) (n m : ℕ) (ps qs : List Pending) → m ≡ n → qs ≡ ps → ((p : Pending) → Contains ps p → IsStanding tasks n p) → (p : Pending) → Contains qs p → IsStanding tasks m p
+stand_as tasks n m ps qs e same stand p c =
+    let s = stand p (subst (λ (xs : List Pending). Contains xs p) same c) in
+    let known = s.known in
+    record { task = s.task; is_task = s.is_task; known = omega arith; told = s.told }
+
+-- the tasks that are kept stand, after vehicles have gone on
+pub stand_settled : (book : Seen) (old new : Crew) → (s : SomeStanding book old) → Settles s.drive new.order [] new.told → new.pending ≡ old.pending →
+    (p : Pending) → Contains new.pending p → IsStanding book.state.tasks (length new.order.vehicles) p
+stand_settled book old new s settles same =
+    let size = run_size s.drive settles.events settles.end settles.run in
+    let here = ap (λ (vs : List Vehicle). length vs) settles.represents.vehicles in
+    stand_as book.state.tasks (length s.drive.vehicles) (length new.order.vehicles) old.pending new.pending (omega arith) same s.stand
+
+answers_size : (d : Drive) (report : Report) (notice : Notice) (e : Drive) → AnswersReport d report notice e → length e.vehicles ≡ length d.vehicles
+answers_size d report (UnknownAgent agent) e a = ap (λ (f : Drive). length f.vehicles) a.2
+answers_size d report (NotTold agent step) e a = ap (λ (f : Drive). length f.vehicles) a.4
+answers_size d report (Arrived agent step) e a = run_size d a.4.events e a.4.run
+answers_size d report (Visited agent task visit) e a = absurd a
+answers_size d report (Go agent step cell) e a = absurd a
+answers_size d report (Behind agent steps) e a = absurd a
+
+-- after a report was answered
+pub stand_heard : (book : Seen) (old new : Crew) (report : Report) (notice : Notice) → (s : SomeStanding book old) → (e : Drive) → AnswersReport s.drive report notice e → Represents new.order e →
+    new.pending ≡ old.pending → SomeStanding book new
+stand_heard book old new report notice s e answers rep same =
+    record { drive = e; represents = rep; stand = stand_as book.state.tasks (length s.drive.vehicles) (length e.vehicles) old.pending new.pending (answers_size s.drive report notice e answers) same s.stand }
+
+-- the tasks that are kept stand, where all is manned
+pub standing_now : (book : Seen) (crew : Crew) → SomeManned book crew → SomeStanding book crew
+standing_now book crew some =
+    let d = some.0 in
+    let m = some.1 in
+    let c = m.in_step.carried in
+    record {
+      drive = d;
+      represents = m.in_step.represents;
+      stand = standing book.opening.clock book.state d (HasMade book.opening.clock (fleet book.state d)) crew.pending m.watched (length d.vehicles) c.come.all
+          (sound-reached book.site book.history book.state c.state).working (λ v told. told);
+    }
 
 pub none_late : (found : Option Notice) (A : Type 0) → IfNone found A → ((notice : Notice) → found ≡ Some notice → ⊥) → A
 none_late None A a not = a

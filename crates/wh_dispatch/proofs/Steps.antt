@@ -19,7 +19,7 @@ use Rattle.wh_order.specs.Orders.{Order}
 use Rattle.wh_order.proofs.Asking.{vehicles-size}
 use Rattle.wh_vehicles.specs.Plans.{taken, places}
 use Rattle.wh_vehicles.proofs.Planning.{size, each_step_may_be_taken}
-use Rattle.wh_dispatch.specs.Crews.{IsManned}
+use Rattle.wh_dispatch.specs.Crews.{Crew, IsManned}
 use Rattle.wh_dispatch.specs.Lines.{AsksToGoOn, gone_on}
 
 -- the clock stays, and so does each plan; or a tick was asked for, and each plan goes on with the clock
@@ -65,8 +65,8 @@ pub record Ticks (o : Order) (d : Drive) (new : State) (after : Drive → Drive)
   pub all : length new.paths ≡ length o.vehicles
   pub fits : o.clock + 1 < 2 ^ 64
 
-pub ticks_now : (old : Seen) (o : Order) (d : Drive) (new : State) (c : Command) (after : Drive → Drive) → IsManned old o d → Turns old.site old.state c new after →
-    new.clock ≢ old.state.clock → Ticks o d new after
+pub ticks_now : (old : Seen) (o : Crew) (d : Drive) (new : State) (c : Command) (after : Drive → Drive) → IsManned old o d → Turns old.site old.state c new after →
+    new.clock ≢ old.state.clock → Ticks o.order d new after
 ticks_now old o d new c after m (stays same none) moved = absurd (moved same)
 ticks_now old o d new c after m (goes later is asks entry step) moved =
     let r = m.in_step in
@@ -75,6 +75,6 @@ ticks_now old o d new c after m (goes later is asks entry step) moved =
     let most : old.state.clock ≤ 1000000000 = (limits_hold old.site old.history old.state r.carried.state).1 in
     let time = r.time in
     let here = r.represents.time in
-    let count = vehicles-size o d r.represents in
+    let count = vehicles-size o.order d r.represents in
     let all = may.all in
     record { may = may; is = is d; all = omega arith; fits = omega arith }

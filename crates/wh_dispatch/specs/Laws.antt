@@ -1,13 +1,10 @@
 -- what the lines of a script come to, all together
-use Rattle.std.specs.Prelude.{◌≡◌, ℕ, Bool, List, ◌++◌}
+use Rattle.std.specs.Prelude.{◌≡◌, ℕ, Bool, List, [], ◌∷◌, ◌++◌}
 use Rattle.wh_grid.specs.Grids.{Floor}
-use Rattle.wh_event.specs.declared.reply.Reply.{Reply}
-use Rattle.wh_vehicles.specs.Plans.{Fleet, Happening, AllHappen, entries_of}
-use Rattle.wh_dispatch.specs.Lines.{Depot, ServesAll}
-
--- the warehouse and the drive of its vehicles
-abbrev pub fleet_of : {X : Type 0} → Depot X → Fleet
-fleet_of depot = record { state = depot.book.state; drive = depot.drive }
+use Rattle.wh_log.specs.Told.{Answered}
+use Rattle.wh_vehicles.specs.Plans.{Happening, AllHappen, IsCarriedOut, entries_of}
+use Rattle.wh_vehicles.specs.Visits.{Visit}
+use Rattle.wh_dispatch.specs.Lines.{Depot, fleet_of, AreMadeNow, NoneIsLeft, ServesAll}
 
 -- One list of happenings leads there: entries, and vehicles that are told to go on and arrive. The history has grown by its
 -- entries, and by nothing else.
@@ -20,7 +17,25 @@ pub record HasHappened {X : Type 0} (old new : Depot X) : Type 0 where
 
 -- So it is with all lines that were served: by the laws of happenings they are a run of the warehouse, and one of its
 -- vehicles whose rows are the history's ticks.
-abbrev pub EachScriptHappens : {X : Type 0} → (X → Floor → Bool) → (X → ℕ) → (Reply → List ℕ) → Type 0
+abbrev pub EachScriptHappens : {X : Type 0} → (X → Floor → Bool) → (X → ℕ) → (Answered → List ℕ) → Type 0
 EachScriptHappens {X} fits count text =
     (bound : ℕ) (lines : List (List ℕ)) (old new : Depot X) (texts : List (List ℕ)) → ServesAll fits count text bound lines old new texts →
     HasHappened old new
+
+-- the visits that all lines told, one line after another
+abbrev pub visits_of : {X : Type 0} (fits : X → Floor → Bool) (count : X → ℕ) (text : Answered → List ℕ) (bound : ℕ) (lines : List (List ℕ)) (old new : Depot X) (texts : List (List ℕ)) →
+    ServesAll fits count text bound lines old new texts → List Visit
+visits_of fits count text bound [] old new texts all = []
+visits_of fits count text bound (line ∷ lines) old new texts all = all.3.takes.visits ++ visits_of fits count text bound lines all.0 new all.2 all.4
+
+-- what was told of visits is what was made
+pub record TellsWhatIsMade {X : Type 0} (old new : Depot X) (visits : List Visit) : Type 0 where
+  pub made : AreMadeNow old new visits
+  pub all : NoneIsLeft old new visits
+
+-- Of whatever lines were served, in whatever order: all visits that vehicles made meanwhile are told, each once, those of a
+-- task in its order, and no others.
+abbrev pub EachVisitIsTold : {X : Type 0} → (X → Floor → Bool) → (X → ℕ) → (Answered → List ℕ) → Type 0
+EachVisitIsTold {X} fits count text =
+    (bound : ℕ) (lines : List (List ℕ)) (old new : Depot X) (texts : List (List ℕ)) (all : ServesAll fits count text bound lines old new texts) →
+    IsCarriedOut old.book.site old.book.history (fleet_of old) → TellsWhatIsMade old new (visits_of fits count text bound lines old new texts all)

@@ -1,6 +1,8 @@
 pub mod Crews
+pub mod Visiting
 pub mod Lines
 pub mod Scripts
 pub mod Laws
 -- handed on, for the crates above
 pub use Rattle.wh_vehicles.specs.Plans
+pub use Rattle.wh_vehicles.specs.Visits

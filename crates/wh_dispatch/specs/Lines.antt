@@ -1,5 +1,6 @@
 -- what one line of a script with vehicles does, and what is told
-use Rattle.std.specs.Prelude.{◌≡◌, ◌⊎◌, ℕ, ◌-◌, ◌<◌, ◌≤◌, Bool, false, List, [], ◌∷◌, ◌++◌, length, map, Option, Some, None, Result, Ok, Err}
+use Rattle.std.specs.Prelude.{◌≡◌, ◌⊎◌, ℕ, ◌-◌, ◌<◌, ◌≤◌, Bool, false, List, [], ◌∷◌, ◌++◌, length, map, Contains, Option, Some, None, Result, Ok, Err}
+use Rattle.std.specs.List.{AllPairs}
 use Rattle.wh_grid.specs.Grids.{Floor}
 use Rattle.wh_core.specs.States.{State}
 use Rattle.wh_core.specs.Steps.{last_clock}
@@ -8,7 +9,7 @@ use Rattle.wh_event.specs.CommandLines.{command_of}
 use Rattle.wh_event.specs.declared.event.Command.{Command}
 use Rattle.wh_event.specs.declared.event.Command.TheVariants.{Tick}
 use Rattle.wh_event.specs.declared.entry.Entry.{Entry}
-use Rattle.wh_event.specs.declared.reply.Reply.{Reply}
+use Rattle.wh_log.specs.Told.{Answered}
 use Rattle.wh_event.specs.declared.fault.LineFault.{LineFault}
 use Rattle.wh_event.specs.declared.fault.LineFault.TheVariants.{TooLong}
 use Rattle.wh_replay.specs.Answers.{asked, answers}
@@ -21,16 +22,21 @@ use Rattle.wh_order.specs.declared.visit.Told.{Told}
 use Rattle.wh_vehicles.specs.Reports.{report_of}
 use Rattle.wh_vehicles.specs.Notices.{notice_text}
 use Rattle.wh_vehicles.specs.Driving.{AnswersReport}
-use Rattle.wh_vehicles.specs.Plans.{taken}
+use Rattle.wh_vehicles.specs.Plans.{taken, Fleet}
+use Rattle.wh_vehicles.specs.Visits.{Visit, HasMade}
 use Rattle.wh_vehicles.specs.declared.report.Report.{Report}
 use Rattle.wh_vehicles.specs.declared.notice.Notice.{Notice}
-use Rattle.wh_vehicles.specs.declared.notice.Notice.TheVariants.{Go, Behind}
+use Rattle.wh_vehicles.specs.declared.notice.Notice.TheVariants.{Go, Behind, Visited}
 
 -- the warehouse, its spare planners, and the drive of its vehicles
 pub record Depot (X : Type 0) : Type 0 where
   pub book : Seen
   pub spares : List X
   pub drive : Drive
+
+-- the warehouse and the drive of its vehicles
+abbrev pub fleet_of : {X : Type 0} → Depot X → Fleet
+fleet_of depot = record { state = depot.book.state; drive = depot.drive }
 
 -- What a line says: a report of a vehicle, or what it is as a command's.
 pub data Heard : Type 0 where
@@ -55,6 +61,32 @@ go_line told = notice_text (Go told.agent told.step told.cell)
 
 abbrev pub go_lines : List Told → List (List ℕ)
 go_lines told = map go_line told
+
+-- the line by which a visit is told that a vehicle has made
+abbrev pub visit_line : Visit → List ℕ
+visit_line v = notice_text (Visited v.agent v.task v.number)
+
+abbrev pub visit_lines : List Visit → List (List ℕ)
+visit_lines visits = map visit_line visits
+
+-- the visit is made, and was not made before
+pub record IsMadeNow {X : Type 0} (old new : Depot X) (v : Visit) : Type 0 where
+  pub made : HasMade old.book.opening.clock (fleet_of new) v
+  pub not_before : ¬ HasMade old.book.opening.clock (fleet_of old) v
+
+-- of one task, the one comes before the other
+abbrev pub InTurn : Visit → Visit → Type 0
+InTurn u v = u.task ≡ v.task → u.number < v.number
+
+-- The visits are made now, each stands there once, and those of a task are in its order.
+pub record AreMadeNow {X : Type 0} (old new : Depot X) (visits : List Visit) : Type 0 where
+  pub each : (v : Visit) → Contains visits v → IsMadeNow old new v
+  pub in_turn : AllPairs InTurn visits
+
+-- each visit that is made was made before, or is one of these
+abbrev pub NoneIsLeft : {X : Type 0} → Depot X → Depot X → List Visit → Type 0
+NoneIsLeft old new visits =
+    (v : Visit) → HasMade old.book.opening.clock (fleet_of new) v → HasMade old.book.opening.clock (fleet_of old) v ⊎ Contains visits v
 
 -- the line asks for a tick, and the warehouse would make it
 pub record AsksToGoOn (s : State) (kind : Result (Option Command) LineFault) : Type 0 where
@@ -82,7 +114,7 @@ gone_on (None ∷ outcomes) s d = d
 gone_on (Some entry ∷ outcomes) s d = taken entry.reply s d
 
 -- The line is answered as a script's without vehicles, and the plan goes on with the clock.
-pub record IsObeyed {X : Type 0} (fits : X → Floor → Bool) (count : X → ℕ) (text : Reply → List ℕ) (bound : ℕ) (kind : Result (Option Command) LineFault)
+pub record IsObeyed {X : Type 0} (fits : X → Floor → Bool) (count : X → ℕ) (text : Answered → List ℕ) (bound : ℕ) (kind : Result (Option Command) LineFault)
     (old new : Depot X) (replies : List (List ℕ)) : Type 0 where
   pub in_time : AsksToGoOn old.book.state kind → AllKeepUp old.drive bound
   pub gives : Gives fits count (asked kind) (answers text kind) old.book old.spares new.book new.spares replies
@@ -97,13 +129,13 @@ pub record IsHeardOf {X : Type 0} (report : Report) (old new : Depot X) (replies
   pub replies_are : replies ≡ notice_text notice ∷ []
 
 -- the reply to a line, if it has one, and what the line itself does
-abbrev pub Answers : {X : Type 0} → (X → Floor → Bool) → (X → ℕ) → (Reply → List ℕ) → ℕ → Heard → Depot X → Depot X → List (List ℕ) → Type 0
+abbrev pub Answers : {X : Type 0} → (X → Floor → Bool) → (X → ℕ) → (Answered → List ℕ) → ℕ → Heard → Depot X → Depot X → List (List ℕ) → Type 0
 Answers fits count text bound (Reported report) old new replies = IsHeardOf report old new replies
 Answers fits count text bound (Asked kind) old new replies = IsHeldUp bound kind old new replies ⊎ IsObeyed fits count text bound kind old new replies
 
--- A line is answered, and then vehicles go on: each step that leads away is told as it is to be made, in order, and steps
--- that stay are passed.
-pub record TakesLine {X : Type 0} (fits : X → Floor → Bool) (count : X → ℕ) (text : Reply → List ℕ) (bound : ℕ) (line : Heard) (old new : Depot X)
+-- A line is answered, and then vehicles go on: steps that stay are passed, visits are told that were made, each once, and
+-- then each step that leads away as it is to be made, in order.
+pub record TakesLine {X : Type 0} (fits : X → Floor → Bool) (count : X → ℕ) (text : Answered → List ℕ) (bound : ℕ) (line : Heard) (old new : Depot X)
     (texts : List (List ℕ)) : Type 0 where
   pub mid : Depot X
   pub replies : List (List ℕ)
@@ -113,23 +145,26 @@ pub record TakesLine {X : Type 0} (fits : X → Floor → Bool) (count : X → �
   pub run : Run mid.drive events new.drive
   pub book : new.book ≡ mid.book
   pub spares : new.spares ≡ mid.spares
-  pub texts_are : texts ≡ replies ++ go_lines (told_by mid.drive events)
+  pub visits : List Visit
+  pub made : AreMadeNow old new visits
+  pub texts_are : texts ≡ replies ++ (visit_lines visits ++ go_lines (told_by mid.drive events))
 
--- All of it is done: nobody who may start has not been told.
-pub record ServesLine {X : Type 0} (fits : X → Floor → Bool) (count : X → ℕ) (text : Reply → List ℕ) (bound : ℕ) (line : Heard) (old new : Depot X)
+-- All of it is done: nobody who may start has not been told, and no visit that was made is untold.
+pub record ServesLine {X : Type 0} (fits : X → Floor → Bool) (count : X → ℕ) (text : Answered → List ℕ) (bound : ℕ) (line : Heard) (old new : Depot X)
     (texts : List (List ℕ)) : Type 0 where
   pub takes : TakesLine fits count text bound line old new texts
   pub quiet : IsQuiet new.drive
+  pub all : NoneIsLeft old new takes.visits
 
 -- all lines were served, one after another
-abbrev pub ServesAll : {X : Type 0} → (X → Floor → Bool) → (X → ℕ) → (Reply → List ℕ) → ℕ → List (List ℕ) → Depot X → Depot X → List (List ℕ) → Type 0
+abbrev pub ServesAll : {X : Type 0} → (X → Floor → Bool) → (X → ℕ) → (Answered → List ℕ) → ℕ → List (List ℕ) → Depot X → Depot X → List (List ℕ) → Type 0
 ServesAll fits count text bound [] old new texts = (new ≡ old) × (texts ≡ [])
 ServesAll {X} fits count text bound (line ∷ lines) old new texts =
     (mid : Depot X) × (first : List (List ℕ)) × (rest : List (List ℕ)) × ServesLine fits count text bound (heard line) old mid first
     × ServesAll fits count text bound lines mid new rest × (texts ≡ first ++ rest)
 
 -- Lines were served, and the last of them may have been left before its vehicles had all gone on.
-pub record LeavesOff {X : Type 0} (fits : X → Floor → Bool) (count : X → ℕ) (text : Reply → List ℕ) (bound : ℕ) (lines : List (List ℕ)) (old new : Depot X)
+pub record LeavesOff {X : Type 0} (fits : X → Floor → Bool) (count : X → ℕ) (text : Answered → List ℕ) (bound : ℕ) (lines : List (List ℕ)) (old new : Depot X)
     (texts : List (List ℕ)) : Type 0 where
   pub before : List (List ℕ)
   pub line : List ℕ

@@ -1,5 +1,5 @@
 -- what a script with vehicles gives, and what a beginning of it gives
-use Rattle.std.specs.Prelude.{◌⊎◌, ℕ, Bool, List, ◌∷◌, ◌++◌, Option}
+use Rattle.std.specs.Prelude.{◌≡◌, ◌⊎◌, ℕ, Bool, List, [], ◌++◌, Option}
 use Rattle.std.specs.Io.KnownBytes.{Appends, IsAtEnd}
 use Rattle.wh_text.specs.Lines.{lines_of}
 use Rattle.wh_lines.specs.Text.{EndsLine}
@@ -9,19 +9,21 @@ use Rattle.wh_lines.specs.declared.next.LineFault.{LineFault as NoLine}
 use Rattle.wh_lines.specs.declared.next.LineFault.TheVariants.{Read, Flush}
 use Rattle.wh_lines.specs.declared.lines.ReadFault.TheVariants as reads
 use Rattle.wh_grid.specs.Grids.{Floor}
-use Rattle.wh_event.specs.declared.reply.Reply.{Reply}
+use Rattle.wh_log.specs.Told.{Answered}
 use Rattle.wh_book.specs.Drafts.{Seen}
-use Rattle.wh_replay.specs.Answers.{text_of}
+use Rattle.wh_replay.specs.Answers.{reply_line, text_of}
 use Rattle.wh_drive.specs.Drives.{Drive}
 use Rattle.wh_drive.specs.Runs.{Event, Run}
-use Rattle.wh_order.specs.Orders.{Order}
 use Rattle.wh_order.specs.Settling.{IsQuiet, OnlySettle, told_by}
 use Rattle.wh_vehicles.specs.Notices.{notice_text}
 use Rattle.wh_vehicles.specs.Driving.{AnswersReport}
+use Rattle.wh_vehicles.specs.Visits.{Visit}
 use Rattle.wh_vehicles.specs.declared.report.Report.{Report}
 use Rattle.wh_vehicles.specs.declared.notice.Notice.{Notice}
-use Rattle.wh_dispatch.specs.Crews.{IsManned}
-use Rattle.wh_dispatch.specs.Lines.{Depot, Heard, TakesLine, ServesLine, ServesAll, LeavesOff, go_lines}
+use Rattle.wh_dispatch.specs.Crews.{Crew, IsManned}
+use Rattle.wh_dispatch.specs.Visiting.{due_visits, left_after}
+use Rattle.wh_dispatch.specs.Lines.{Depot, Heard, TakesLine, ServesLine, ServesAll, LeavesOff, go_lines, visit_lines}
+use Rattle.wh_dispatch.specs.declared.visits.Pending.{Pending}
 use Rattle.wh_dispatch.specs.declared.script.DispatchFault.{DispatchFault}
 use Rattle.wh_dispatch.specs.declared.script.DispatchFault.TheVariants.{Broken, Endless, Unwritten, NoMemory}
 
@@ -32,37 +34,41 @@ WritesUntil Broken had has bytes = Appends had has bytes
 WritesUntil Endless had has bytes = Appends had has bytes
 WritesUntil NoMemory had has bytes = Appends had has bytes
 
--- vehicles go on as far as they may, and what is told of it stands behind what was written
-pub record TellsAll (d e : Drive) (had has : Option (List ℕ)) : Type 0 where
+-- Vehicles go on as far as they may. The visits that they have made by then and that were not told, and then their steps,
+-- stand behind what was written; of the tasks those are kept of which not all visits were told.
+pub record TellsAll (book : Seen) (pending left : List Pending) (d e : Drive) (had has : Option (List ℕ)) : Type 0 where
   pub events : List Event
   pub only : OnlySettle d events
   pub run : Run d events e
   pub quiet : IsQuiet e
-  pub appends : Appends had has (text_of (go_lines (told_by d events)))
+  pub left_are : left ≡ left_after book.opening.clock book.state.tasks e.vehicles pending
+  pub appends : Appends had has (text_of (visit_lines (due_visits book.opening.clock book.state.tasks e.vehicles pending) ++ go_lines (told_by d events)))
 
 -- vehicles go on, and what is told of it was not written to the end, or not found for want of memory
-pub record TellsSome (fault : DispatchFault) (d e : Drive) (had has : Option (List ℕ)) : Type 0 where
+pub record TellsSome (fault : DispatchFault) (book : Seen) (pending : List Pending) (d e : Drive) (had has : Option (List ℕ)) : Type 0 where
   pub events : List Event
   pub only : OnlySettle d events
   pub run : Run d events e
-  pub writes : WritesUntil fault had has (text_of (go_lines (told_by d events)))
+  pub visits : List Visit
+  pub visits_are : (visits ≡ []) ⊎ (visits ≡ due_visits book.opening.clock book.state.tasks e.vehicles pending)
+  pub writes : WritesUntil fault had has (text_of (visit_lines visits ++ go_lines (told_by d events)))
 
 -- one line was served, and what it is told stands behind what was written
-pub record Serves {X : Type 0} (fits : X → Floor → Bool) (count : X → ℕ) (text : Reply → List ℕ) (bound : ℕ) (line : Heard) (old new : Depot X)
+pub record Serves {X : Type 0} (fits : X → Floor → Bool) (count : X → ℕ) (text : Answered → List ℕ) (bound : ℕ) (line : Heard) (old new : Depot X)
     (had has : Option (List ℕ)) : Type 0 where
   pub texts : List (List ℕ)
   pub serves : ServesLine fits count text bound line old new texts
   pub appends : Appends had has (text_of texts)
 
 -- one line was begun
-pub record Begins {X : Type 0} (fits : X → Floor → Bool) (count : X → ℕ) (text : Reply → List ℕ) (bound : ℕ) (fault : DispatchFault) (line : Heard) (old new : Depot X)
+pub record Begins {X : Type 0} (fits : X → Floor → Bool) (count : X → ℕ) (text : Answered → List ℕ) (bound : ℕ) (fault : DispatchFault) (line : Heard) (old new : Depot X)
     (had has : Option (List ℕ)) : Type 0 where
   pub texts : List (List ℕ)
   pub takes : TakesLine fits count text bound line old new texts
   pub writes : WritesUntil fault had has (text_of texts)
 
 -- whole lines were read and served
-pub record Follows {X : Type 0} (fits : X → Floor → Bool) (count : X → ℕ) (text : Reply → List ℕ) (bound : ℕ) (before after : Input) (old new : Depot X)
+pub record Follows {X : Type 0} (fits : X → Floor → Bool) (count : X → ℕ) (text : Answered → List ℕ) (bound : ℕ) (before after : Input) (old new : Depot X)
     (had has : Option (List ℕ)) : Type 0 where
   pub read : List ℕ
   pub takes : Takes before after read
@@ -72,7 +78,7 @@ pub record Follows {X : Type 0} (fits : X → Floor → Bool) (count : X → ℕ
   pub appends : Appends had has (text_of texts)
 
 -- All was read to the end, and what was written is what the lines are told.
-pub record Dispatches {X : Type 0} (fits : X → Floor → Bool) (count : X → ℕ) (text : Reply → List ℕ) (bound : ℕ) (before after : Input) (old new : Depot X)
+pub record Dispatches {X : Type 0} (fits : X → Floor → Bool) (count : X → ℕ) (text : Answered → List ℕ) (bound : ℕ) (before after : Input) (old new : Depot X)
     (had has : Option (List ℕ)) : Type 0 where
   pub read : List ℕ
   pub takes : Takes before after read
@@ -82,7 +88,7 @@ pub record Dispatches {X : Type 0} (fits : X → Floor → Bool) (count : X → 
   pub appends : Appends had has (text_of texts)
 
 -- A beginning of the script was served. What follows it in the bytes that were taken is part of a line that was not served.
-pub record Stops {X : Type 0} (fits : X → Floor → Bool) (count : X → ℕ) (text : Reply → List ℕ) (bound : ℕ) (fault : DispatchFault) (before after : Input) (old new : Depot X)
+pub record Stops {X : Type 0} (fits : X → Floor → Bool) (count : X → ℕ) (text : Answered → List ℕ) (bound : ℕ) (fault : DispatchFault) (before after : Input) (old new : Depot X)
     (had has : Option (List ℕ)) : Type 0 where
   pub read : List ℕ
   pub begun : List ℕ
@@ -98,50 +104,51 @@ fault_of (Read reads.Endless) = Endless
 fault_of Flush = Unwritten
 
 -- From each drive of the vehicles a line was served.
-abbrev pub ServesFrom : {X : Type 0} → (X → Floor → Bool) → (X → ℕ) → (Reply → List ℕ) → ℕ → Heard → Seen → List X → Order → Seen → List X → Order → Option (List ℕ) → Option (List ℕ) → Type 0
-ServesFrom fits count text bound line old spares order new rest next had has =
-    (d : Drive) → IsManned old order d → (e : Drive) × IsManned new next e
+abbrev pub ServesFrom : {X : Type 0} → (X → Floor → Bool) → (X → ℕ) → (Answered → List ℕ) → ℕ → Heard → Seen → List X → Crew → Seen → List X → Crew → Option (List ℕ) → Option (List ℕ) → Type 0
+ServesFrom fits count text bound line old spares crew new rest next had has =
+    (d : Drive) → IsManned old crew d → (e : Drive) × IsManned new next e
     × Serves fits count text bound line (record { book = old; spares = spares; drive = d }) (record { book = new; spares = rest; drive = e }) had has
 
 -- From each drive of the vehicles a line was begun.
-abbrev pub BeginsFrom : {X : Type 0} → (X → Floor → Bool) → (X → ℕ) → (Reply → List ℕ) → ℕ → Heard → DispatchFault → Seen → List X → Order → Seen → List X → Option (List ℕ) → Option (List ℕ) → Type 0
-BeginsFrom fits count text bound line fault old spares order new rest had has =
-    (d : Drive) → IsManned old order d → (e : Drive)
+abbrev pub BeginsFrom : {X : Type 0} → (X → Floor → Bool) → (X → ℕ) → (Answered → List ℕ) → ℕ → Heard → DispatchFault → Seen → List X → Crew → Seen → List X → Option (List ℕ) → Option (List ℕ) → Type 0
+BeginsFrom fits count text bound line fault old spares crew new rest had has =
+    (d : Drive) → IsManned old crew d → (e : Drive)
     × Begins fits count text bound fault line (record { book = old; spares = spares; drive = d }) (record { book = new; spares = rest; drive = e }) had has
 
 -- From each drive of the vehicles the whole script was served.
-abbrev pub DispatchesFrom : {X : Type 0} → (X → Floor → Bool) → (X → ℕ) → (Reply → List ℕ) → ℕ → Input → Input → Seen → List X → Order → Seen → List X → Order → Option (List ℕ) → Option (List ℕ) → Type 0
-DispatchesFrom fits count text bound before after old spares order new rest next had has =
-    (d : Drive) → IsManned old order d → (e : Drive) × IsManned new next e
+abbrev pub DispatchesFrom : {X : Type 0} → (X → Floor → Bool) → (X → ℕ) → (Answered → List ℕ) → ℕ → Input → Input → Seen → List X → Crew → Seen → List X → Crew → Option (List ℕ) → Option (List ℕ) → Type 0
+DispatchesFrom fits count text bound before after old spares crew new rest next had has =
+    (d : Drive) → IsManned old crew d → (e : Drive) × IsManned new next e
     × Dispatches fits count text bound before after (record { book = old; spares = spares; drive = d }) (record { book = new; spares = rest; drive = e }) had has
 
 -- From each drive of the vehicles a beginning of the script was served.
-abbrev pub StopsFrom : {X : Type 0} → (X → Floor → Bool) → (X → ℕ) → (Reply → List ℕ) → ℕ → DispatchFault → Input → Input → Seen → List X → Order → Seen → List X → Option (List ℕ) → Option (List ℕ) → Type 0
-StopsFrom fits count text bound fault before after old spares order new rest had has =
-    (d : Drive) → IsManned old order d → (e : Drive)
+abbrev pub StopsFrom : {X : Type 0} → (X → Floor → Bool) → (X → ℕ) → (Answered → List ℕ) → ℕ → DispatchFault → Input → Input → Seen → List X → Crew → Seen → List X → Option (List ℕ) → Option (List ℕ) → Type 0
+StopsFrom fits count text bound fault before after old spares crew new rest had has =
+    (d : Drive) → IsManned old crew d → (e : Drive)
     × Stops fits count text bound fault before after (record { book = old; spares = spares; drive = d }) (record { book = new; spares = rest; drive = e }) had has
 
 -- the vehicles have a drive in which they stand so
-abbrev pub SomeManned : Seen → Order → Type 0
-SomeManned book order = (d : Drive) × IsManned book order d
+abbrev pub SomeManned : Seen → Crew → Type 0
+SomeManned book crew = (d : Drive) × IsManned book crew d
 
 -- A report is answered, and vehicles go on as far as they may.
-pub record Hears (report : Report) (d e : Drive) (had has : Option (List ℕ)) : Type 0 where
+pub record Hears (report : Report) (book : Seen) (pending left : List Pending) (d e : Drive) (had has : Option (List ℕ)) : Type 0 where
   pub notice : Notice
   pub mid : Drive
   pub answers : AnswersReport d report notice mid
-  pub events : List Event
-  pub only : OnlySettle mid events
-  pub run : Run mid events e
-  pub quiet : IsQuiet e
-  pub appends : Appends had has (text_of (notice_text notice ∷ go_lines (told_by mid events)))
+  pub between : Option (List ℕ)
+  pub wrote : Appends had between (reply_line (notice_text notice))
+  pub tells : TellsAll book pending left mid e between has
+
+-- a front of the answer to a report was written, or it and some of what vehicles are told then
+abbrev pub AnswersSome : DispatchFault → List ℕ → Seen → List Pending → Drive → Drive → Option (List ℕ) → Option (List ℕ) → Type 0
+AnswersSome fault answer book pending mid e had has =
+    ((fault ≡ Unwritten) × (e ≡ mid) × WritesFront had has (reply_line answer))
+    ⊎ ((between : Option (List ℕ)) × Appends had between (reply_line answer) × TellsSome fault book pending mid e between has)
 
 -- the same, not written to the end, or not to the end for want of memory
-pub record HearsSome (fault : DispatchFault) (report : Report) (d e : Drive) (had has : Option (List ℕ)) : Type 0 where
+pub record HearsSome (fault : DispatchFault) (report : Report) (book : Seen) (pending : List Pending) (d e : Drive) (had has : Option (List ℕ)) : Type 0 where
   pub notice : Notice
   pub mid : Drive
   pub answers : AnswersReport d report notice mid
-  pub events : List Event
-  pub only : OnlySettle mid events
-  pub run : Run mid events e
-  pub writes : WritesUntil fault had has (text_of (notice_text notice ∷ go_lines (told_by mid events)))
+  pub some : AnswersSome fault (notice_text notice) book pending mid e had has

@@ -1,16 +1,27 @@
 //! The vehicles of a warehouse.
 
-ghost use Rattle.std.specs.Prelude.{◌≡◌, ◌≢◌, ℕ, ◌+◌, ◌^◌, ◌<◌, ◌≤◌, [], List, Option, OnOk, OnErr, IfOk, IfSome, IfNone, Bool, cond, length, true};
+ghost use Rattle.std.specs.Prelude.{◌≡◌, ◌≢◌, ℕ, ◌+◌, ◌^◌, ◌<◌, ◌≤◌, ◌++◌, ◌∷◌, [], List, Option, OnOk, OnErr, IfOk, IfErr, IfSome, IfNone, Bool, cond, length, true, false, Contains};
+ghost use Rattle.std.specs.Io.KnownBytes.{Appends};
+ghost use Rattle.wh_lines.specs.Output.{WritesFront};
+ghost use Rattle.wh_event.specs.declared.entry.Entry.{Entry as Line};
+ghost use Rattle.wh_replay.specs.Answers.{text_of};
 ghost use Rattle.std.specs.List.{AllPairs, count_by};
 ghost use Rattle.wh_drive.specs.Drives.{Drive, MayTick, opened, ticked};
 ghost use Rattle.wh_order.specs.Orders.{Represents, vehicle_in};
 ghost use Rattle.wh_order.specs.Settling.{IsQuiet, Settles};
 ghost use Rattle.wh_vehicles.specs.Driving.{AnswersReport, TellsLate, NoneIsLate};
 ghost use Rattle.wh_vehicles.specs.Plans.{places};
-ghost use Rattle.wh_dispatch.specs.Crews.{IsManned, is_under_way};
+ghost use Rattle.wh_dispatch.specs.declared.visits.Pending.{Pending as Watched};
+ghost use Rattle.wh_dispatch.specs.Crews.{Crew, IsManned, is_under_way};
+ghost use Rattle.wh_dispatch.specs.Lines.{visit_lines};
+ghost use Rattle.wh_dispatch.specs.Visiting.{IsStanding, taken_in, kept_first, listed, due_visits, left_after};
 
+use crate::script::DispatchFault;
+use crate::visits::{Pending, keep_left, tell_due};
 use std::alloc::{AllocError, Global};
+use std::io::Write;
 use std::marker::Model;
+use wh_event::{Entry, Event, Reply};
 use wh_grid::Cell;
 use wh_order::{Told, VisitOrder};
 use wh_planner::Planner;
@@ -27,6 +38,8 @@ pub struct Vehicles {
     row: Vec<Cell>,
     /// What was told last.
     told: Vec<Told>,
+    /// The tasks of which not all visits were told, in the order in which they were taken.
+    pending: Vec<Pending>,
 }
 
 impl Model for Vehicles {
@@ -34,7 +47,16 @@ impl Model for Vehicles {
 
     ghost Value = { Crew };
 
-    ghost view = { λ v. record { order = v.order; bound = v.bound; told = v.told.items; row = v.row.items } };
+    ghost use Rattle.std.specs.Prelude.{vec_capacity};
+
+    ghost view = { λ v. record {
+      order = v.order;
+      bound = v.bound;
+      told = v.told.items;
+      row = v.row.items;
+      pending = v.pending.items;
+      room = vec_capacity v.pending;
+    } };
 }
 
 /// Where the agents are.
@@ -58,6 +80,51 @@ fn write_row<P: Planner>(row: &mut Vec<Cell>, warehouse: &Warehouse<P>)
     }
 }
 
+/// The task that an agent takes by an entry, but for its stops.
+fn taken_by(entry: &Entry) -> Option<Pending>
+    ensures { result ≡ taken_in entry.now.reply entry.now.event }
+{
+    match &entry.event {
+        Event::Request { agent } => match &entry.reply {
+            Reply::Took { task, .. } => Some(Pending {
+                agent: *agent,
+                task: *task,
+                stops: 0,
+                told: 0,
+            }),
+            _ => None,
+        },
+        _ => None,
+    }
+}
+
+/// The same of the last entry of a history.
+fn taken_last(history: &[Entry]) -> Option<Pending>
+    ensures { (front : List Line) (entry : Line) → history.now ≡ front ++ entry ∷ [] → result ≡ taken_in entry.reply entry.event }
+{
+    match history {
+        [.., entry] => taken_by(entry),
+        [] => None,
+    }
+}
+
+/// The task that an agent took by the last of the warehouse's entries, to be kept, if there are more than before.
+fn taken_behind<P: Planner>(warehouse: &Warehouse<P>, before: usize) -> Option<Pending>
+    ensures { (front more : List Line) → warehouse.now.book.history ≡ front ++ more → length front ≡ before → length more ≤ 1 → kept_first more warehouse.now.book.state.tasks ≡ listed result }
+{
+    let history = warehouse.history();
+    if history.len() <= before {
+        return None;
+    }
+    match taken_last(history) {
+        None => None,
+        Some(one) => {
+            let stops = warehouse.task(one.task).stops.as_slice().len() as u32;
+            Some(Pending { stops, ..one })
+        }
+    }
+}
+
 impl Vehicles {
     /// A vehicle for each agent of a warehouse at its opening, where the agent stands. The clock waits while one is `behind`
     /// steps or more behind; each may be told `ahead` cells ahead.
@@ -69,7 +136,7 @@ impl Vehicles {
     ) -> Result<Vehicles, AllocError>
         requires opening { warehouse.now.book.history ≡ [] }
         requires some { 1 ≤ ahead }
-        ensures manned { IfOk result (λ v. IsManned warehouse.now.book v.order (opened warehouse.now.book.site.layout.nofollow ahead (places warehouse.now.book.state))) }
+        ensures manned { IfOk result (λ v. IsManned warehouse.now.book v (opened warehouse.now.book.site.layout.nofollow ahead (places warehouse.now.book.state))) }
         ensures bound { IfOk result (λ v. v.bound ≡ behind) }
     {
         let _agents = warehouse.agents();
@@ -78,18 +145,20 @@ impl Vehicles {
         let order = VisitOrder::open(alloc, row.as_slice(), ahead)?;
         let mut told = Vec::new(alloc);
         told.reserve(row.len())?;
+        let pending = Vec::new(alloc);
         Ok(Vehicles {
             order,
             bound: behind,
             row,
             told,
+            pending,
         })
     }
 
     /// What a report is answered.
     pub(crate) fn hear(&mut self, report: Report) -> Notice
         ensures drive { (d : Drive) → Represents self.old.order d → (e : Drive) × AnswersReport d report result e × Represents self.new.order e }
-        ensures bound { self.new.bound ≡ self.old.bound }
+        ensures others { self.new ≡ record self.old { order = self.new.order } }
     {
         answer_report(&mut self.order, report)
     }
@@ -112,6 +181,7 @@ impl Vehicles {
         ensures row { OnOk result (length self.new.row ≡ length warehouse.now.book.state.paths) }
         ensures err { OnErr result ((ready : Bool) × (self.new.order ≡ record self.old.order { ready = ready })) }
         ensures bound { self.new.bound ≡ self.old.bound }
+        ensures pending { self.new.pending ≡ self.old.pending }
     {
         self.row = row_of(alloc, warehouse)?;
         self.order.reserve()
@@ -126,6 +196,7 @@ impl Vehicles {
         requires differ { AllPairs (λ a b. a ≢ b) (places warehouse.now.book.state) }
         ensures drive { (d : Drive) → Represents self.old.order d → MayTick d (places warehouse.now.book.state) → Represents self.new.order (ticked (places warehouse.now.book.state) d) }
         ensures bound { self.new.bound ≡ self.old.bound }
+        ensures pending { self.new.pending ≡ self.old.pending }
     {
         write_row(&mut self.row, warehouse);
         self.order.tick(self.row.as_slice());
@@ -136,6 +207,7 @@ impl Vehicles {
         ensures drive { OnOk result ((d : Drive) → Represents self.old.order d → Settles d self.new.order [] self.new.told) }
         ensures quiet { OnOk result ((d : Drive) → Represents self.new.order d → IsQuiet d) }
         ensures bound { self.new.bound ≡ self.old.bound }
+        ensures pending { self.new.pending ≡ self.old.pending }
     {
         self.told.clear();
         self.order.settle(&mut self.told)
@@ -167,6 +239,49 @@ impl Vehicles {
             count += self.under_way(agent);
         }
         count
+    }
+
+    /// Makes room for one task more, which can then be kept.
+    pub(crate) fn reserve_task(&mut self) -> Result<(), AllocError>
+        ensures same { self.new ≡ record self.old { room = self.new.room } }
+        ensures ok { OnOk result (length self.new.pending < self.new.room) }
+    {
+        self.pending.reserve(1)
+    }
+
+    /// The task is kept that an agent took by the last of the warehouse's entries, if there are more than before. Whether one
+    /// is.
+    pub(crate) fn keep_taken<P: Planner>(&mut self, warehouse: &Warehouse<P>, before: usize) -> bool
+        requires room { length self.old.pending < self.old.room }
+        ensures pending { (front more : List Line) → warehouse.now.book.history ≡ front ++ more → length front ≡ before → length more ≤ 1 → self.new.pending ≡ self.old.pending ++ kept_first more warehouse.now.book.state.tasks }
+        ensures same { self.new ≡ record self.old { pending = self.new.pending } }
+        ensures none { result ≡ false → self.new.pending ≡ self.old.pending }
+    {
+        match taken_behind(warehouse, before) {
+            None => false,
+            Some(one) => {
+                self.pending.push_reserved(one);
+                true
+            }
+        }
+    }
+
+    /// Tells the visits that vehicles have made and that were not told, and forgets the tasks of which none is left.
+    pub(crate) fn tell_visits<W: Write, P: Planner>(
+        &mut self,
+        writer: &mut W,
+        warehouse: &Warehouse<P>,
+    ) -> Result<(), DispatchFault>
+        requires stand { (p : Watched) → Contains self.old.pending p → IsStanding warehouse.now.book.state.tasks (length self.old.order.vehicles) p }
+        ensures ok { OnOk result (Appends (W.contents writer.old) (W.contents writer.new) (text_of (visit_lines (due_visits warehouse.now.book.opening.clock warehouse.now.book.state.tasks self.old.order.vehicles self.old.pending)))) }
+        ensures err { OnErr result (WritesFront (W.contents writer.old) (W.contents writer.new) (text_of (visit_lines (due_visits warehouse.now.book.opening.clock warehouse.now.book.state.tasks self.old.order.vehicles self.old.pending)))) }
+        ensures fault { IfErr result (λ fault. fault ≡ DispatchFault.Unwritten) }
+        ensures left { OnOk result (self.new.pending ≡ left_after warehouse.now.book.opening.clock warehouse.now.book.state.tasks self.old.order.vehicles self.old.pending) }
+        ensures same { self.new ≡ record self.old { pending = self.new.pending; room = self.new.room } }
+    {
+        tell_due(writer, self.pending.as_slice(), warehouse, &self.order)?;
+        keep_left(&mut self.pending, warehouse, &self.order);
+        Ok(())
     }
 
     /// What was told last.

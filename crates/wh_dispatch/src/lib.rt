@@ -7,6 +7,7 @@ pub mod laws;
 mod line;
 mod script;
 mod telling;
+mod visits;
 
 pub use fleet::Vehicles;
 pub use script::{DispatchFault, dispatch};

@@ -1,18 +1,22 @@
 //! What one line of a script is answered, and what it lets vehicles do.
 
-ghost use Rattle.std.specs.Prelude.{◌≡◌, ◌↔◌, Ok, Some, true, IsTrue, IfErr, OnOk, MatchOption, length};
+ghost use Rattle.std.specs.Prelude.{◌≡◌, ◌<◌, ◌++◌, ◌↔◌, Ok, Some, true, IsTrue, IfErr, OnErr, OnOk, MatchOption, Contains, length};
+ghost use Rattle.std.specs.Io.KnownBytes.{Appends};
+ghost use Rattle.wh_lines.specs.Output.{WritesFront};
 ghost use Rattle.wh_lines.specs.Text.{short_line};
 ghost use Rattle.wh_log.specs.Told.{told_text};
-ghost use Rattle.wh_replay.specs.Answers.{said};
+ghost use Rattle.wh_replay.specs.Answers.{said, text_of};
 ghost use Rattle.wh_drive.specs.Drives.{Drive};
 ghost use Rattle.wh_order.specs.Orders.{Represents};
 ghost use Rattle.wh_vehicles.specs.Driving.{NoneIsLate};
-ghost use Rattle.wh_dispatch.specs.Lines.{AsksToGoOn, Reported, Asked, heard_in};
+ghost use Rattle.wh_dispatch.specs.declared.visits.Pending.{Pending};
+ghost use Rattle.wh_dispatch.specs.Lines.{AsksToGoOn, Reported, Asked, heard_in, go_lines, visit_lines};
+ghost use Rattle.wh_dispatch.specs.Visiting.{IsStanding, SomeStanding, due_visits, left_after};
 ghost use Rattle.wh_dispatch.specs.Scripts.{TellsAll, TellsSome, Hears, HearsSome, ServesFrom, BeginsFrom, SomeManned};
 
 use crate::fleet::Vehicles;
 use crate::script::DispatchFault;
-use crate::telling::{tell, tell_notice, tell_steps};
+use crate::telling::{tell, tell_notice, tell_starved, tell_steps};
 use std::alloc::Global;
 use std::io::Write;
 use wh_event::{Command, LineFault};
@@ -32,14 +36,36 @@ fn reported(line: &CommandLine) -> Option<Report>
     }
 }
 
+/// The visits are told that vehicles have made by now, and then the steps that they were told to make.
+fn tell_gone<W: Write, P: Planner>(
+    writer: &mut W,
+    vehicles: &mut Vehicles,
+    warehouse: &Warehouse<P>,
+) -> Result<(), DispatchFault>
+    requires stand { (p : Pending) → Contains vehicles.old.pending p → IsStanding warehouse.now.book.state.tasks (length vehicles.old.order.vehicles) p }
+    ensures ok { OnOk result (Appends (W.contents writer.old) (W.contents writer.new) (text_of (visit_lines (due_visits warehouse.now.book.opening.clock warehouse.now.book.state.tasks vehicles.old.order.vehicles vehicles.old.pending) ++ go_lines vehicles.old.told))) }
+    ensures err { OnErr result (WritesFront (W.contents writer.old) (W.contents writer.new) (text_of (visit_lines (due_visits warehouse.now.book.opening.clock warehouse.now.book.state.tasks vehicles.old.order.vehicles vehicles.old.pending) ++ go_lines vehicles.old.told))) }
+    ensures fault { IfErr result (λ fault. fault ≡ DispatchFault.Unwritten) }
+    ensures left { OnOk result (vehicles.new.pending ≡ left_after warehouse.now.book.opening.clock warehouse.now.book.state.tasks vehicles.old.order.vehicles vehicles.old.pending) }
+    ensures same { vehicles.new ≡ record vehicles.old { pending = vehicles.new.pending; room = vehicles.new.room } }
+{
+    vehicles.tell_visits(writer, warehouse)?;
+    tell_steps(writer, vehicles.told())
+}
+
 /// Vehicles go on as far as they may, and are told so.
-fn go_on<W: Write>(writer: &mut W, vehicles: &mut Vehicles) -> Result<(), DispatchFault>
-    ensures ok { OnOk result ((d : Drive) → Represents vehicles.old.order d → (e : Drive) × Represents vehicles.new.order e × TellsAll d e (W.contents writer.old) (W.contents writer.new)) }
-    ensures err { IfErr result (λ fault. (d : Drive) → Represents vehicles.old.order d → (e : Drive) × TellsSome fault d e (W.contents writer.old) (W.contents writer.new)) }
+fn go_on<W: Write, P: Planner>(
+    writer: &mut W,
+    vehicles: &mut Vehicles,
+    warehouse: &Warehouse<P>,
+) -> Result<(), DispatchFault>
+    requires stand { SomeStanding warehouse.now.book vehicles.old }
+    ensures ok { OnOk result ((d : Drive) → Represents vehicles.old.order d → (e : Drive) × Represents vehicles.new.order e × TellsAll warehouse.now.book vehicles.old.pending vehicles.new.pending d e (W.contents writer.old) (W.contents writer.new)) }
+    ensures err { IfErr result (λ fault. (d : Drive) → Represents vehicles.old.order d → (e : Drive) × TellsSome fault warehouse.now.book vehicles.old.pending d e (W.contents writer.old) (W.contents writer.new)) }
     ensures bound { vehicles.new.bound ≡ vehicles.old.bound }
 {
     match vehicles.settle() {
-        Ok(()) => tell_steps(writer, vehicles.told()),
+        Ok(()) => tell_gone(writer, vehicles, warehouse),
         Err(_) => Err(DispatchFault::NoMemory),
     }
 }
@@ -54,13 +80,13 @@ fn tick<W: Write, P: Planner>(
     spares: &mut Vec<P>,
     vehicles: &mut Vehicles,
 ) -> Result<(), DispatchFault>
-    requires manned { SomeManned warehouse.old.book vehicles.old.order }
+    requires manned { SomeManned warehouse.old.book vehicles.old }
     requires asks { AsksToGoOn warehouse.old.book.state (Ok (Some command.now)) }
     requires keep_up { NoneIsLate vehicles.old.order vehicles.old.bound }
     requires ready { vehicles.old.order.ready ≡ true }
     requires row { length vehicles.old.row ≡ length warehouse.old.book.state.paths }
-    ensures ok { OnOk result (ServesFrom P.fits_map P.slot_count (told_text form) vehicles.old.bound (Asked (Ok (Some command.now))) warehouse.old.book spares.old.items vehicles.old.order warehouse.new.book spares.new.items vehicles.new.order (W.contents writer.old) (W.contents writer.new)) }
-    ensures err { IfErr result (λ fault. BeginsFrom P.fits_map P.slot_count (told_text form) vehicles.old.bound (Asked (Ok (Some command.now))) fault warehouse.old.book spares.old.items vehicles.old.order warehouse.new.book spares.new.items (W.contents writer.old) (W.contents writer.new)) }
+    ensures ok { OnOk result (ServesFrom P.fits_map P.slot_count (told_text form) vehicles.old.bound (Asked (Ok (Some command.now))) warehouse.old.book spares.old.items vehicles.old warehouse.new.book spares.new.items vehicles.new (W.contents writer.old) (W.contents writer.new)) }
+    ensures err { IfErr result (λ fault. BeginsFrom P.fits_map P.slot_count (told_text form) vehicles.old.bound (Asked (Ok (Some command.now))) fault warehouse.old.book spares.old.items vehicles.old warehouse.new.book spares.new.items (W.contents writer.old) (W.contents writer.new)) }
     ensures bound { vehicles.new.bound ≡ vehicles.old.bound }
 {
     let before = warehouse.clock();
@@ -72,7 +98,7 @@ fn tick<W: Write, P: Planner>(
         return Ok(());
     }
     vehicles.tick(warehouse);
-    go_on(writer, vehicles)
+    go_on(writer, vehicles, warehouse)
 }
 
 /// Runs a tick, unless the clock waits for a vehicle, or memory is wanting.
@@ -85,10 +111,10 @@ fn tick_in_time<W: Write, P: Planner>(
     spares: &mut Vec<P>,
     vehicles: &mut Vehicles,
 ) -> Result<(), DispatchFault>
-    requires manned { SomeManned warehouse.old.book vehicles.old.order }
+    requires manned { SomeManned warehouse.old.book vehicles.old }
     requires asks { AsksToGoOn warehouse.old.book.state (Ok (Some command.now)) }
-    ensures ok { OnOk result (ServesFrom P.fits_map P.slot_count (told_text form) vehicles.old.bound (Asked (Ok (Some command.now))) warehouse.old.book spares.old.items vehicles.old.order warehouse.new.book spares.new.items vehicles.new.order (W.contents writer.old) (W.contents writer.new)) }
-    ensures err { IfErr result (λ fault. BeginsFrom P.fits_map P.slot_count (told_text form) vehicles.old.bound (Asked (Ok (Some command.now))) fault warehouse.old.book spares.old.items vehicles.old.order warehouse.new.book spares.new.items (W.contents writer.old) (W.contents writer.new)) }
+    ensures ok { OnOk result (ServesFrom P.fits_map P.slot_count (told_text form) vehicles.old.bound (Asked (Ok (Some command.now))) warehouse.old.book spares.old.items vehicles.old warehouse.new.book spares.new.items vehicles.new (W.contents writer.old) (W.contents writer.new)) }
+    ensures err { IfErr result (λ fault. BeginsFrom P.fits_map P.slot_count (told_text form) vehicles.old.bound (Asked (Ok (Some command.now))) fault warehouse.old.book spares.old.items vehicles.old warehouse.new.book spares.new.items (W.contents writer.old) (W.contents writer.new)) }
     ensures bound { vehicles.new.bound ≡ vehicles.old.bound }
 {
     if let Some(notice) = vehicles.late() {
@@ -96,11 +122,40 @@ fn tick_in_time<W: Write, P: Planner>(
     }
     match vehicles.reserve(alloc, warehouse) {
         Ok(()) => tick(command, alloc, form, writer, warehouse, spares, vehicles),
-        Err(_) => tell(writer, b"refused E90\n"),
+        Err(_) => tell_starved(writer),
     }
 }
 
-/// Runs a command at which the clock stays.
+/// Runs a command at which the clock stays, where there is room for a task that is taken, and has the vehicles go on then.
+fn run_roomy<W: Write, P: Planner>(
+    command: &Command,
+    alloc: Global,
+    form: Form,
+    writer: &mut W,
+    warehouse: &mut Warehouse<P>,
+    spares: &mut Vec<P>,
+    vehicles: &mut Vehicles,
+) -> Result<(), DispatchFault>
+    requires manned { SomeManned warehouse.old.book vehicles.old }
+    requires still { ¬ AsksToGoOn warehouse.old.book.state (Ok (Some command.now)) }
+    requires room { length vehicles.old.pending < vehicles.old.room }
+    ensures ok { OnOk result (ServesFrom P.fits_map P.slot_count (told_text form) vehicles.old.bound (Asked (Ok (Some command.now))) warehouse.old.book spares.old.items vehicles.old warehouse.new.book spares.new.items vehicles.new (W.contents writer.old) (W.contents writer.new)) }
+    ensures err { IfErr result (λ fault. BeginsFrom P.fits_map P.slot_count (told_text form) vehicles.old.bound (Asked (Ok (Some command.now))) fault warehouse.old.book spares.old.items vehicles.old warehouse.new.book spares.new.items (W.contents writer.old) (W.contents writer.new)) }
+    ensures bound { vehicles.new.bound ≡ vehicles.old.bound }
+{
+    let before = warehouse.history().len();
+    match obey(command, alloc, form, writer, warehouse, spares) {
+        Ok(_) => {}
+        Err(_) => return Err(DispatchFault::Unwritten),
+    }
+    if vehicles.keep_taken(warehouse, before) {
+        go_on(writer, vehicles, warehouse)
+    } else {
+        Ok(())
+    }
+}
+
+/// Runs a command at which the clock stays, unless memory is wanting.
 fn run_still<W: Write, P: Planner>(
     command: &Command,
     alloc: Global,
@@ -110,15 +165,15 @@ fn run_still<W: Write, P: Planner>(
     spares: &mut Vec<P>,
     vehicles: &mut Vehicles,
 ) -> Result<(), DispatchFault>
-    requires manned { SomeManned warehouse.old.book vehicles.old.order }
+    requires manned { SomeManned warehouse.old.book vehicles.old }
     requires still { ¬ AsksToGoOn warehouse.old.book.state (Ok (Some command.now)) }
-    ensures ok { OnOk result (ServesFrom P.fits_map P.slot_count (told_text form) vehicles.old.bound (Asked (Ok (Some command.now))) warehouse.old.book spares.old.items vehicles.old.order warehouse.new.book spares.new.items vehicles.new.order (W.contents writer.old) (W.contents writer.new)) }
-    ensures err { IfErr result (λ fault. BeginsFrom P.fits_map P.slot_count (told_text form) vehicles.old.bound (Asked (Ok (Some command.now))) fault warehouse.old.book spares.old.items vehicles.old.order warehouse.new.book spares.new.items (W.contents writer.old) (W.contents writer.new)) }
+    ensures ok { OnOk result (ServesFrom P.fits_map P.slot_count (told_text form) vehicles.old.bound (Asked (Ok (Some command.now))) warehouse.old.book spares.old.items vehicles.old warehouse.new.book spares.new.items vehicles.new (W.contents writer.old) (W.contents writer.new)) }
+    ensures err { IfErr result (λ fault. BeginsFrom P.fits_map P.slot_count (told_text form) vehicles.old.bound (Asked (Ok (Some command.now))) fault warehouse.old.book spares.old.items vehicles.old warehouse.new.book spares.new.items (W.contents writer.old) (W.contents writer.new)) }
     ensures bound { vehicles.new.bound ≡ vehicles.old.bound }
 {
-    match obey(command, alloc, form, writer, warehouse, spares) {
-        Ok(_) => Ok(()),
-        Err(_) => Err(DispatchFault::Unwritten),
+    match vehicles.reserve_task() {
+        Ok(()) => run_roomy(command, alloc, form, writer, warehouse, spares, vehicles),
+        Err(_) => tell_starved(writer),
     }
 }
 
@@ -143,9 +198,9 @@ fn run<W: Write, P: Planner>(
     spares: &mut Vec<P>,
     vehicles: &mut Vehicles,
 ) -> Result<(), DispatchFault>
-    requires manned { SomeManned warehouse.old.book vehicles.old.order }
-    ensures ok { OnOk result (ServesFrom P.fits_map P.slot_count (told_text form) vehicles.old.bound (Asked (Ok (Some command.now))) warehouse.old.book spares.old.items vehicles.old.order warehouse.new.book spares.new.items vehicles.new.order (W.contents writer.old) (W.contents writer.new)) }
-    ensures err { IfErr result (λ fault. BeginsFrom P.fits_map P.slot_count (told_text form) vehicles.old.bound (Asked (Ok (Some command.now))) fault warehouse.old.book spares.old.items vehicles.old.order warehouse.new.book spares.new.items (W.contents writer.old) (W.contents writer.new)) }
+    requires manned { SomeManned warehouse.old.book vehicles.old }
+    ensures ok { OnOk result (ServesFrom P.fits_map P.slot_count (told_text form) vehicles.old.bound (Asked (Ok (Some command.now))) warehouse.old.book spares.old.items vehicles.old warehouse.new.book spares.new.items vehicles.new (W.contents writer.old) (W.contents writer.new)) }
+    ensures err { IfErr result (λ fault. BeginsFrom P.fits_map P.slot_count (told_text form) vehicles.old.bound (Asked (Ok (Some command.now))) fault warehouse.old.book spares.old.items vehicles.old warehouse.new.book spares.new.items (W.contents writer.old) (W.contents writer.new)) }
     ensures bound { vehicles.new.bound ≡ vehicles.old.bound }
 {
     if asks_to_go_on(command, warehouse) {
@@ -156,18 +211,20 @@ fn run<W: Write, P: Planner>(
 }
 
 /// Answers a report, and has the vehicles go on.
-fn hear<W: Write>(
+fn hear<W: Write, P: Planner>(
     report: Report,
     writer: &mut W,
+    warehouse: &Warehouse<P>,
     vehicles: &mut Vehicles,
 ) -> Result<(), DispatchFault>
-    ensures ok { OnOk result ((d : Drive) → Represents vehicles.old.order d → (e : Drive) × Represents vehicles.new.order e × Hears report d e (W.contents writer.old) (W.contents writer.new)) }
-    ensures err { IfErr result (λ fault. (d : Drive) → Represents vehicles.old.order d → (e : Drive) × HearsSome fault report d e (W.contents writer.old) (W.contents writer.new)) }
+    requires stand { SomeStanding warehouse.now.book vehicles.old }
+    ensures ok { OnOk result ((d : Drive) → Represents vehicles.old.order d → (e : Drive) × Represents vehicles.new.order e × Hears report warehouse.now.book vehicles.old.pending vehicles.new.pending d e (W.contents writer.old) (W.contents writer.new)) }
+    ensures err { IfErr result (λ fault. (d : Drive) → Represents vehicles.old.order d → (e : Drive) × HearsSome fault report warehouse.now.book vehicles.old.pending d e (W.contents writer.old) (W.contents writer.new)) }
     ensures bound { vehicles.new.bound ≡ vehicles.old.bound }
 {
     let notice = vehicles.hear(report);
     match tell_notice(writer, &notice) {
-        Ok(()) => go_on(writer, vehicles),
+        Ok(()) => go_on(writer, vehicles, warehouse),
         Err(fault) => Err(fault),
     }
 }
@@ -183,9 +240,9 @@ fn serve_command<W: Write, P: Planner>(
     spares: &mut Vec<P>,
     vehicles: &mut Vehicles,
 ) -> Result<(), DispatchFault>
-    requires manned { SomeManned warehouse.old.book vehicles.old.order }
-    ensures ok { OnOk result (ServesFrom P.fits_map P.slot_count (told_text form) vehicles.old.bound (Asked (said (short_line line.now))) warehouse.old.book spares.old.items vehicles.old.order warehouse.new.book spares.new.items vehicles.new.order (W.contents writer.old) (W.contents writer.new)) }
-    ensures err { IfErr result (λ fault. BeginsFrom P.fits_map P.slot_count (told_text form) vehicles.old.bound (Asked (said (short_line line.now))) fault warehouse.old.book spares.old.items vehicles.old.order warehouse.new.book spares.new.items (W.contents writer.old) (W.contents writer.new)) }
+    requires manned { SomeManned warehouse.old.book vehicles.old }
+    ensures ok { OnOk result (ServesFrom P.fits_map P.slot_count (told_text form) vehicles.old.bound (Asked (said (short_line line.now))) warehouse.old.book spares.old.items vehicles.old warehouse.new.book spares.new.items vehicles.new (W.contents writer.old) (W.contents writer.new)) }
+    ensures err { IfErr result (λ fault. BeginsFrom P.fits_map P.slot_count (told_text form) vehicles.old.bound (Asked (said (short_line line.now))) fault warehouse.old.book spares.old.items vehicles.old warehouse.new.book spares.new.items (W.contents writer.old) (W.contents writer.new)) }
     ensures bound { vehicles.new.bound ≡ vehicles.old.bound }
 {
     match read_kept(line, command) {
@@ -207,13 +264,13 @@ pub(crate) fn serve<W: Write, P: Planner>(
     spares: &mut Vec<P>,
     vehicles: &mut Vehicles,
 ) -> Result<(), DispatchFault>
-    requires manned { SomeManned warehouse.old.book vehicles.old.order }
-    ensures ok { OnOk result (ServesFrom P.fits_map P.slot_count (told_text form) vehicles.old.bound (heard_in (short_line line.now)) warehouse.old.book spares.old.items vehicles.old.order warehouse.new.book spares.new.items vehicles.new.order (W.contents writer.old) (W.contents writer.new)) }
-    ensures err { IfErr result (λ fault. BeginsFrom P.fits_map P.slot_count (told_text form) vehicles.old.bound (heard_in (short_line line.now)) fault warehouse.old.book spares.old.items vehicles.old.order warehouse.new.book spares.new.items (W.contents writer.old) (W.contents writer.new)) }
+    requires manned { SomeManned warehouse.old.book vehicles.old }
+    ensures ok { OnOk result (ServesFrom P.fits_map P.slot_count (told_text form) vehicles.old.bound (heard_in (short_line line.now)) warehouse.old.book spares.old.items vehicles.old warehouse.new.book spares.new.items vehicles.new (W.contents writer.old) (W.contents writer.new)) }
+    ensures err { IfErr result (λ fault. BeginsFrom P.fits_map P.slot_count (told_text form) vehicles.old.bound (heard_in (short_line line.now)) fault warehouse.old.book spares.old.items vehicles.old warehouse.new.book spares.new.items (W.contents writer.old) (W.contents writer.new)) }
     ensures bound { vehicles.new.bound ≡ vehicles.old.bound }
 {
     match reported(line) {
-        Some(report) => hear(report, writer, vehicles),
+        Some(report) => hear(report, writer, warehouse, vehicles),
         None => serve_command(
             line, command, alloc, form, writer, warehouse, spares, vehicles,
         ),

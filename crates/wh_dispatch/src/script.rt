@@ -47,9 +47,9 @@ fn serve_all<R: Read, W: Write, P: Planner>(
     spares: &mut Vec<P>,
     vehicles: &mut Vehicles,
 ) -> Result<(), DispatchFault>
-    requires manned { SomeManned warehouse.old.book vehicles.old.order }
-    ensures ok { OnOk result (DispatchesFrom P.fits_map P.slot_count (told_text form) vehicles.old.bound lines.old lines.new warehouse.old.book spares.old.items vehicles.old.order warehouse.new.book spares.new.items vehicles.new.order (W.contents writer.old) (W.contents writer.new)) }
-    ensures fault { IfErr result (λ fault. StopsFrom P.fits_map P.slot_count (told_text form) vehicles.old.bound fault lines.old lines.new warehouse.old.book spares.old.items vehicles.old.order warehouse.new.book spares.new.items (W.contents writer.old) (W.contents writer.new)) }
+    requires manned { SomeManned warehouse.old.book vehicles.old }
+    ensures ok { OnOk result (DispatchesFrom P.fits_map P.slot_count (told_text form) vehicles.old.bound lines.old lines.new warehouse.old.book spares.old.items vehicles.old warehouse.new.book spares.new.items vehicles.new (W.contents writer.old) (W.contents writer.new)) }
+    ensures fault { IfErr result (λ fault. StopsFrom P.fits_map P.slot_count (told_text form) vehicles.old.bound fault lines.old lines.new warehouse.old.book spares.old.items vehicles.old warehouse.new.book spares.new.items (W.contents writer.old) (W.contents writer.new)) }
 {
     let mut line = CommandLine::new();
     let mut command = Command::Close;
@@ -97,11 +97,11 @@ pub fn dispatch<R: Read, W: Write, P: Planner>(
     spares: &mut Vec<P>,
     vehicles: &mut Vehicles,
 ) -> Result<(), DispatchFault>
-    requires manned { SomeManned warehouse.old.book vehicles.old.order }
+    requires manned { SomeManned warehouse.old.book vehicles.old }
     // What was written is what the lines are told; the run is carried out by the vehicles, and nobody who may start is left untold.
-    ensures ok { OnOk result (DispatchesFrom P.fits_map P.slot_count (told_text form) vehicles.old.bound lines.old lines.new warehouse.old.book spares.old.items vehicles.old.order warehouse.new.book spares.new.items vehicles.new.order (W.contents writer.old) (W.contents writer.new)) }
+    ensures ok { OnOk result (DispatchesFrom P.fits_map P.slot_count (told_text form) vehicles.old.bound lines.old lines.new warehouse.old.book spares.old.items vehicles.old warehouse.new.book spares.new.items vehicles.new (W.contents writer.old) (W.contents writer.new)) }
     // On a fault this holds of a beginning of the script, and of a front of what was to be written.
-    ensures fault { IfErr result (λ fault. StopsFrom P.fits_map P.slot_count (told_text form) vehicles.old.bound fault lines.old lines.new warehouse.old.book spares.old.items vehicles.old.order warehouse.new.book spares.new.items (W.contents writer.old) (W.contents writer.new)) }
+    ensures fault { IfErr result (λ fault. StopsFrom P.fits_map P.slot_count (told_text form) vehicles.old.bound fault lines.old lines.new warehouse.old.book spares.old.items vehicles.old warehouse.new.book spares.new.items (W.contents writer.old) (W.contents writer.new)) }
     // After a fault there is nothing more.
     ensures failed { OnErr result (lines.new.failed ≡ true) }
     ensures again { lines.old.failed ≡ true → (result ≡ Err DispatchFault.Broken) × (lines.new ≡ lines.old) × (warehouse.new.book ≡ warehouse.old.book) × (spares.new.items ≡ spares.old.items) × (vehicles.new ≡ vehicles.old) × Keeps (W.contents writer.old) (W.contents writer.new) }

@@ -1,6 +1,6 @@
 //! What is told to those that drive the vehicles.
 
-ghost use Rattle.std.specs.Prelude.{◌≡◌, ◌++◌, ◌∷◌, [], IfErr, OnErr, OnOk};
+ghost use Rattle.std.specs.Prelude.{◌≡◌, ◌++◌, ◌∷◌, [], codes, IfErr, OnErr, OnOk};
 ghost use Rattle.std.specs.Io.KnownBytes.{Appends};
 ghost use Rattle.wh_lines.specs.Output.{WritesFront};
 ghost use Rattle.wh_replay.specs.Answers.{reply_line, text_of};
@@ -25,6 +25,15 @@ pub(crate) fn tell<W: Write>(writer: &mut W, line: &[u8]) -> Result<(), Dispatch
         Ok(()) => Ok(()),
         Err(_) => Err(DispatchFault::Unwritten),
     }
+}
+
+/// Tells that memory is wanting.
+pub(crate) fn tell_starved<W: Write>(writer: &mut W) -> Result<(), DispatchFault>
+    ensures ok { OnOk result (Appends (W.contents writer.old) (W.contents writer.new) (reply_line (codes "refused E90"))) }
+    ensures err { OnErr result (WritesFront (W.contents writer.old) (W.contents writer.new) (reply_line (codes "refused E90"))) }
+    ensures fault { IfErr result (λ fault. fault ≡ DispatchFault.Unwritten) }
+{
+    tell(writer, b"refused E90\n")
 }
 
 /// Tells a notice, as a line, at once.

@@ -1,5 +1,5 @@
 -- The first two sections of the input.
-use Rattle.std.specs.Prelude.{◌≡◌, ◌⊎◌, ◌<◌, ◌≤◌, ℕ, List, true, Ok, Err, length}
+use Rattle.std.specs.Prelude.{◌≡◌, ◌⊎◌, ◌<◌, ◌≤◌, ℕ, List, [], ◌∷◌, ◌++◌, true, Ok, Err, length, codes, decimal}
 use Rattle.wh_lines.specs.Input.{Input}
 use Rattle.wh_lines.specs.Section.{Overflows, Sectioned}
 use Rattle.wh_lines.specs.declared.sections.SectionFault.{SectionFault}
@@ -34,6 +34,35 @@ pub record SiteRead (old new : Input) (floor : Floor) (layout : Layout) : Type 0
   pub section : Sectioned between new text
   pub within : length text ≤ 1048576
   pub says : layout_at floor text ≡ Ok layout
+
+-- the line that tells how long both sections of a site are
+abbrev pub site_head : (map points : ℕ) → List ℕ
+site_head map points = codes "wsite " ++ decimal map ++ 32 ∷ decimal points ++ 10 ∷ []
+
+-- the text that keeps a site: that line, and both sections as they came
+abbrev pub site_text : (map points : List ℕ) → List ℕ
+site_text map points = site_head (length map) (length points) ++ map ++ points
+
+-- two sections of a site that is read are no longer than that
+abbrev pub AreSections : (map points : List ℕ) → Type 0
+AreSections map points = (length map ≤ 33554432) × (length points ≤ 1048576)
+
+-- a text that keeps a site is no beginning of a text that keeps another
+abbrev pub OneSite : Type 0
+OneSite =
+    (map points other_map other_points rest : List ℕ) → AreSections map points → AreSections other_map other_points →
+    site_text map points ≡ site_text other_map other_points ++ rest → (other_map ≡ map) × (other_points ≡ points)
+
+-- both sections were read, as they came
+pub record SectionsRead (old new : Input) (floor : Floor) (layout : Layout) (map points : List ℕ) : Type 0 where
+  pub read : SiteRead old new floor layout
+  pub map_is : map ≡ read.map.text
+  pub points_is : points ≡ read.text
+
+-- both sections were read, and the text keeps them
+pub record SiteKept (old new : Input) (floor : Floor) (layout : Layout) (text : List ℕ) : Type 0 where
+  pub read : SiteRead old new floor layout
+  pub text_is : text ≡ site_text read.map.text read.text
 
 -- the map section was read, and has this fault first
 pub record MapRefused (old new : Input) (place : MapPlace) : Type 0 where

@@ -55,6 +55,7 @@ told trouble.NoThread = codes "E93"
 told trouble.Differs = codes "E95"
 told (trouble.Log number) = placed (codes "L1") number
 told trouble.Unkept = codes "X5"
+told trouble.MayFollow = codes "V4"
 told trouble.NoMemory = codes "E90"
 
 -- the line on standard error
@@ -85,4 +86,5 @@ status_of trouble.NoThread = status.Failed
 status_of trouble.Differs = status.Failed
 status_of (trouble.Log number) = status.Refused
 status_of trouble.Unkept = status.Failed
+status_of trouble.MayFollow = status.Refused
 status_of trouble.NoMemory = status.NoMemory

@@ -5,6 +5,9 @@ mod site;
 mod trouble;
 mod work;
 
-pub use site::{MAP_LIMIT, POINTS_LIMIT, Site, read_site, section_trouble};
+pub use site::{
+    KeptSite, MAP_LIMIT, POINTS_LIMIT, Site, read_kept_site, read_site, section_trouble,
+    site_texts_differ,
+};
 pub use trouble::{Status, Trouble};
 pub use work::{ScriptFault, ScriptPlace, Work, agent_work, client_work, clock_work};

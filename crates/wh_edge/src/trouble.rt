@@ -72,6 +72,8 @@ pub enum Trouble {
     Log { line: u64 },
     /// The log file cannot be opened, read, written or synced, or another program has it.
     Unkept,
+    /// The points let agents follow each other: vehicles that follow in a ring would stand still for ever.
+    MayFollow,
     /// Memory was wanting.
     NoMemory,
 }
@@ -170,6 +172,7 @@ impl Trouble {
             Trouble::Differs => put(&mut line, b"E95"),
             Trouble::Log { line: number } => put_place(&mut line, b"L1", number),
             Trouble::Unkept => put(&mut line, b"X5"),
+            Trouble::MayFollow => put(&mut line, b"V4"),
             Trouble::NoMemory => put(&mut line, b"E90"),
         }
         put(&mut line, b"\n");
@@ -184,7 +187,7 @@ impl Trouble {
             Trouble::Map(_) | Trouble::Points(_) | Trouble::Script(_) => Status::Refused,
             Trouble::Short { .. } | Trouble::Raced { .. } => Status::Refused,
             Trouble::SectionTooLong | Trouble::TooManyWorkers => Status::Refused,
-            Trouble::Log { .. } => Status::Refused,
+            Trouble::Log { .. } | Trouble::MayFollow => Status::Refused,
             Trouble::Broken | Trouble::Endless | Trouble::Unwritten => Status::Failed,
             Trouble::NoThread | Trouble::Differs => Status::Failed,
             Trouble::Unkept => Status::Failed,

@@ -2,12 +2,11 @@
 use Rattle.std.specs.Prelude.{◌≡◌, ℕ, ◌<◌, ◌≤◌, ◌⊎◌, Option, Some, List, length, Contains}
 use Rattle.wh_grid.specs.declared.cell.Cell.{Cell}
 use Rattle.wh_path.specs.Paths.{last_index}
-use Rattle.wh_search.specs.Frontiers.{IsBusy}
 use Rattle.wh_search.specs.States.{Steps, Reaches}
 use Rattle.wh_search.specs.Tours.{IsTour}
 use Rattle.wh_intervals.specs.Arrivals.{Covered, IsInterval, total}
 use Rattle.wh_intervals.specs.Efforts.{arrival, IsOneOf, AreOnce, IsPart}
-use Rattle.wh_intervals.specs.Nodes.{state_of, interval_of, arrival_of, node_at, bound_at, IsExpanded}
+use Rattle.wh_intervals.specs.Nodes.{state_of, interval_of, arrival_of, node_at, bound_at, IsExpanded, IsBusy}
 use Rattle.wh_intervals.specs.Problems.{Problem}
 use Rattle.wh_intervals.specs.Queues.{Waiting}
 use Rattle.wh_intervals.specs.declared.entry.Entry.{Entry}

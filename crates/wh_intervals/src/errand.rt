@@ -9,8 +9,8 @@ ghost use Rattle.wh_search.specs.States.{IsEnd};
 ghost use Rattle.wh_intervals.specs.Problems.{problem, IsProblem};
 
 use wh_grid::{Cell, Grid};
-use wh_search::frontier::holds;
 use wh_search::guide::Guide;
+use wh_search::noted::holds;
 use wh_timetable::Occupancy;
 
 /// What an agent is to do: beside whom, from where, through which stops in order, and to which ends;

@@ -8,7 +8,7 @@ ghost use Rattle.wh_resv.specs.Others.{MayRest};
 ghost use Rattle.wh_search.specs.Deliveries.{IfNoPath};
 ghost use Rattle.wh_search.specs.Parkings.{IsParking, IsLeastParking};
 
-use crate::both::search_both;
+use crate::least::find_least;
 use std::alloc::{AllocError, Global};
 use wh_field::NearestField;
 use wh_grid::{Cell, Grid};
@@ -49,7 +49,7 @@ fn find_nearest<'x>(
         exact: false,
         least: 0,
     };
-    search_both(alloc, memory, &errand)
+    find_least(alloc, memory, &errand)
 }
 
 /// A lawful path from loc to one of the allowed cells, with the least last index of all; it makes the field of them all,

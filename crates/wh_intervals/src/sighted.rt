@@ -9,7 +9,7 @@ ghost use Rattle.wh_path.specs.Paths.{last_index};
 ghost use Rattle.wh_search.specs.Deliveries.{IsDelivery, IsLawful, IsLeast, IfNoPath, AreStops};
 ghost use Rattle.wh_search.specs.Sights.{AreSightsOf, IsOnwardBySights};
 
-use crate::both::search_both;
+use crate::least::find_least;
 use std::alloc::{AllocError, Global};
 use wh_field::Sight;
 use wh_grid::{Cell, Grid};
@@ -62,7 +62,7 @@ fn find_sighted<'x>(
         exact: true,
         least: first_end(others, stops[last], soonest),
     };
-    search_both(alloc, memory, &errand)
+    find_least(alloc, memory, &errand)
 }
 
 /// A lawful path from loc through the stops, with the least last index of all, guided by fields that are filled up to a

@@ -19,13 +19,15 @@ use Rattle.wh_event.specs.CommandLines.{command_of}
 use Rattle.wh_event.specs.declared.event.Command.{Command}
 use Rattle.wh_event.specs.declared.entry.Entry.{Entry}
 use Rattle.wh_event.specs.declared.reply.Reply.{Reply}
+use Rattle.wh_log.specs.Told.{Answered}
 use Rattle.wh_event.specs.declared.reply.Refusal.{Refusal}
 use Rattle.wh_event.specs.declared.fault.LineFault.{LineFault}
 use Rattle.wh_event.specs.declared.fault.LineFault.TheVariants.{Form, TooLong}
-use Rattle.wh_replay.specs.Answers.{asked, commands_of, answers, replies_to, reply_line, text_of, said}
+use Rattle.wh_replay.specs.Answers.{answered_from, asked, commands_of, answers, replies_to, reply_line, text_of, said}
 use Rattle.wh_replay.specs.Scripts.{Gives, IsOutputOf}
 use Rattle.wh_replay.proofs.Giving.{gives_nothing, output_push, ran_length}
 use Rattle.wh_replay.proofs.Returns.{said_is}
+use Rattle.wh_replay.proofs.Placing.{answered_behind, answered_length}
 use Rattle.wh_journal.specs.Journals.{ServesLines}
 
 ran_append : {X : Type 0} (fits : X → Floor → Bool) (count : X → ℕ) (site : Site) (caller : ℕ) (cs : List Command) (os : List (Option Entry)) (ds : List Command) (ps : List (Option Entry))
@@ -48,8 +50,8 @@ commands_append [] ys = refl
 commands_append (x ∷ xs) ys = ap (λ cs. asked (command_of x) ++ cs) (commands_append xs ys) ∙ sym (append_assoc (asked (command_of x)) (commands_of xs) (commands_of ys))
 
 -- one line more in front, whatever it says
-replies_by : (text : Reply → List ℕ) (kind : Result (Option Command) LineFault) (xs ys : List (List ℕ)) (os ps : List (Option Entry)) (told : List (List ℕ))
-    → ((ns : List (Option Entry)) → length ns ≡ length (commands_of xs) → replies_to text (xs ++ ys) (ns ++ ps) ≡ replies_to text xs ns ++ told)
+replies_by : (text : Answered → List ℕ) (kind : Result (Option Command) LineFault) (xs ys : List (List ℕ)) (os ps : List (Option Answered)) (told : List (List ℕ))
+    → ((ns : List (Option Answered)) → length ns ≡ length (commands_of xs) → replies_to text (xs ++ ys) (ns ++ ps) ≡ replies_to text xs ns ++ told)
     → length os ≡ length (asked kind ++ commands_of xs)
     → answers text kind (os ++ ps) ++ replies_to text (xs ++ ys) (drop (length (asked kind)) (os ++ ps)) ≡ (answers text kind os ++ replies_to text xs (drop (length (asked kind)) os)) ++ told
 replies_by text (Ok None) xs ys os ps told more e = more os e
@@ -58,12 +60,12 @@ replies_by text (Err TooLong) xs ys os ps told more e = ap (λ rs. codes "refuse
 replies_by text (Ok (Some command)) xs ys [] ps told more e = absurd (omega (arith, e))
 replies_by text (Ok (Some command)) xs ys (o ∷ os) ps told more e = ap (λ rs. answers text (Ok (Some command)) (o ∷ os) ++ rs) (more os (omega (arith, e)))
 
-replies_append : (text : Reply → List ℕ) (xs ys : List (List ℕ)) (os ps : List (Option Entry)) → length os ≡ length (commands_of xs) → replies_to text (xs ++ ys) (os ++ ps) ≡ replies_to text xs os ++ replies_to text ys ps
+replies_append : (text : Answered → List ℕ) (xs ys : List (List ℕ)) (os ps : List (Option Answered)) → length os ≡ length (commands_of xs) → replies_to text (xs ++ ys) (os ++ ps) ≡ replies_to text xs os ++ replies_to text ys ps
 replies_append text [] ys [] ps e = refl
 replies_append text [] ys (o ∷ os) ps e = absurd (omega (arith, e))
 replies_append text (x ∷ xs) ys os ps e = replies_by text (command_of x) xs ys os ps (replies_to text ys ps) (λ ns d. replies_append text xs ys ns ps d) e
 
-output_join : {X : Type 0} (fits : X → Floor → Bool) (count : X → ℕ) (text : Reply → List ℕ) (xs ys : List (List ℕ)) (old : Seen) (spares : List X) (mid : Seen) (left : List X) (new : Seen) (rest : List X)
+output_join : {X : Type 0} (fits : X → Floor → Bool) (count : X → ℕ) (text : Answered → List ℕ) (xs ys : List (List ℕ)) (old : Seen) (spares : List X) (mid : Seen) (left : List X) (new : Seen) (rest : List X)
     (had more : List (List ℕ)) → IsOutputOf fits count text xs old spares mid left had → IsOutputOf fits count text ys mid left new rest more → IsOutputOf fits count text (xs ++ ys) old spares new rest (had ++ more)
 output_join {X} fits count text xs ys old spares mid left new rest had more p q =
     let here : Ran fits count old.site 0 (commands_of ys) q.outcomes mid.state left new.state rest =
@@ -71,10 +73,13 @@ output_join {X} fits count text xs ys old spares mid left new rest had more p q 
     let ran : Ran fits count old.site 0 (commands_of (xs ++ ys)) (p.outcomes ++ q.outcomes) old.state spares new.state rest =
     subst (λ cs. Ran fits count old.site 0 cs (p.outcomes ++ q.outcomes) old.state spares new.state rest) (sym (commands_append xs ys))
     (ran_append fits count old.site 0 (commands_of xs) p.outcomes (commands_of ys) q.outcomes old.state spares mid.state left new.state rest p.ran here) in
-    let long = ran_length fits count old.site 0 (commands_of xs) p.outcomes old.state spares mid.state left p.ran in
+    let first = answered_from (length old.history) old.state.clock p.outcomes in
+    let second = answered_from (length mid.history) mid.state.clock q.outcomes in
+    let long = answered_length (length old.history) old.state.clock p.outcomes ∙ ran_length fits count old.site 0 (commands_of xs) p.outcomes old.state spares mid.state left p.ran in
     record {
       outcomes = p.outcomes ++ q.outcomes;
-      replies_are = ap (λ rs. rs ++ more) p.replies_are ∙ ap (λ rs. replies_to text xs p.outcomes ++ rs) q.replies_are ∙ sym (replies_append text xs ys p.outcomes q.outcomes long);
+      replies_are = ap (λ rs. rs ++ more) p.replies_are ∙ ap (λ rs. replies_to text xs first ++ rs) q.replies_are ∙ sym (replies_append text xs ys first second long)
+          ∙ ap (λ rs. replies_to text (xs ++ ys) rs) (sym (answered_behind old.site old.state mid.state old.history mid.history p.outcomes q.outcomes p.history p.run));
       ran = ran;
       history = q.history ∙ ap (λ es. es ++ entries_of q.outcomes) p.history ∙ append_assoc old.history (entries_of p.outcomes) (entries_of q.outcomes) ∙ ap (λ es. old.history ++ es) (sym (entries_append p.outcomes q.outcomes));
       run = ran-run fits count old.site 0 (commands_of (xs ++ ys)) (p.outcomes ++ q.outcomes) old.state spares new.state rest ran;
@@ -98,7 +103,7 @@ ends_both a b p q more =
 pub lines_more : (a b : List ℕ) → EndsLine a → length (lines_of (a ++ b)) ≡ length (lines_of a) + length (lines_of b)
 lines_more a b p = ap length (p b) ∙ length-append (lines_of a) (lines_of b)
 
-module _ {X : Type 0} (fits : X → Floor → Bool) (count : X → ℕ) (text : Reply → List ℕ) where
+module _ {X : Type 0} (fits : X → Floor → Bool) (count : X → ℕ) (text : Answered → List ℕ) where
   pub serves_nothing : (old : Seen) (spares : List X) → ServesLines fits count text old spares old spares [] [] []
   serves_nothing old spares = record { whole = λ more. refl; output = gives_nothing fits count (λ outcomes. []) old spares; added_are = sym (append-nil old.history) }
 

@@ -9,17 +9,21 @@ use Rattle.wh_lines.specs.Input.{Input, left, with_failed, Takes}
 use Rattle.wh_grid.specs.Grids.{Floor}
 use Rattle.wh_token.specs.Drafts.{Seen}
 use Rattle.wh_event.specs.declared.entry.Entry.{Entry}
-use Rattle.wh_event.specs.declared.reply.Reply.{Reply}
+use Rattle.wh_log.specs.Told.{Answered}
 use Rattle.wh_log.specs.Spelling.{entry_line}
 use Rattle.wh_log.proofs.Fronts.{text-append}
 use Rattle.wh_replay.specs.Answers.{text_of}
 use Rattle.wh_replay.specs.Scripts.{WritesFront}
 use Rattle.wh_journal.specs.declared.fault.JournaledFault.{JournaledFault}
-use Rattle.wh_journal.specs.declared.fault.JournaledFault.TheVariants.{Broken, Endless, Unwritten, Unjournaled, NoMemory}
-use Rattle.wh_journal.specs.declared.rounds.Round.{Round}
-use Rattle.wh_journal.specs.declared.rounds.Round.TheVariants.{Served, Ended}
+use Rattle.wh_journal.specs.declared.fault.JournaledFault.TheVariants.{Broken, Endless, Unwritten, Unjournaled}
+use Rattle.wh_journal.specs.declared.answering.Answer.{Answer}
+use Rattle.wh_journal.specs.declared.gathering.Part.{Part}
+use Rattle.wh_journal.specs.declared.gathering.Part.TheVariants.{Full, Served, Ended}
 use Rattle.wh_journal.specs.Faults.{HasCause}
-use Rattle.wh_journal.specs.Journals.{lines_for, Rounds, Journaled, Gathers, GathersUntil, Unsettles}
+use Rattle.wh_journal.specs.Answering.{told_by_answers}
+use Rattle.wh_journal.specs.Gathering.{Gathers, GathersUntil}
+use Rattle.wh_journal.specs.Journals.{lines_for, Journaled, Unsettles}
+use Rattle.wh_journal.specs.Parts.{Parts}
 use Rattle.wh_journal.proofs.Joining.{serves_nothing}
 
 -- ---- bytes
@@ -52,7 +56,6 @@ no_journal_cause Endless after failed m n le (inl reads) = inl reads
 no_journal_cause Endless after failed m n le (inr many) = inr (omega (arith, le, many))
 no_journal_cause Unwritten after failed m n le h = tt
 no_journal_cause Unjournaled after failed m n le h = absurd (let no : false ≡ true = h in cc)
-no_journal_cause NoMemory after failed m n le h = tt
 
 pub more_cause : (fault : JournaledFault) (after : Input) (failed : Bool) (m n : ℕ) → m ≤ n → HasCause fault after failed m → HasCause fault after failed n
 more_cause Broken after failed m n le h = tt
@@ -60,16 +63,14 @@ more_cause Endless after failed m n le (inl reads) = inl reads
 more_cause Endless after failed m n le (inr many) = inr (omega (arith, le, many))
 more_cause Unwritten after failed m n le h = tt
 more_cause Unjournaled after failed m n le h = h
-more_cause NoMemory after failed m n le h = tt
 
 failed_cause : (fault : JournaledFault) (after : Input) (failed : Bool) (n : ℕ) → HasCause fault after failed n → HasCause fault (with_failed after true) failed n
 failed_cause Broken after failed n h = tt
 failed_cause Endless after failed n h = h
 failed_cause Unwritten after failed n h = tt
 failed_cause Unjournaled after failed n h = h
-failed_cause NoMemory after failed n h = tt
 
-module _ {X : Type 0} (fits : X → Floor → Bool) (count : X → ℕ) (text : Reply → List ℕ) where
+module _ {X : Type 0} (fits : X → Floor → Bool) (count : X → ℕ) (text : Answered → List ℕ) where
   -- the reader was told to give no more
   pub journaled_failed : (fault : JournaledFault) (before after now : Input) (old : Seen) (spares : List X) (new : Seen) (rest : List X) (had has journal : Option (List ℕ)) (failed : Bool) (synced holds : Option (List ℕ))
       → now ≡ with_failed after true → Journaled fits count text fault before after old spares new rest had has journal failed synced holds
@@ -96,7 +97,7 @@ module _ {X : Type 0} (fits : X → Floor → Bool) (count : X → ℕ) (text : 
         cause = failed_cause fault after failed (length (lines_of j.read) + length (lines_of j.more)) j.cause;
       })
 
-  -- ---- one round
+  -- ---- one part of a round
 
   module _ (before after : Input) (old : Seen) (spares : List X) (new : Seen) (rest : List X) (had has journal : Option (List ℕ)) where
     -- nothing was taken
@@ -124,9 +125,9 @@ module _ {X : Type 0} (fits : X → Floor → Bool) (count : X → ℕ) (text : 
     }
 
     -- the lines were not all gathered, and nothing was told
-    pub round_stopped : (fault : JournaledFault) (failed : Bool) (synced : Option (List ℕ)) → GathersUntil fits count text fault before after old spares new rest → Keeps had has → synced ≡ journal
+    pub part_stopped : (fault : JournaledFault) (failed : Bool) (synced : Option (List ℕ)) → GathersUntil fits count text fault before after old spares new rest → Keeps had has → synced ≡ journal
         → Journaled fits count text fault before after old spares new rest had has journal failed synced journal
-    round_stopped fault failed synced g flushed same = record {
+    part_stopped fault failed synced g flushed same = record {
       read = [];
       replies = [];
       added = [];
@@ -147,16 +148,30 @@ module _ {X : Type 0} (fits : X → Floor → Bool) (count : X → ℕ) (text : 
       cause = no_journal_cause fault after failed (length (lines_of g.read)) (0 + length (lines_of g.read)) (omega arith) g.cause;
     }
 
-    module _ (round : Round) (gathered : List ℕ) (entries : List Entry) (mid_has : Option (List ℕ)) (g : Gathers fits count text round before after old spares new rest gathered) (flushed : Keeps had mid_has)
-        (entries_are : entries ≡ drop (length old.history) new.history) where
+    module _ (part : Part) (answers : List Answer) (place clock : ℕ) (history : List Entry) (mid_has : Option (List ℕ)) (g : Gathers fits count text part before after old spares new rest answers) (flushed : Keeps had mid_has)
+        (place_is : place ≡ length old.history) (clock_is : clock ≡ old.state.clock) (history_is : history ≡ new.history) where
+      abbrev entries : List Entry
+      entries = drop place history
+
+      abbrev said : List ℕ
+      said = text_of (told_by_answers text place clock answers entries)
+
       entries_added : entries ≡ g.added
-      entries_added = entries_are ∙ ap (λ h. drop (length old.history) h) g.serves.added_are ∙ drop_past old.history g.added
+      entries_added =
+          ap (λ n. drop n history) place_is ∙ ap (λ h. drop (length old.history) h) (history_is ∙ g.serves.added_are) ∙ drop_past old.history g.added
+
+      said_is : said ≡ text_of g.replies
+      said_is =
+          ap (λ n. text_of (told_by_answers text n clock answers entries)) place_is
+          ∙ ap (λ n. text_of (told_by_answers text (length old.history) n answers entries)) clock_is
+          ∙ ap (λ es. text_of (told_by_answers text (length old.history) old.state.clock answers es)) entries_added
+          ∙ ap text_of (sym g.replies_are)
 
       all_stand : (holds : Option (List ℕ)) → Appends journal holds (lines_for entries) → Appends journal holds (lines_for g.added)
       all_stand holds p = subst (λ es. Appends journal holds (lines_for es)) entries_added p
 
-      all_told : Appends mid_has has gathered → Appends had has (text_of g.replies)
-      all_told p = subst (λ t. Appends had has t) g.gathered_are (appends_after had mid_has has gathered flushed p)
+      all_told : Appends mid_has has said → Appends had has (text_of g.replies)
+      all_told p = subst (λ t. Appends had has t) said_is (appends_after had mid_has has said flushed p)
 
       untold : (fault : JournaledFault) (failed : Bool) (synced holds : Option (List ℕ)) → HasCause fault after failed 0 → WritesFront journal holds (lines_for entries) → Keeps journal synced → has ≡ mid_has
           → Journaled fits count text fault before after old spares new rest had has journal failed synced holds
@@ -181,20 +196,19 @@ module _ {X : Type 0} (fits : X → Floor → Bool) (count : X → ℕ) (text : 
         cause = more_cause fault after failed 0 (0 + length (lines_of g.read)) (omega arith) cause;
       }
 
-      pub round_unsettled : (had_synced synced holds : Option (List ℕ)) (failed : Bool) (fault : JournaledFault) → had_synced ≡ journal
-          → Unsettles journal holds had_synced synced failed mid_has has gathered entries fault → Journaled fits count text fault before after old spares new rest had has journal failed synced holds
-      round_unsettled had_synced synced holds failed NoMemory same u = untold NoMemory failed synced holds tt u.0 (subst (λ s. Keeps s synced) same u.1) u.2
-      round_unsettled had_synced synced holds failed Unjournaled same u = untold Unjournaled failed synced holds u.3 u.0 (subst (λ s. Keeps s synced) same u.1) u.2
-      round_unsettled had_synced synced holds failed Broken same u = absurd u
-      round_unsettled had_synced synced holds failed Endless same u = absurd u
-      round_unsettled had_synced synced holds failed Unwritten same u = record {
+      pub part_unsettled : (had_synced synced holds : Option (List ℕ)) (failed : Bool) (fault : JournaledFault) → had_synced ≡ journal
+          → Unsettles journal holds had_synced synced failed mid_has has said entries fault → Journaled fits count text fault before after old spares new rest had has journal failed synced holds
+      part_unsettled had_synced synced holds failed Unjournaled same u = untold Unjournaled failed synced holds u.3 u.0 (subst (λ s. Keeps s synced) same u.1) u.2
+      part_unsettled had_synced synced holds failed Broken same u = absurd u
+      part_unsettled had_synced synced holds failed Endless same u = absurd u
+      part_unsettled had_synced synced holds failed Unwritten same u = record {
         read = g.read;
         replies = g.replies;
         added = g.added;
         mid = new;
         held = rest;
         serves = g.serves;
-        told = subst (λ t. WritesFront had has t) g.gathered_are (appends_front had mid_has has gathered flushed u.2);
+        told = subst (λ t. WritesFront had has t) said_is (appends_front had mid_has has said flushed u.2);
         kept = holds;
         stands = all_stand holds u.0;
         synced_is = subst (λ s. Keeps holds s) (sym u.1) (Keeps-refl holds);
@@ -208,10 +222,22 @@ module _ {X : Type 0} (fits : X → Floor → Bool) (count : X → ℕ) (text : 
         cause = tt;
       }
 
-    pub round_settled : (round : Round) (gathered : List ℕ) (entries : List Entry) (mid_has : Option (List ℕ)) → Gathers fits count text round before after old spares new rest gathered → Keeps had mid_has
-        → entries ≡ drop (length old.history) new.history → (synced holds : Option (List ℕ)) → Appends journal holds (lines_for entries) → synced ≡ holds → Appends mid_has has gathered
-        → Rounds fits count text before after old spares new rest had has journal synced holds round
-    round_settled Served gathered entries mid_has g flushed are synced holds stands same told = record {
+    pub part_settled : (part : Part) (answers : List Answer) (place clock : ℕ) (history : List Entry) (mid_has : Option (List ℕ)) → Gathers fits count text part before after old spares new rest answers → Keeps had mid_has
+        → place ≡ length old.history → clock ≡ old.state.clock → history ≡ new.history → (synced holds : Option (List ℕ)) → Appends journal holds (lines_for (drop place history)) → synced ≡ holds
+        → Appends mid_has has (text_of (told_by_answers text place clock answers (drop place history)))
+        → Parts fits count text before after old spares new rest had has journal synced holds part
+    part_settled Full answers place clock history mid_has g flushed here now are synced holds stands same told = record {
+      read = g.read;
+      takes = subst (λ l. Takes before after l) (ap (λ l. g.read ++ l) g.ends.0 ∙ append-nil g.read) g.takes;
+      some = g.ends.1;
+      replies = g.replies;
+      added = g.added;
+      serves = g.serves;
+      stands = all_stand Full answers place clock history mid_has g flushed here now are holds stands;
+      synced_is = same;
+      told = all_told Full answers place clock history mid_has g flushed here now are told;
+    }
+    part_settled Served answers place clock history mid_has g flushed here now are synced holds stands same told = record {
       read = g.read;
       takes = subst (λ l. Takes before after l) (ap (λ l. g.read ++ l) g.ends.0 ∙ append-nil g.read) g.takes;
       some = g.ends.1;
@@ -219,11 +245,11 @@ module _ {X : Type 0} (fits : X → Floor → Bool) (count : X → ℕ) (text : 
       replies = g.replies;
       added = g.added;
       serves = g.serves;
-      stands = all_stand Served gathered entries mid_has g flushed are holds stands;
+      stands = all_stand Served answers place clock history mid_has g flushed here now are holds stands;
       synced_is = same;
-      told = all_told Served gathered entries mid_has g flushed are told;
+      told = all_told Served answers place clock history mid_has g flushed here now are told;
     }
-    round_settled Ended gathered entries mid_has g flushed are synced holds stands same told = record {
+    part_settled Ended answers place clock history mid_has g flushed here now are synced holds stands same told = record {
       read = g.read;
       begun = g.begun;
       takes = g.takes;
@@ -232,7 +258,7 @@ module _ {X : Type 0} (fits : X → Floor → Bool) (count : X → ℕ) (text : 
       replies = g.replies;
       added = g.added;
       serves = g.serves;
-      stands = all_stand Ended gathered entries mid_has g flushed are holds stands;
+      stands = all_stand Ended answers place clock history mid_has g flushed here now are holds stands;
       synced_is = same;
-      told = all_told Ended gathered entries mid_has g flushed are told;
+      told = all_told Ended answers place clock history mid_has g flushed here now are told;
     }

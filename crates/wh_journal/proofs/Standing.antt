@@ -1,4 +1,4 @@
--- What stands while rounds are served one after another.
+-- What stands while rounds, or the parts of one, are served one after another.
 use Rattle.std.proofs.Common.{◌≡◌, ◌≤◌, ◌+◌, inr, arith, ℕ, List, [], ◌++◌, length, sym, subst, Option, append_assoc, append-nil, Bool}
 use Rattle.std.specs.Io.KnownBytes.{Appends, Keeps, Consumes}
 use Rattle.std.proofs.KnownBytes.{Keeps-refl, Consumes-nil, Consumes-trans, Appends-nil, Appends-trans}
@@ -7,18 +7,19 @@ use Rattle.wh_lines.specs.Input.{Input, left, Takes}
 use Rattle.wh_grid.specs.Grids.{Floor}
 use Rattle.wh_token.specs.Drafts.{Seen}
 use Rattle.wh_event.specs.declared.entry.Entry.{Entry}
-use Rattle.wh_event.specs.declared.reply.Reply.{Reply}
+use Rattle.wh_log.specs.Told.{Answered}
 use Rattle.wh_replay.specs.Answers.{text_of}
 use Rattle.wh_replay.specs.Scripts.{WritesFront}
 use Rattle.wh_replay.proofs.Written.{front_after, front_all}
 use Rattle.wh_journal.specs.declared.fault.JournaledFault.{JournaledFault}
 use Rattle.wh_journal.specs.declared.fault.JournaledFault.TheVariants.{Endless}
 use Rattle.wh_journal.specs.Journals.{lines_for, ServesLines, ServesRound, ReplaysJournaled, Journaled}
+use Rattle.wh_journal.specs.Parts.{ServesPart}
 use Rattle.wh_journal.proofs.Joining.{serves_nothing, serves_join, replies_text, lines_more}
 use Rattle.wh_journal.proofs.Rounded.{lines_append, more_cause}
 
 -- All that was served is told and stands in the journal, which is synced: one line at least in each round.
-pub record Standing {X : Type 0} (fits : X → Floor → Bool) (count : X → ℕ) (text : Reply → List ℕ) (before now : Input) (old : Seen) (spares : List X) (new : Seen) (rest : List X)
+pub record Standing {X : Type 0} (fits : X → Floor → Bool) (count : X → ℕ) (text : Answered → List ℕ) (before now : Input) (old : Seen) (spares : List X) (new : Seen) (rest : List X)
     (had has journal synced holds : Option (List ℕ)) (rounds : ℕ) : Type 0 where
   pub read : List ℕ
   pub takes : Takes before now read
@@ -30,7 +31,7 @@ pub record Standing {X : Type 0} (fits : X → Floor → Bool) (count : X → �
   pub told : Appends had has (text_of replies)
   pub many : rounds ≤ length (lines_of read)
 
-module _ {X : Type 0} (fits : X → Floor → Bool) (count : X → ℕ) (text : Reply → List ℕ) where
+module _ {X : Type 0} (fits : X → Floor → Bool) (count : X → ℕ) (text : Answered → List ℕ) where
   pub standing_start : (i : Input) (old : Seen) (spares : List X) (had journal synced : Option (List ℕ)) → synced ≡ journal
       → Standing fits count text i i old spares old spares had had journal synced journal 0
   standing_start i old spares had journal synced same = record {
@@ -43,6 +44,21 @@ module _ {X : Type 0} (fits : X → Floor → Bool) (count : X → ℕ) (text : 
     synced_is = same;
     told = Appends-nil had;
     many = omega arith;
+  }
+
+  -- a round is a part of one
+  part_of : (before after : Input) (old : Seen) (spares : List X) (new : Seen) (rest : List X) (had has journal synced holds : Option (List ℕ))
+      → ServesRound fits count text before after old spares new rest had has journal synced holds → ServesPart fits count text before after old spares new rest had has journal synced holds
+  part_of before after old spares new rest had has journal synced holds r = record {
+    read = r.read;
+    takes = r.takes;
+    some = r.some;
+    replies = r.replies;
+    added = r.added;
+    serves = r.serves;
+    stands = r.stands;
+    synced_is = r.synced_is;
+    told = r.told;
   }
 
   module _ (before now after : Input) (old : Seen) (spares : List X) (mid : Seen) (held : List X) (new : Seen) (rest : List X) (had has last journal synced holds : Option (List ℕ)) (rounds : ℕ)
@@ -60,9 +76,9 @@ module _ {X : Type 0} (fits : X → Floor → Bool) (count : X → ℕ) (text : 
         → ServesLines fits count text old spares new rest (st.read ++ read) (st.replies ++ replies) (st.added ++ added)
     joined read replies added s = serves_join fits count text old spares mid held new rest st.read read st.replies replies st.added added st.serves s
 
-    pub standing_round : (kept further : Option (List ℕ)) → ServesRound fits count text now after mid held new rest has last holds kept further
+    pub standing_part : (kept further : Option (List ℕ)) → ServesPart fits count text now after mid held new rest has last holds kept further
         → Standing fits count text before after old spares new rest had last journal kept further (rounds + 1)
-    standing_round kept further r = record {
+    standing_part kept further r = record {
       read = st.read ++ r.read;
       takes = taken r.read r.takes;
       replies = st.replies ++ r.replies;
@@ -73,6 +89,28 @@ module _ {X : Type 0} (fits : X → Floor → Bool) (count : X → ℕ) (text : 
       told = replies_told r.replies r.told;
       many = omega (arith, st.many, r.some, lines_more st.read r.read st.serves.whole);
     }
+
+    pub standing_round : (kept further : Option (List ℕ)) → ServesRound fits count text now after mid held new rest has last holds kept further
+        → Standing fits count text before after old spares new rest had last journal kept further (rounds + 1)
+    standing_round kept further r = standing_part kept further (part_of now after mid held new rest has last holds kept further r)
+
+    -- the last part of a round
+    pub standing_served : (kept further : Option (List ℕ)) → ServesRound fits count text now after mid held new rest has last holds kept further
+        → ServesRound fits count text before after old spares new rest had last journal kept further
+    standing_served kept further r =
+        let all = standing_round kept further r in
+        record {
+          read = all.read;
+          takes = all.takes;
+          some = omega (arith, all.many);
+          none_waits = r.none_waits;
+          replies = all.replies;
+          added = all.added;
+          serves = all.serves;
+          stands = all.stands;
+          synced_is = all.synced_is;
+          told = all.told;
+        }
 
     pub standing_end : (kept further : Option (List ℕ)) → ReplaysJournaled fits count text now after mid held new rest has last holds kept further
         → ReplaysJournaled fits count text before after old spares new rest had last journal kept further

@@ -6,7 +6,7 @@ use Rattle.wh_grid.specs.Grids.{Floor}
 use Rattle.wh_core.specs.States.{State}
 use Rattle.wh_token.specs.Drafts.{Seen}
 use Rattle.wh_event.specs.declared.entry.Entry.{Entry}
-use Rattle.wh_event.specs.declared.reply.Reply.{Reply}
+use Rattle.wh_log.specs.Told.{Answered}
 use Rattle.wh_lines.specs.Input.{Input}
 use Rattle.wh_log.specs.declared.version.Version.TheVariants.{Two}
 use Rattle.wh_log.specs.Logs.{Content}
@@ -19,7 +19,7 @@ appended : (holds : Option (List ℕ)) (text bs : List ℕ) → Appends (Some te
 appended None text bs p = absurd p
 appended (Some x) text bs p = ap (λ (l : List ℕ). Some l) p
 
-pub stays_log : {X : Type 0} (fits : X → Floor → Bool) (count : X → ℕ) (text : Reply → List ℕ) (before after : Input) (old : Seen) (spares : List X) (new : Seen) (rest : List X) (had has journal synced holds : Option (List ℕ))
+pub stays_log : {X : Type 0} (fits : X → Floor → Bool) (count : X → ℕ) (text : Answered → List ℕ) (before after : Input) (old : Seen) (spares : List X) (new : Seen) (rest : List X) (had has journal synced holds : Option (List ℕ))
     → ReplaysJournaled fits count text before after old spares new rest had has journal synced holds → HoldsLog journal old → StaysLog journal holds new
 stays_log fits count text before after old spares new rest had has None synced holds r is = tt
 stays_log fits count text before after old spares new rest had has (Some held) synced holds r is =

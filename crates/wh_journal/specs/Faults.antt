@@ -5,7 +5,7 @@ use Rattle.wh_lines.specs.declared.next.LineFault.{LineFault}
 use Rattle.wh_lines.specs.declared.next.LineFault.TheVariants.{Read, Flush}
 use Rattle.wh_lines.specs.declared.lines.ReadFault.TheVariants as reads
 use Rattle.wh_journal.specs.declared.fault.JournaledFault.{JournaledFault}
-use Rattle.wh_journal.specs.declared.fault.JournaledFault.TheVariants.{Broken, Endless, Unwritten, Unjournaled, NoMemory}
+use Rattle.wh_journal.specs.declared.fault.JournaledFault.TheVariants.{Broken, Endless, Unwritten, Unjournaled}
 
 -- the fault of a script whose next line did not come
 abbrev pub fault_of : LineFault → JournaledFault
@@ -20,4 +20,3 @@ HasCause Broken after failed lines = Unit {0}
 HasCause Endless after failed lines = (after.reads ≡ 100000000) ⊎ (2 ^ 64 - 1 ≤ lines)
 HasCause Unwritten after failed lines = Unit {0}
 HasCause Unjournaled after failed lines = failed ≡ true
-HasCause NoMemory after failed lines = Unit {0}

@@ -1,5 +1,5 @@
 -- what is served, what stands in the journal, and what is told
-use Rattle.std.specs.Prelude.{◌≡◌, ℕ, ◌+◌, ◌≤◌, Bool, true, false, List, [], ◌++◌, map, length, Option}
+use Rattle.std.specs.Prelude.{◌≡◌, ℕ, ◌+◌, ◌≤◌, Bool, true, List, ◌++◌, map, length, Option}
 use Rattle.std.specs.Io.KnownBytes.{Appends, Keeps, IsAtEnd}
 use Rattle.wh_text.specs.Lines.{lines_of}
 use Rattle.wh_words.specs.Lines.{text_of as lines_text}
@@ -8,13 +8,13 @@ use Rattle.wh_lines.specs.Input.{Input, left, Takes}
 use Rattle.wh_grid.specs.Grids.{Floor}
 use Rattle.wh_token.specs.Drafts.{Seen}
 use Rattle.wh_event.specs.declared.entry.Entry.{Entry}
-use Rattle.wh_event.specs.declared.reply.Reply.{Reply}
+use Rattle.wh_log.specs.Told.{Answered}
 use Rattle.wh_log.specs.Spelling.{entry_line}
 use Rattle.wh_replay.specs.Answers.{text_of}
 use Rattle.wh_replay.specs.Scripts.{IsOutputOf, WritesFront}
 use Rattle.wh_journal.specs.Faults.{HasCause}
 use Rattle.wh_journal.specs.declared.fault.JournaledFault.{JournaledFault}
-use Rattle.wh_journal.specs.declared.fault.JournaledFault.TheVariants.{Broken, Endless, Unwritten, Unjournaled, NoMemory}
+use Rattle.wh_journal.specs.declared.fault.JournaledFault.TheVariants.{Broken, Endless, Unwritten, Unjournaled}
 use Rattle.wh_journal.specs.declared.rounds.Round.{Round}
 use Rattle.wh_journal.specs.declared.rounds.Round.TheVariants.{Served, Ended}
 
@@ -24,7 +24,7 @@ lines_for entries = lines_text (map entry_line entries)
 
 -- These bytes are whole lines, and were served: these are the replies to them, and by these entries, theirs, the history
 -- has grown. Fits and count say what a planner answers; text, here and below, what a reply is told as.
-pub record ServesLines {X : Type 0} (fits : X → Floor → Bool) (count : X → ℕ) (text : Reply → List ℕ) (old : Seen) (spares : List X) (new : Seen) (rest : List X)
+pub record ServesLines {X : Type 0} (fits : X → Floor → Bool) (count : X → ℕ) (text : Answered → List ℕ) (old : Seen) (spares : List X) (new : Seen) (rest : List X)
     (read : List ℕ) (replies : List (List ℕ)) (added : List Entry) : Type 0 where
   pub whole : EndsLine read
   pub output : IsOutputOf fits count text (lines_of read) old spares new rest replies
@@ -32,7 +32,7 @@ pub record ServesLines {X : Type 0} (fits : X → Floor → Bool) (count : X →
 
 -- A round: at least one whole line was taken and served, the lines of the entries stand in the journal, which is synced, all
 -- replies are written, and no whole line waits.
-pub record ServesRound {X : Type 0} (fits : X → Floor → Bool) (count : X → ℕ) (text : Reply → List ℕ) (before after : Input) (old : Seen) (spares : List X) (new : Seen) (rest : List X)
+pub record ServesRound {X : Type 0} (fits : X → Floor → Bool) (count : X → ℕ) (text : Answered → List ℕ) (before after : Input) (old : Seen) (spares : List X) (new : Seen) (rest : List X)
     (had has journal synced holds : Option (List ℕ)) : Type 0 where
   pub read : List ℕ
   pub takes : Takes before after read
@@ -47,7 +47,7 @@ pub record ServesRound {X : Type 0} (fits : X → Floor → Bool) (count : X →
 
 -- All was read to the end. The whole lines were served, the lines of the entries stand in the journal, which is synced, and
 -- all replies are written. What follows the last line feed is no line.
-pub record ReplaysJournaled {X : Type 0} (fits : X → Floor → Bool) (count : X → ℕ) (text : Reply → List ℕ) (before after : Input) (old : Seen) (spares : List X) (new : Seen) (rest : List X)
+pub record ReplaysJournaled {X : Type 0} (fits : X → Floor → Bool) (count : X → ℕ) (text : Answered → List ℕ) (before after : Input) (old : Seen) (spares : List X) (new : Seen) (rest : List X)
     (had has journal synced holds : Option (List ℕ)) : Type 0 where
   pub read : List ℕ
   pub begun : List ℕ
@@ -61,14 +61,14 @@ pub record ReplaysJournaled {X : Type 0} (fits : X → Floor → Bool) (count : 
   pub synced_is : synced ≡ holds
   pub told : Appends had has (text_of replies)
 
-abbrev pub Rounds : {X : Type 0} → (X → Floor → Bool) → (X → ℕ) → (Reply → List ℕ) → Input → Input → Seen → List X → Seen → List X → (had has journal synced holds : Option (List ℕ)) → Round → Type 0
+abbrev pub Rounds : {X : Type 0} → (X → Floor → Bool) → (X → ℕ) → (Answered → List ℕ) → Input → Input → Seen → List X → Seen → List X → (had has journal synced holds : Option (List ℕ)) → Round → Type 0
 Rounds fits count text before after old spares new rest had has journal synced holds Served = ServesRound fits count text before after old spares new rest had has journal synced holds
 Rounds fits count text before after old spares new rest had has journal synced holds Ended = ReplaysJournaled fits count text before after old spares new rest had has journal synced holds
 
 -- Whatever was told, its entries stand in the journal. Whole lines were read and served; their entries were appended to the
 -- journal, and were synced, before a front of the replies was written. Then more whole lines were served, of which nothing
 -- was told: of their entries' lines a front may stand behind what was synced. What was taken behind all these was not served.
-pub record Journaled {X : Type 0} (fits : X → Floor → Bool) (count : X → ℕ) (text : Reply → List ℕ) (fault : JournaledFault) (before after : Input) (old : Seen) (spares : List X) (new : Seen) (rest : List X)
+pub record Journaled {X : Type 0} (fits : X → Floor → Bool) (count : X → ℕ) (text : Answered → List ℕ) (fault : JournaledFault) (before after : Input) (old : Seen) (spares : List X) (new : Seen) (rest : List X)
     (had has journal : Option (List ℕ)) (failed : Bool) (synced holds : Option (List ℕ)) : Type 0 where
   pub read : List ℕ
   pub replies : List (List ℕ)
@@ -89,37 +89,8 @@ pub record Journaled {X : Type 0} (fits : X → Floor → Bool) (count : X → �
   pub takes : Takes before after (read ++ (more ++ begun))
   pub cause : HasCause fault after failed (length (lines_of read) + length (lines_of more))
 
--- what ended a round
-abbrev pub EndsBy : Round → Input → List ℕ → List ℕ → Type 0
-EndsBy Served after read begun = (begun ≡ []) × (1 ≤ length (lines_of read)) × IsPlain after.waiting
-EndsBy Ended after read begun = IsPlain begun × IsAtEnd (left after)
-
--- lines were served, and their replies gathered
-pub record Gathers {X : Type 0} (fits : X → Floor → Bool) (count : X → ℕ) (text : Reply → List ℕ) (round : Round) (before after : Input) (old : Seen) (spares : List X) (new : Seen) (rest : List X)
-    (gathered : List ℕ) : Type 0 where
-  pub read : List ℕ
-  pub begun : List ℕ
-  pub takes : Takes before after (read ++ begun)
-  pub ends : EndsBy round after read begun
-  pub replies : List (List ℕ)
-  pub added : List Entry
-  pub serves : ServesLines fits count text old spares new rest read replies added
-  pub gathered_are : gathered ≡ text_of replies
-
--- or they were served until a fault, which was none of the journal
-pub record GathersUntil {X : Type 0} (fits : X → Floor → Bool) (count : X → ℕ) (text : Reply → List ℕ) (fault : JournaledFault) (before after : Input) (old : Seen) (spares : List X) (new : Seen) (rest : List X) : Type 0 where
-  pub read : List ℕ
-  pub begun : List ℕ
-  pub takes : Takes before after (read ++ begun)
-  pub replies : List (List ℕ)
-  pub added : List Entry
-  pub serves : ServesLines fits count text old spares new rest read replies added
-  pub cause : HasCause fault after false (length (lines_of read))
-
--- Why not. The journal failed, or memory was wanting, and nothing was written; or the journal is synced, and a front was written.
+-- Why not. The journal failed, and nothing was written; or the journal is synced, and a front was written.
 abbrev pub Unsettles : (journal kept_journal had_synced synced : Option (List ℕ)) → Bool → (writer written : Option (List ℕ)) → List ℕ → List Entry → JournaledFault → Type 0
-Unsettles journal kept_journal had_synced synced failed writer written replies entries NoMemory =
-    WritesFront journal kept_journal (lines_for entries) × Keeps had_synced synced × (written ≡ writer)
 Unsettles journal kept_journal had_synced synced failed writer written replies entries Unjournaled =
     WritesFront journal kept_journal (lines_for entries) × Keeps had_synced synced × (written ≡ writer) × (failed ≡ true)
 Unsettles journal kept_journal had_synced synced failed writer written replies entries Unwritten =

@@ -6,7 +6,8 @@ ghost use Rattle.wh_journal.specs.Faults.{fault_of};
 
 use wh_lines::{LineFault, ReadFault};
 
-/// Why a script was not served to its end.
+/// Why a script was not served to its end. Want of memory is none of these: it never ends a script, and a command that it
+/// refuses is answered.
 #[derive(Clone, Copy, Debug, PartialEq, Eq)]
 pub enum JournaledFault {
     /// X1: the reader failed, or a fault came before.
@@ -17,8 +18,6 @@ pub enum JournaledFault {
     Unwritten,
     /// X5: the journal failed.
     Unjournaled,
-    /// E90: memory was wanting for replies or lines that wait.
-    NoMemory,
 }
 
 pub(crate) fn read_fault(fault: LineFault) -> JournaledFault

@@ -1,23 +1,32 @@
-//! Serves the lines that wait, and gathers their replies.
+//! Serves the lines that wait, and gathers what they were answered.
 #![tactic(auto)]
 
-ghost use Rattle.std.specs.Prelude.{◌≡◌, [], true, false, IfOk, IfErr};
+ghost use Rattle.std.specs.Prelude.{◌≡◌, ◌<◌, ◌^◌, ℕ, List, [], true, false, length, IfOk, IfErr};
 ghost use Rattle.std.specs.Io.KnownBytes.{Keeps};
 ghost use Rattle.wh_text.specs.Lines.{is_line_feed, HasNone};
-ghost use Rattle.wh_log.specs.Told.{told_text};
-ghost use Rattle.wh_journal.specs.Journals.{Gathers, GathersUntil};
+ghost use Rattle.wh_log.specs.Told.{Answered};
+ghost use Rattle.wh_journal.specs.Gathering.{Gathers, GathersUntil};
 
+use crate::answering::{Answers, answer_line, note};
 use crate::fault::{JournaledFault, read_fault};
-use crate::rounds::Round;
 use std::alloc::Global;
 use std::io::{Read, Write};
 use wh_event::Command;
 use wh_lines::{CommandLine, Lines, Next};
-use wh_log::Form;
 use wh_planner::Planner;
-use wh_replay::serve;
 use wh_token::Warehouse;
 use wh_words::whole_line;
+
+/// What gathering came to.
+#[derive(Clone, Copy, Debug, PartialEq, Eq)]
+pub(crate) enum Part {
+    /// Lines were served, and more may wait, for whose answers there is no room.
+    Full,
+    /// Lines were served, and the next one may have to be waited for.
+    Served,
+    /// The reader is at its end.
+    Ended,
+}
 
 /// Whether a whole line stands in the bytes.
 fn has_line(bytes: &[u8]) -> bool
@@ -26,20 +35,21 @@ fn has_line(bytes: &[u8]) -> bool
     whole_line(bytes).is_some()
 }
 
-/// Serves the next line, for which it may wait, and then each whole line that waits behind it. The replies are gathered.
+/// Serves the next line, for which it may wait, and then each whole line that waits behind it, while there is room for what
+/// they are answered. That is gathered.
 pub(crate) fn gather<R: Read, W: Write, P: Planner>(
     lines: &mut Lines<R>,
     alloc: Global,
-    form: Form,
     writer: &mut W,
-    gathered: &mut Vec<u8>,
+    answers: &mut Answers,
     warehouse: &mut Warehouse<P>,
     spares: &mut Vec<P>,
-) -> Result<Round, JournaledFault>
-    requires { gathered.old.items ≡ [] }
-    ensures ok { IfOk result (λ round. Gathers P.fits_map P.slot_count (told_text form) round lines.old lines.new warehouse.old.book spares.old.items warehouse.new.book spares.new.items gathered.new.items) }
-    ensures err { IfErr result (λ fault. GathersUntil P.fits_map P.slot_count (told_text form) fault lines.old lines.new warehouse.old.book spares.old.items warehouse.new.book spares.new.items) }
+) -> Result<Part, JournaledFault>
+    requires { answers.old.items ≡ [] }
+    ensures ok { IfOk result (λ part. (text : Answered → List ℕ) → Gathers P.fits_map P.slot_count text part lines.old lines.new warehouse.old.book spares.old.items warehouse.new.book spares.new.items answers.new.items) }
+    ensures err { IfErr result (λ fault. (text : Answered → List ℕ) → GathersUntil P.fits_map P.slot_count text fault lines.old lines.new warehouse.old.book spares.old.items warehouse.new.book spares.new.items) }
     ensures writer { Keeps (W.contents writer.old) (W.contents writer.new) }
+    ensures few { length warehouse.old.book.history < 10 ^ 9 → length warehouse.new.book.history < 10 ^ 9 }
 {
     let mut line = CommandLine::new();
     let mut command = Command::Close;
@@ -50,23 +60,16 @@ pub(crate) fn gather<R: Read, W: Write, P: Planner>(
         };
         match next {
             Next::Whole => {}
-            Next::Last => return Ok(Round::Ended),
-            Next::End => return Ok(Round::Ended),
+            Next::Last => return Ok(Part::Ended),
+            Next::End => return Ok(Part::Ended),
         }
-        match serve(
-            &line,
-            &mut command,
-            alloc,
-            form,
-            gathered,
-            warehouse,
-            spares,
-        ) {
-            Ok(_) => {}
-            Err(_) => return Err(JournaledFault::NoMemory),
-        }
+        let answer = answer_line(&line, &mut command, alloc, warehouse, spares);
+        note(answers, answer);
         if !has_line(lines.waiting()) {
-            return Ok(Round::Served);
+            return Ok(Part::Served);
+        }
+        if answers.is_full() {
+            return Ok(Part::Full);
         }
     }
     Err(JournaledFault::Endless)

@@ -1,7 +1,7 @@
 //! A script that is served over a journal.
 #![tactic(auto)]
 
-ghost use Rattle.std.specs.Prelude.{◌≡◌, true, IfErr, OnOk, OnErr};
+ghost use Rattle.std.specs.Prelude.{◌≡◌, ◌<◌, ◌^◌, true, length, IfErr, OnOk, OnErr};
 ghost use Rattle.std.specs.Io.KnownBytes.{Keeps};
 ghost use Rattle.wh_log.specs.Told.{told_text};
 ghost use Rattle.wh_journal.specs.Journals.{Journaled, ReplaysJournaled};
@@ -20,8 +20,11 @@ use wh_token::Warehouse;
 /// Serves the script that is left in the reader, to the reader's end, as `wh_replay::replay` does, but that what follows the
 /// last line feed is no line: a command that was cut is not served. It has the journal keep each entry before its reply is
 /// told: in rounds, before each read that may wait and at the end, the lines of all new entries are appended and synced, and
-/// then the replies that waited are written. A fault of the journal stops it, and then no reply is told whose entry does not
-/// stand in the journal.
+/// then the replies are written, both from the history and without memory. A fault of the journal stops it, and then no reply
+/// is told whose entry does not stand in the journal.
+///
+/// Want of memory stops nothing, and is no fault: a command that it refuses is answered `refused E90`, has no entry, and has
+/// changed nothing. So is one that would be entry number 1,000,000,000, for which a log has no number.
 pub fn replay_journaled<R: Read, W: Write, J: Journal, P: Planner>(
     lines: &mut Lines<R>,
     alloc: Global,
@@ -38,6 +41,8 @@ pub fn replay_journaled<R: Read, W: Write, J: Journal, P: Planner>(
     // It stays so.
     ensures log { OnOk result (StaysLog (J.contents journal.old) (J.contents journal.new) warehouse.new.book) }
     ensures fault { IfErr result (λ fault. Journaled P.fits_map P.slot_count (told_text form) fault lines.old lines.new warehouse.old.book spares.old.items warehouse.new.book spares.new.items (W.contents writer.old) (W.contents writer.new) (J.contents journal.old) (J.failed journal.new) (J.synced journal.new) (J.contents journal.new)) }
+    // With one entry more the journal would be no log.
+    ensures few { length warehouse.old.book.history < 10 ^ 9 → length warehouse.new.book.history < 10 ^ 9 }
     // After a fault there is nothing more.
     ensures failed { OnErr result (lines.new.failed ≡ true) }
     ensures again { lines.old.failed ≡ true → (result ≡ Err JournaledFault.Broken) × (lines.new ≡ lines.old) × (warehouse.new.book ≡ warehouse.old.book) × (spares.new.items ≡ spares.old.items) × (journal.new ≡ journal.old) × Keeps (W.contents writer.old) (W.contents writer.new) }

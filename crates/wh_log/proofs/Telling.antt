@@ -1,10 +1,13 @@
 -- Replies that are told cell by cell.
-use Rattle.std.proofs.Common.{◌≡◌, ◌<◌, ◌+◌, ℕ, zero, suc, List, [], ◌∷◌, ◌++◌, length, take, drop, map, refl, sym, ap, ◌∙◌, Option, Some, append_assoc, codes, decimal, arith}
+use Rattle.std.proofs.Common.{◌≡◌, ◌<◌, ◌+◌, ◌^◌, ℕ, zero, suc, List, [], ◌∷◌, ◌++◌, length, take, drop, map, refl, sym, ap, ◌∙◌, Option, Some, append_assoc, codes, decimal, arith}
 use Rattle.std.proofs.lemmas.List.{map-append}
 use Rattle.std.proofs.lemmas.Grind.{flat_map-append}
+use Rattle.std.proofs.lemmas.Fmt.{decimal_injective}
+use Rattle.std.specs.List.{AllByRecursion}
 use Rattle.std.specs.Io.KnownBytes.{Appends}
 use Rattle.wh_words.specs.Lines.{IsLine}
-use Rattle.wh_words.specs.Words.{words_of}
+use Rattle.wh_words.specs.Words.{IsPlain, words_of, line_of}
+use Rattle.wh_words.proofs.NumeralLemmas.{plain-decimal}
 use Rattle.wh_words.proofs.Cutting.{split, line_is_line}
 use Rattle.wh_lines.specs.Output.{WritesFront}
 use Rattle.wh_lines.proofs.Written.{both_parts, in_first, in_second}
@@ -13,11 +16,12 @@ use Rattle.wh_path.specs.Paths.{at}
 use Rattle.wh_event.specs.declared.reply.Reply.{Reply}
 use Rattle.wh_event.specs.declared.reply.Reply.TheVariants.{Accepted, Took, Rested, Parked, Clock, Replaced, Closed, Refused}
 use Rattle.wh_log.specs.Spaced.{spaced}
-use Rattle.wh_log.specs.Spelling.{cell_word, reply_words}
+use Rattle.wh_event.specs.declared.entry.Entry.{Entry}
+use Rattle.wh_log.specs.Spelling.{cell_word, entry_line, event_words, reply_words}
 use Rattle.wh_log.specs.Ranges.{ReplyKeeps}
 use Rattle.wh_log.specs.ReadReplies.{reply_of}
-use Rattle.wh_log.specs.Told.{full_text}
-use Rattle.wh_log.proofs.Spacing.{line-spaced}
+use Rattle.wh_log.specs.Told.{Answered, AnsweredKeeps, full_text, placed_text}
+use Rattle.wh_log.proofs.Spacing.{entry-spaced, line-spaced}
 use Rattle.wh_log.proofs.PathLoop.{cell_pushed}
 use Rattle.wh_log.proofs.Steps.{some_is}
 use Rattle.wh_log.proofs.ReplyLaws.{reply_again, reply_plain}
@@ -82,3 +86,67 @@ one_reply a b h k e = some_is a b (sym (text_again a h) ∙ ap (λ (text : List 
 
 pub text_is_line : (reply : Reply) → ReplyKeeps reply → IsLine (full_text reply)
 text_is_line reply h = line_is_line (reply_words reply) (reply_plain reply h)
+
+-- ---- entries
+
+spaced_line : (words : List (List ℕ)) → 0 < length words → spaced words ≡ 32 ∷ line_of words
+spaced_line [] some = absurd (omega (arith, some))
+spaced_line (word ∷ words) some = ap (λ (t : List ℕ). 32 ∷ t) (sym (line-spaced word words))
+
+-- an entry's line up to the cells of its reply, and these
+pub entry_parts : (entry : Entry) (head cells : List ℕ) → full_text entry.reply ≡ head ++ cells
+    → entry_line entry ≡ (((decimal entry.caller ++ spaced (event_words entry.event)) ++ codes " = ") ++ head) ++ cells
+entry_parts entry head cells e =
+    let number = decimal entry.caller in
+    let event = spaced (event_words entry.event) in
+    let reply : spaced (reply_words entry.reply) ≡ 32 ∷ (head ++ cells) = spaced_line (reply_words entry.reply) (some_words entry.reply) ∙ ap (λ (t : List ℕ). 32 ∷ t) e in
+    entry-spaced entry
+    ∙ ap (λ (t : List ℕ). number ++ (event ++ 32 ∷ 61 ∷ t)) reply
+    ∙ sym (append_assoc number event (codes " = " ++ (head ++ cells)))
+    ∙ sym (append_assoc (number ++ event) (codes " = ") (head ++ cells))
+    ∙ sym (append_assoc ((number ++ event) ++ codes " = ") head cells)
+
+-- ---- replies behind their places
+
+-- the place and the clock, and behind them the reply
+pub placed_parts : (place clock : ℕ) (reply : Reply)
+    → placed_text (record { place = place; clock = clock; reply = reply }) ≡ (decimal place ++ 32 ∷ (decimal clock ++ 32 ∷ [])) ++ full_text reply
+placed_parts place clock reply =
+    sym (append_assoc (decimal place) (32 ∷ (decimal clock ++ 32 ∷ [])) (full_text reply)
+    ∙ ap (λ (t : List ℕ). decimal place ++ 32 ∷ t) (append_assoc (decimal clock) (32 ∷ []) (full_text reply)))
+
+abbrev placed_words : Answered → List (List ℕ)
+placed_words a = decimal a.place ∷ decimal a.clock ∷ reply_words a.reply
+
+joined_behind : (word : List ℕ) (words : List (List ℕ)) → 0 < length words → line_of (word ∷ words) ≡ word ++ 32 ∷ line_of words
+joined_behind word [] some = absurd (omega (arith, some))
+joined_behind word (other ∷ words) some = refl
+
+placed_line : (a : Answered) → placed_text a ≡ line_of (placed_words a)
+placed_line a = ap (λ (t : List ℕ). decimal a.place ++ 32 ∷ t) (sym (joined_behind (decimal a.clock) (reply_words a.reply) (some_words a.reply)))
+
+placed_plain : (a : Answered) → AnsweredKeeps a → AllByRecursion IsPlain (placed_words a)
+placed_plain a h = (plain-decimal a.place h.place_fits, (plain-decimal a.clock h.clock_fits, reply_plain a.reply h.reply_keeps))
+
+placed_split : (a : Answered) → AnsweredKeeps a → words_of (placed_text a) ≡ placed_words a
+placed_split a h = ap words_of (placed_line a) ∙ split (placed_words a) (omega arith) (placed_plain a h)
+
+same_parts : (a b : Answered) → a.place ≡ b.place → a.clock ≡ b.clock → a.reply ≡ b.reply → a ≡ b
+same_parts a b place clock reply = λ i. record { place = place i; clock = clock i; reply = reply i }
+
+same_words : (m n k l : ℕ) (a b : Reply) → m < 2 ^ 64 → n < 2 ^ 64 → k < 2 ^ 64 → l < 2 ^ 64 → ReplyKeeps a → ReplyKeeps b
+    → decimal m ∷ decimal k ∷ reply_words a ≡ decimal n ∷ decimal l ∷ reply_words b → (m ≡ n) × (k ≡ l) × (a ≡ b)
+same_words m n k l a b mf nf kf lf ak bk e =
+    let place : decimal m ≡ decimal n = cc in
+    let clock : decimal k ≡ decimal l = cc in
+    let words : reply_words a ≡ reply_words b = cc in (
+      decimal_injective m n mf nf place,
+      decimal_injective k l kf lf clock,
+      some_is a b (sym (reply_again a ak) ∙ ap reply_of words ∙ reply_again b bk),
+    )
+
+pub one_placed : (a b : Answered) → AnsweredKeeps a → AnsweredKeeps b → placed_text a ≡ placed_text b → a ≡ b
+one_placed a b h k e =
+    let words : placed_words a ≡ placed_words b = sym (placed_split a h) ∙ ap words_of e ∙ placed_split b k in
+    let same = same_words a.place b.place a.clock b.clock a.reply b.reply h.place_fits k.place_fits h.clock_fits k.clock_fits h.reply_keeps k.reply_keeps words in
+    same_parts a b same.0 same.1 same.2

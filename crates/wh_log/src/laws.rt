@@ -5,7 +5,7 @@ ghost use Rattle.wh_words.specs.Lines.{IsLine};
 ghost use Rattle.wh_event.specs.declared.reply.Reply.{Reply};
 ghost use Rattle.wh_log.specs.Logs.{Content, IsLogText};
 ghost use Rattle.wh_log.specs.Ranges.{ReplyKeeps};
-ghost use Rattle.wh_log.specs.Told.{full_text};
+ghost use Rattle.wh_log.specs.Told.{Answered, AnsweredKeeps, full_text, placed_text};
 ghost use Rattle.wh_log.specs.Collecting.{Any};
 ghost use Rattle.wh_log.specs.FirstBad.{IsFirstBad, IsLogOf};
 ghost use Rattle.wh_log.specs.Torn.{CutsAreFound, CutsBegin};
@@ -34,4 +34,6 @@ pub fn replies_are()
     ensures lines { (reply : Reply) → ReplyKeeps reply → IsLine (full_text reply) }
     // A text tells one reply.
     ensures one { (a b : Reply) → ReplyKeeps a → ReplyKeeps b → full_text a ≡ full_text b → a ≡ b }
+    // And one that is told with its place also the place and the clock, where these are numbers of 64 bits.
+    ensures placed { (a b : Answered) → AnsweredKeeps a → AnsweredKeeps b → placed_text a ≡ placed_text b → a ≡ b }
 {}

@@ -1,14 +1,15 @@
-//! Searches over times and over intervals, by marks and by a timetable, end at one time: on small made
-//! maps with walls, beside agents that wander, rest in doors, meet one another or stand in walls.
+//! The search over intervals, by visits and by a timetable, with the straight pass and without, ends when the plain one by
+//! layers of time does: on small made maps with walls, beside agents that wander, rest in doors, meet one another or stand
+//! in walls.
 
 use std::process::Abort;
 use std::test::Fail;
-use wh_field::Field;
+use wh_field::{Field, Sight};
 use wh_grid::{Cell, Grid};
-use wh_intervals::{deliver_by_intervals, park_by_intervals};
+use wh_intervals::{deliver_guided, deliver_sighted, park, park_in};
 use wh_path::TimedPath;
-use wh_resv::{Reservations, Visits};
-use wh_search::{Fault, deliver_guided, park};
+use wh_resv::Reservations;
+use wh_search::{Fault, SearchMemory, layers};
 use wh_timetable::{Beside, Sides, Timetable};
 
 /// Numbers that look drawn by lot, the same in each run.
@@ -90,7 +91,7 @@ fn last<R: Abort + AllocGlobal>(
     }
 }
 
-/// Two errands of an agent at a cell, by marks: to deliver through the stops, and to park at the first
+/// Two errands of an agent at a cell, by visits: to deliver through the stops, and to park at the first
 /// of them. Answers when they end.
 fn ends<R: Abort + AllocGlobal>(
     rt: &R,
@@ -105,25 +106,27 @@ fn ends<R: Abort + AllocGlobal>(
     assert!(rt; stops.len() <= 8);
     let bare = [None; 8];
     let none = &bare[..stops.len()];
-    let times = deliver_guided(rt.alloc(), grid, others, loc, stops, none);
-    let delivered = last(rt, times)?;
-    let found = deliver_by_intervals(rt.alloc(), grid, others, loc, stops, none);
+    let plain = layers::deliver(rt.alloc(), grid, others, loc, stops);
+    let delivered = last(rt, plain)?;
+    let found = deliver_guided(rt.alloc(), grid, others, loc, stops, none);
     assert_eq!(rt; last(rt, found)?, delivered);
-    let visits = Visits::of(rt.alloc(), others)?;
-    let found = deliver_by_intervals(rt.alloc(), grid, &visits, loc, stops, none);
+    let mut memory = SearchMemory::empty(rt.alloc());
+    let blind: [Option<Sight>; 8] = [None; 8];
+    let sights = &blind[..stops.len()];
+    let found = deliver_sighted(rt.alloc(), &mut memory, grid, others, loc, stops, sights);
     assert_eq!(rt; last(rt, found)?, delivered);
     let pair = [stops[0], stops[1]];
     let first = Field::from(rt.alloc(), grid, pair[0])?;
     let second = Field::from(rt.alloc(), grid, pair[1])?;
     let fields = [Some(&first), Some(&second)];
-    let by_times = deliver_guided(rt.alloc(), grid, others, loc, &pair, &fields);
-    let by_intervals = deliver_by_intervals(rt.alloc(), grid, others, loc, &pair, &fields);
-    assert_eq!(rt; last(rt, by_intervals)?, last(rt, by_times)?);
-    let times = park(rt.alloc(), grid, others, loc, &pair);
-    let parked = last(rt, times)?;
-    let found = park_by_intervals(rt.alloc(), grid, others, loc, &pair);
+    let plain = layers::deliver(rt.alloc(), grid, others, loc, &pair);
+    let guided = deliver_guided(rt.alloc(), grid, others, loc, &pair, &fields);
+    assert_eq!(rt; last(rt, guided)?, last(rt, plain)?);
+    let plain = layers::park(rt.alloc(), grid, others, loc, &pair);
+    let parked = last(rt, plain)?;
+    let found = park(rt.alloc(), grid, others, loc, &pair);
     assert_eq!(rt; last(rt, found)?, parked);
-    let found = park_by_intervals(rt.alloc(), grid, &visits, loc, &pair);
+    let found = park_in(rt.alloc(), &mut memory, grid, others, loc, &pair);
     assert_eq!(rt; last(rt, found)?, parked);
     Ok((delivered, parked))
 }
@@ -159,10 +162,10 @@ fn told<R: Abort + AllocGlobal>(
     assert!(rt; stops.len() <= 8);
     let bare = [None; 8];
     let none = &bare[..stops.len()];
-    let found = deliver_by_intervals(rt.alloc(), grid, &others, loc, stops, none);
+    let found = deliver_guided(rt.alloc(), grid, &others, loc, stops, none);
     assert_eq!(rt; last(rt, found)?, expected.0);
     let pair = [stops[0], stops[1]];
-    let found = park_by_intervals(rt.alloc(), grid, &others, loc, &pair);
+    let found = park(rt.alloc(), grid, &others, loc, &pair);
     assert_eq!(rt; last(rt, found)?, expected.1);
     Ok(true)
 }

@@ -1,4 +1,4 @@
-//! Errands for which a search over single times would take up very many states, so that one over intervals goes on.
+//! Errands for which a search over single times would take up very many states.
 
 use std::process::Abort;
 use std::test::Fail;

@@ -2,13 +2,12 @@
 
 use std::process::Abort;
 use std::test::Fail;
-use wh_field::Field;
+use wh_field::{Field, Sight};
 use wh_grid::{Cell, Grid};
+use wh_intervals::{deliver, deliver_guided, deliver_sighted, guided_steps, park, park_in};
 use wh_path::TimedPath;
 use wh_resv::Reservations;
-use wh_search::{
-    Fault, SearchMemory, deliver, deliver_guided, deliver_in, guided_steps, layers, park, park_in,
-};
+use wh_search::{Fault, SearchMemory, layers};
 
 fn path<R: Abort + AllocGlobal>(rt: &R, cells: &[(u16, u16)]) -> Result<TimedPath, Fail> {
     let mut all = Vec::new(rt.alloc());
@@ -252,7 +251,8 @@ fn agreed<R: Abort + AllocGlobal>(
     let fields = [Some(&first), Some(&second)];
     let guided = deliver_guided(rt.alloc(), grid, others, loc, &stops, &fields);
     assert_eq!(rt; last(rt, guided)?, plain);
-    let kept = deliver_in(rt.alloc(), memory, grid, others, loc, &stops, &fields);
+    let blind: [Option<Sight>; 2] = [None; 2];
+    let kept = deliver_sighted(rt.alloc(), memory, grid, others, loc, &stops, &blind);
     assert_eq!(rt; last(rt, kept)?, plain);
     assert_eq!(rt;
         last(rt, deliver(rt.alloc(), grid, others, loc, &stops))?,

@@ -1,5 +1,5 @@
 -- Words that give options are not refused.
-use Rattle.std.proofs.Common.{◌≡◌, ◌⊎◌, ◌≤◌, ◌<◌, ◌^◌, ℕ, List, [], ◌∷◌, ◌++◌, length, map, refl, sym, ap, ◌∙◌, Bool, true, false, cond, None, Some, Option, subst, inl, inr, codes, arith, ◌==◌, ◌||◌, ◌&&◌, nat_lt, lt-ltb, le-leb, lit<, true≢false, is_some, option_map}
+use Rattle.std.proofs.Common.{◌≡◌, ◌⊎◌, ◌≤◌, ◌<◌, ◌^◌, ℕ, List, [], ◌∷◌, ◌++◌, drop, length, map, refl, sym, ap, ◌∙◌, Bool, true, false, cond, None, Some, Option, subst, inl, inr, codes, arith, ◌==◌, ◌||◌, ◌&&◌, nat_lt, lt-ltb, le-leb, lit<, true≢false, is_some, option_map}
 use Rattle.std.specs.Prelude.{◌≢◌, MatchOption, find, fold}
 use Rattle.std.specs.List.{AllByRecursion, IsDistinct, flat_map, list_all, list_any}
 use Rattle.std.specs.Char.{digit_value}
@@ -16,9 +16,9 @@ use Rattle.clap.specs.Walk.{Held, Names, Row, Rule, Text, Walk, action_of, answe
 use Rattle.clap.specs.Faults.{action_fault, built_fault, check_fault, default_fault, defaults_fault, entered_fault, fault_of, level_fault, repeat_fault, set_fault, settle_fault, turn_fault, use_fault, values_fault, walk_fault}
 use Rattle.clap.specs.Simple.{App, Shape, built, entered, filled, label_of, names_of}
 use Rattle.clap.specs.declared.builder.value_parser.ValueParser.TheVariants as vp
-use Rattle.wh_options.specs.Setting.{IsLine, Setting, StandsFree, has_some, spelled, value_of}
-use Rattle.wh_options.specs.Options.{GivesFleet, GivesLog, GivesNumber, GivesPlanner, GivesReplies, GivesTail, IsWritten, WordsGive, live_names, log_of, planner_text, replay_names, replies_text, tail_text}
-use Rattle.wh_options.specs.Menu.{Choices, IsMenu, choice_rule, file_rule, menu, number_rule, planner_words, replies_words, tail_words}
+use Rattle.wh_options.specs.Setting.{IsInPlace, IsLine, Setting, Spelling, StandsBy, alone, apart, has_some, is_switch, joined, spelled, value_of}
+use Rattle.wh_options.specs.Options.{GivesFleet, GivesLog, GivesNumber, GivesPlanner, GivesReplay, GivesReplies, GivesTail, GivesTold, IsWritten, WordsGive, live_names, log_of, planner_text, replay_names, replies_text, tail_text}
+use Rattle.wh_options.specs.Menu.{Choices, IsMenu, choice_rule, file_rule, menu, number_rule, planner_words, replies_words, switch_rule, tail_words}
 use Rattle.wh_options.specs.declared.chosen.Options.{Options}
 use Rattle.wh_options.specs.declared.chosen.Options.TheVariants.{Check, Replay, Verify, Live}
 use Rattle.wh_options.specs.declared.chosen.Fleet.{Fleet}
@@ -29,9 +29,9 @@ use Rattle.wh_options.specs.declared.chosen.PlannerKind.TheVariants.{Near, Patie
 use Rattle.wh_options.specs.declared.chosen.Tail.{Tail}
 use Rattle.wh_options.specs.declared.chosen.Tail.TheVariants.{Nothing, Log, Ledger}
 use Rattle.wh_options.specs.declared.chosen.Replies.{Replies}
-use Rattle.wh_options.specs.declared.chosen.Replies.TheVariants.{Short, Full}
+use Rattle.wh_options.specs.declared.chosen.Replies.TheVariants.{Short, Full, Placed}
 use Rattle.wh_options.proofs.Shapes.{bytes_same}
-use Rattle.wh_options.proofs.Leaf.{ArePlain, IsOption, long_plain}
+use Rattle.wh_options.proofs.Leaf.{ArePlain, IsOption, IsSwitch, Suits, held_by, long_plain, option_suits, switch_suits}
 use Rattle.wh_options.proofs.Turns.{idle_at}
 use Rattle.wh_options.proofs.Words.{IsFine, self_same}
 use Rattle.wh_options.proofs.Rows.{either_false, row, use_is}
@@ -54,25 +54,43 @@ value_fine a v e = go (accepts a.ignore_case (parser_of_value a.parser) v) e
 once_fine : (again : Bool) (id : Text) (rows : List Row) → has_row id rows ≡ false → repeat_fault again id rows ≡ []
 once_fine again id rows e = rw e refl
 
-use_passes : (again : Bool) (a : Rule) (v : Text) (rows : List Row) → IsOption a → has_row a.id rows ≡ false → accepts a.ignore_case (parser_of_value a.parser) v ≡ true
+option_passes : (again : Bool) (a : Rule) (v : Text) (rows : List Row) → IsOption a → has_row a.id rows ≡ false → accepts a.ignore_case (parser_of_value a.parser) v ≡ true
     → use_fault again a (v ∷ []) rows ≡ []
-use_passes again a v rows opt new taken =
+option_passes again a v rows opt new taken =
     let setting : set_fault again a (v ∷ []) rows ≡ [] = none_both _ _ (once_fine again a.id rows new) (value_fine a v taken) in
     let acted : action_fault (action_of a) again a (v ∷ []) rows ≡ [] = subst (λ x. action_fault x again a (v ∷ []) rows ≡ []) (sym opt.action) setting in
     none_both _ _ (range_fine _ _ opt.least opt.most) acted
+
+no_range : (least most : ℕ) → least ≡ 0 → most ≡ 0 → range_kinds least most 0 ≡ []
+no_range least most low high = subst (λ k. range_kinds k most 0 ≡ []) (sym low) (subst (λ k. range_kinds 0 k 0 ≡ []) (sym high) refl)
+
+switch_passes : (again : Bool) (a : Rule) (v : Text) (rows : List Row) → IsSwitch a → v ≡ codes "true" → has_row a.id rows ≡ false → accepts a.ignore_case (parser_of_value a.parser) v ≡ true
+    → use_fault again a [] rows ≡ []
+switch_passes again a v rows switch is new taken =
+    let setting : set_fault again a (v ∷ []) rows ≡ [] = none_both _ _ (once_fine again a.id rows new) (value_fine a v taken) in
+    let given : a.missing ≡ v ∷ [] = switch.missing ∙ ap (λ t. t ∷ []) (sym is) in
+    let missing : set_fault again a a.missing rows ≡ [] = subst (λ vs. set_fault again a vs rows ≡ []) (sym given) setting in
+    let acted : action_fault (action_of a) again a a.missing rows ≡ [] = subst (λ x. action_fault x again a a.missing rows ≡ []) (sym switch.action) missing in
+    none_both _ _ (no_range _ _ switch.least switch.most) acted
+
+use_passes : (again : Bool) (a : Rule) (way : Spelling) (name v : Text) (rows : List Row) → Suits way a → StandsBy way name v → has_row a.id rows ≡ false
+    → accepts a.ignore_case (parser_of_value a.parser) v ≡ true → use_fault again a (held_by way v) rows ≡ []
+use_passes again a joined name v rows suits stands new taken = option_passes again a v rows suits new taken
+use_passes again a apart name v rows suits stands new taken = option_passes again a v rows suits new taken
+use_passes again a alone name v rows suits stands new taken = switch_passes again a v rows suits stands.1 new taken
 
 -- ---- many uses
 
 pub record IsValid (s : Shape) (x : Setting) : Type 0 where
   pub rule : Rule
   pub found : arg_by_long s.rules x.name ≡ Some rule
-  pub option : IsOption rule
+  pub suits : Suits x.way rule
   pub accepted : accepts rule.ignore_case (parser_of_value rule.parser) x.value ≡ true
   pub first : ℕ
   pub others : Text
   pub named : x.name ≡ first ∷ others
   pub no_equals : has_byte 61 x.name ≡ false
-  pub free : StandsFree x
+  pub in_place : IsInPlace x
 
 abbrev Fresh : List Row → List Setting → Type 0
 Fresh rows = AllByRecursion (λ (x : Setting). has_row x.name rows ≡ false)
@@ -84,8 +102,8 @@ has_row_join id (q ∷ qs) r e f =
     rw (both.0, has_row_join id qs r both.1 f) refl
 
 fresh_join : (rows : List Row) (r : Row) (xs : List Setting) → Fresh rows xs → AllByRecursion (λ y. bytes_eq r.id y ≡ false) (map (λ (x : Setting). x.name) xs) → Fresh (rows ++ r ∷ []) xs
-fresh_join rows r [] all apart = tt
-fresh_join rows r (x ∷ xs) all apart = (has_row_join x.name rows r all.0 apart.0, fresh_join rows r xs all.1 apart.1)
+fresh_join rows r [] all away = tt
+fresh_join rows r (x ∷ xs) all away = (has_row_join x.name rows r all.0 away.0, fresh_join rows r xs all.1 away.1)
 
 valid_taken : (s : Shape) (settings : List Setting) (rows : List Row) → ArePlain s.rules → s.args_override_self ≡ false → AllByRecursion (IsValid s) settings → Fresh rows settings
     → IsDistinct bytes_eq (map (λ (x : Setting). x.name) settings) → AllTaken s settings rows
@@ -95,13 +113,13 @@ valid_taken s (x ∷ xs) rows all never valid fresh once =
     let v = valid.0 in
     let id = (long_plain s.rules x.name v.rule all v.found).1 in
     let new : has_row v.rule.id rows ≡ false = subst (λ n. has_row n rows ≡ false) (sym id) fresh.0 in
-    let passes = use_passes s.args_override_self v.rule x.value rows v.option new v.accepted in
+    let passes = use_passes s.args_override_self v.rule x.way x.name x.value rows v.suits v.in_place new v.accepted in
     let r = row v.rule.id (reading_by v.rule) x.value in
-    let makes : used v.rule (x.value ∷ []) rows ≡ rows ++ r ∷ [] = (use_is s.args_override_self v.rule x.value rows never v.option passes).makes in
-    let apart : AllByRecursion (λ y. bytes_eq r.id y ≡ false) (map (λ (x : Setting). x.name) xs) = subst (λ n. AllByRecursion (λ y. bytes_eq n y ≡ false) (map (λ (x : Setting). x.name) xs)) (sym id) once.0 in
-    let more : AllTaken s xs (rows ++ r ∷ []) = valid_taken s xs (rows ++ r ∷ []) all never valid.1 (fresh_join rows r xs fresh.1 apart) once.1 in
+    let makes : used v.rule (held_by x.way x.value) rows ≡ rows ++ r ∷ [] = (use_is s.args_override_self v.rule x.way x.name x.value rows never v.suits v.in_place passes).makes in
+    let away : AllByRecursion (λ y. bytes_eq r.id y ≡ false) (map (λ (x : Setting). x.name) xs) = subst (λ n. AllByRecursion (λ y. bytes_eq n y ≡ false) (map (λ (x : Setting). x.name) xs)) (sym id) once.0 in
+    let more : AllTaken s xs (rows ++ r ∷ []) = valid_taken s xs (rows ++ r ∷ []) all never valid.1 (fresh_join rows r xs fresh.1 away) once.1 in
     record {
-      now = record { rule = v.rule; found = v.found; option = v.option; passes = passes; first = v.first; others = v.others; named = v.named; no_equals = v.no_equals; free = v.free };
+      now = record { rule = v.rule; found = v.found; suits = v.suits; passes = passes; first = v.first; others = v.others; named = v.named; no_equals = v.no_equals; in_place = v.in_place };
       later = subst (AllTaken s xs) (sym makes) more;
     }
 
@@ -185,9 +203,9 @@ cond_skip false x o e = refl
 
 later_value : (x : Setting) (xs ys : List Setting) → AllByRecursion (λ y. bytes_eq x.name y ≡ false) (map (λ (s : Setting). s.name) ys)
     → AllByRecursion (λ (y : Setting). value_of y.name xs ≡ Some y.value) ys → AllByRecursion (λ (y : Setting). value_of y.name (x ∷ xs) ≡ Some y.value) ys
-later_value x xs [] apart all = tt
-later_value x xs (y ∷ ys) apart all =
-    (ap (option_map (λ (s : Setting). s.value)) (cond_skip (bytes_eq x.name y.name) x (find (λ (s : Setting). bytes_eq s.name y.name) xs) apart.0) ∙ all.0, later_value x xs ys apart.1 all.1)
+later_value x xs [] away all = tt
+later_value x xs (y ∷ ys) away all =
+    (ap (option_map (λ (s : Setting). s.value)) (cond_skip (bytes_eq x.name y.name) x (find (λ (s : Setting). bytes_eq s.name y.name) xs) away.0) ∙ all.0, later_value x xs ys away.1 all.1)
 
 first_value : (x : Setting) (xs : List Setting) → value_of x.name (x ∷ xs) ≡ Some x.value
 first_value x xs = ap (λ b. option_map (λ (s : Setting). s.value) (cond b (Some x) (find (λ (s : Setting). bytes_eq s.name x.name) xs))) (self_same x.name)
@@ -237,6 +255,7 @@ tail_listed Ledger = refl
 replies_listed : (replies : Replies) → list_any (λ w. bytes_eq w (replies_text replies)) replies_words ≡ true
 replies_listed Short = refl
 replies_listed Full = refl
+replies_listed Placed = refl
 
 -- a file's name
 name_taken : (text : Text) → Some text ≢ Some [] → accepts false vp.NonEmptyString text ≡ true
@@ -247,22 +266,37 @@ parts_of : (t : Text) → has_some t ≡ true → (b : ℕ) × (bs : Text) × (t
 parts_of [] e = cc
 parts_of (b ∷ bs) e = (b, bs, refl)
 
--- a setting of a known option whose value the option takes
-valid_setting : (s : Shape) (x : Setting) (name : Text) (r : Rule) → x.name ≡ name → arg_by_long s.rules name ≡ Some r → IsOption r → has_some name ≡ true → has_byte 61 name ≡ false
-    → accepts r.ignore_case (parser_of_value r.parser) x.value ≡ true → StandsFree x → IsValid s x
-valid_setting s x name r is found opt some plain taken free =
+-- a setting of a known argument that takes its value
+valid_argument : (s : Shape) (x : Setting) (name : Text) (r : Rule) → x.name ≡ name → arg_by_long s.rules name ≡ Some r → Suits x.way r → has_some name ≡ true → has_byte 61 name ≡ false
+    → accepts r.ignore_case (parser_of_value r.parser) x.value ≡ true → IsInPlace x → IsValid s x
+valid_argument s x name r is found suits some plain taken stands =
     let cut = parts_of name some in
     record {
       rule = r;
       found = ap (arg_by_long s.rules) is ∙ found;
-      option = opt;
+      suits = suits;
       accepted = taken;
       first = cut.0;
       others = cut.1;
       named = is ∙ cut.2;
       no_equals = ap (has_byte 61) is ∙ plain;
-      free = free;
+      in_place = stands;
     }
+
+-- a setting of a known option whose value the option takes
+valid_setting : (s : Shape) (x : Setting) (name : Text) (r : Rule) → x.name ≡ name → arg_by_long s.rules name ≡ Some r → IsOption r → has_some name ≡ true → has_byte 61 name ≡ false → is_switch name ≡ false
+    → accepts r.ignore_case (parser_of_value r.parser) x.value ≡ true → IsInPlace x → IsValid s x
+valid_setting s x name r is found opt some plain no_switch taken stands =
+    valid_argument s x name r is found (option_suits x.way x.name x.value r stands (ap is_switch is ∙ no_switch) opt) some plain taken stands
+
+switch_is : (name : Text) → IsSwitch (filled (switch_rule name))
+switch_is name = record { short = refl; short_aliases = refl; action = refl; least = refl; most = refl; missing = refl }
+
+-- a setting of a known switch
+valid_switch : (s : Shape) (x : Setting) (name : Text) → x.name ≡ name → arg_by_long s.rules name ≡ Some (filled (switch_rule name)) → has_some name ≡ true → has_byte 61 name ≡ false → is_switch name ≡ true
+    → IsInPlace x → IsValid s x
+valid_switch s x name is found some plain is_one stands =
+    valid_argument s x name (filled (switch_rule name)) is found (switch_suits x.way x.name x.value (filled (switch_rule name)) stands (ap is_switch is ∙ is_one) (switch_is name)) some plain refl stands
 
 number_option : (name : Text) (least most : ℕ) → IsOption (filled (number_rule name least most))
 number_option name least most = record { short = refl; short_aliases = refl; action = refl; least = refl; most = refl; missing = refl }
@@ -275,27 +309,27 @@ file_option name = record { short = refl; short_aliases = refl; action = refl; l
 
 -- the setting is the one that its name gives
 abbrev IsGiven : List Setting → Setting → Type 0
-IsGiven settings x = (value_of x.name settings ≡ Some x.value) × StandsFree x
+IsGiven settings x = (value_of x.name settings ≡ Some x.value) × IsInPlace x
 
-each_given : (settings : List Setting) → IsDistinct bytes_eq (map (λ (x : Setting). x.name) settings) → AllByRecursion StandsFree settings → AllByRecursion (IsGiven settings) settings
+each_given : (settings : List Setting) → IsDistinct bytes_eq (map (λ (x : Setting). x.name) settings) → AllByRecursion IsInPlace settings → AllByRecursion (IsGiven settings) settings
 each_given settings once free = all_zip _ _ _ (λ x value stands. (value, stands)) settings (each_value settings once) free
 
 value_at : (settings : List Setting) (x : Setting) (name : Text) → x.name ≡ name → value_of x.name settings ≡ Some x.value → value_of name settings ≡ Some x.value
 value_at settings x name is e = ap (λ n. value_of n settings) (sym is) ∙ e
 
 valid_number : (s : Shape) (settings : List Setting) (x : Setting) (name : Text) (least most default n : ℕ) → x.name ≡ name → IsGiven settings x
-    → arg_by_long s.rules name ≡ Some (filled (number_rule name least most)) → has_some name ≡ true → has_byte 61 name ≡ false → most < 2 ^ 32
+    → arg_by_long s.rules name ≡ Some (filled (number_rule name least most)) → has_some name ≡ true → has_byte 61 name ≡ false → is_switch name ≡ false → most < 2 ^ 32
     → GivesNumber settings name default least most n → IsValid s x
-valid_number s settings x name least most default n is value found some plain fits gives =
+valid_number s settings x name least most default n is value found some plain no_switch fits gives =
     let given : IsWritten n x.value × (least ≤ n) × (n ≤ most) = subst (λ o. MatchOption o (n ≡ default) (λ text. IsWritten n text × (least ≤ n) × (n ≤ most))) (value_at settings x name is value.0) gives in
-    valid_setting s x name (filled (number_rule name least most)) is found (number_option name least most) some plain
+    valid_setting s x name (filled (number_rule name least most)) is found (number_option name least most) some plain no_switch
     (number_taken x.value least most n fits given.0 given.1 given.2) value.1
 
 valid_planner : (s : Shape) (settings : List Setting) (x : Setting) (choices : Choices) (planner : PlannerKind) → x.name ≡ codes "planner" → IsGiven settings x
     → arg_by_long s.rules (codes "planner") ≡ Some (filled (choice_rule (codes "planner") choices)) → texts choices.now ≡ planner_words → GivesPlanner settings planner → IsValid s x
 valid_planner s settings x choices planner is value found words gives =
     let given : x.value ≡ planner_text planner = subst (λ o. MatchOption o (planner ≡ Near) (λ text. text ≡ planner_text planner)) (value_at settings x (codes "planner") is value.0) gives in
-    valid_setting s x (codes "planner") (filled (choice_rule (codes "planner") choices)) is found (choice_option (codes "planner") choices) refl refl
+    valid_setting s x (codes "planner") (filled (choice_rule (codes "planner") choices)) is found (choice_option (codes "planner") choices) refl refl refl
     (word_taken choices planner_words x.value words (subst (λ t. list_any (λ w. bytes_eq w t) planner_words ≡ true) (sym given) (planner_listed planner)))
     value.1
 
@@ -303,7 +337,7 @@ valid_tail : (s : Shape) (settings : List Setting) (x : Setting) (choices : Choi
     → arg_by_long s.rules (codes "tail") ≡ Some (filled (choice_rule (codes "tail") choices)) → texts choices.now ≡ tail_words → GivesTail settings tail → IsValid s x
 valid_tail s settings x choices tail is value found words gives =
     let given : x.value ≡ tail_text tail = subst (λ o. MatchOption o (tail ≡ Nothing) (λ text. text ≡ tail_text tail)) (value_at settings x (codes "tail") is value.0) gives in
-    valid_setting s x (codes "tail") (filled (choice_rule (codes "tail") choices)) is found (choice_option (codes "tail") choices) refl refl
+    valid_setting s x (codes "tail") (filled (choice_rule (codes "tail") choices)) is found (choice_option (codes "tail") choices) refl refl refl
     (word_taken choices tail_words x.value words (subst (λ t. list_any (λ w. bytes_eq w t) tail_words ≡ true) (sym given) (tail_listed tail)))
     value.1
 
@@ -311,7 +345,7 @@ valid_replies : (s : Shape) (settings : List Setting) (x : Setting) (choices : C
     → arg_by_long s.rules (codes "replies") ≡ Some (filled (choice_rule (codes "replies") choices)) → texts choices.now ≡ replies_words → GivesReplies settings replies → IsValid s x
 valid_replies s settings x choices replies is value found words gives =
     let given : x.value ≡ replies_text replies = subst (λ o. MatchOption o (replies ≡ Short) (λ text. text ≡ replies_text replies)) (value_at settings x (codes "replies") is value.0) gives in
-    valid_setting s x (codes "replies") (filled (choice_rule (codes "replies") choices)) is found (choice_option (codes "replies") choices) refl refl
+    valid_setting s x (codes "replies") (filled (choice_rule (codes "replies") choices)) is found (choice_option (codes "replies") choices) refl refl refl
     (word_taken choices replies_words x.value words (subst (λ t. list_any (λ w. bytes_eq w t) replies_words ≡ true) (sym given) (replies_listed replies)))
     value.1
 
@@ -319,8 +353,16 @@ valid_log : (s : Shape) (settings : List Setting) (x : Setting) (log : Option Te
     → arg_by_long s.rules (codes "log") ≡ Some (filled (file_rule (codes "log"))) → GivesLog settings log → IsValid s x
 valid_log s settings x log is value found gives =
     let given : log ≡ Some x.value = gives.is ∙ value_at settings x (codes "log") is value.0 in
-    valid_setting s x (codes "log") (filled (file_rule (codes "log"))) is found (file_option (codes "log")) refl refl
+    valid_setting s x (codes "log") (filled (file_rule (codes "log"))) is found (file_option (codes "log")) refl refl refl
     (name_taken x.value (λ empty. gives.named (given ∙ empty))) value.1
+
+valid_told : (s : Shape) (settings : List Setting) (x : Setting) (told : Option ℕ) → x.name ≡ codes "told" → IsGiven settings x
+    → arg_by_long s.rules (codes "told") ≡ Some (filled (number_rule (codes "told") 0 999999999)) → GivesTold settings told → IsValid s x
+valid_told s settings x told is value found gives =
+    let given : (n : ℕ) × (told ≡ Some n) × IsWritten n x.value × (n ≤ 999999999) =
+    subst (λ o. MatchOption o (told ≡ None) (λ text. (n : ℕ) × (told ≡ Some n) × IsWritten n text × (n ≤ 999999999))) (value_at settings x (codes "told") is value.0) gives in
+    valid_setting s x (codes "told") (filled (number_rule (codes "told") 0 999999999)) is found (number_option (codes "told") 0 999999999) refl refl refl
+    (number_taken x.value 0 999999999 given.0 (lit< tt) given.2 (omega arith) given.3) value.1
 
 -- ---- the settings of a subcommand
 
@@ -338,28 +380,44 @@ fleet_valid : (s : Shape) (settings : List Setting) (choices : Choices) (fleet :
 fleet_valid s settings choices fleet others words gives planner slots bank spares x value rest e = elim (either_true _ _ e) [
   | inl is ↦ valid_planner s settings x choices fleet.planner (bytes_same _ _ is) value planner words gives.planner
   | inr f ↦ elim (either_true _ _ f) [
-    | inl is ↦ valid_number s settings x (codes "slots") 2 64 4 fleet.slots (bytes_same _ _ is) value slots refl refl (lit< tt) gives.slots
+    | inl is ↦ valid_number s settings x (codes "slots") 2 64 4 fleet.slots (bytes_same _ _ is) value slots refl refl refl (lit< tt) gives.slots
     | inr g ↦ elim (either_true _ _ g) [
-      | inl is ↦ valid_number s settings x (codes "bank") 2 65536 1024 fleet.bank (bytes_same _ _ is) value bank refl refl (lit< tt) gives.bank
+      | inl is ↦ valid_number s settings x (codes "bank") 2 65536 1024 fleet.bank (bytes_same _ _ is) value bank refl refl refl (lit< tt) gives.bank
       | inr h ↦ elim (either_true _ _ h) [
-        | inl is ↦ valid_number s settings x (codes "spares") 0 16 0 fleet.spares (bytes_same _ _ is) value spares refl refl (lit< tt) gives.spares
+        | inl is ↦ valid_number s settings x (codes "spares") 0 16 0 fleet.spares (bytes_same _ _ is) value spares refl refl refl (lit< tt) gives.spares
         | inr i ↦ rest i
       ]
     ]
   ]
 ]
 
-replay_valid : (p t r q : Choices) (settings : List Setting) (o : ReplayOptions) → texts p.now ≡ planner_words → texts t.now ≡ tail_words → texts r.now ≡ replies_words → GivesFleet settings o.fleet → GivesTail settings o.tail → GivesReplies settings o.replies → GivesLog settings (log_of o)
+vehicles_valid : (p t r q : Choices) (settings : List Setting) (o : ReplayOptions) → GivesReplay settings o
+    → (x : Setting) → IsGiven settings x → list_any (bytes_eq x.name) (drop 8 replay_names) ≡ true → IsValid (leaf_at 1 p t r q) x
+vehicles_valid p t r q settings o gives x value e = elim (either_true _ _ e) [
+  | inl is ↦ valid_switch (leaf_at 1 p t r q) x (codes "vehicles") (bytes_same _ _ is) refl refl refl refl value.1
+  | inr f ↦ elim (either_true _ _ f) [
+    | inl is ↦ valid_number (leaf_at 1 p t r q) settings x (codes "behind") 1 1000 8 gives.vehicles.pace.behind (bytes_same _ _ is) value refl refl refl refl (lit< tt) gives.vehicles.behind
+    | inr g ↦ elim (either_true _ _ g) [
+      | inl is ↦ valid_number (leaf_at 1 p t r q) settings x (codes "ahead") 1 1000 1 gives.vehicles.pace.ahead (bytes_same _ _ is) value refl refl refl refl (lit< tt) gives.vehicles.ahead
+      | inr none ↦ absurd (true≢false (sym none))
+    ]
+  ]
+]
+
+replay_valid : (p t r q : Choices) (settings : List Setting) (o : ReplayOptions) → texts p.now ≡ planner_words → texts t.now ≡ tail_words → texts r.now ≡ replies_words → GivesReplay settings o
     → (x : Setting) → list_any (bytes_eq x.name) replay_names ≡ true → IsGiven settings x → IsValid (leaf_at 1 p t r q) x
-replay_valid p t r q settings o planners tails words fleet tail replies log x listed value =
-    fleet_valid (leaf_at 1 p t r q) settings p o.fleet (codes "tail" ∷ codes "replies" ∷ codes "log" ∷ []) planners fleet refl refl refl refl x value
+replay_valid p t r q settings o planners tails words gives x listed value =
+    fleet_valid (leaf_at 1 p t r q) settings p o.fleet (drop 4 replay_names) planners gives.fleet refl refl refl refl x value
     (λ e. elim (either_true _ _ e) [
-      | inl is ↦ valid_tail (leaf_at 1 p t r q) settings x t o.tail (bytes_same _ _ is) value refl tails tail
+      | inl is ↦ valid_tail (leaf_at 1 p t r q) settings x t o.tail (bytes_same _ _ is) value refl tails gives.tail
       | inr f ↦ elim (either_true _ _ f) [
-        | inl is ↦ valid_replies (leaf_at 1 p t r q) settings x r o.replies (bytes_same _ _ is) value refl words replies
+        | inl is ↦ valid_replies (leaf_at 1 p t r q) settings x r o.replies (bytes_same _ _ is) value refl words gives.replies
         | inr g ↦ elim (either_true _ _ g) [
-          | inl is ↦ valid_log (leaf_at 1 p t r q) settings x (log_of o) (bytes_same _ _ is) value refl log
-          | inr none ↦ absurd (true≢false (sym none))
+          | inl is ↦ valid_log (leaf_at 1 p t r q) settings x (log_of o) (bytes_same _ _ is) value refl gives.log
+          | inr h ↦ elim (either_true _ _ h) [
+            | inl is ↦ valid_told (leaf_at 1 p t r q) settings x o.told (bytes_same _ _ is) value refl gives.told
+            | inr i ↦ vehicles_valid p t r q settings o gives x value i
+          ]
         ]
       ]
     ]) listed
@@ -370,9 +428,9 @@ live_valid : (p t r q : Choices) (settings : List Setting) (o : LiveOptions) →
 live_valid p t r q settings o planners fleet turns journal x listed value =
     fleet_valid (leaf_at 3 p t r q) settings q o.fleet (codes "turns" ∷ codes "journal" ∷ []) planners fleet refl refl refl refl x value
     (λ e. elim (either_true _ _ e) [
-      | inl is ↦ valid_number (leaf_at 3 p t r q) settings x (codes "turns") 1 100000 64 o.turns (bytes_same _ _ is) value refl refl refl (lit< tt) turns
+      | inl is ↦ valid_number (leaf_at 3 p t r q) settings x (codes "turns") 1 100000 64 o.turns (bytes_same _ _ is) value refl refl refl refl (lit< tt) turns
       | inr f ↦ elim (either_true _ _ f) [
-        | inl is ↦ valid_number (leaf_at 3 p t r q) settings x (codes "journal") 1 1000000 10000 o.journal (bytes_same _ _ is) value refl refl refl (lit< tt) journal
+        | inl is ↦ valid_number (leaf_at 3 p t r q) settings x (codes "journal") 1 1000000 10000 o.journal (bytes_same _ _ is) value refl refl refl refl (lit< tt) journal
         | inr none ↦ absurd (true≢false (sym none))
       ]
     ]) listed
@@ -389,6 +447,14 @@ line_fine p t r q words name told settings leaf is enters all checks taken line 
     let built_fine : fault_of (menu p t r q) (line.program ∷ name ∷ line.after) ≡ [] = top_fine (built (menu p t r q)) name leaf line.after enters (level_fine leaf line.after all checks fine_after) in
     subst (λ ws. fault_of (menu p t r q) ws ≡ []) (sym whole) built_fine
 
+-- also where the options do not go together
+replay_fine : (p t r q : Choices) (words : List Text) (name : Text) (settings : List Setting) (o : ReplayOptions) → texts p.now ≡ planner_words → texts t.now ≡ tail_words → texts r.now ≡ replies_words
+    → name ≡ codes "replay" → IsLine words name settings → GivesReplay settings o → fault_of (menu p t r q) words ≡ []
+replay_fine p t r q words name settings o planners tails replies is line gives =
+    let valid = all_zip _ _ _ (replay_valid p t r q settings o planners tails replies gives) settings gives.only (each_given settings line.once line.spelling.in_place) in
+    line_fine p t r q words (codes "replay") name settings (leaf_at 1 p t r q) is (replay_enters p t r q) (replay_plain p t r q) (λ rows. refl)
+    (valid_taken (leaf_at 1 p t r q) settings [] (replay_plain p t r q) refl valid (none_fresh settings) line.once) line
+
 menu_fine : (p t r q : Choices) (words : List Text) (o : Options) → texts p.now ≡ planner_words → texts t.now ≡ tail_words → texts r.now ≡ replies_words → texts q.now ≡ planner_words → WordsGive words o → fault_of (menu p t r q) words ≡ []
 menu_fine p t r q words Check planners tails replies others gives =
     line_fine p t r q words (codes "check") gives.0 gives.1 (leaf_at 0 p t r q) gives.3.0 (check_enters p t r q) asking_plain (λ rows. refl)
@@ -397,11 +463,9 @@ menu_fine p t r q words Verify planners tails replies others gives =
     line_fine p t r q words (codes "verify") gives.0 gives.1 (leaf_at 2 p t r q) gives.3.0 (verify_enters p t r q) asking_plain (λ rows. refl)
     (subst (λ xs. AllTaken (leaf_at 2 p t r q) xs []) (sym gives.3.1) tt) gives.2
 menu_fine p t r q words (Replay o) planners tails replies others gives =
-    let valid = all_zip _ _ _ (replay_valid p t r q gives.1 o planners tails replies gives.3.2 gives.3.3 gives.3.4 gives.3.5) gives.1 gives.3.1 (each_given gives.1 gives.2.once gives.2.spelling.free) in
-    line_fine p t r q words (codes "replay") gives.0 gives.1 (leaf_at 1 p t r q) gives.3.0 (replay_enters p t r q) (replay_plain p t r q) (λ rows. refl)
-    (valid_taken (leaf_at 1 p t r q) gives.1 [] (replay_plain p t r q) refl valid (none_fresh gives.1) gives.2.once) gives.2
+    replay_fine p t r q words gives.0 gives.1 o planners tails replies gives.3.0 gives.2 gives.3.1
 menu_fine p t r q words (Live o) planners tails replies others gives =
-    let valid = all_zip _ _ _ (live_valid p t r q gives.1 o others gives.3.2 gives.3.3 gives.3.4) gives.1 gives.3.1 (each_given gives.1 gives.2.once gives.2.spelling.free) in
+    let valid = all_zip _ _ _ (live_valid p t r q gives.1 o others gives.3.2 gives.3.3 gives.3.4) gives.1 gives.3.1 (each_given gives.1 gives.2.once gives.2.spelling.in_place) in
     line_fine p t r q words (codes "live") gives.0 gives.1 (leaf_at 3 p t r q) gives.3.0 (live_enters p t r q) (live_plain p t r q) (λ rows. refl)
     (valid_taken (leaf_at 3 p t r q) gives.1 [] (live_plain p t r q) refl valid (none_fresh gives.1) gives.2.once) gives.2
 
@@ -409,3 +473,9 @@ menu_fine p t r q words (Live o) planners tails replies others gives =
 pub given_is_taken : (a : App) (words : List Text) (o : Options) → IsMenu a → WordsGive words o → fault_of a words ≡ []
 given_is_taken a words o m gives =
     subst (λ (x : App). fault_of x words ≡ []) (sym m.is) (menu_fine m.planners m.tails m.replies m.others words o m.planner_texts m.tail_texts m.replies_texts m.other_texts gives)
+
+-- nor are words whose options each say something
+pub each_is_taken : (a : App) (words : List Text) (settings : List Setting) (o : ReplayOptions) → IsMenu a → IsLine words (codes "replay") settings → GivesReplay settings o → fault_of a words ≡ []
+each_is_taken a words settings o m line gives =
+    subst (λ (x : App). fault_of x words ≡ []) (sym m.is)
+    (replay_fine m.planners m.tails m.replies m.others words (codes "replay") settings o m.planner_texts m.tail_texts m.replies_texts refl line gives)

@@ -1,12 +1,13 @@
--- What the words after a subcommand are, where all its arguments are options of one value and flags
--- that ask for help or the version.
-use Rattle.std.proofs.Common.{◌≡◌, ◌⊎◌, ℕ, List, [], ◌∷◌, refl, sym, ap, ◌∙◌, Bool, true, false, cond, None, Some, not, inl, inr, is_some, ◌||◌, ◌&&◌}
+-- What the words after a subcommand are, where all its arguments are options of one value, switches without one, and
+-- flags that ask for help or the version.
+use Rattle.std.proofs.Common.{◌≡◌, ◌⊎◌, ℕ, List, [], ◌∷◌, refl, sym, ap, ◌∙◌, Bool, true, false, cond, None, Some, not, inl, inr, is_some, ◌||◌, ◌&&◌, codes, true≢false}
 use Rattle.std.specs.List.{AllByRecursion}
 use Rattle.std.specs.Str.{bytes_eq}
 use Rattle.clap.specs.Facts.{unwrap_or_range}
 use Rattle.clap.specs.Kinds.{Kinds, or_else}
 use Rattle.clap.specs.Walk.{Rule, Text, action_of, arg_by_id, arg_by_index, arg_by_long, arg_by_short, has_long, has_short, most_values}
 use Rattle.clap.specs.declared.builder.action.ArgAction.TheVariants.{Set, Help, Version}
+use Rattle.wh_options.specs.Setting.{Spelling, StandsBy, alone, apart, is_switch, joined}
 use Rattle.wh_options.proofs.Shapes.{find_in, bytes_same}
 
 -- an option of one value, with a long name alone
@@ -17,6 +18,25 @@ pub record IsOption (a : Rule) : Type 0 where
   pub least : (unwrap_or_range a.range).start_inclusive ≡ 1
   pub most : most_values a ≡ 1
   pub missing : a.missing ≡ []
+
+-- an option without a value, with a long name alone, which is found with the value `true`
+pub record IsSwitch (a : Rule) : Type 0 where
+  pub short : a.short ≡ None
+  pub short_aliases : a.short_aliases ≡ []
+  pub action : action_of a ≡ Set
+  pub least : (unwrap_or_range a.range).start_inclusive ≡ 0
+  pub most : most_values a ≡ 0
+  pub missing : a.missing ≡ codes "true" ∷ []
+
+-- an argument that a setting gives
+abbrev pub IsSetting : Rule → Type 0
+IsSetting a = IsOption a ⊎ IsSwitch a
+
+abbrev pub IsNamedOption : Rule → Type 0
+IsNamedOption a = IsOption a × (is_switch a.id ≡ false)
+
+abbrev pub IsNamedSwitch : Rule → Type 0
+IsNamedSwitch a = IsSwitch a × (is_switch a.id ≡ true)
 
 -- a flag that asks for help or the version
 pub record IsAsking (a : Rule) : Type 0 where
@@ -29,7 +49,7 @@ pub record IsPlainRule (a : Rule) : Type 0 where
   pub aliases : a.aliases ≡ []
   pub index : a.index ≡ None
   pub defaults : a.defaults ≡ []
-  pub kind : IsOption a ⊎ IsAsking a
+  pub kind : IsNamedOption a ⊎ (IsNamedSwitch a ⊎ IsAsking a)
 
 abbrev pub ArePlain : List Rule → Type 0
 ArePlain = AllByRecursion IsPlainRule
@@ -72,12 +92,55 @@ long_plain c name a all e =
 option_short : (a : Rule) (x : ℕ) → IsOption a → has_short a x ≡ false
 option_short a x p = rw (p.short, p.short_aliases) refl
 
+switch_short : (a : Rule) (x : ℕ) → IsSwitch a → has_short a x ≡ false
+switch_short a x p = rw (p.short, p.short_aliases) refl
+
 pub short_help : (c : List Rule) (x : ℕ) (a : Rule) → ArePlain c → arg_by_short c x ≡ Some a → IsAsking a
 short_help c x a all e =
     let got = find_in IsPlainRule (λ a. not (is_some a.index) && has_short a x) c a all e in
     elim got.0.kind [
       | inl o ↦
-          let bad : false ≡ true = rw (got.0.index, option_short a x o) at got.1 in
+          let bad : false ≡ true = rw (got.0.index, option_short a x o.0) at got.1 in
           cc
-      | inr h ↦ h
+      | inr k ↦ elim k [
+        | inl w ↦
+            let bad : false ≡ true = rw (got.0.index, switch_short a x w.0) at got.1 in
+            cc
+        | inr h ↦ h
+      ]
     ]
+
+-- ---- a way to spell and an argument
+
+-- a value is for an option, and a name alone for a switch
+abbrev pub Suits : Spelling → Rule → Type 0
+Suits joined a = IsOption a
+Suits apart a = IsOption a
+Suits alone a = IsSwitch a
+
+-- the values that a setting's words hold
+abbrev pub held_by : Spelling → Text → List Text
+held_by joined v = v ∷ []
+held_by apart v = v ∷ []
+held_by alone v = []
+
+pub suits_set : (way : Spelling) (a : Rule) → Suits way a → action_of a ≡ Set
+suits_set joined a p = p.action
+suits_set apart a p = p.action
+suits_set alone a p = p.action
+
+pub suits_setting : (way : Spelling) (a : Rule) → Suits way a → IsSetting a
+suits_setting joined a p = inl p
+suits_setting apart a p = inl p
+suits_setting alone a p = inr p
+
+-- a name that is no switch is spelled as an option's, and a switch's as a switch
+pub option_suits : (way : Spelling) (name v : Text) (a : Rule) → StandsBy way name v → is_switch name ≡ false → IsOption a → Suits way a
+option_suits joined name v a stands differs o = o
+option_suits apart name v a stands differs o = o
+option_suits alone name v a stands differs o = absurd (true≢false (sym stands.0 ∙ differs))
+
+pub switch_suits : (way : Spelling) (name v : Text) (a : Rule) → StandsBy way name v → is_switch name ≡ true → IsSwitch a → Suits way a
+switch_suits joined name v a stands is w = absurd (true≢false (sym is ∙ stands))
+switch_suits apart name v a stands is w = absurd (true≢false (sym is ∙ stands.0))
+switch_suits alone name v a stands is w = w

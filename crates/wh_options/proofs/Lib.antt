@@ -12,3 +12,4 @@ pub mod Spells
 pub mod Exact
 pub mod Once
 pub mod Asks
+pub mod Amiss

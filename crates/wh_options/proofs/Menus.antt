@@ -1,25 +1,27 @@
 -- The words that the program's command takes, and what they mean.
-use Rattle.std.proofs.Common.{◌≡◌, ◌⊎◌, ℕ, List, [], ◌∷◌, map, refl, sym, ap, ◌∙◌, Bool, true, false, cond, None, Some, subst, inl, inr, codes, lit<, true≢false, not, is_some, ◌&&◌}
+use Rattle.std.proofs.Common.{◌≡◌, ◌⊎◌, ℕ, List, [], ◌∷◌, map, refl, sym, ap, ◌∙◌, Bool, true, false, cond, None, Some, Option, subst, inl, inr, codes, lit<, true≢false, not, is_some, ◌&&◌}
 use Rattle.std.specs.Prelude.{drop, find, slice_get, unwrap_or}
 use Rattle.std.specs.List.{AllByRecursion, IsDistinct}
 use Rattle.std.specs.Str.{bytes_eq}
 use Rattle.clap.specs.Faults.{fault_of, is_simple_and_free, level_fault}
 use Rattle.clap.specs.Simple.{App, Shape, built, filled, help_rule, is_simple, label_of, new_shape, subcommand_of, version_rule}
-use Rattle.clap.specs.Walk.{Row, Rule, Text, answers_to, arg_by_long, first_of, nothing_held, rows_after, settled, texts, walk, has_long}
-use Rattle.wh_options.specs.Setting.{IsLine, IsSpelled, Setting, value_of}
-use Rattle.wh_options.specs.Options.{GivesFleet, Means, WordsGive, log_of}
-use Rattle.wh_options.specs.Reads.{Reads, ReadsFleet}
-use Rattle.wh_options.specs.Menu.{Choices, IsMenu, choice_rule, file_rule, menu, number_rule, planner_words, replies_words, tail_words}
+use Rattle.clap.specs.declared.builder.action.ArgAction.TheVariants.{Set, Help, Version}
+use Rattle.clap.specs.Walk.{Row, Rule, Text, action_of, answers_to, arg_by_long, first_of, nothing_held, rows_after, settled, texts, walk, has_long}
+use Rattle.wh_options.specs.Setting.{IsLine, IsSpelled, Setting, is_switch, value_of}
+use Rattle.wh_options.specs.Options.{Clashes, GivesFleet, HasOnly, LacksAny, Means, WordsGive, log_of, replay_names}
+use Rattle.wh_options.specs.Reads.{IsMistaken, Reads, ReadsFleet}
+use Rattle.wh_options.specs.declared.mistake.Mistake.{Mistake}
+use Rattle.wh_options.specs.Menu.{Choices, IsMenu, choice_rule, file_rule, menu, number_rule, planner_words, replies_words, switch_rule, tail_words}
 use Rattle.clap.specs.declared.builder.value_parser.ValueParser.TheVariants as vp
 use Rattle.wh_options.specs.declared.chosen.Options.{Options}
 use Rattle.wh_options.specs.declared.chosen.Options.TheVariants.{Check, Replay, Verify, Live}
 use Rattle.wh_options.specs.declared.chosen.Fleet.{Fleet}
 use Rattle.wh_options.proofs.Shapes.{find_in}
-use Rattle.wh_options.proofs.Leaf.{ArePlain, IsAsking, IsOption, IsPlainRule}
+use Rattle.wh_options.proofs.Leaf.{ArePlain, IsAsking, IsOption, IsPlainRule, IsSetting}
 use Rattle.wh_options.proofs.Words.{self_same, words_said}
 use Rattle.wh_options.proofs.Rows.{IsTaken, first_given, no_defaults, results}
 use Rattle.wh_options.proofs.Top.{IsMenuApp, level_parts, menu_entered}
-use Rattle.wh_options.proofs.Values.{some_same, log_given, no_settings, number_given, only_names, planner_given, replies_given, tail_given}
+use Rattle.wh_options.proofs.Values.{some_same, log_given, no_settings, number_given, only_names, planner_given, replies_given, tail_given, told_given, vehicles_given}
 
 -- ---- any subcommand
 
@@ -47,11 +49,23 @@ leaf_says s rest all never f =
 
 -- ---- the program's command
 
-is_asking : (c : List Rule) → AllByRecursion IsAsking c → (name : Text) (a : Rule) → arg_by_long c name ≡ Some a → IsOption a → ⊥
-is_asking c all name a found opt =
+not_set : (a : Rule) → IsAsking a → action_of a ≡ Set → ⊥
+not_set a h set = elim h.action [
+  | inl help ↦
+      let bad : Help ≡ Set = sym help ∙ set in
+      cc
+  | inr version ↦
+      let bad : Version ≡ Set = sym version ∙ set in
+      cc
+]
+
+is_asking : (c : List Rule) → AllByRecursion IsAsking c → (name : Text) (a : Rule) → arg_by_long c name ≡ Some a → IsSetting a → ⊥
+is_asking c all name a found setting =
     let h = find_in IsAsking (λ r. not (is_some r.index) && has_long r name) c a all found in
-    let bad : ◌≡◌ {A = ℕ} 0 1 = sym h.0.most ∙ opt.most in
-    cc
+    elim setting [
+      | inl o ↦ not_set a h.0 o.action
+      | inr w ↦ not_set a h.0 w.action
+    ]
 
 -- the flags that each command is given beside its own
 abbrev Flags : List Rule
@@ -62,14 +76,14 @@ asking = (record { action = inl refl; least = refl; most = refl }, (record { act
 
 pub asking_plain : ArePlain Flags
 asking_plain = (
-  record { long = refl; aliases = refl; index = refl; defaults = refl; kind = inr asking.0 },
-  (record { long = refl; aliases = refl; index = refl; defaults = refl; kind = inr asking.1.0 }, tt),
+  record { long = refl; aliases = refl; index = refl; defaults = refl; kind = inr (inr asking.0) },
+  (record { long = refl; aliases = refl; index = refl; defaults = refl; kind = inr (inr asking.1.0) }, tt),
 )
 
 the_menu : (p t r q : Choices) → IsMenuApp (built (menu p t r q))
 the_menu p t r q = record {
   plain = asking_plain;
-  no_options = is_asking (built (menu p t r q)).top.rules asking;
+  no_settings = is_asking (built (menu p t r q)).top.rules asking;
   required = refl;
   helps = refl;
   no_aliases = (refl, (refl, (refl, (refl, (refl, tt)))));
@@ -169,37 +183,65 @@ verify_means p t r q rest (Replay o) says reads = absurd (other_word (codes "ver
 verify_means p t r q rest Verify says reads = (refl, no_settings (leaf_at 2 p t r q).rules says.settings (is_asking (leaf_at 2 p t r q).rules asking) says.taken)
 verify_means p t r q rest (Live o) says reads = absurd (other_word (codes "verify") (codes "live") refl reads.0)
 
-option_plain : (r : Rule) → r.long ≡ Some r.id → r.aliases ≡ [] → r.index ≡ None → r.defaults ≡ [] → IsOption r → IsPlainRule r
-option_plain r long aliases index defaults opt = record { long = long; aliases = aliases; index = index; defaults = defaults; kind = inl opt }
+option_plain : (r : Rule) → r.long ≡ Some r.id → r.aliases ≡ [] → r.index ≡ None → r.defaults ≡ [] → IsOption r → is_switch r.id ≡ false → IsPlainRule r
+option_plain r long aliases index defaults opt no_switch = record { long = long; aliases = aliases; index = index; defaults = defaults; kind = inl (opt, no_switch) }
 
-number_plain : (name : Text) (least most : ℕ) → IsPlainRule (filled (number_rule name least most))
+number_plain : (name : Text) (least most : ℕ) → is_switch name ≡ false → IsPlainRule (filled (number_rule name least most))
 number_plain name least most = option_plain _ refl refl refl refl (record { short = refl; short_aliases = refl; action = refl; least = refl; most = refl; missing = refl })
 
-choice_plain : (name : Text) (choices : Choices) → IsPlainRule (filled (choice_rule name choices))
+choice_plain : (name : Text) (choices : Choices) → is_switch name ≡ false → IsPlainRule (filled (choice_rule name choices))
 choice_plain name choices = option_plain _ refl refl refl refl (record { short = refl; short_aliases = refl; action = refl; least = refl; most = refl; missing = refl })
 
-file_plain : (name : Text) → IsPlainRule (filled (file_rule name))
+file_plain : (name : Text) → is_switch name ≡ false → IsPlainRule (filled (file_rule name))
 file_plain name = option_plain _ refl refl refl refl (record { short = refl; short_aliases = refl; action = refl; least = refl; most = refl; missing = refl })
 
+switch_plain : (name : Text) → is_switch name ≡ true → IsPlainRule (filled (switch_rule name))
+switch_plain name is_one = record {
+  long = refl;
+  aliases = refl;
+  index = refl;
+  defaults = refl;
+  kind = inr (inl (record { short = refl; short_aliases = refl; action = refl; least = refl; most = refl; missing = refl }, is_one));
+}
+
+vehicles_plain : (r : List Rule) → ArePlain r → ArePlain (filled (switch_rule (codes "vehicles")) ∷ filled (number_rule (codes "behind") 1 1000) ∷ filled (number_rule (codes "ahead") 1 1000) ∷ r)
+vehicles_plain r rest = (switch_plain (codes "vehicles") refl, (number_plain (codes "behind") 1 1000 refl, (number_plain (codes "ahead") 1 1000 refl, rest)))
+
 pub replay_plain : (p t r q : Choices) → ArePlain (leaf_at 1 p t r q).rules
-replay_plain p t r q = (choice_plain (codes "planner") p, (number_plain (codes "slots") 2 64, (number_plain (codes "bank") 2 65536, (number_plain (codes "spares") 0 16, (choice_plain (codes "tail") t, (choice_plain (codes "replies") r, (file_plain (codes "log"), asking_plain)))))))
+replay_plain p t r q = (choice_plain (codes "planner") p refl, (number_plain (codes "slots") 2 64 refl, (number_plain (codes "bank") 2 65536 refl, (number_plain (codes "spares") 0 16 refl, (choice_plain (codes "tail") t refl, (choice_plain (codes "replies") r refl, (file_plain (codes "log") refl, (number_plain (codes "told") 0 999999999 refl, vehicles_plain Flags asking_plain))))))))
 
 pub live_plain : (p t r q : Choices) → ArePlain (leaf_at 3 p t r q).rules
-live_plain p t r q = (choice_plain (codes "planner") q, (number_plain (codes "slots") 2 64, (number_plain (codes "bank") 2 65536, (number_plain (codes "spares") 0 16, (number_plain (codes "turns") 1 100000, (number_plain (codes "journal") 1 1000000, asking_plain))))))
+live_plain p t r q = (choice_plain (codes "planner") q refl, (number_plain (codes "slots") 2 64 refl, (number_plain (codes "bank") 2 65536 refl, (number_plain (codes "spares") 0 16 refl, (number_plain (codes "turns") 1 100000 refl, (number_plain (codes "journal") 1 1000000 refl, asking_plain))))))
+
+-- what is found and what the settings give are amiss alike
+pub lacks_as : (f g : Text → Option Text) → ((id : Text) → f id ≡ g id) → LacksAny f → LacksAny g
+lacks_as f g same lacks = subst LacksAny (λ i id. same id i) lacks
+
+pub clashes_as : (f g : Text → Option Text) → ((id : Text) → f id ≡ g id) → Clashes f → Clashes g
+clashes_as f g same clash = subst Clashes (λ i id. same id i) clash
 
 replay_means : (p t r q : Choices) (rest : List Text) (o : Options) (says : LeafSays (leaf_at 1 p t r q) rest) → texts p.now ≡ planner_words → texts t.now ≡ tail_words → texts r.now ≡ replies_words
     → Reads (codes "replay") (λ id. first_of id (rows_after (leaf_at 1 p t r q).rules [] rest)) o → Means (codes "replay") says.settings o
 replay_means p t r q rest Check says planners tails replies reads = absurd (reads.0 refl)
 replay_means p t r q rest (Replay o) says planners tails replies reads = (
   refl,
-  only_names (leaf_at 1 p t r q).rules says.settings (replay_plain p t r q) says.taken,
-  fleet_given (leaf_at 1 p t r q) rest p o.fleet (replay_fleet p t r q) planners says reads.1.fleet,
-  tail_given (leaf_at 1 p t r q).rules says.settings o.tail says.taken t tails (filled (choice_rule (codes "tail") t)) refl refl refl
-      (first_of (codes "tail") (rows_after (leaf_at 1 p t r q).rules [] rest)) (says.first (codes "tail")) reads.1.tail,
-  replies_given (leaf_at 1 p t r q).rules says.settings o.replies says.taken r replies (filled (choice_rule (codes "replies") r)) refl refl refl
-      (first_of (codes "replies") (rows_after (leaf_at 1 p t r q).rules [] rest)) (says.first (codes "replies")) reads.1.replies,
-  log_given (leaf_at 1 p t r q).rules says.settings (log_of o) says.taken (filled (file_rule (codes "log"))) refl refl
-      (first_of (codes "log") (rows_after (leaf_at 1 p t r q).rules [] rest)) (says.first (codes "log")) reads.1.log,
+  record {
+    only = only_names (leaf_at 1 p t r q).rules says.settings (replay_plain p t r q) says.taken;
+    fleet = fleet_given (leaf_at 1 p t r q) rest p o.fleet (replay_fleet p t r q) planners says reads.1.fleet;
+    tail = tail_given (leaf_at 1 p t r q).rules says.settings o.tail says.taken t tails (filled (choice_rule (codes "tail") t)) refl refl refl
+        (first_of (codes "tail") (rows_after (leaf_at 1 p t r q).rules [] rest)) (says.first (codes "tail")) reads.1.tail;
+    replies = replies_given (leaf_at 1 p t r q).rules says.settings o.replies says.taken r replies (filled (choice_rule (codes "replies") r)) refl refl refl
+        (first_of (codes "replies") (rows_after (leaf_at 1 p t r q).rules [] rest)) (says.first (codes "replies")) reads.1.replies;
+    log = log_given (leaf_at 1 p t r q).rules says.settings (log_of o) says.taken (filled (file_rule (codes "log"))) refl refl
+        (first_of (codes "log") (rows_after (leaf_at 1 p t r q).rules [] rest)) (says.first (codes "log")) reads.1.log;
+    told = told_given (leaf_at 1 p t r q).rules says.settings o.told says.taken (filled (number_rule (codes "told") 0 999999999)) refl refl refl
+        (first_of (codes "told") (rows_after (leaf_at 1 p t r q).rules [] rest)) (says.first (codes "told")) reads.1.told;
+    vehicles = vehicles_given (leaf_at 1 p t r q).rules says.settings o.vehicles says.taken
+        (filled (number_rule (codes "behind") 1 1000)) refl refl refl (filled (number_rule (codes "ahead") 1 1000)) refl refl refl
+        (λ id. first_of id (rows_after (leaf_at 1 p t r q).rules [] rest)) says.first reads.1.vehicles;
+  },
+  λ lacks. reads.2 (lacks_as (λ id. value_of id says.settings) _ (λ id. sym (says.first id)) lacks),
+  λ clash. reads.3 (clashes_as (λ id. value_of id says.settings) _ (λ id. sym (says.first id)) clash),
 )
 replay_means p t r q rest Verify says planners tails replies reads = absurd (other_word (codes "replay") (codes "verify") refl reads)
 replay_means p t r q rest (Live o) says planners tails replies reads = absurd (other_word (codes "replay") (codes "live") refl reads.0)
@@ -257,6 +299,31 @@ given_by p t r q words after rest program o leaf near tails replies patient whol
     let named : after ≡ codes "live" ∷ rest = subst (λ (s : Shape). after ≡ s.name ∷ rest) (sym is) first in
     (codes "live", says.settings, line_of words rest program (codes "live") after (leaf_at 3 p t r q) says whole named, live_means p t r q rest o says patient read)
 
+-- what the words of `replay` say, where each is taken, and what is found of them
+pub record ReplaySays (words : List Text) (given : Text → Option Text) : Type 0 where
+  pub settings : List Setting
+  pub line : IsLine words (codes "replay") settings
+  pub only : HasOnly replay_names settings
+  pub first : (id : Text) → given id ≡ value_of id settings
+
+other_leaf : (s leaf : Shape) (word : Text) → s ≡ leaf → s.name ≡ word → bytes_eq word (codes "replay") ≡ false → leaf.name ≡ codes "replay" → ⊥
+other_leaf s leaf word is name differ named = other_word word (codes "replay") differ (sym name ∙ ap (λ (x : Shape). x.name) is ∙ named)
+
+said_by : (p t r q : Choices) (words after rest : List Text) (program : Text) (leaf : Shape) → words ≡ program ∷ after → after ≡ leaf.name ∷ rest → level_fault leaf [] nothing_held rest false [] ≡ [] → leaf.name ≡ codes "replay"
+    → (leaf_at 0 p t r q ≡ leaf) ⊎ ((leaf_at 1 p t r q ≡ leaf) ⊎ ((leaf_at 2 p t r q ≡ leaf) ⊎ (leaf_at 3 p t r q ≡ leaf))) → ReplaySays words (λ id. first_of id (rows_after leaf.rules [] rest))
+said_by p t r q words after rest program leaf whole first fine named (inl is) = absurd (other_leaf (leaf_at 0 p t r q) leaf (codes "check") is refl refl named)
+said_by p t r q words after rest program leaf whole first fine named (inr (inr (inl is))) = absurd (other_leaf (leaf_at 2 p t r q) leaf (codes "verify") is refl refl named)
+said_by p t r q words after rest program leaf whole first fine named (inr (inr (inr is))) = absurd (other_leaf (leaf_at 3 p t r q) leaf (codes "live") is refl refl named)
+said_by p t r q words after rest program leaf whole first fine named (inr (inl is)) =
+    let says = leaf_says (leaf_at 1 p t r q) rest (replay_plain p t r q) refl (subst (λ (s : Shape). level_fault s [] nothing_held rest false [] ≡ []) (sym is) fine) in
+    let named_so : after ≡ codes "replay" ∷ rest = first ∙ ap (λ n. n ∷ rest) named in
+    record {
+      settings = says.settings;
+      line = line_of words rest program (codes "replay") after (leaf_at 1 p t r q) says whole named_so;
+      only = only_names (leaf_at 1 p t r q).rules says.settings (replay_plain p t r q) says.taken;
+      first = subst (λ (s : Shape). (id : Text) → first_of id (rows_after s.rules [] rest) ≡ value_of id says.settings) is says.first;
+    }
+
 abbrev ReadsWords : App → List Text → Options → Type 0
 ReadsWords a words o = (name : Text) (rows : List Row) → subcommand_of a words ≡ Some (name, rows) → Reads name (λ id. first_of id rows) o
 
@@ -280,3 +347,33 @@ words_give a words o m f reads =
     menu_given m.planners m.tails m.replies m.others words o m.planner_texts m.tail_texts m.replies_texts m.other_texts
     (subst (λ (x : App). fault_of x words ≡ []) m.is f)
     (subst (λ (x : App). ReadsWords x words o) m.is reads)
+
+-- words of `replay` in which a mistake is found
+pub record Mistaken (words : List Text) (mistake : Mistake) : Type 0 where
+  pub given : Text → Option Text
+  pub says : ReplaySays words given
+  pub is : IsMistaken given mistake
+
+-- what is found of the words is mistaken so
+abbrev pub FindsMistake : App → List Text → Mistake → Type 0
+FindsMistake a words mistake = (name : Text) (rows : List Row) → subcommand_of a words ≡ Some (name, rows) → (name ≡ codes "replay") × IsMistaken (λ id. first_of id rows) mistake
+
+menu_mistaken : (p t r q : Choices) (words : List Text) (mistake : Mistake) → fault_of (menu p t r q) words ≡ [] → FindsMistake (menu p t r q) words mistake → Mistaken words mistake
+menu_mistaken p t r q [] mistake f finds =
+    let e = menu_entered (built (menu p t r q)) [] (the_menu p t r q) f in
+    let bad : ◌≡◌ {A = List Text} [] (e.leaf.name ∷ e.rest) = e.words_are in
+    cc
+menu_mistaken p t r q (program ∷ after) mistake f finds =
+    let e = menu_entered (built (menu p t r q)) after (the_menu p t r q) f in
+    let which = which_leaf p t r q (λ s. answers_to e.leaf.name (label_of s)) e.leaf e.found e.not_help in
+    let told = finds e.leaf.name (rows_after e.leaf.rules [] e.rest) e.enters in
+    record {
+      given = λ id. first_of id (rows_after e.leaf.rules [] e.rest);
+      says = said_by p t r q (program ∷ after) after e.rest program e.leaf refl e.words_are e.fine told.0 which;
+      is = told.1;
+    }
+
+-- words that are not refused, and in which a mistake is found
+pub words_mistaken : (a : App) (words : List Text) (mistake : Mistake) → IsMenu a → fault_of a words ≡ [] → FindsMistake a words mistake → Mistaken words mistake
+words_mistaken a words mistake m f finds =
+    menu_mistaken m.planners m.tails m.replies m.others words mistake (subst (λ (x : App). fault_of x words ≡ []) m.is f) (subst (λ (x : App). FindsMistake x words mistake) m.is finds)

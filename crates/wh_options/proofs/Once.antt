@@ -5,17 +5,18 @@ use Rattle.std.specs.List.{AllByRecursion, after_first, before_first, flat_map, 
 use Rattle.std.specs.Str.{bytes_eq}
 use Rattle.clap.proofs.WalkLemmas.{both}
 use Rattle.clap.specs.Lexer.{has_byte}
-use Rattle.wh_options.specs.Setting.{Closes, Setting, Text, spelled, value_of}
-use Rattle.wh_options.specs.Options.{AreSame, GivesFleet, GivesNumber, GivesPlanner, GivesReplies, GivesTail, HasOnly, IsWritten, Means, WordsGive, live_names, planner_text, replay_names, replies_text, tail_text}
+use Rattle.wh_options.specs.Setting.{Closes, IsInPlace, IsLine, Setting, Spelling, StandsBy, Text, alone, apart, is_switch, joined, spelled, spelled_by, value_of}
+use Rattle.wh_options.specs.Options.{AreSame, GivesFleet, GivesNumber, GivesPlanner, GivesReplies, GivesTail, GivesTold, GivesVehicles, HasOnly, IsWritten, Means, WordsGive, live_names, planner_text, replay_names, replies_text, tail_text}
 use Rattle.wh_options.specs.declared.chosen.Options.{Options}
 use Rattle.wh_options.specs.declared.chosen.Options.TheVariants.{Check, Replay, Verify, Live}
 use Rattle.wh_options.specs.declared.chosen.Fleet.{Fleet}
+use Rattle.wh_options.specs.declared.chosen.VehicleOptions.{VehicleOptions}
 use Rattle.wh_options.specs.declared.chosen.PlannerKind.{PlannerKind}
 use Rattle.wh_options.specs.declared.chosen.PlannerKind.TheVariants.{Near, Patient}
 use Rattle.wh_options.specs.declared.chosen.Tail.{Tail}
 use Rattle.wh_options.specs.declared.chosen.Tail.TheVariants.{Nothing, Log, Ledger}
 use Rattle.wh_options.specs.declared.chosen.Replies.{Replies}
-use Rattle.wh_options.specs.declared.chosen.Replies.TheVariants.{Short, Full}
+use Rattle.wh_options.specs.declared.chosen.Replies.TheVariants.{Short, Full, Placed}
 use Rattle.wh_options.proofs.Shapes.{bytes_same, is_equals}
 use Rattle.wh_options.proofs.Spells.{cut_at_equals, has_equals}
 use Rattle.wh_options.proofs.Menus.{other_word}
@@ -23,7 +24,7 @@ use Rattle.wh_options.proofs.Menus.{other_word}
 -- ---- one setting
 
 -- a name of an option: not empty, and without `=`
-abbrev plain_name : Text → Bool
+abbrev pub plain_name : Text → Bool
 plain_name [] = false
 plain_name (b ∷ bs) = not (has_byte 61 (b ∷ bs))
 
@@ -57,34 +58,54 @@ unlike n v m q e =
 abbrev Same : Text → Text → Text → Text → List Text → List Text → Type 0
 Same n v m w a b = (n ≡ m) × (v ≡ w) × (a ≡ b)
 
-one_setting : (n v m w : Text) (j k : Bool) (a b : List Text) → has_byte 61 n ≡ false → has_byte 61 m ≡ false
-    → spelled (record { name = n; value = v; is_joined = j }) ++ a ≡ spelled (record { name = m; value = w; is_joined = k }) ++ b → Same n v m w a b
-one_setting n v m w true true a b p q e =
+not_both : (n m : Text) → is_switch n ≡ true → is_switch m ≡ false → codes "--" ++ n ≡ codes "--" ++ m → ⊥
+not_both n m is differs e =
+    let same : n ≡ m = ap (drop 2) e in
+    true≢false (sym is ∙ ap is_switch same ∙ differs)
+
+one_setting : (n v m w : Text) (j k : Spelling) (a b : List Text) → has_byte 61 n ≡ false → has_byte 61 m ≡ false → StandsBy j n v → StandsBy k m w
+    → spelled_by j n v ++ a ≡ spelled_by k m w ++ b → Same n v m w a b
+one_setting n v m w joined joined a b p q s t e =
     let same = same_written n v m w p q (ap first_or e) in
     (same.0, same.1, ap (drop 1) e)
-one_setting n v m w true false a b p q e = absurd (unlike n v m q (ap first_or e))
-one_setting n v m w false true a b p q e = absurd (unlike m w n p (sym (ap first_or e)))
-one_setting n v m w false false a b p q e = (ap (λ ws. drop 2 (first_or ws)) e, ap (λ ws. first_or (drop 1 ws)) e, ap (drop 2) e)
+one_setting n v m w joined apart a b p q s t e = absurd (unlike n v m q (ap first_or e))
+one_setting n v m w joined alone a b p q s t e = absurd (unlike n v m q (ap first_or e))
+one_setting n v m w apart joined a b p q s t e = absurd (unlike m w n p (sym (ap first_or e)))
+one_setting n v m w apart apart a b p q s t e = (ap (λ ws. drop 2 (first_or ws)) e, ap (λ ws. first_or (drop 1 ws)) e, ap (drop 2) e)
+one_setting n v m w apart alone a b p q s t e = absurd (not_both m n t.0 s.0 (sym (ap first_or e)))
+one_setting n v m w alone joined a b p q s t e = absurd (unlike m w n p (sym (ap first_or e)))
+one_setting n v m w alone apart a b p q s t e = absurd (not_both n m s.0 t.0 (ap first_or e))
+one_setting n v m w alone alone a b p q s t e = (ap (λ ws. drop 2 (first_or ws)) e, s.1 ∙ sym t.1, ap (drop 1) e)
 
-no_setting : (rest : List Text) (m w : Text) (k : Bool) (b : List Text) → Closes rest → plain_name m ≡ true → rest ≡ spelled (record { name = m; value = w; is_joined = k }) ++ b → ⊥
-no_setting rest m w true b (inl none) p e =
+no_name : (m : Text) → plain_name m ≡ true → codes "--" ≡ codes "--" ++ m → ⊥
+no_name [] p e = cc
+no_name (c ∷ cs) p e =
+    let bad : ◌≡◌ {A = List ℕ} [] (c ∷ cs) = ap (drop 2) e in
+    cc
+
+no_setting : (rest : List Text) (m w : Text) (k : Spelling) (b : List Text) → Closes rest → plain_name m ≡ true → rest ≡ spelled_by k m w ++ b → ⊥
+no_setting rest m w joined b (inl none) p e =
     let bad : ◌≡◌ {A = List Text} [] (written m w ∷ b) = sym none ∙ e in
     cc
-no_setting rest m w false b (inl none) p e =
+no_setting rest m w apart b (inl none) p e =
     let bad : ◌≡◌ {A = List Text} [] ((codes "--" ++ m) ∷ w ∷ b) = sym none ∙ e in
     cc
-no_setting rest m w true b (inr one) p e = unlike m w [] refl (sym (ap first_or (sym one ∙ e)))
-no_setting rest [] w false b (inr one) p e = cc
-no_setting rest (c ∷ cs) w false b (inr one) p e =
-    let bad : ◌≡◌ {A = List ℕ} [] (c ∷ cs) = ap (λ ws. drop 2 (first_or ws)) (sym one ∙ e) in
+no_setting rest m w alone b (inl none) p e =
+    let bad : ◌≡◌ {A = List Text} [] ((codes "--" ++ m) ∷ b) = sym none ∙ e in
     cc
+no_setting rest m w joined b (inr one) p e = unlike m w [] refl (sym (ap first_or (sym one ∙ e)))
+no_setting rest m w apart b (inr one) p e = no_name m p (ap first_or (sym one ∙ e))
+no_setting rest m w alone b (inr one) p e = no_name m p (ap first_or (sym one ∙ e))
 
 -- ---- many settings
 
-abbrev Named : List Setting → Type 0
+abbrev pub Named : List Setting → Type 0
 Named = AllByRecursion (λ (x : Setting). plain_name x.name ≡ true)
 
-abbrev Agree : List Setting → List Setting → Type 0
+abbrev pub AreInPlace : List Setting → Type 0
+AreInPlace = AllByRecursion IsInPlace
+
+abbrev pub Agree : List Setting → List Setting → Type 0
 Agree xs ys = (id : Text) → value_of id xs ≡ value_of id ys
 
 value_step : (id : Text) (x : Setting) (xs : List Setting) (b : Bool) → option_map (λ (s : Setting). s.value) (cond b (Some x) (find (λ (s : Setting). bytes_eq s.name id) xs))
@@ -99,14 +120,22 @@ agree_cons x y xs ys name value rest = λ id.
     ∙ ap (cond (bytes_eq y.name id) (Some y.value)) (rest id)
     ∙ sym (value_step id y ys (bytes_eq y.name id))
 
-one_list : (xs ys : List Setting) (a b : List Text) → Named xs → Named ys → Closes a → Closes b → flat_map spelled xs ++ a ≡ flat_map spelled ys ++ b → Agree xs ys
-one_list [] [] a b p q c d e = λ id. refl
-one_list [] (y ∷ ys) a b p q c d e = absurd (no_setting a y.name y.value y.is_joined (flat_map spelled ys ++ b) c q.0 (e ∙ append_assoc (spelled y) (flat_map spelled ys) b))
-one_list (x ∷ xs) [] a b p q c d e = absurd (no_setting b x.name x.value x.is_joined (flat_map spelled xs ++ a) d p.0 (sym e ∙ append_assoc (spelled x) (flat_map spelled xs) a))
-one_list (x ∷ xs) (y ∷ ys) a b p q c d e =
-    let same = one_setting x.name x.value y.name y.value x.is_joined y.is_joined (flat_map spelled xs ++ a) (flat_map spelled ys ++ b) (no_equals x.name p.0) (no_equals y.name q.0)
+one_list : (xs ys : List Setting) (a b : List Text) → Named xs → Named ys → AreInPlace xs → AreInPlace ys → Closes a → Closes b → flat_map spelled xs ++ a ≡ flat_map spelled ys ++ b → Agree xs ys
+one_list [] [] a b p q s t c d e = λ id. refl
+one_list [] (y ∷ ys) a b p q s t c d e = absurd (no_setting a y.name y.value y.way (flat_map spelled ys ++ b) c q.0 (e ∙ append_assoc (spelled y) (flat_map spelled ys) b))
+one_list (x ∷ xs) [] a b p q s t c d e = absurd (no_setting b x.name x.value x.way (flat_map spelled xs ++ a) d p.0 (sym e ∙ append_assoc (spelled x) (flat_map spelled xs) a))
+one_list (x ∷ xs) (y ∷ ys) a b p q s t c d e =
+    let same = one_setting x.name x.value y.name y.value x.way y.way (flat_map spelled xs ++ a) (flat_map spelled ys ++ b) (no_equals x.name p.0) (no_equals y.name q.0) s.0 t.0
     (sym (append_assoc (spelled x) (flat_map spelled xs) a) ∙ e ∙ append_assoc (spelled y) (flat_map spelled ys) b) in
-    agree_cons x y xs ys same.0 same.1 (one_list xs ys a b p.1 q.1 c d same.2)
+    agree_cons x y xs ys same.0 same.1 (one_list xs ys a b p.1 q.1 s.1 t.1 c d same.2)
+
+-- two readings of one line agree in the subcommand and in each value
+pub one_line : (words : List Text) (m n : Text) (xs ys : List Setting) → Named xs → Named ys → IsLine words m xs → IsLine words n ys → (m ≡ n) × Agree xs ys
+one_line words m n xs ys p q a b =
+    let heads : a.program ∷ m ∷ a.after ≡ b.program ∷ n ∷ b.after = sym a.words_are ∙ b.words_are in
+    let after : a.after ≡ b.after = ap (drop 2) heads in
+    let spells = sym a.spelling.words_are ∙ after ∙ b.spelling.words_are in
+    (ap (λ ws. first_or (drop 1 ws)) heads, one_list xs ys a.spelling.rest b.spelling.rest p q a.spelling.in_place b.spelling.in_place a.spelling.closes b.spelling.closes spells)
 
 -- ---- names
 
@@ -119,14 +148,14 @@ listed_passes : (test : Text → Bool) (n : Text) (names : List Text) → list_a
 listed_passes test n [] all any = cc
 listed_passes test n (m ∷ ms) all any = listed_step test n m ms (bytes_eq n m) refl (both _ _ all).0 any (listed_passes test n ms (both _ _ all).1)
 
-only_named : (names : List Text) (xs : List Setting) → list_all plain_name names ≡ true → HasOnly names xs → Named xs
+pub only_named : (names : List Text) (xs : List Setting) → list_all plain_name names ≡ true → HasOnly names xs → Named xs
 only_named names [] all only = tt
 only_named names (x ∷ xs) all only = (listed_passes plain_name x.name names all only.0, only_named names xs all only.1)
 
-means_named : (name : Text) (xs : List Setting) (o : Options) → Means name xs o → Named xs
+pub means_named : (name : Text) (xs : List Setting) (o : Options) → Means name xs o → Named xs
 means_named name xs Check m = subst Named (sym m.1) tt
 means_named name xs Verify m = subst Named (sym m.1) tt
-means_named name xs (Replay o) m = only_named replay_names xs refl m.1
+means_named name xs (Replay o) m = only_named replay_names xs refl m.1.only
 means_named name xs (Live o) m = only_named live_names xs refl m.1
 
 -- ---- meanings
@@ -178,6 +207,11 @@ replies_same Short Short e = refl
 replies_same Short Full e = absurd (other_word (codes "short") (codes "full") refl e)
 replies_same Full Short e = absurd (other_word (codes "full") (codes "short") refl e)
 replies_same Full Full e = refl
+replies_same Short Placed e = absurd (other_word (codes "short") (codes "placed") refl e)
+replies_same Full Placed e = absurd (other_word (codes "full") (codes "placed") refl e)
+replies_same Placed Short e = absurd (other_word (codes "placed") (codes "short") refl e)
+replies_same Placed Full e = absurd (other_word (codes "placed") (codes "full") refl e)
+replies_same Placed Placed e = refl
 
 one_replies : (v : Option Text) (p q : Replies) → MatchOption v (p ≡ Short) (λ text. text ≡ replies_text p) → MatchOption v (q ≡ Short) (λ text. text ≡ replies_text q) → p ≡ q
 one_replies None p q a b = a ∙ sym b
@@ -186,6 +220,28 @@ one_replies (Some text) p q a b = replies_same p q (sym a ∙ b)
 replies_once : (xs ys : List Setting) (p q : Replies) → Agree xs ys → GivesReplies xs p → GivesReplies ys q → p ≡ q
 replies_once xs ys p q agree a b =
     one_replies (value_of (codes "replies") xs) p q a (subst (λ v. MatchOption v (q ≡ Short) (λ text. text ≡ replies_text q)) (sym (agree (codes "replies"))) b)
+
+one_told : (v : Option Text) (a b : Option ℕ) → MatchOption v (a ≡ None) (λ text. (n : ℕ) × (a ≡ Some n) × IsWritten n text × (n ≤ 999999999))
+    → MatchOption v (b ≡ None) (λ text. (n : ℕ) × (b ≡ Some n) × IsWritten n text × (n ≤ 999999999)) → a ≡ b
+one_told None a b p q = p ∙ sym q
+one_told (Some text) a b p q =
+    let same : p.0 ≡ q.0 = p.2.1 ∙ sym q.2.1 in
+    p.1 ∙ ap (λ (n : ℕ). Some n) same ∙ sym q.1
+
+told_once : (xs ys : List Setting) (a b : Option ℕ) → Agree xs ys → GivesTold xs a → GivesTold ys b → a ≡ b
+told_once xs ys a b agree p q =
+    one_told (value_of (codes "told") xs) a b p (subst (λ v. MatchOption v (b ≡ None) (λ text. (n : ℕ) × (b ≡ Some n) × IsWritten n text × (n ≤ 999999999))) (sym (agree (codes "told"))) q)
+
+one_pace : (v : Option Text) (a b : Option VehicleOptions) (p q : VehicleOptions) → p ≡ q → MatchOption v (a ≡ None) (λ text. a ≡ Some p) → MatchOption v (b ≡ None) (λ text. b ≡ Some q) → a ≡ b
+one_pace None a b p q same m n = m ∙ sym n
+one_pace (Some text) a b p q same m n = m ∙ ap (λ (x : VehicleOptions). Some x) same ∙ sym n
+
+vehicles_once : (xs ys : List Setting) (a b : Option VehicleOptions) → Agree xs ys → GivesVehicles xs a → GivesVehicles ys b → a ≡ b
+vehicles_once xs ys a b agree p q =
+    let behind = number_once xs ys (codes "behind") 8 1 1000 p.pace.behind q.pace.behind agree p.behind q.behind in
+    let ahead = number_once xs ys (codes "ahead") 1 1 1000 p.pace.ahead q.pace.ahead agree p.ahead q.ahead in
+    let pace : p.pace ≡ q.pace = λ i. record { behind = behind i; ahead = ahead i } in
+    one_pace (value_of (codes "vehicles") xs) a b p.pace q.pace pace p.is (subst (λ v. MatchOption v (b ≡ None) (λ text. b ≡ Some q.pace)) (sym (agree (codes "vehicles"))) q.is)
 
 fleet_once : (xs ys : List Setting) (f g : Fleet) → Agree xs ys → GivesFleet xs f → GivesFleet ys g → f ≡ g
 fleet_once xs ys f g agree a b =
@@ -202,10 +258,11 @@ means_once name told xs ys Check Verify is agree m n = absurd (other_word (codes
 means_once name told xs ys Check (Live p) is agree m n = absurd (other_word (codes "check") (codes "live") refl (sym m.0 ∙ is ∙ n.0))
 means_once name told xs ys (Replay o) Check is agree m n = absurd (other_word (codes "replay") (codes "check") refl (sym m.0 ∙ is ∙ n.0))
 means_once name told xs ys (Replay o) (Replay p) is agree m n =
-    let fleet = fleet_once xs ys o.fleet p.fleet agree m.2 n.2 in
-    let tail = tail_once xs ys o.tail p.tail agree m.3 n.3 in
-    let replies = replies_once xs ys o.replies p.replies agree m.4 n.4 in
-    (fleet, tail, replies, m.5.is ∙ agree (codes "log") ∙ sym n.5.is)
+    let fleet = fleet_once xs ys o.fleet p.fleet agree m.1.fleet n.1.fleet in
+    let tail = tail_once xs ys o.tail p.tail agree m.1.tail n.1.tail in
+    let replies = replies_once xs ys o.replies p.replies agree m.1.replies n.1.replies in
+    let told = told_once xs ys o.told p.told agree m.1.told n.1.told in
+    (fleet, tail, replies, m.1.log.is ∙ agree (codes "log") ∙ sym n.1.log.is, told, vehicles_once xs ys o.vehicles p.vehicles agree m.1.vehicles n.1.vehicles)
 means_once name told xs ys (Replay o) Verify is agree m n = absurd (other_word (codes "replay") (codes "verify") refl (sym m.0 ∙ is ∙ n.0))
 means_once name told xs ys (Replay o) (Live p) is agree m n = absurd (other_word (codes "replay") (codes "live") refl (sym m.0 ∙ is ∙ n.0))
 means_once name told xs ys Verify Check is agree m n = absurd (other_word (codes "verify") (codes "check") refl (sym m.0 ∙ is ∙ n.0))
@@ -224,9 +281,5 @@ means_once name told xs ys (Live o) (Live p) is agree m n =
 -- words give at most one set of options
 pub given_once : (words : List Text) (o p : Options) → WordsGive words o → WordsGive words p → AreSame o p
 given_once words o p a b =
-    let heads : a.2.program ∷ a.0 ∷ a.2.after ≡ b.2.program ∷ b.0 ∷ b.2.after = sym a.2.words_are ∙ b.2.words_are in
-    let name : a.0 ≡ b.0 = ap (λ ws. first_or (drop 1 ws)) heads in
-    let after : a.2.after ≡ b.2.after = ap (drop 2) heads in
-    let spells = sym a.2.spelling.words_are ∙ after ∙ b.2.spelling.words_are in
-    let agree = one_list a.1 b.1 a.2.spelling.rest b.2.spelling.rest (means_named a.0 a.1 o a.3) (means_named b.0 b.1 p b.3) a.2.spelling.closes b.2.spelling.closes spells in
-    means_once a.0 b.0 a.1 b.1 o p name agree a.3 b.3
+    let line = one_line words a.0 b.0 a.1 b.1 (means_named a.0 a.1 o a.3) (means_named b.0 b.1 p b.3) a.2 b.2 in
+    means_once a.0 b.0 a.1 b.1 o p line.0 line.1 a.3 b.3

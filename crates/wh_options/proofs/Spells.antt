@@ -1,4 +1,4 @@
--- The other way: settings that a command's options take are not refused.
+-- The other way: settings that a command's options and switches take are not refused.
 use Rattle.std.proofs.Common.{◌≡◌, ℕ, List, [], ◌∷◌, ◌++◌, take, drop, refl, sym, ap, ap₂, ◌∙◌, Bool, true, false, cond, None, Some, Option, subst, inl, inr, codes, suc, arith, ◌==◌, ◌||◌, not, ◌+◌, append_assoc}
 use Rattle.std.specs.List.{after_first, before_first, flat_map, position_or_len}
 use Rattle.std.specs.Option.{option_map_or}
@@ -8,11 +8,11 @@ use Rattle.clap.specs.Kinds.{Kinds, or_else}
 use Rattle.clap.specs.Walk.{Held, Outcome, Row, Rule, Step, Text, Walk, after_flag, after_step, arg_by_id, arg_by_long, bundle, idle, long_met, long_or_other, option, plain_word, settled, short_or_plain, trailing, used, walked}
 use Rattle.clap.specs.Faults.{bundle_fault, flag_word_fault, long_fault, settle_fault, step_fault, turn_fault, use_fault, walk_fault}
 use Rattle.clap.specs.Simple.{Shape}
-use Rattle.wh_options.specs.Setting.{Closes, Setting, StandsFree, is_flag, spelled}
+use Rattle.wh_options.specs.Setting.{Closes, IsInPlace, Setting, Spelling, alone, apart, is_flag, joined, spelled}
 use Rattle.wh_options.proofs.Flags.{silent, unflagged}
 use Rattle.wh_options.proofs.Shapes.{before_whole, is_equals}
-use Rattle.wh_options.proofs.Leaf.{ArePlain, IsOption}
-use Rattle.wh_options.proofs.Turns.{given_after, held, idle_at, option_at, option_takes}
+use Rattle.wh_options.proofs.Leaf.{ArePlain, IsOption, IsSwitch, Suits, held_by}
+use Rattle.wh_options.proofs.Turns.{given_after, held, idle_at, option_at, option_takes, switch_takes_none}
 use Rattle.wh_options.proofs.Words.{IsFine, by_id, self_same}
 use Rattle.wh_options.proofs.Rows.{either_false}
 
@@ -103,6 +103,11 @@ opens_goes : (s : Shape) (rows : List Row) (pending : Option (Text × List Text)
     → LongGoes s rows pending pos w None (option_at (settled s.rules (held rows pending)).rows a.id pos) (Some a)
 opens_goes s rows pending pos w a opt settles = rw (option_takes a opt) (none_both _ _ settles refl, refl)
 
+alone_goes : (s : Shape) (rows : List Row) (pending : Option (Text × List Text)) (pos : ℕ) (w : Text) (a : Rule) → IsSwitch a
+    → settle_fault s.rules s.args_override_self (held rows pending) ≡ [] → use_fault s.args_override_self a [] (settled s.rules (held rows pending)).rows ≡ []
+    → LongGoes s rows pending pos w None (idle_at (used a [] (settled s.rules (held rows pending)).rows) None pos) (Some a)
+alone_goes s rows pending pos w a switch settles passes = rw (switch_takes_none a switch) (none_both _ _ (none_both _ _ settles passes) refl, refl)
+
 joined_turn : (s : Shape) (rows : List Row) (pending : Option (Text × List Text)) (pos : ℕ) (name v : Text) (a : Rule) → has_byte 61 name ≡ false → arg_by_long s.rules name ≡ Some a → IsOption a
     → settle_fault s.rules s.args_override_self (held rows pending) ≡ [] → use_fault s.args_override_self a (v ∷ []) (settled s.rules (held rows pending)).rows ≡ []
     → (let w = codes "--" ++ (name ++ (codes "=" ++ v)) in (turn_fault s [] (idle_at rows pending pos) w ≡ [])
@@ -122,6 +127,16 @@ opens_turn s rows pending pos x xs a plain found opt settles =
     let after = option_at (settled s.rules (held rows pending)).rows a.id pos in
     idle_goes s rows pending pos w after (Some (x ∷ xs, None)) refl (apart_word x xs plain)
     (subst (λ o. LongGoes s rows pending pos w None after o) (sym found) (opens_goes s rows pending pos w a opt settles))
+
+alone_turn : (s : Shape) (rows : List Row) (pending : Option (Text × List Text)) (pos x : ℕ) (xs : Text) (a : Rule) → has_byte 61 (x ∷ xs) ≡ false → arg_by_long s.rules (x ∷ xs) ≡ Some a → IsSwitch a
+    → settle_fault s.rules s.args_override_self (held rows pending) ≡ [] → use_fault s.args_override_self a [] (settled s.rules (held rows pending)).rows ≡ []
+    → (turn_fault s [] (idle_at rows pending pos) (codes "--" ++ x ∷ xs) ≡ [])
+    × (walked s.rules [] (idle_at rows pending pos) (codes "--" ++ x ∷ xs) ≡ idle_at (used a [] (settled s.rules (held rows pending)).rows) None pos)
+alone_turn s rows pending pos x xs a plain found switch settles passes =
+    let w = codes "--" ++ x ∷ xs in
+    let after = idle_at (used a [] (settled s.rules (held rows pending)).rows) None pos in
+    idle_goes s rows pending pos w after (Some (x ∷ xs, None)) refl (apart_word x xs plain)
+    (subst (λ o. LongGoes s rows pending pos w None after o) (sym found) (alone_goes s rows pending pos w a switch settles passes))
 
 abbrev ShortGoes : Shape → List Row → Text → ℕ → Text → Walk → Option Text → Type 0
 ShortGoes s rows id pos v after sh =
@@ -162,21 +177,21 @@ value_turn s rows pos v a plain found opt =
 
 -- ---- many settings
 
--- the setting is of an option, which takes its value after these rows
+-- the setting is of an option or switch, which takes its value after these rows
 pub record CanTake (s : Shape) (x : Setting) (rows : List Row) : Type 0 where
   pub rule : Rule
   pub found : arg_by_long s.rules x.name ≡ Some rule
-  pub option : IsOption rule
-  pub passes : use_fault s.args_override_self rule (x.value ∷ []) rows ≡ []
+  pub suits : Suits x.way rule
+  pub passes : use_fault s.args_override_self rule (held_by x.way x.value) rows ≡ []
   pub first : ℕ
   pub others : Text
   pub named : x.name ≡ first ∷ others
   pub no_equals : has_byte 61 x.name ≡ false
-  pub free : StandsFree x
+  pub in_place : IsInPlace x
 
 pub record TakesAll (s : Shape) (x : Setting) (rows : List Row) (Rest : List Row → Type 0) : Type 0 where
   pub now : CanTake s x rows
-  pub later : Rest (used now.rule (x.value ∷ []) rows)
+  pub later : Rest (used now.rule (held_by x.way x.value) rows)
 
 abbrev pub AllTaken : Shape → List Setting → List Row → Type 0
 AllTaken s [] rows = Unit {0}
@@ -198,22 +213,22 @@ abbrev Fine : Shape → List Text → List Setting → Type 0
 Fine s rest xs = (rows : List Row) (pending : Option (Text × List Text)) (pos : ℕ) → settle_fault s.rules s.args_override_self (held rows pending) ≡ []
     → AllTaken s xs (settled s.rules (held rows pending)).rows → IsFine s (idle_at rows pending pos) (flat_map spelled xs ++ rest)
 
-setting_fine : (s : Shape) (rest : List Text) (name value : Text) (is_joined : Bool) (xs : List Setting) → ArePlain s.rules → Fine s rest xs
+setting_fine : (s : Shape) (rest : List Text) (name value : Text) (way : Spelling) (xs : List Setting) → ArePlain s.rules → Fine s rest xs
     → (rows : List Row) (pending : Option (Text × List Text)) (pos : ℕ) → settle_fault s.rules s.args_override_self (held rows pending) ≡ []
-    → (t : CanTake s (record { name = name; value = value; is_joined = is_joined }) (settled s.rules (held rows pending)).rows)
-    → AllTaken s xs (used t.rule (value ∷ []) (settled s.rules (held rows pending)).rows)
-    → IsFine s (idle_at rows pending pos) (spelled (record { name = name; value = value; is_joined = is_joined }) ++ (flat_map spelled xs ++ rest))
-setting_fine s rest name value true xs all ih rows pending pos settles t later =
-    let turn = joined_turn s rows pending pos name value t.rule t.no_equals t.found t.option settles t.passes in
+    → (t : CanTake s (record { name = name; value = value; way = way }) (settled s.rules (held rows pending)).rows)
+    → AllTaken s xs (used t.rule (held_by way value) (settled s.rules (held rows pending)).rows)
+    → IsFine s (idle_at rows pending pos) (spelled (record { name = name; value = value; way = way }) ++ (flat_map spelled xs ++ rest))
+setting_fine s rest name value joined xs all ih rows pending pos settles t later =
+    let turn = joined_turn s rows pending pos name value t.rule t.no_equals t.found t.suits settles t.passes in
     fine_cons s (idle_at rows pending pos) _ _ _ turn.0 turn.1 (ih (used t.rule (value ∷ []) (settled s.rules (held rows pending)).rows) None pos refl later)
-setting_fine s rest name value false xs all ih rows pending pos settles t later =
+setting_fine s rest name value apart xs all ih rows pending pos settles t later =
     let now = (settled s.rules (held rows pending)).rows in
     let spelled_so : codes "--" ++ name ≡ codes "--" ++ t.first ∷ t.others = ap (λ n. codes "--" ++ n) t.named in
     let plain : has_byte 61 (t.first ∷ t.others) ≡ false = subst (λ n. has_byte 61 n ≡ false) t.named t.no_equals in
     let found : arg_by_long s.rules (t.first ∷ t.others) ≡ Some t.rule = subst (λ n. arg_by_long s.rules n ≡ Some t.rule) t.named t.found in
-    let opens = opens_turn s rows pending pos t.first t.others t.rule plain found t.option settles in
+    let opens = opens_turn s rows pending pos t.first t.others t.rule plain found t.suits settles in
     let at = by_id s t.rule name all t.found in
-    let gives = value_turn s now pos value t.rule (t.free refl) at t.option in
+    let gives = value_turn s now pos value t.rule t.in_place.1 at t.suits in
     let pends : settle_fault s.rules s.args_override_self (held now (Some (t.rule.id, value ∷ []))) ≡ [] = rw at t.passes in
     let rows_are : (settled s.rules (held now (Some (t.rule.id, value ∷ [])))).rows ≡ used t.rule (value ∷ []) now = rw at refl in
     let told : AllTaken s xs (settled s.rules (held now (Some (t.rule.id, value ∷ [])))).rows = subst (AllTaken s xs) (sym rows_are) later in
@@ -221,12 +236,20 @@ setting_fine s rest name value false xs all ih rows pending pos settles t later 
     let second = fine_cons s (option_at now t.rule.id pos) _ value _ gives.0 gives.1 rest_fine in
     let first = fine_cons s (idle_at rows pending pos) _ _ _ opens.0 opens.1 second in
     subst (λ w. IsFine s (idle_at rows pending pos) (w ∷ value ∷ (flat_map spelled xs ++ rest))) (sym spelled_so) first
+setting_fine s rest name value alone xs all ih rows pending pos settles t later =
+    let now = (settled s.rules (held rows pending)).rows in
+    let spelled_so : codes "--" ++ name ≡ codes "--" ++ t.first ∷ t.others = ap (λ n. codes "--" ++ n) t.named in
+    let plain : has_byte 61 (t.first ∷ t.others) ≡ false = subst (λ n. has_byte 61 n ≡ false) t.named t.no_equals in
+    let found : arg_by_long s.rules (t.first ∷ t.others) ≡ Some t.rule = subst (λ n. arg_by_long s.rules n ≡ Some t.rule) t.named t.found in
+    let turn = alone_turn s rows pending pos t.first t.others t.rule plain found t.suits settles t.passes in
+    let whole = fine_cons s (idle_at rows pending pos) _ _ _ turn.0 turn.1 (ih (used t.rule [] now) None pos refl later) in
+    subst (λ w. IsFine s (idle_at rows pending pos) (w ∷ (flat_map spelled xs ++ rest))) (sym spelled_so) whole
 
 all_fine : (s : Shape) (rest : List Text) (settings : List Setting) → ArePlain s.rules → Closes rest → Fine s rest settings
 all_fine s rest [] all closes rows pending pos settles taken = end_fine s rows pending pos rest closes settles
 all_fine s rest (x ∷ xs) all closes rows pending pos settles taken =
     subst (λ l. IsFine s (idle_at rows pending pos) l) (sym (append_assoc (spelled x) (flat_map spelled xs) rest))
-    (setting_fine s rest x.name x.value x.is_joined xs all (all_fine s rest xs all closes) rows pending pos settles taken.now taken.later)
+    (setting_fine s rest x.name x.value x.way xs all (all_fine s rest xs all closes) rows pending pos settles taken.now taken.later)
 
 -- settings that the options take, behind a subcommand's name, are not refused
 pub settings_fine : (s : Shape) (settings : List Setting) (rest : List Text) → ArePlain s.rules → Closes rest → AllTaken s settings [] → IsFine s (idle_at [] None 1) (flat_map spelled settings ++ rest)

@@ -10,13 +10,13 @@ use Rattle.clap.specs.Faults.{built_fault, check_fault, entered_fault, level_fau
 use Rattle.clap.specs.declared.error.kind.ErrorKind.TheVariants.{DisplayHelp, InvalidSubcommand}
 use Rattle.clap.specs.Simple.{App, Shape, entered, label_of, names_of, rows_at}
 use Rattle.wh_options.proofs.Shapes.{bytes_same, find_in}
-use Rattle.wh_options.proofs.Leaf.{ArePlain, IsOption, both_empty}
+use Rattle.wh_options.proofs.Leaf.{ArePlain, IsSetting, both_empty}
 use Rattle.wh_options.proofs.Turns.{idle_dashes, trail_at, value_fails}
 
 -- a command of subcommands alone
 pub record IsMenuApp (b : App) : Type 0 where
   pub plain : ArePlain b.top.rules
-  pub no_options : (name : Text) (a : Rule) → arg_by_long b.top.rules name ≡ Some a → IsOption a → ⊥
+  pub no_settings : (name : Text) (a : Rule) → arg_by_long b.top.rules name ≡ Some a → IsSetting a → ⊥
   pub required : b.top.subcommand_required ≡ true
   pub helps : b.top.disable_help_subcommand ≡ false
   pub no_aliases : AllByRecursion (λ (s : Shape). s.aliases ≡ []) b.subs
@@ -81,8 +81,11 @@ no_name_fails : (b : App) (w : Text) (rest : List Text) → IsMenuApp b
 no_name_fails b w rest menu e = elim (idle_dashes b.top [] None 1 w (bytes_eq w (codes "--")) menu.plain refl e) [
   | inl d ↦ d.after_is
   | inr r ↦ elim r [
-    | inl j ↦ absurd (menu.no_options j.name j.rule j.found j.option)
-    | inr o ↦ absurd (menu.no_options o.name o.rule o.found o.option)
+    | inl j ↦ absurd (menu.no_settings j.name j.rule j.found (inl j.option))
+    | inr q ↦ elim q [
+      | inl o ↦ absurd (menu.no_settings o.name o.rule o.found (inl o.option))
+      | inr w ↦ absurd (menu.no_settings w.name w.rule w.found (inr w.switch))
+    ]
   ]
 ]
 

@@ -1,4 +1,4 @@
--- One word, where all the arguments are options of one value and flags that ask for help or the version.
+-- One word, where all the arguments are options of one value, switches, and flags that ask for help or the version.
 use Rattle.std.proofs.Common.{◌≡◌, ◌⊎◌, ℕ, List, [], ◌∷◌, length, refl, ap, ◌∙◌, Bool, true, false, cond, None, Some, Option, subst, codes, inl, inr}
 use Rattle.std.specs.Prelude.{slice_get}
 use Rattle.std.specs.Option.{option_map_or}
@@ -9,10 +9,10 @@ use Rattle.clap.specs.Kinds.{Kinds, or_else, range_kinds}
 use Rattle.clap.specs.Walk.{Held, Row, Rule, Step, Text, Waiting, Walk, action_of, after_flag, after_step, arg_by_id, arg_by_long, arg_by_short, bundle, bundle_met, bundle_step, idle, long_met, long_or_other, most_values, option, plain, plain_word, settled, short_or_plain, takes_values, trailing, used, value, values_or_missing, walked}
 use Rattle.clap.specs.Faults.{bundle_fault, bundle_step_fault, flag_word_fault, flags_fault, long_fault, action_fault, option_fault, react_fault, settle_fault, short_fault, step_fault, stray_fault, turn_fault, use_fault}
 use Rattle.clap.specs.Simple.{Shape}
-use Rattle.wh_options.specs.Setting.{is_flag}
+use Rattle.wh_options.specs.Setting.{is_flag, is_switch}
 use Rattle.wh_options.proofs.Flags.{is_no_flag}
 use Rattle.wh_options.proofs.Shapes.{IsLong, bytes_same, long_is}
-use Rattle.wh_options.proofs.Leaf.{ArePlain, IsAsking, IsOption, IsPlainRule, both_empty, long_plain, no_position, short_help}
+use Rattle.wh_options.proofs.Leaf.{ArePlain, IsAsking, IsNamedOption, IsNamedSwitch, IsOption, IsPlainRule, IsSwitch, both_empty, long_plain, no_position, short_help}
 
 abbrev pub held : List Row → Option (Text × List Text) → Held
 held rows pending = record { rows = rows; pending = pending; skip = 0 }
@@ -60,6 +60,9 @@ value_fails s pos h all e = stray_fails s (rw (no_position s.rules pos all) at e
 help_takes_none : (a : Rule) → IsAsking a → takes_values a ≡ false
 help_takes_none a p = rw p.most refl
 
+pub switch_takes_none : (a : Rule) → IsSwitch a → takes_values a ≡ false
+switch_takes_none a p = rw p.most refl
+
 pub option_takes : (a : Rule) → IsOption a → takes_values a ≡ true
 option_takes a p = rw p.most refl
 
@@ -101,12 +104,25 @@ flag_fails c again a (Some x) h f e =
     let bad = rw (help_takes_none a f) at e in
     cc
 
--- a long flag that is not refused is an option
-long_option : (c : List Rule) (again : Bool) (a : Rule) (v : Option Text) (h : Held) → IsPlainRule a → long_fault c again (Some a) v h ≡ []
-    → IsOption a × (option_fault c again a v h ≡ [])
-long_option c again a v h p e = elim p.kind [
-  | inl o ↦ (o, rw (option_takes a o) at e)
-  | inr f ↦ absurd (flag_fails c again a v h f e)
+-- a switch with a value is refused
+switch_alone : (c : List Rule) (again : Bool) (a : Rule) (v : Option Text) (h : Held) → IsSwitch a → long_fault c again (Some a) v h ≡ []
+    → (v ≡ None) × (react_fault c again a [] h ≡ [])
+switch_alone c again a None h p e = (refl, rw (switch_takes_none a p) at e)
+switch_alone c again a (Some x) h p e =
+    let bad = rw (switch_takes_none a p) at e in
+    cc
+
+-- a long flag that is not refused is an option, or a switch without a value
+long_setting : (c : List Rule) (again : Bool) (a : Rule) (v : Option Text) (h : Held) → IsPlainRule a → long_fault c again (Some a) v h ≡ []
+    → (IsNamedOption a × (option_fault c again a v h ≡ [])) ⊎ (IsNamedSwitch a × (v ≡ None) × (react_fault c again a [] h ≡ []))
+long_setting c again a v h p e = elim p.kind [
+  | inl o ↦ inl (o, rw (option_takes a o.0) at e)
+  | inr k ↦ elim k [
+    | inl w ↦
+        let none = switch_alone c again a v h w.0 e in
+        inr (w, none.0, none.1)
+    | inr f ↦ absurd (flag_fails c again a v h f e)
+  ]
 ]
 
 -- what a word between two settings does
@@ -121,6 +137,7 @@ pub record Joins (s : Shape) (h : Held) (pos : ℕ) (word : Text) (after : Walk)
   pub spelled : IsLong word name (Some given)
   pub found : arg_by_long s.rules name ≡ Some rule
   pub option : IsOption rule
+  pub no_switch : is_switch rule.id ≡ false
   pub settles : settle_fault s.rules s.args_override_self h ≡ []
   pub passes : use_fault s.args_override_self rule (given ∷ []) (settled s.rules h).rows ≡ []
   pub after_is : after ≡ idle_at (used rule (given ∷ []) (settled s.rules h).rows) None pos
@@ -131,11 +148,23 @@ pub record Opens (s : Shape) (h : Held) (pos : ℕ) (word : Text) (after : Walk)
   pub spelled : IsLong word name None
   pub found : arg_by_long s.rules name ≡ Some rule
   pub option : IsOption rule
+  pub no_switch : is_switch rule.id ≡ false
   pub settles : settle_fault s.rules s.args_override_self h ≡ []
   pub after_is : after ≡ option_at (settled s.rules h).rows rule.id pos
 
+pub record Switches (s : Shape) (h : Held) (pos : ℕ) (word : Text) (after : Walk) : Type 0 where
+  pub rule : Rule
+  pub name : Text
+  pub spelled : IsLong word name None
+  pub found : arg_by_long s.rules name ≡ Some rule
+  pub switch : IsSwitch rule
+  pub is_one : is_switch rule.id ≡ true
+  pub settles : settle_fault s.rules s.args_override_self h ≡ []
+  pub passes : use_fault s.args_override_self rule [] (settled s.rules h).rows ≡ []
+  pub after_is : after ≡ idle_at (used rule [] (settled s.rules h).rows) None pos
+
 abbrev pub Turns : Shape → Held → ℕ → Text → Walk → Type 0
-Turns s h pos word after = Dashes h pos word after ⊎ (Joins s h pos word after ⊎ Opens s h pos word after)
+Turns s h pos word after = Dashes h pos word after ⊎ (Joins s h pos word after ⊎ (Opens s h pos word after ⊎ Switches s h pos word after))
 
 -- a long option
 long_turn : (s : Shape) (rows : List Row) (pending : Option (Text × List Text)) (pos : ℕ) (word name : Text) (v : Option Text) (o : Option Rule)
@@ -146,31 +175,52 @@ long_turn : (s : Shape) (rows : List Row) (pending : Option (Text × List Text))
 long_turn s rows pending pos word name v None all spelled found e = cc
 long_turn s rows pending pos word name (Some x) (Some a) all spelled found e =
     let p = long_plain s.rules name a all found in
-    let got = long_option s.rules s.args_override_self a (Some x) (held rows pending) p.0 e in
-    let fine = both_empty _ _ got.1 in
-    inr (inl (record {
-      rule = a;
-      name = name;
-      given = x;
-      spelled = spelled;
-      found = found;
-      option = got.0;
-      settles = fine.0;
-      passes = fine.1;
-      after_is = rw (option_takes a got.0) refl;
-    }))
+    elim (long_setting s.rules s.args_override_self a (Some x) (held rows pending) p.0 e) [
+      | inl got ↦
+          let fine = both_empty _ _ got.1 in
+          inr (inl (record {
+            rule = a;
+            name = name;
+            given = x;
+            spelled = spelled;
+            found = found;
+            option = got.0.0;
+            no_switch = got.0.1;
+            settles = fine.0;
+            passes = fine.1;
+            after_is = rw (option_takes a got.0.0) refl;
+          }))
+      | inr w ↦
+          let bad : Some x ≡ None = w.1 in
+          cc
+    ]
 long_turn s rows pending pos word name None (Some a) all spelled found e =
     let p = long_plain s.rules name a all found in
-    let got = long_option s.rules s.args_override_self a None (held rows pending) p.0 e in
-    inr (inr (record {
-      rule = a;
-      name = name;
-      spelled = spelled;
-      found = found;
-      option = got.0;
-      settles = got.1;
-      after_is = rw (option_takes a got.0) refl;
-    }))
+    elim (long_setting s.rules s.args_override_self a None (held rows pending) p.0 e) [
+      | inl got ↦ inr (inr (inl (record {
+        rule = a;
+        name = name;
+        spelled = spelled;
+        found = found;
+        option = got.0.0;
+        no_switch = got.0.1;
+        settles = got.1;
+        after_is = rw (option_takes a got.0.0) refl;
+      })))
+      | inr w ↦
+          let fine = both_empty _ _ w.2 in
+          inr (inr (inr (record {
+            rule = a;
+            name = name;
+            spelled = spelled;
+            found = found;
+            switch = w.0.0;
+            is_one = w.0.1;
+            settles = fine.0;
+            passes = fine.1;
+            after_is = rw (switch_takes_none a w.0.0) refl;
+          })))
+    ]
 
 -- a word that is no long option, and is not refused, is no flag
 no_flag : (s : Shape) (waiting : Waiting) (word : Text) (h : Held) (sh : Option Text) → ArePlain s.rules → h.skip ≡ 0
@@ -239,8 +289,10 @@ long_after_fails : (s : Shape) (rows : List Row) (id name : Text) (v : Option Te
 long_after_fails s rows id name v a None all opt found is e = cc
 long_after_fails s rows id name v a (Some b) all opt found is e =
     let p = long_plain s.rules name b all is in
-    let got = long_option s.rules s.args_override_self b v (held rows (Some (id, []))) p.0 e in
-    empty_fails s rows id a opt found (settles v got.1)
+    elim (long_setting s.rules s.args_override_self b v (held rows (Some (id, []))) p.0 e) [
+      | inl got ↦ empty_fails s rows id a opt found (settles v got.1)
+      | inr w ↦ empty_fails s rows id a opt found (both_empty _ _ w.2).0
+    ]
   where
     settles : (v : Option Text) → option_fault s.rules s.args_override_self b v (held rows (Some (id, []))) ≡ [] → settle_fault s.rules s.args_override_self (held rows (Some (id, []))) ≡ []
     settles None f = f

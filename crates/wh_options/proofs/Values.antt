@@ -1,5 +1,5 @@
 -- From what `clap` takes to what the settings mean.
-use Rattle.std.proofs.Common.{◌≡◌, ◌≤◌, ◌<◌, ◌^◌, ℕ, List, [], ◌∷◌, refl, sym, ap, ◌∙◌, Bool, true, false, cond, None, Some, Option, subst, is_some, codes, ◌&&◌, ◌||◌, not, option_map, nat_lt, arith, ltb-true, leb-true}
+use Rattle.std.proofs.Common.{◌≡◌, ◌≤◌, ◌<◌, ◌^◌, ℕ, List, [], ◌∷◌, refl, sym, ap, ◌∙◌, Bool, true, false, cond, None, Some, Option, subst, is_some, codes, ◌&&◌, ◌||◌, not, option_map, nat_lt, arith, ltb-true, leb-true, lit<}
 use Rattle.std.specs.Prelude.{MatchOption, find}
 use Rattle.std.specs.List.{AllByRecursion, list_all, list_any}
 use Rattle.std.specs.Str.{bytes_eq}
@@ -8,11 +8,13 @@ use Rattle.std.specs.Str.Parse.{AllDigits, IsNumeral, digits_value, without_lead
 use Rattle.clap.proofs.WalkLemmas.{both, list_any-map}
 use Rattle.clap.specs.Facts.{parser_of_value}
 use Rattle.clap.specs.ValueTests.{accepts}
-use Rattle.clap.specs.Walk.{Rule, Text, arg_by_long, takes_values, has_long, texts}
+use Rattle.clap.specs.Walk.{Rule, Text, action_of, arg_by_long, has_long, texts}
 use Rattle.clap.specs.declared.builder.value_parser.ValueParser.TheVariants as vp
 use Rattle.wh_options.specs.Setting.{Setting, value_of}
-use Rattle.wh_options.specs.Options.{GivesLog, GivesNumber, GivesPlanner, GivesReplies, GivesTail, HasOnly, IsWritten, planner_text, replies_text, tail_text}
-use Rattle.wh_options.specs.Reads.{ReadsNumber, planner_of, replies_of, tail_of}
+use Rattle.clap.specs.declared.builder.action.ArgAction.{ArgAction}
+use Rattle.clap.specs.declared.builder.action.ArgAction.TheVariants.{Set}
+use Rattle.wh_options.specs.Options.{GivesLog, GivesNumber, GivesPlanner, GivesReplies, GivesTail, GivesTold, GivesVehicles, HasOnly, IsWritten, planner_text, replies_text, tail_text}
+use Rattle.wh_options.specs.Reads.{ReadsNumber, ReadsTold, ReadsVehicles, planner_of, replies_of, tail_of}
 use Rattle.wh_options.specs.Menu.{Choices, planner_words, replies_words, tail_words}
 use Rattle.wh_options.specs.declared.chosen.PlannerKind.{PlannerKind}
 use Rattle.wh_options.specs.declared.chosen.PlannerKind.TheVariants.{Near}
@@ -21,8 +23,8 @@ use Rattle.wh_options.specs.declared.chosen.Tail.TheVariants.{Nothing}
 use Rattle.wh_options.specs.declared.chosen.Replies.{Replies}
 use Rattle.wh_options.specs.declared.chosen.Replies.TheVariants.{Short}
 use Rattle.wh_options.proofs.Shapes.{bytes_same, find_in}
-use Rattle.wh_options.proofs.Leaf.{ArePlain, IsOption, long_plain}
-use Rattle.wh_options.proofs.Turns.{option_takes}
+use Rattle.wh_options.specs.declared.chosen.VehicleOptions.{VehicleOptions}
+use Rattle.wh_options.proofs.Leaf.{ArePlain, IsSetting, long_plain, suits_set, suits_setting}
 use Rattle.wh_options.proofs.Words.{self_same}
 use Rattle.wh_options.proofs.Rows.{IsTaken}
 
@@ -31,10 +33,14 @@ some_same x y e = cc
 
 -- ---- the names that a command takes
 
--- the ids of the options
+abbrev is_set : ArgAction → Bool
+is_set Set = true
+is_set _ = false
+
+-- the ids of the options and switches
 abbrev pub option_ids : List Rule → List Text
 option_ids [] = []
-option_ids (r ∷ rs) = cond (takes_values r) (r.id ∷ option_ids rs) (option_ids rs)
+option_ids (r ∷ rs) = cond (is_set (action_of r)) (r.id ∷ option_ids rs) (option_ids rs)
 
 more_ids : (name id : Text) (b : Bool) (ids : List Text) → list_any (bytes_eq name) ids ≡ true → list_any (bytes_eq name) (cond b (id ∷ ids) ids) ≡ true
 more_ids name id true ids e = go (bytes_eq name id)
@@ -44,17 +50,17 @@ more_ids name id true ids e = go (bytes_eq name id)
     go false = e
 more_ids name id false ids e = e
 
-listed_step : (name : Text) (r a : Rule) (rs : List Rule) (b : Bool) → IsOption a → a.id ≡ name → cond b (Some r) (arg_by_long rs name) ≡ Some a
+listed_step : (name : Text) (r a : Rule) (rs : List Rule) (b : Bool) → action_of a ≡ Set → a.id ≡ name → cond b (Some r) (arg_by_long rs name) ≡ Some a
     → (arg_by_long rs name ≡ Some a → list_any (bytes_eq name) (option_ids rs) ≡ true)
     → list_any (bytes_eq name) (option_ids (r ∷ rs)) ≡ true
 listed_step name r a rs true opt id e ih =
     let is : r ≡ a = some_same r a e in
-    let takes : takes_values r ≡ true = ap takes_values is ∙ option_takes a opt in
+    let takes : is_set (action_of r) ≡ true = ap (λ (x : Rule). is_set (action_of x)) is ∙ ap is_set opt in
     let same : bytes_eq name r.id ≡ true = subst (λ n. bytes_eq name n ≡ true) (sym (ap (λ (x : Rule). x.id) is ∙ id)) (self_same name) in
     rw (takes, same) refl
-listed_step name r a rs false opt id e ih = more_ids name r.id (takes_values r) (option_ids rs) (ih e)
+listed_step name r a rs false opt id e ih = more_ids name r.id (is_set (action_of r)) (option_ids rs) (ih e)
 
-listed : (c : List Rule) (name : Text) (a : Rule) → IsOption a → a.id ≡ name → arg_by_long c name ≡ Some a → list_any (bytes_eq name) (option_ids c) ≡ true
+listed : (c : List Rule) (name : Text) (a : Rule) → action_of a ≡ Set → a.id ≡ name → arg_by_long c name ≡ Some a → list_any (bytes_eq name) (option_ids c) ≡ true
 listed [] name a opt id e = cc
 listed (r ∷ rs) name a opt id e = listed_step name r a rs (not (is_some r.index) && has_long r name) opt id e (listed rs name a opt id)
 
@@ -62,12 +68,12 @@ pub only_names : (c : List Rule) (settings : List Setting) → ArePlain c → Al
 only_names c [] all taken = tt
 only_names c (x ∷ xs) all taken =
     let t = taken.0 in
-    (listed c x.name t.0 t.2 (long_plain c x.name t.0 all t.1).1 t.1, only_names c xs all taken.1)
+    (listed c x.name t.0 (suits_set x.way t.0 t.2) (long_plain c x.name t.0 all t.1).1 t.1, only_names c xs all taken.1)
 
--- a command without options takes no setting
-pub no_settings : (c : List Rule) (settings : List Setting) → ((name : Text) (a : Rule) → arg_by_long c name ≡ Some a → IsOption a → ⊥) → AllByRecursion (IsTaken c) settings → settings ≡ []
+-- a command without options and switches takes no setting
+pub no_settings : (c : List Rule) (settings : List Setting) → ((name : Text) (a : Rule) → arg_by_long c name ≡ Some a → IsSetting a → ⊥) → AllByRecursion (IsTaken c) settings → settings ≡ []
 no_settings c [] none taken = refl
-no_settings c (x ∷ xs) none taken = absurd (none x.name taken.0.0 taken.0.1 taken.0.2)
+no_settings c (x ∷ xs) none taken = absurd (none x.name taken.0.0 taken.0.1 (suits_setting x.way taken.0.0 taken.0.2))
 
 -- ---- the value of a name
 
@@ -117,6 +123,35 @@ number_given c settings name least most default n fits taken r is case parser o 
     (λ text e. let p = taken_value c settings name text r taken is e in rw (case, parser) at p)
     (subst (λ q. ReadsNumber q default n) same reads)
 
+-- a number that may be given, and has no default
+told_step : (o : Option Text) (told : Option ℕ) → ((text : Text) → o ≡ Some text → accepts false (vp.Unsigned 0 999999999) text ≡ true)
+    → ReadsTold o told → MatchOption o (told ≡ None) (λ text. (n : ℕ) × (told ≡ Some n) × IsWritten n text × (n ≤ 999999999))
+told_step None told passes reads = reads
+told_step (Some text) told passes reads =
+    let n = number_step (Some text) 0 999999999 0 reads.0 (lit< tt) passes reads.2 in
+    (reads.0, reads.1, n.0, n.2)
+
+pub told_given : (c : List Rule) (settings : List Setting) (told : Option ℕ) → AllByRecursion (IsTaken c) settings
+    → (r : Rule) → arg_by_long c (codes "told") ≡ Some r → r.ignore_case ≡ false → r.parser ≡ Some (vp.Unsigned 0 999999999)
+    → (o : Option Text) → o ≡ value_of (codes "told") settings → ReadsTold o told → GivesTold settings told
+told_given c settings told taken r is case parser o same reads =
+    told_step (value_of (codes "told") settings) told
+    (λ text e. let p = taken_value c settings (codes "told") text r taken is e in rw (case, parser) at p)
+    (subst (λ q. ReadsTold q told) same reads)
+
+-- ---- vehicles
+
+pub vehicles_given : (c : List Rule) (settings : List Setting) (vehicles : Option VehicleOptions) → AllByRecursion (IsTaken c) settings
+    → (b : Rule) → arg_by_long c (codes "behind") ≡ Some b → b.ignore_case ≡ false → b.parser ≡ Some (vp.Unsigned 1 1000)
+    → (a : Rule) → arg_by_long c (codes "ahead") ≡ Some a → a.ignore_case ≡ false → a.parser ≡ Some (vp.Unsigned 1 1000)
+    → (given : Text → Option Text) → ((id : Text) → given id ≡ value_of id settings) → ReadsVehicles given vehicles → GivesVehicles settings vehicles
+vehicles_given c settings vehicles taken b b_found b_case b_parser a a_found a_case a_parser given same reads = record {
+  pace = reads.pace;
+  behind = number_given c settings (codes "behind") 1 1000 8 reads.pace.behind (lit< tt) taken b b_found b_case b_parser _ (same (codes "behind")) reads.behind;
+  ahead = number_given c settings (codes "ahead") 1 1000 1 reads.pace.ahead (lit< tt) taken a a_found a_case a_parser _ (same (codes "ahead")) reads.ahead;
+  is = subst (λ o. MatchOption o (vehicles ≡ None) (λ text. vehicles ≡ Some reads.pace)) (same (codes "vehicles")) reads.is;
+}
+
 -- ---- words
 
 one_of_words : (choices : Choices) (words : List Text) (text : Text) → texts choices.now ≡ words → accepts false (vp.Names choices) text ≡ true
@@ -164,11 +199,12 @@ tail_given c settings tail taken choices words r is case parser o same reads =
         let one = one_of_words choices tail_words text words (rw (case, parser) at t) in
         tail_text_is text _ _ _ refl refl refl one ∙ ap tail_text (sym p)
 
-replies_text_is : (text : Text) (short full : Bool) → bytes_eq (codes "short") text ≡ short → bytes_eq (codes "full") text ≡ full
-    → (short || (full || false)) ≡ true → text ≡ replies_text (replies_of (Some text))
-replies_text_is text short true s f e = subst (λ t. t ≡ replies_text (replies_of (Some t))) (bytes_same (codes "full") text f) refl
-replies_text_is text true false s f e = subst (λ t. t ≡ replies_text (replies_of (Some t))) (bytes_same (codes "short") text s) refl
-replies_text_is text false false s f e = cc
+replies_text_is : (text : Text) (short full placed : Bool) → bytes_eq (codes "short") text ≡ short → bytes_eq (codes "full") text ≡ full → bytes_eq (codes "placed") text ≡ placed
+    → (short || (full || (placed || false))) ≡ true → text ≡ replies_text (replies_of (Some text))
+replies_text_is text short full true s f p e = subst (λ t. t ≡ replies_text (replies_of (Some t))) (bytes_same (codes "placed") text p) refl
+replies_text_is text short true false s f p e = subst (λ t. t ≡ replies_text (replies_of (Some t))) (bytes_same (codes "full") text f) refl
+replies_text_is text true false false s f p e = subst (λ t. t ≡ replies_text (replies_of (Some t))) (bytes_same (codes "short") text s) refl
+replies_text_is text false false false s f p e = cc
 
 pub replies_given : (c : List Rule) (settings : List Setting) (replies : Replies) → AllByRecursion (IsTaken c) settings
     → (choices : Choices) → texts choices.now ≡ replies_words
@@ -182,7 +218,7 @@ replies_given c settings replies taken choices words r is case parser o same rea
     go (Some text) e p =
         let t = taken_value c settings (codes "replies") text r taken is e in
         let one = one_of_words choices replies_words text words (rw (case, parser) at t) in
-        replies_text_is text _ _ refl refl one ∙ ap replies_text (sym p)
+        replies_text_is text _ _ _ refl refl refl one ∙ ap replies_text (sym p)
 
 -- ---- a file
 

@@ -1,15 +1,15 @@
 -- The words after a subcommand are settings, where `clap` refuses none.
-use Rattle.std.proofs.Common.{◌≡◌, ◌≤◌, ℕ, List, [], ◌∷◌, length, refl, sym, ap, ap₂, ◌∙◌, arith, true, false, true≢false, None, Some, Option, subst, zero, suc, codes, inl, inr}
+use Rattle.std.proofs.Common.{◌≡◌, ◌≤◌, ℕ, List, [], ◌∷◌, length, refl, sym, ap, ap₂, ◌∙◌, arith, true, false, None, Some, Option, subst, zero, suc, codes, inl, inr}
 use Rattle.std.specs.Prelude.{fold}
 use Rattle.std.specs.Str.{bytes_eq}
 use Rattle.std.proofs.lemmas.Slice.Eq.{bytes_eq-Decides}
 use Rattle.clap.specs.Walk.{Held, Row, Rule, Text, Waiting, Walk, arg_by_id, arg_by_long, idle, option, settled, used, walked}
 use Rattle.clap.specs.Faults.{settle_fault, turn_fault, use_fault, walk_fault}
 use Rattle.clap.specs.Simple.{Shape}
-use Rattle.wh_options.specs.Setting.{IsSpelled, Setting, is_flag}
+use Rattle.wh_options.specs.Setting.{IsInPlace, IsSpelled, Setting, alone, apart, is_flag, is_switch, joined}
 use Rattle.wh_options.proofs.Shapes.{IsLong}
-use Rattle.wh_options.proofs.Leaf.{ArePlain, IsOption, both_empty, by_name, long_plain}
-use Rattle.wh_options.proofs.Turns.{Joins, empty_fails, held, idle_at, idle_turn, option_at, option_turn, trail_at, value_fails}
+use Rattle.wh_options.proofs.Leaf.{ArePlain, IsOption, IsSwitch, Suits, both_empty, by_name, held_by, long_plain}
+use Rattle.wh_options.proofs.Turns.{Joins, Switches, empty_fails, held, idle_at, idle_turn, option_at, option_turn, trail_at, value_fails}
 
 -- the walk over the words from here on is not refused, nor is what is pending at its end
 pub record IsFine (s : Shape) (w : Walk) (words : List Text) : Type 0 where
@@ -20,16 +20,17 @@ pub record IsFine (s : Shape) (w : Walk) (words : List Text) : Type 0 where
 abbrev pub last_rows : Shape → Walk → List Text → List Row
 last_rows s w words = (settled s.rules (fold (walked s.rules []) w words).held).rows
 
--- the setting is of an option, and is no second one
+-- the setting is of this option or switch, and is no second one
 pub record Fits (s : Shape) (x : Setting) (a : Rule) (rows : List Row) : Type 0 where
   pub found : arg_by_long s.rules x.name ≡ Some a
-  pub option : IsOption a
+  pub suits : Suits x.way a
   pub id : a.id ≡ x.name
-  pub passes : use_fault s.args_override_self a (x.value ∷ []) rows ≡ []
+  pub in_place : IsInPlace x
+  pub passes : use_fault s.args_override_self a (held_by x.way x.value) rows ≡ []
 
 abbrev pub Applied : Shape → List Setting → List Row → List Row → Type 0
 Applied s [] rows last = last ≡ rows
-Applied s (x ∷ xs) rows last = (a : Rule) × Fits s x a rows × Applied s xs (used a (x.value ∷ []) rows) last
+Applied s (x ∷ xs) rows last = (a : Rule) × Fits s x a rows × Applied s xs (used a (held_by x.way x.value) rows) last
 
 -- the words are settings, which take the rows to the last ones
 pub record Says (s : Shape) (words : List Text) (rows last : List Row) : Type 0 where
@@ -51,37 +52,52 @@ trail_ends s h waiting pos [] all f = (refl, f.ends)
 trail_ends s h waiting pos (word ∷ rest) all f = absurd (value_fails s pos h all (turned s (trail_at h waiting pos) word rest f).0)
 
 nothing_said : (s : Shape) (rows : List Row) → Says s [] rows rows
-nothing_said s rows = record { settings = []; spelling = record { rest = []; closes = inl refl; words_are = refl; free = tt }; applied = refl }
+nothing_said s rows = record { settings = []; spelling = record { rest = []; closes = inl refl; words_are = refl; in_place = tt }; applied = refl }
 
 -- one setting more in front
-said_joined : (s : Shape) (word name given : Text) (a : Rule) (rest : List Text) (rows last : List Row) → IsLong word name (Some given)
+said_joined : (s : Shape) (word name given : Text) (a : Rule) (rest : List Text) (rows last : List Row) → IsLong word name (Some given) → is_switch name ≡ false
     → arg_by_long s.rules name ≡ Some a → IsOption a → a.id ≡ name → use_fault s.args_override_self a (given ∷ []) rows ≡ []
     → Says s rest (used a (given ∷ []) rows) last → Says s (word ∷ rest) rows last
-said_joined s word name given a rest rows last word_is found opt id passes more =
+said_joined s word name given a rest rows last word_is no_switch found opt id passes more =
     record {
-      settings = record { name = name; value = given; is_joined = true } ∷ more.settings;
+      settings = record { name = name; value = given; way = joined } ∷ more.settings;
       spelling = record {
         rest = more.spelling.rest;
         closes = more.spelling.closes;
         words_are = ap₂ (λ w ws. w ∷ ws) word_is more.spelling.words_are;
-        free = (λ e. absurd (true≢false e), more.spelling.free);
+        in_place = (no_switch, more.spelling.in_place);
       };
-      applied = (a, record { found = found; option = opt; id = id; passes = passes }, more.applied);
+      applied = (a, record { found = found; suits = opt; id = id; in_place = no_switch; passes = passes }, more.applied);
     }
 
-said_apart : (s : Shape) (word name given : Text) (a : Rule) (rest : List Text) (rows last : List Row) → IsLong word name None → is_flag given ≡ false
+said_apart : (s : Shape) (word name given : Text) (a : Rule) (rest : List Text) (rows last : List Row) → IsLong word name None → is_switch name ≡ false → is_flag given ≡ false
     → arg_by_long s.rules name ≡ Some a → IsOption a → a.id ≡ name → use_fault s.args_override_self a (given ∷ []) rows ≡ []
     → Says s rest (used a (given ∷ []) rows) last → Says s (word ∷ given ∷ rest) rows last
-said_apart s word name given a rest rows last word_is no_flag found opt id passes more =
+said_apart s word name given a rest rows last word_is no_switch no_flag found opt id passes more =
     record {
-      settings = record { name = name; value = given; is_joined = false } ∷ more.settings;
+      settings = record { name = name; value = given; way = apart } ∷ more.settings;
       spelling = record {
         rest = more.spelling.rest;
         closes = more.spelling.closes;
         words_are = ap₂ (λ w ws. w ∷ given ∷ ws) word_is more.spelling.words_are;
-        free = (λ e. no_flag, more.spelling.free);
+        in_place = ((no_switch, no_flag), more.spelling.in_place);
       };
-      applied = (a, record { found = found; option = opt; id = id; passes = passes }, more.applied);
+      applied = (a, record { found = found; suits = opt; id = id; in_place = (no_switch, no_flag); passes = passes }, more.applied);
+    }
+
+said_alone : (s : Shape) (word name : Text) (a : Rule) (rest : List Text) (rows last : List Row) → IsLong word name None → is_switch name ≡ true
+    → arg_by_long s.rules name ≡ Some a → IsSwitch a → a.id ≡ name → use_fault s.args_override_self a [] rows ≡ []
+    → Says s rest (used a [] rows) last → Says s (word ∷ rest) rows last
+said_alone s word name a rest rows last word_is is_one found switch id passes more =
+    record {
+      settings = record { name = name; value = codes "true"; way = alone } ∷ more.settings;
+      spelling = record {
+        rest = more.spelling.rest;
+        closes = more.spelling.closes;
+        words_are = ap₂ (λ w ws. w ∷ ws) word_is more.spelling.words_are;
+        in_place = ((is_one, refl), more.spelling.in_place);
+      };
+      applied = (a, record { found = found; suits = switch; id = id; in_place = (is_one, refl); passes = passes }, more.applied);
     }
 
 -- the claim at a place between two settings
@@ -100,7 +116,7 @@ dashes_said s rows pending pos word rest all is f =
       t.1,
       record {
         settings = [];
-        spelling = record { rest = word ∷ rest; closes = inr (ap₂ (λ w ws. w ∷ ws) is t.0); words_are = refl; free = tt };
+        spelling = record { rest = word ∷ rest; closes = inr (ap₂ (λ w ws. w ∷ ws) is t.0); words_are = refl; in_place = tt };
         applied = ap (λ ws. last_rows s (trail_at (held rows pending) idle pos) ws) t.0;
       },
     )
@@ -123,33 +139,45 @@ joined_said : (s : Shape) (rows : List Row) (pending : Option (Text × List Text
 joined_said s rows pending pos word ws after all ih j f =
     let now = used j.rule (j.given ∷ []) (settled s.rules (held rows pending)).rows in
     let more = ih ws (omega arith) now None pos (fine_at s after (idle_at now None pos) ws j.after_is f) in
-    let said = said_joined s word j.name j.given j.rule ws (settled s.rules (held rows pending)).rows _ j.spelled j.found j.option
-    (long_plain s.rules j.name j.rule all j.found).1 j.passes more.1 in
+    let id = (long_plain s.rules j.name j.rule all j.found).1 in
+    let no_switch : is_switch j.name ≡ false = ap is_switch (sym id) ∙ j.no_switch in
+    let said = said_joined s word j.name j.given j.rule ws (settled s.rules (held rows pending)).rows _ j.spelled no_switch j.found j.option
+    id j.passes more.1 in
     (j.settles, subst (λ (x : Walk). Says s (word ∷ ws) (settled s.rules (held rows pending)).rows (last_rows s x ws)) (sym j.after_is) said)
+
+alone_said : (s : Shape) (rows : List Row) (pending : Option (Text × List Text)) (pos : ℕ) (word : Text) (ws : List Text) (after : Walk) → ArePlain s.rules → Below s ws
+    → Switches s (held rows pending) pos word after → IsFine s after ws → Reached s rows pending (word ∷ ws) after ws
+alone_said s rows pending pos word ws after all ih w f =
+    let now = used w.rule [] (settled s.rules (held rows pending)).rows in
+    let more = ih ws (omega arith) now None pos (fine_at s after (idle_at now None pos) ws w.after_is f) in
+    let id = (long_plain s.rules w.name w.rule all w.found).1 in
+    let is_one : is_switch w.name ≡ true = ap is_switch (sym id) ∙ w.is_one in
+    let said = said_alone s word w.name w.rule ws (settled s.rules (held rows pending)).rows _ w.spelled is_one w.found w.switch id w.passes more.1 in
+    (w.settles, subst (λ (x : Walk). Says s (word ∷ ws) (settled s.rules (held rows pending)).rows (last_rows s x ws)) (sym w.after_is) said)
 
 -- the value after `--name`
 value_said : (s : Shape) (rows : List Row) (pos : ℕ) (word name given : Text) (a : Rule) (rest : List Text) (after : Walk) → ArePlain s.rules → Below s rest
-    → IsLong word name None → is_flag given ≡ false → arg_by_long s.rules name ≡ Some a → IsOption a → after ≡ idle_at rows (Some (a.id, given ∷ [])) pos → IsFine s after rest
+    → IsLong word name None → is_switch name ≡ false → is_flag given ≡ false → arg_by_long s.rules name ≡ Some a → IsOption a → after ≡ idle_at rows (Some (a.id, given ∷ [])) pos → IsFine s after rest
     → Says s (word ∷ given ∷ rest) rows (last_rows s after rest)
-value_said s rows pos word name given a rest after all ih word_is no_flag found opt is f =
+value_said s rows pos word name given a rest after all ih word_is no_switch no_flag found opt is f =
     let at = by_id s a name all found in
     let more = ih rest (omega arith) rows (Some (a.id, given ∷ [])) pos (fine_at s after _ rest is f) in
     let passes : use_fault s.args_override_self a (given ∷ []) rows ≡ [] = rw at at more.0 in
     let rows_are : (settled s.rules (held rows (Some (a.id, given ∷ [])))).rows ≡ used a (given ∷ []) rows = rw at refl in
     let told : Says s rest (used a (given ∷ []) rows) (last_rows s (idle_at rows (Some (a.id, given ∷ [])) pos) rest) =
     subst (λ r. Says s rest r (last_rows s (idle_at rows (Some (a.id, given ∷ [])) pos) rest)) rows_are more.1 in
-    let said = said_apart s word name given a rest rows _ word_is no_flag found opt (long_plain s.rules name a all found).1 passes told in
+    let said = said_apart s word name given a rest rows _ word_is no_switch no_flag found opt (long_plain s.rules name a all found).1 passes told in
     subst (λ (x : Walk). Says s (word ∷ given ∷ rest) rows (last_rows s x rest)) (sym is) said
 
 opened_said : (s : Shape) (rows : List Row) (pos : ℕ) (word name : Text) (a : Rule) (ws : List Text) → ArePlain s.rules → Below s ws
-    → IsLong word name None → arg_by_long s.rules name ≡ Some a → IsOption a → IsFine s (option_at rows a.id pos) ws
+    → IsLong word name None → is_switch name ≡ false → arg_by_long s.rules name ≡ Some a → IsOption a → IsFine s (option_at rows a.id pos) ws
     → Says s (word ∷ ws) rows (last_rows s (option_at rows a.id pos) ws)
-opened_said s rows pos word name a [] all ih word_is found opt f = absurd (empty_fails s rows a.id a opt (by_id s a name all found) f.ends)
-opened_said s rows pos word name a (given ∷ rest) all ih word_is found opt f =
+opened_said s rows pos word name a [] all ih word_is no_switch found opt f = absurd (empty_fails s rows a.id a opt (by_id s a name all found) f.ends)
+opened_said s rows pos word name a (given ∷ rest) all ih word_is no_switch found opt f =
     let at = by_id s a name all found in
     let t = turned s (option_at rows a.id pos) given rest f in
     elim (option_turn s rows a.id pos given a all opt (self_same a.id) at t.0) [
-      | inl g ↦ value_said s rows pos word name given a rest _ all (λ xs le. ih xs (omega arith)) word_is g.no_flag found opt g.after_is t.1
+      | inl g ↦ value_said s rows pos word name given a rest _ all (λ xs le. ih xs (omega arith)) word_is no_switch g.no_flag found opt g.after_is t.1
       | inr e ↦ absurd (empty_fails s rows a.id a opt at (trail_ends s (held rows (Some (a.id, []))) (option a.id) pos rest all (fine_at s _ _ rest e.after_is t.1)).1)
     ]
 
@@ -163,9 +191,13 @@ claim_step s rows pending pos word ws all ih f =
           subst (λ (x : Walk). Reached s rows pending (word ∷ ws) x ws) (sym d.after_is) said
       | inr r ↦ elim r [
         | inl j ↦ joined_said s rows pending pos word ws _ all ih j t.1
-        | inr o ↦
-            let said = opened_said s (settled s.rules (held rows pending)).rows pos word o.name o.rule ws all ih o.spelled o.found o.option (fine_at s _ _ ws o.after_is t.1) in
-            subst (λ (x : Walk). Reached s rows pending (word ∷ ws) x ws) (sym o.after_is) (o.settles, said)
+        | inr q ↦ elim q [
+          | inl o ↦
+              let no_switch : is_switch o.name ≡ false = ap is_switch (sym (long_plain s.rules o.name o.rule all o.found).1) ∙ o.no_switch in
+              let said = opened_said s (settled s.rules (held rows pending)).rows pos word o.name o.rule ws all ih o.spelled no_switch o.found o.option (fine_at s _ _ ws o.after_is t.1) in
+              subst (λ (x : Walk). Reached s rows pending (word ∷ ws) x ws) (sym o.after_is) (o.settles, said)
+          | inr w ↦ alone_said s rows pending pos word ws _ all ih w t.1
+        ]
       ]
     ]
 

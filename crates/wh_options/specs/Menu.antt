@@ -40,6 +40,15 @@ file_rule name = record (new_rule name) {
   parser = Some vp.NonEmptyString;
 }
 
+-- an option without a value, which is found with the value `true`
+abbrev pub switch_rule : Text → Rule
+switch_rule name = record (new_rule name) {
+  long = Some name;
+  action = Some Set;
+  range = Some (record { start_inclusive = 0; end_inclusive = 0 });
+  missing = codes "true" ∷ [];
+}
+
 abbrev pub planner_words : List Text
 planner_words = codes "near" ∷ codes "patient" ∷ []
 
@@ -47,7 +56,7 @@ abbrev pub tail_words : List Text
 tail_words = codes "none" ∷ codes "log" ∷ codes "ledger" ∷ []
 
 abbrev pub replies_words : List Text
-replies_words = codes "short" ∷ codes "full" ∷ []
+replies_words = codes "short" ∷ codes "full" ∷ codes "placed" ∷ []
 
 -- the options that say which planners there are
 abbrev pub fleet_app : Text → Choices → App
@@ -55,10 +64,16 @@ fleet_app name planners = with_rule (with_rule (with_rule (with_rule (new_app na
     (choice_rule (codes "planner") planners)) (number_rule (codes "slots") 2 64))
     (number_rule (codes "bank") 2 65536)) (number_rule (codes "spares") 0 16)
 
+-- the options that say how vehicles carry out the plan
+abbrev pub with_vehicle_rules : App → App
+with_vehicle_rules a = with_rule (with_rule (with_rule a (switch_rule (codes "vehicles")))
+    (number_rule (codes "behind") 1 1000)) (number_rule (codes "ahead") 1 1000)
+
 abbrev pub replay_app : Choices → Choices → Choices → App
-replay_app planners tails replies = with_rule (with_rule (with_rule (fleet_app (codes "replay") planners)
+replay_app planners tails replies = with_vehicle_rules (with_rule (with_rule (with_rule
+    (with_rule (fleet_app (codes "replay") planners)
     (choice_rule (codes "tail") tails)) (choice_rule (codes "replies") replies))
-    (file_rule (codes "log"))
+    (file_rule (codes "log"))) (number_rule (codes "told") 0 999999999))
 
 abbrev pub live_app : Choices → App
 live_app planners = with_rule (with_rule (fleet_app (codes "live") planners)

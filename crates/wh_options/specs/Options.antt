@@ -1,5 +1,5 @@
 -- Which options the words of a command line give.
-use Rattle.std.specs.Prelude.{◌≡◌, ◌≢◌, ◌≤◌, ℕ, List, [], ◌∷◌, Option, Some, MatchOption, codes, option_map, true}
+use Rattle.std.specs.Prelude.{◌≡◌, ◌≢◌, ◌≤◌, ◌⊎◌, ℕ, List, [], ◌∷◌, Option, Some, None, MatchOption, codes, option_map, true}
 use Rattle.std.specs.List.{AllByRecursion, list_any}
 use Rattle.std.specs.Str.{bytes_eq}
 use Rattle.std.specs.Str.Parse.{IsNumeral, digits_value, without_leading_plus}
@@ -9,8 +9,9 @@ use Rattle.wh_options.specs.declared.chosen.PlannerKind.TheVariants.{Near, Patie
 use Rattle.wh_options.specs.declared.chosen.Tail.{Tail}
 use Rattle.wh_options.specs.declared.chosen.Tail.TheVariants.{Nothing, Log, Ledger}
 use Rattle.wh_options.specs.declared.chosen.Replies.{Replies}
-use Rattle.wh_options.specs.declared.chosen.Replies.TheVariants.{Short, Full}
+use Rattle.wh_options.specs.declared.chosen.Replies.TheVariants.{Short, Full, Placed}
 use Rattle.wh_options.specs.declared.chosen.Fleet.{Fleet}
+use Rattle.wh_options.specs.declared.chosen.VehicleOptions.{VehicleOptions}
 use Rattle.wh_options.specs.declared.chosen.ReplayOptions.{ReplayOptions}
 use Rattle.wh_options.specs.declared.chosen.Options.{Options}
 use Rattle.wh_options.specs.declared.chosen.Options.TheVariants.{Check, Replay, Verify, Live}
@@ -37,6 +38,7 @@ tail_text Ledger = codes "ledger"
 abbrev pub replies_text : Replies → Text
 replies_text Short = codes "short"
 replies_text Full = codes "full"
+replies_text Placed = codes "placed"
 
 -- the planner given by its word, or `near`
 abbrev pub GivesPlanner : List Setting → PlannerKind → Type 0
@@ -62,6 +64,19 @@ pub record GivesLog (settings : List Setting) (log : Option Text) : Type 0 where
   pub is : log ≡ value_of (codes "log") settings
   pub named : log ≢ Some []
 
+-- from which entry on entries are told again, if a number from 0 to 999999999 is given for it
+abbrev pub GivesTold : List Setting → Option ℕ → Type 0
+GivesTold settings told = MatchOption (value_of (codes "told") settings)
+    (told ≡ None) (λ text. (n : ℕ) × (told ≡ Some n) × IsWritten n text × (n ≤ 999999999))
+
+-- how vehicles carry out the plan, if they do: each number as given, or by default
+pub record GivesVehicles (settings : List Setting) (vehicles : Option VehicleOptions) : Type 0 where
+  pub pace : VehicleOptions
+  pub behind : GivesNumber settings (codes "behind") 8 1 1000 pace.behind
+  pub ahead : GivesNumber settings (codes "ahead") 1 1 1000 pace.ahead
+  pub is : MatchOption (value_of (codes "vehicles") settings)
+      (vehicles ≡ None) (λ text. vehicles ≡ Some pace)
+
 -- the settings give these planners
 pub record GivesFleet (settings : List Setting) (fleet : Fleet) : Type 0 where
   pub planner : GivesPlanner settings fleet.planner
@@ -79,18 +94,42 @@ fleet_names = codes "planner" ∷ codes "slots" ∷ codes "bank" ∷ codes "spar
 
 abbrev pub replay_names : List Text
 replay_names = codes "planner" ∷ codes "slots" ∷ codes "bank" ∷ codes "spares" ∷ codes "tail"
-    ∷ codes "replies" ∷ codes "log" ∷ []
+    ∷ codes "replies" ∷ codes "log" ∷ codes "told" ∷ codes "vehicles" ∷ codes "behind"
+    ∷ codes "ahead" ∷ []
 
 abbrev pub live_names : List Text
 live_names = codes "planner" ∷ codes "slots" ∷ codes "bank" ∷ codes "spares" ∷ codes "turns"
     ∷ codes "journal" ∷ []
 
+-- what each setting of `replay` says by itself
+pub record GivesReplay (settings : List Setting) (o : ReplayOptions) : Type 0 where
+  pub only : HasOnly replay_names settings
+  pub fleet : GivesFleet settings o.fleet
+  pub tail : GivesTail settings o.tail
+  pub replies : GivesReplies settings o.replies
+  pub log : GivesLog settings (log_of o)
+  pub told : GivesTold settings o.told
+  pub vehicles : GivesVehicles settings o.vehicles
+
+-- one is given, and the other is not
+abbrev pub Lacks : (Text → Option Text) → Text → Text → Type 0
+Lacks given one other = (given one ≢ None) × (given other ≡ None)
+
+-- an option is given without the one that it belongs to
+abbrev pub LacksAny : (Text → Option Text) → Type 0
+LacksAny given = Lacks given (codes "told") (codes "log")
+    ⊎ (Lacks given (codes "behind") (codes "vehicles")
+    ⊎ Lacks given (codes "ahead") (codes "vehicles"))
+
+-- two options are given that do not go together: of vehicles no log is kept in a file
+abbrev pub Clashes : (Text → Option Text) → Type 0
+Clashes given = (given (codes "vehicles") ≢ None) × (given (codes "log") ≢ None)
+
 -- the subcommand and its settings mean these options
 abbrev pub Means : Text → List Setting → Options → Type 0
 Means name settings Check = (name ≡ codes "check") × (settings ≡ [])
-Means name settings (Replay o) = (name ≡ codes "replay") × HasOnly replay_names settings
-    × GivesFleet settings o.fleet × GivesTail settings o.tail × GivesReplies settings o.replies
-    × GivesLog settings (log_of o)
+Means name settings (Replay o) = (name ≡ codes "replay") × GivesReplay settings o
+    × (¬ LacksAny (λ id. value_of id settings)) × (¬ Clashes (λ id. value_of id settings))
 Means name settings Verify = (name ≡ codes "verify") × (settings ≡ [])
 Means name settings (Live o) = (name ≡ codes "live") × HasOnly live_names settings
     × GivesFleet settings o.fleet
@@ -102,8 +141,16 @@ abbrev pub WordsGive : List Text → Options → Type 0
 WordsGive words options = (name : Text) × (settings : List Setting)
     × IsLine words name settings × Means name settings options
 
+-- words of `replay` whose settings each say something by itself, while together they are amiss
+pub record IsAmiss (Is : (Text → Option Text) → Type 0) (words : List Text) : Type 0 where
+  pub settings : List Setting
+  pub options : ReplayOptions
+  pub line : IsLine words (codes "replay") settings
+  pub each : GivesReplay settings options
+  pub amiss : Is (λ id. value_of id settings)
+
 -- the same options: a file's name counts by its text, wherever that text lies
 abbrev pub AreSame : Options → Options → Type 0
 AreSame (Replay o) (Replay p) = (o.fleet ≡ p.fleet) × (o.tail ≡ p.tail) × (o.replies ≡ p.replies)
-    × (log_of o ≡ log_of p)
+    × (log_of o ≡ log_of p) × (o.told ≡ p.told) × (o.vehicles ≡ p.vehicles)
 AreSame o p = o ≡ p

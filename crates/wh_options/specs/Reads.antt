@@ -1,16 +1,21 @@
 -- How the values that `clap` found are read.
-use Rattle.std.specs.Prelude.{◌≡◌, ◌≢◌, ◌<◌, ◌^◌, ℕ, Option, Some, None, if◌then◌else◌, codes}
+use Rattle.std.specs.Prelude.{◌≡◌, ◌≢◌, ◌<◌, ◌^◌, ℕ, Option, Some, None, MatchOption, if◌then◌else◌, codes}
 use Rattle.std.specs.Str.{bytes_eq}
 use Rattle.std.specs.Str.Parse.{IsNumeral, digits_value, without_leading_plus}
 use Rattle.clap.specs.Words.{Text}
-use Rattle.wh_options.specs.Options.{log_of}
+use Rattle.wh_options.specs.Options.{Clashes, LacksAny, log_of}
+use Rattle.clap.specs.declared.error.kind.ErrorKind.{ErrorKind}
+use Rattle.clap.specs.declared.error.kind.ErrorKind.TheVariants.{ArgumentConflict, MissingRequiredArgument}
+use Rattle.wh_options.specs.declared.mistake.Mistake.{Mistake}
+use Rattle.wh_options.specs.declared.mistake.Mistake.TheVariants as mistake
 use Rattle.wh_options.specs.declared.chosen.PlannerKind.{PlannerKind}
 use Rattle.wh_options.specs.declared.chosen.PlannerKind.TheVariants.{Near, Patient}
 use Rattle.wh_options.specs.declared.chosen.Tail.{Tail}
 use Rattle.wh_options.specs.declared.chosen.Tail.TheVariants.{Nothing, Log, Ledger}
 use Rattle.wh_options.specs.declared.chosen.Replies.{Replies}
-use Rattle.wh_options.specs.declared.chosen.Replies.TheVariants.{Short, Full}
+use Rattle.wh_options.specs.declared.chosen.Replies.TheVariants.{Short, Full, Placed}
 use Rattle.wh_options.specs.declared.chosen.Fleet.{Fleet}
+use Rattle.wh_options.specs.declared.chosen.VehicleOptions.{VehicleOptions}
 use Rattle.wh_options.specs.declared.chosen.ReplayOptions.{ReplayOptions}
 use Rattle.wh_options.specs.declared.chosen.LiveOptions.{LiveOptions}
 use Rattle.wh_options.specs.declared.chosen.Options.{Options}
@@ -34,7 +39,20 @@ tail_of (Some text) = if bytes_eq text (codes "log") then Log
 
 abbrev pub replies_of : Option Text → Replies
 replies_of None = Short
-replies_of (Some text) = if bytes_eq text (codes "full") then Full else Short
+replies_of (Some text) = if bytes_eq text (codes "full") then Full
+    else (if bytes_eq text (codes "placed") then Placed else Short)
+
+-- from which entry on entries are told again, where a number of 32 bits is written for it
+abbrev pub ReadsTold : Option Text → Option ℕ → Type 0
+ReadsTold None told = told ≡ None
+ReadsTold (Some text) told = (n : ℕ) × (told ≡ Some n) × ReadsNumber (Some text) 0 n
+
+-- how vehicles carry out the plan, where the switch was found
+pub record ReadsVehicles (given : Text → Option Text) (vehicles : Option VehicleOptions) : Type 0 where
+  pub pace : VehicleOptions
+  pub behind : ReadsNumber (given (codes "behind")) 8 pace.behind
+  pub ahead : ReadsNumber (given (codes "ahead")) 1 pace.ahead
+  pub is : MatchOption (given (codes "vehicles")) (vehicles ≡ None) (λ text. vehicles ≡ Some pace)
 
 -- the planners read from what was found
 pub record ReadsFleet (given : Text → Option Text) (fleet : Fleet) : Type 0 where
@@ -48,6 +66,8 @@ pub record ReadsReplay (given : Text → Option Text) (o : ReplayOptions) : Type
   pub tail : o.tail ≡ tail_of (given (codes "tail"))
   pub replies : o.replies ≡ replies_of (given (codes "replies"))
   pub log : log_of o ≡ given (codes "log")
+  pub told : ReadsTold (given (codes "told")) o.told
+  pub vehicles : ReadsVehicles given o.vehicles
 
 pub record ReadsLive (given : Text → Option Text) (o : LiveOptions) : Type 0 where
   pub fleet : ReadsFleet given o.fleet
@@ -58,5 +78,19 @@ pub record ReadsLive (given : Text → Option Text) (o : LiveOptions) : Type 0 w
 abbrev pub Reads : Text → (Text → Option Text) → Options → Type 0
 Reads name given Check = (name ≢ codes "replay") × (name ≢ codes "live") × (name ≢ codes "verify")
 Reads name given (Replay o) = (name ≡ codes "replay") × ReadsReplay given o
+    × (¬ LacksAny given) × (¬ Clashes given)
 Reads name given Verify = name ≡ codes "verify"
 Reads name given (Live o) = (name ≡ codes "live") × ReadsLive given o
+
+-- what was found is mistaken in this way
+abbrev pub IsMistaken : (Text → Option Text) → Mistake → Type 0
+IsMistaken given mistake.VehiclesWithLog = Clashes given
+IsMistaken given _ = LacksAny given
+
+abbrev pub kind_for : Mistake → ErrorKind
+kind_for mistake.VehiclesWithLog = ArgumentConflict
+kind_for _ = MissingRequiredArgument
+
+-- what was found for the options of `replay` goes together, or is mistaken so
+abbrev pub Judges : (Text → Option Text) → Option Mistake → Type 0
+Judges given found = MatchOption found ((¬ LacksAny given) × (¬ Clashes given)) (IsMistaken given)

@@ -20,13 +20,15 @@ pub enum Tail {
     Ledger,
 }
 
-/// How the replies of a replay tell paths.
+/// How the replies of a replay are told.
 #[derive(Clone, Copy, Debug, PartialEq, Eq)]
 pub enum Replies {
-    /// The end of a path alone.
+    /// Of a path its end alone.
     Short,
     /// In the log's own words, each cell of a path.
     Full,
+    /// Behind the place of the entry and the clock before it, in the log's own words.
+    Placed,
 }
 
 /// The planners that a run is given, and the slots that they share.
@@ -42,6 +44,15 @@ pub struct Fleet {
     pub spares: u32,
 }
 
+/// How late vehicles may be, and how far ahead they are told.
+#[derive(Clone, Copy, Debug, PartialEq, Eq)]
+pub struct VehicleOptions {
+    /// The clock waits while a vehicle is so many steps behind, 1 to 1000.
+    pub behind: u32,
+    /// How many cells ahead a vehicle may be told, 1 to 1000.
+    pub ahead: u32,
+}
+
 /// The options of `replay`. They keep a text of the words that gave them.
 #[derive(Clone, Copy, Debug, PartialEq, Eq)]
 pub struct ReplayOptions<'a> {
@@ -49,10 +60,14 @@ pub struct ReplayOptions<'a> {
     pub fleet: Fleet,
     /// What follows the replies.
     pub tail: Tail,
-    /// How the replies tell paths.
+    /// How the replies are told.
     pub replies: Replies,
     /// The name of the file that keeps the run's log, if one is to; never empty.
     pub log: Option<&'a str>,
+    /// From which entry on the log's entries are told again at the start, if they are; there is a log then.
+    pub told: Option<u32>,
+    /// How vehicles carry out the plan, if they do at their own pace; there is no log then.
+    pub vehicles: Option<VehicleOptions>,
 }
 
 /// The options of `live`.

@@ -1,7 +1,7 @@
 //! The command line as `clap` is told of it: the subcommands, their options and the help texts.
 ghost use Rattle.std.specs.Prelude.{◌≡◌, IfOk, codes, false};
-ghost use Rattle.clap.specs.Words.{app_of, new_app, rule_of};
-ghost use Rattle.wh_options.specs.Menu.{choice_rule, file_rule, number_rule, HasShape, IsFleetCommand, IsLiveCommand, IsMenu, IsReplayCommand};
+ghost use Rattle.clap.specs.Words.{App, app_of, new_app, rule_of};
+ghost use Rattle.wh_options.specs.Menu.{choice_rule, file_rule, number_rule, switch_rule, HasShape, IsFleetCommand, IsLiveCommand, IsMenu, IsReplayCommand, with_vehicle_rules};
 
 use clap::builder::ValueParser;
 use clap::{Arg, ArgAction, Command};
@@ -13,7 +13,7 @@ static PLANNERS: [&str; 2] = ["near", "patient"];
 
 static TAILS: [&str; 3] = ["none", "log", "ledger"];
 
-static REPLIES: [&str; 2] = ["short", "full"];
+static REPLIES: [&str; 3] = ["short", "full", "placed"];
 
 // An option whose value is a number from `least` to `most`.
 fn number_arg<'a>(alloc: Global, name: &'a str, least: u64, most: u64, help: &'a str) -> Arg<'a>
@@ -52,6 +52,19 @@ fn file_arg<'a>(alloc: Global, name: &'a str, help: &'a str) -> Arg<'a>
         .help(help)
         .action(ArgAction::Set)
         .value_parser(ValueParser::NonEmptyString)
+}
+
+// An option without a value: where it is given, it is found with the value `true`.
+fn switch_arg<'a>(alloc: Global, name: &'a str, help: &'a str) -> Arg<'a>
+    ensures rule { rule_of result ≡ switch_rule name.entry.now }
+    ensures local { result.global ≡ false }
+{
+    Arg::new(alloc, name)
+        .long(name)
+        .help(help)
+        .action(ArgAction::Set)
+        .num_args(0_usize)
+        .default_missing_value("true")
 }
 
 fn plain_command<'a>(alloc: Global, name: &'a str, about: &'a str) -> Command<'a>
@@ -103,7 +116,34 @@ fn fleet_command<'a>(
         .arg(spares)
 }
 
-fn replay_command<'a>(alloc: Global) -> Result<Command<'a>, AllocError>
+// The options of vehicles behind the others of `replay`.
+fn with_vehicles<'a>(alloc: Global, command: Command<'a>) -> Result<Command<'a>, AllocError>
+    ensures { (a : App) → HasShape command.entry a → IfOk result (λ c. HasShape c (with_vehicle_rules a)) }
+{
+    let vehicles = switch_arg(
+        alloc,
+        "vehicles",
+        "Vehicles carry out the plan, each at its own pace: takes `at AGENT STEP`, tells `go AGENT STEP X,Y`",
+    );
+    let behind = number_arg(
+        alloc,
+        "behind",
+        1,
+        1000,
+        "With --vehicles: steps that a vehicle may be behind before the clock waits, 1 to 1000 [default: 8]",
+    );
+    let ahead = number_arg(
+        alloc,
+        "ahead",
+        1,
+        1000,
+        "With --vehicles: cells ahead that a vehicle may be told, 1 to 1000 [default: 1]",
+    );
+    command.arg(vehicles)?.arg(behind)?.arg(ahead)
+}
+
+/// The subcommand `replay`.
+pub(crate) fn replay_command<'a>(alloc: Global) -> Result<Command<'a>, AllocError>
     ensures { IfOk result IsReplayCommand }
 {
     let tail = choice_arg(
@@ -116,18 +156,27 @@ fn replay_command<'a>(alloc: Global) -> Result<Command<'a>, AllocError>
         alloc,
         "replies",
         REPLIES.as_slice(),
-        "How a reply tells a path: short, its end alone; full, each cell [default: short]",
+        "How a reply is told: short, of a path its end; full, each cell; placed, full behind its entry's number and the clock [default: short]",
     );
     let log = file_arg(
         alloc,
         "log",
         "Keeps the log of the run in FILE, and goes on from the log that FILE has",
     );
+    let told = number_arg(
+        alloc,
+        "told",
+        0,
+        999_999_999,
+        "With --log: tells the entries of FILE again, from this one on, before the script",
+    );
     let about = "Answers each command of a script (input: map, points, script)";
-    fleet_command(alloc, "replay", about)?
+    let command = fleet_command(alloc, "replay", about)?
         .arg(tail)?
         .arg(replies)?
-        .arg(log)
+        .arg(log)?
+        .arg(told)?;
+    with_vehicles(alloc, command)
 }
 
 fn live_command<'a>(alloc: Global) -> Result<Command<'a>, AllocError>

@@ -6,9 +6,12 @@
 
 mod chosen;
 mod command;
+mod mistake;
 mod read;
 mod refused;
 
-pub use chosen::{Fleet, LiveOptions, Options, PlannerKind, ReplayOptions, Replies, Tail};
+pub use chosen::{
+    Fleet, LiveOptions, Options, PlannerKind, ReplayOptions, Replies, Tail, VehicleOptions,
+};
 pub use read::options;
 pub use refused::{Refusal, refusal_of};

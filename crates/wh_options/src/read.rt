@@ -1,12 +1,15 @@
 //! From the words of a command line to the options that they give.
 ghost use Rattle.std.specs.Prelude.{◌≡◌, IfErr, IfOk, IsErrAnd, List, Some, codes, map, option_map, ℕ};
 ghost use Rattle.clap.specs.Words.{Row, Text, first_of, first_value, found_of, kind_of, rows_of, subcommand_rows_of};
-ghost use Rattle.wh_options.specs.Options.{AreSame, WordsGive};
+ghost use Rattle.wh_options.specs.Options.{AreSame, Clashes, IsAmiss, LacksAny, WordsGive};
 ghost use Rattle.wh_options.specs.Requests.{AsksBy, IsKind, help_flags, version_flags};
-ghost use Rattle.wh_options.specs.Reads.{Reads, ReadsFleet, ReadsLive, ReadsNumber, ReadsReplay, planner_of, replies_of, tail_of};
+ghost use Rattle.wh_options.specs.Reads.{IsMistaken, Reads, ReadsFleet, ReadsLive, ReadsNumber, ReadsReplay, ReadsTold, ReadsVehicles, planner_of, replies_of, tail_of};
 
-use crate::chosen::{Fleet, LiveOptions, Options, PlannerKind, ReplayOptions, Replies, Tail};
+use crate::chosen::{
+    Fleet, LiveOptions, Options, PlannerKind, ReplayOptions, Replies, Tail, VehicleOptions,
+};
 use crate::command::warehouse_command;
+use crate::mistake::{Mistake, mistake_of};
 use clap::error::ErrorKind;
 use clap::{ArgMatches, Error};
 use std::alloc::Global;
@@ -60,11 +63,42 @@ fn replies(matches: &ArgMatches<'_>) -> Replies
         Some(text) => {
             if text == "full" {
                 Replies::Full
+            } else if text == "placed" {
+                Replies::Placed
             } else {
                 Replies::Short
             }
         }
         None => Replies::Short,
+    }
+}
+
+fn told(matches: &ArgMatches<'_>) -> Option<u32>
+    ensures { ReadsTold (first_value (found_of matches.now) (codes "told")) result }
+{
+    match matches.get_str("told") {
+        Some(text) => Some(text.parse::<u32>().unwrap_or(0)),
+        None => None,
+    }
+}
+
+fn pace(matches: &ArgMatches<'_>) -> VehicleOptions
+    ensures behind { ReadsNumber (first_value (found_of matches.now) (codes "behind")) 8 result.behind }
+    ensures ahead { ReadsNumber (first_value (found_of matches.now) (codes "ahead")) 1 result.ahead }
+{
+    VehicleOptions {
+        behind: number(matches, "behind", 8),
+        ahead: number(matches, "ahead", 1),
+    }
+}
+
+fn vehicles(matches: &ArgMatches<'_>) -> Option<VehicleOptions>
+    ensures { ReadsVehicles (first_value (found_of matches.now)) result }
+{
+    let pace = pace(matches);
+    match matches.get_str("vehicles") {
+        Some(_) => Some(pace),
+        None => None,
     }
 }
 
@@ -87,6 +121,8 @@ fn replay_options<'a>(matches: &ArgMatches<'a>) -> ReplayOptions<'a>
         tail: tail(matches),
         replies: replies(matches),
         log: matches.get_str("log"),
+        told: told(matches),
+        vehicles: vehicles(matches),
     }
 }
 
@@ -101,20 +137,27 @@ fn live_options(matches: &ArgMatches<'_>) -> LiveOptions
 }
 
 // What the subcommand's matches say.
-fn read_options<'a>(matches: &ArgMatches<'a>) -> Options<'a>
-    ensures { (name : Text) (rows : List Row) → subcommand_rows_of matches.now ≡ Some (name, rows)
-        → Reads name (λ id. first_of id rows) result }
+fn read_options<'a>(matches: &ArgMatches<'a>) -> Result<Options<'a>, Mistake>
+    ensures read { IfOk result (λ o. (name : Text) (rows : List Row)
+        → subcommand_rows_of matches.now ≡ Some (name, rows)
+        → Reads name (λ id. first_of id rows) o) }
+    ensures mistaken { IfErr result (λ m. (name : Text) (rows : List Row)
+        → subcommand_rows_of matches.now ≡ Some (name, rows)
+        → (name ≡ codes "replay") × IsMistaken (λ id. first_of id rows) m) }
 {
     if let Some(replay) = matches.subcommand_matches("replay") {
-        return Options::Replay(replay_options(replay));
+        return match mistake_of(replay) {
+            Some(mistake) => Err(mistake),
+            None => Ok(Options::Replay(replay_options(replay))),
+        };
     }
     if let Some(live) = matches.subcommand_matches("live") {
-        return Options::Live(live_options(live));
+        return Ok(Options::Live(live_options(live)));
     }
     if matches.subcommand_matches("verify").is_some() {
-        return Options::Verify;
+        return Ok(Options::Verify);
     }
-    Options::Check
+    Ok(Options::Check)
 }
 
 /// The options that the words of a command line give; the first word is the program's name, and may
@@ -132,6 +175,12 @@ pub fn options<'a, W: AsStr>(alloc: Global, words: &'a [W]) -> Result<Options<'a
     // Where the words give any options, only want of memory is an error.
     ensures refused { IfErr result (λ e. (o : Options) → WordsGive (map W.text words.now) o
         → kind_of e ≡ ErrorKind.OutOfMemory) }
+    // Where an option is given without the one that it belongs to, that is told.
+    ensures lacking { IsAmiss LacksAny (map W.text words.now)
+        → IsErrAnd result (IsKind ErrorKind.MissingRequiredArgument) }
+    // Where two options are given that do not go together, that is told.
+    ensures clashing { IsAmiss Clashes (map W.text words.now)
+        → IsErrAnd result (IsKind ErrorKind.ArgumentConflict) }
     // Words that ask for help by a flag are answered with help, whatever follows.
     ensures help { AsksBy help_flags (map W.text words.now)
         → IsErrAnd result (IsKind ErrorKind.DisplayHelp) }
@@ -140,5 +189,8 @@ pub fn options<'a, W: AsStr>(alloc: Global, words: &'a [W]) -> Result<Options<'a
         → IsErrAnd result (IsKind ErrorKind.DisplayVersion) }
 {
     let matches = warehouse_command(alloc)?.try_get_matches_from(words)?;
-    Ok(read_options(&matches))
+    match read_options(&matches) {
+        Ok(options) => Ok(options),
+        Err(mistake) => Err(mistake.error(alloc)?),
+    }
 }

@@ -11,8 +11,8 @@ use Rattle.wh_grid.proofs.Removed.{all_removed-from}
 use Rattle.wh_path.specs.Paths.{at, last_index, path_of, place_of, steps_left, AllFree}
 use Rattle.wh_path.proofs.AtLemmas.{at-rests}
 use Rattle.wh_resv.specs.Others.{Others, StaysAway, MayRest}
-use Rattle.wh_search.specs.declared.guided.Fault.{Fault}
-use Rattle.wh_search.specs.declared.guided.Fault.TheVariants.{NoPath}
+use Rattle.wh_search.specs.declared.fault.Fault.{Fault}
+use Rattle.wh_search.specs.declared.fault.Fault.TheVariants.{NoPath}
 use Rattle.wh_search.specs.Deliveries.{IsDelivery, IsLawful as IsSearchLawful, IfNoPath}
 use Rattle.wh_search.specs.Parkings.{IsParking, IsLeastParking}
 use Rattle.wh_planner.specs.declared.duty.Duty.{Duty}

@@ -19,9 +19,11 @@ use Rattle.wh_event.specs.declared.entry.Entry.{Entry}
 use Rattle.wh_event.specs.declared.reply.Reply.{Reply}
 use Rattle.wh_event.specs.declared.reply.Refusal.{Refusal}
 use Rattle.wh_event.specs.declared.fault.LineFault.{LineFault}
+use Rattle.wh_log.specs.Told.{Answered}
 use Rattle.wh_event.specs.declared.fault.LineFault.TheVariants.{Form, TooLong}
-use Rattle.wh_replay.specs.Answers.{asked, commands_of, outcome_text, answers, replies_to, reply_line}
+use Rattle.wh_replay.specs.Answers.{answered_from, asked, commands_of, outcome_text, answers, replies_to, reply_line}
 use Rattle.wh_replay.specs.Scripts.{Gives, IsOutputOf, Tells}
+use Rattle.wh_replay.proofs.Placing.{answered_behind, answered_length}
 
 -- ---- runs
 
@@ -55,8 +57,8 @@ commands_push [] line = append-nil (asked (command_of line))
 commands_push (l ∷ lines) line = ap (λ cs. asked (command_of l) ++ cs) (commands_push lines line) ∙ sym (append_assoc (asked (command_of l)) (commands_of lines) (asked (command_of line)))
 
 -- one line more in front, whatever it says
-replies_by : (text : Reply → List ℕ) (kind : Result (Option Command) LineFault) (lines : List (List ℕ)) (line : List ℕ) (os ps : List (Option Entry)) (told : List (List ℕ))
-    → ((ns : List (Option Entry)) → length ns ≡ length (commands_of lines) → replies_to text (lines ++ line ∷ []) (ns ++ ps) ≡ replies_to text lines ns ++ told)
+replies_by : (text : Answered → List ℕ) (kind : Result (Option Command) LineFault) (lines : List (List ℕ)) (line : List ℕ) (os ps : List (Option Answered)) (told : List (List ℕ))
+    → ((ns : List (Option Answered)) → length ns ≡ length (commands_of lines) → replies_to text (lines ++ line ∷ []) (ns ++ ps) ≡ replies_to text lines ns ++ told)
     → length os ≡ length (asked kind ++ commands_of lines)
     → answers text kind (os ++ ps) ++ replies_to text (lines ++ line ∷ []) (drop (length (asked kind)) (os ++ ps)) ≡ (answers text kind os ++ replies_to text lines (drop (length (asked kind)) os)) ++ told
 replies_by text (Ok None) lines line os ps told more e = more os e
@@ -65,7 +67,7 @@ replies_by text (Err TooLong) lines line os ps told more e = ap (λ rs. codes "r
 replies_by text (Ok (Some command)) lines line [] ps told more e = absurd (omega (arith, e))
 replies_by text (Ok (Some command)) lines line (o ∷ os) ps told more e = ap (λ rs. answers text (Ok (Some command)) (o ∷ os) ++ rs) (more os (omega (arith, e)))
 
-replies_push : (text : Reply → List ℕ) (lines : List (List ℕ)) (line : List ℕ) (os ps : List (Option Entry)) → length os ≡ length (commands_of lines)
+replies_push : (text : Answered → List ℕ) (lines : List (List ℕ)) (line : List ℕ) (os ps : List (Option Answered)) → length os ≡ length (commands_of lines)
     → replies_to text (lines ++ line ∷ []) (os ++ ps) ≡ replies_to text lines os ++ answers text (command_of line) ps
 replies_push text [] line [] ps e = append-nil (answers text (command_of line) ps)
 replies_push text [] line (o ∷ os) ps e = absurd (omega (arith, e))
@@ -73,7 +75,7 @@ replies_push text (l ∷ lines) line os ps e = replies_by text (command_of l) li
 
 -- ---- what is given
 
-pub gives_nothing : {X : Type 0} (fits : X → Floor → Bool) (count : X → ℕ) (told : List (Option Entry) → List (List ℕ)) (old : Seen) (spares : List X)
+pub gives_nothing : {X : Type 0} (fits : X → Floor → Bool) (count : X → ℕ) (told : List (Option Answered) → List (List ℕ)) (old : Seen) (spares : List X)
     → Gives fits count [] told old spares old spares (told [])
 gives_nothing fits count told old spares = record {
   outcomes = [];
@@ -87,7 +89,7 @@ gives_nothing fits count told old spares = record {
 }
 
 -- what comes after at the same site
-pub output_push : {X : Type 0} (fits : X → Floor → Bool) (count : X → ℕ) (text : Reply → List ℕ) (lines : List (List ℕ)) (line : List ℕ) (old : Seen) (spares : List X) (mid : Seen) (left : List X) (new : Seen) (rest : List X)
+pub output_push : {X : Type 0} (fits : X → Floor → Bool) (count : X → ℕ) (text : Answered → List ℕ) (lines : List (List ℕ)) (line : List ℕ) (old : Seen) (spares : List X) (mid : Seen) (left : List X) (new : Seen) (rest : List X)
     (had more : List (List ℕ)) → IsOutputOf fits count text lines old spares mid left had → Gives fits count (asked (command_of line)) (answers text (command_of line)) mid left new rest more
     → IsOutputOf fits count text (lines ++ line ∷ []) old spares new rest (had ++ more)
 output_push {X} fits count text lines line old spares mid left new rest had more p q =
@@ -96,10 +98,13 @@ output_push {X} fits count text lines line old spares mid left new rest had more
     let ran : Ran fits count old.site 0 (commands_of (lines ++ line ∷ [])) (p.outcomes ++ q.outcomes) old.state spares new.state rest =
     subst (λ cs. Ran fits count old.site 0 cs (p.outcomes ++ q.outcomes) old.state spares new.state rest) (sym (commands_push lines line))
     (ran_append fits count old.site 0 (commands_of lines) p.outcomes (asked (command_of line)) q.outcomes old.state spares mid.state left new.state rest p.ran here) in
-    let long = ran_length fits count old.site 0 (commands_of lines) p.outcomes old.state spares mid.state left p.ran in
+    let first = answered_from (length old.history) old.state.clock p.outcomes in
+    let second = answered_from (length mid.history) mid.state.clock q.outcomes in
+    let long = answered_length (length old.history) old.state.clock p.outcomes ∙ ran_length fits count old.site 0 (commands_of lines) p.outcomes old.state spares mid.state left p.ran in
     record {
       outcomes = p.outcomes ++ q.outcomes;
-      replies_are = ap (λ rs. rs ++ more) p.replies_are ∙ ap (λ rs. replies_to text lines p.outcomes ++ rs) q.replies_are ∙ sym (replies_push text lines line p.outcomes q.outcomes long);
+      replies_are = ap (λ rs. rs ++ more) p.replies_are ∙ ap (λ rs. replies_to text lines first ++ rs) q.replies_are ∙ sym (replies_push text lines line first second long)
+          ∙ ap (λ rs. replies_to text (lines ++ line ∷ []) rs) (sym (answered_behind old.site old.state mid.state old.history mid.history p.outcomes q.outcomes p.history p.run));
       ran = ran;
       history = q.history ∙ ap (λ es. es ++ entries_of q.outcomes) p.history ∙ append_assoc old.history (entries_of p.outcomes) (entries_of q.outcomes) ∙ ap (λ es. old.history ++ es) (sym (entries_append p.outcomes q.outcomes));
       run = ran-run fits count old.site 0 (commands_of (lines ++ line ∷ [])) (p.outcomes ++ q.outcomes) old.state spares new.state rest ran;
@@ -109,25 +114,40 @@ output_push {X} fits count text lines line old spares mid left new rest had more
       opening = q.opening ∙ p.opening;
     }
 
+-- what one outcome answers
+abbrev pub answered_at : ℕ → ℕ → Option Entry → Option Answered
+answered_at place clock None = None
+answered_at place clock (Some entry) = Some (record { place = place; clock = clock; reply = entry.reply })
+
+answered_one : (place clock : ℕ) (outcome : Option Entry) → answered_from place clock (outcome ∷ []) ≡ answered_at place clock outcome ∷ []
+answered_one place clock None = refl
+answered_one place clock (Some entry) = refl
+
+-- what one command is answered
+abbrev pub reply_to : (Answered → List ℕ) → ℕ → ℕ → Option Entry → List ℕ
+reply_to text place clock outcome = outcome_text text (answered_at place clock outcome)
+
 -- what was told of one command's outcome
-pub tells_outcome : (text : Reply → List ℕ) (outcome : Option Entry) (added : Bool) (had has : List Entry) (result : Result ℕ WriteFault) (before after : Option (List ℕ))
+pub tells_outcome : (text : Answered → List ℕ) (place clock : ℕ) (outcome : Option Entry) (added : Bool) (had has : List Entry) (result : Result ℕ WriteFault) (before after : Option (List ℕ))
     → is_some outcome ≡ added → has ≡ had ++ entries_of (outcome ∷ [])
     → (added ≡ false → Tells result before after (reply_line (codes "refused E90")))
-    → (added ≡ true → (front : List Entry) (entry : Entry) → has ≡ front ++ entry ∷ [] → Tells result before after (reply_line (text entry.reply)))
-    → Tells result before after (reply_line (outcome_text text outcome))
-tells_outcome text None added had has result before after is e none some = none (sym is)
-tells_outcome text (Some entry) added had has result before after is e none some = some (sym is) had entry e
+    → (added ≡ true → (front : List Entry) (entry : Entry) → has ≡ front ++ entry ∷ [] → Tells result before after (reply_line (text (record { place = place; clock = clock; reply = entry.reply }))))
+    → Tells result before after (reply_line (reply_to text place clock outcome))
+tells_outcome text place clock None added had has result before after is e none some = none (sym is)
+tells_outcome text place clock (Some entry) added had has result before after is e none some = some (sym is) had entry e
 
-pub gives_one : {X : Type 0} (fits : X → Floor → Bool) (count : X → ℕ) (text : Reply → List ℕ) (command : Command) (old : Seen) (spares : List X) (new : Seen) (rest : List X) (added : Bool)
+pub gives_one : {X : Type 0} (fits : X → Floor → Bool) (count : X → ℕ) (text : Answered → List ℕ) (place clock : ℕ) (command : Command) (old : Seen) (spares : List X) (new : Seen) (rest : List X) (added : Bool)
+    → place ≡ length old.history → clock ≡ old.state.clock
     → IsOpening old.site old.opening → Run old.site old.opening old.history old.state
     → (one : RunsOne fits count 0 command added old spares new rest)
-    → Gives fits count (command ∷ []) (answers text (Ok (Some command))) old spares new rest (outcome_text text one.outcome ∷ [])
-gives_one fits count text command old spares new rest added is_opening before one =
+    → Gives fits count (command ∷ []) (answers text (Ok (Some command))) old spares new rest (reply_to text place clock one.outcome ∷ [])
+gives_one fits count text place clock command old spares new rest added here now is_opening before one =
     let ran : Ran fits count old.site 0 (command ∷ []) (one.outcome ∷ []) old.state spares new.state rest = (new.state, rest, one.moves, (refl, refl)) in
     let run = ran-run fits count old.site 0 (command ∷ []) (one.outcome ∷ []) old.state spares new.state rest ran in
     record {
       outcomes = one.outcome ∷ [];
-      replies_are = refl;
+      replies_are = ap (λ (n : ℕ). reply_to text n clock one.outcome ∷ []) here ∙ ap (λ (n : ℕ). reply_to text (length old.history) n one.outcome ∷ []) now
+          ∙ ap (answers text (Ok (Some command))) (sym (answered_one (length old.history) old.state.clock one.outcome));
       ran = ran;
       history = one.history;
       run = run;

@@ -1,4 +1,5 @@
 pub mod Returns
+pub mod Placing
 pub mod Giving
 pub mod Serving
 -- handed on, for the crates above

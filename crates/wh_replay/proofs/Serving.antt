@@ -15,8 +15,8 @@ use Rattle.wh_grid.specs.Grids.{Floor}
 use Rattle.wh_book.specs.Drafts.{Seen}
 use Rattle.wh_event.specs.CommandLines.{command_of}
 use Rattle.wh_event.specs.declared.event.Command.{Command}
-use Rattle.wh_event.specs.declared.reply.Reply.{Reply}
 use Rattle.wh_event.specs.declared.fault.LineFault.{LineFault}
+use Rattle.wh_log.specs.Told.{Answered}
 use Rattle.wh_lines.specs.declared.output.WriteFault.{WriteFault}
 use Rattle.wh_replay.specs.declared.script.ReplayFault.{ReplayFault}
 use Rattle.wh_replay.specs.declared.script.ReplayFault.TheVariants.{Broken, Endless, Unwritten}
@@ -36,7 +36,7 @@ texts_more a b c d xs ys p k q = subst (Appends a d) (sym (text_append xs ys)) (
 texts_front : (a b c d : Option (List ℕ)) (xs ys : List (List ℕ)) → Appends a b (text_of xs) → Keeps b c → WritesFront c d (text_of ys) → WritesFront a d (text_of (xs ++ ys))
 texts_front a b c d xs ys p k q = subst (WritesFront a d) (sym (text_append xs ys)) (front_after a c d (text_of xs) (text_of ys) (Appends-kept a b c (text_of xs) p k) q)
 
-module _ {X : Type 0} (fits : X → Floor → Bool) (count : X → ℕ) (text : Reply → List ℕ) where
+module _ {X : Type 0} (fits : X → Floor → Bool) (count : X → ℕ) (text : Answered → List ℕ) where
   pub follows_start : (i : Input) (old : Seen) (spares : List X) (had : Option (List ℕ)) → Follows fits count text i i old spares old spares had had 0
   follows_start i old spares had = record {
     read = [];
@@ -184,14 +184,14 @@ module _ {X : Type 0} (fits : X → Floor → Bool) (count : X → ℕ) (text : 
 
 -- ---- one line
 
-module _ {X : Type 0} (fits : X → Floor → Bool) (count : X → ℕ) (text : Reply → List ℕ) (kind : Result (Option Command) LineFault) (old : Seen) (spares : List X) where
+module _ {X : Type 0} (fits : X → Floor → Bool) (count : X → ℕ) (text : Answered → List ℕ) (kind : Result (Option Command) LineFault) (old : Seen) (spares : List X) where
   -- a line that asks for nothing, or is no command
   pub gives_none : (here : Result (Option Command) LineFault) → asked here ≡ [] → kind ≡ here → Gives fits count (asked kind) (answers text kind) old spares old spares (answers text here [])
   gives_none here none e =
       subst (λ (k : Result (Option Command) LineFault). Gives fits count (asked k) (answers text k) old spares old spares (answers text here [])) (sym e)
       (subst (λ (cs : List Command). Gives fits count cs (answers text here) old spares old spares (answers text here [])) (sym none) (gives_nothing fits count (answers text here) old spares))
 
-module _ {X : Type 0} (fits : X → Floor → Bool) (count : X → ℕ) (text : Reply → List ℕ) (kind : Result (Option Command) LineFault) (old : Seen) (spares : List X) (new : Seen) (rest : List X) where
+module _ {X : Type 0} (fits : X → Floor → Bool) (count : X → ℕ) (text : Answered → List ℕ) (kind : Result (Option Command) LineFault) (old : Seen) (spares : List X) (new : Seen) (rest : List X) where
   pub serves_none : (had : Option (List ℕ)) → Gives fits count (asked kind) (answers text kind) old spares new rest [] → Serves fits count text kind old spares new rest had had 0
   serves_none had gives = record { replies = []; gives = gives; appends = Appends-nil had; written_is = refl }
 

@@ -1,5 +1,6 @@
 pub mod Answers
 pub mod Scripts
+pub mod Clocks
 -- handed on, for the crates above
 pub use Rattle.wh_book.specs.Drafts
 pub use Rattle.wh_token.specs.Commands

@@ -12,24 +12,24 @@ use Rattle.wh_book.specs.Drafts.{Seen, AllServed}
 use Rattle.wh_token.specs.Runs.{Ran, entries_of}
 use Rattle.wh_event.specs.declared.event.Command.{Command}
 use Rattle.wh_event.specs.declared.entry.Entry.{Entry}
-use Rattle.wh_event.specs.declared.reply.Reply.{Reply}
 use Rattle.wh_event.specs.declared.fault.LineFault.{LineFault}
+use Rattle.wh_log.specs.Told.{Answered}
 use Rattle.wh_lines.specs.declared.next.LineFault.{LineFault as NoLine}
 use Rattle.wh_lines.specs.declared.next.LineFault.TheVariants.{Read, Flush}
 use Rattle.wh_lines.specs.declared.lines.ReadFault.TheVariants as reads
 use Rattle.wh_replay.specs.declared.script.ReplayFault.{ReplayFault}
 use Rattle.wh_replay.specs.declared.script.ReplayFault.TheVariants.{Broken, Endless, Unwritten}
-use Rattle.wh_replay.specs.Answers.{asked, commands_of, answers, replies_to, text_of}
+use Rattle.wh_replay.specs.Answers.{answered_from, asked, commands_of, answers, replies_to, text_of}
 -- handed on, for the crates above
 pub use Rattle.wh_lines.specs.Output.{WritesFront}
 
--- The commands, all of caller 0, have run one after another and had these outcomes, which tell the replies. The history
--- has grown by the entries, and by nothing else. Fits and count say what a planner answers; text, here and below, what a
--- reply is told as.
-pub record Gives {X : Type 0} (fits : X → Floor → Bool) (count : X → ℕ) (commands : List Command) (told : List (Option Entry) → List (List ℕ))
+-- The commands, all of caller 0, have run one after another and had these outcomes, which tell the replies, each by its
+-- entry's place in the history and the clock before that too. The history has grown by the entries, and by nothing else. Fits
+-- and count say what a planner answers; text, here and below, what a reply is told as.
+pub record Gives {X : Type 0} (fits : X → Floor → Bool) (count : X → ℕ) (commands : List Command) (told : List (Option Answered) → List (List ℕ))
     (old : Seen) (spares : List X) (new : Seen) (rest : List X) (replies : List (List ℕ)) : Type 0 where
   pub outcomes : List (Option Entry)
-  pub replies_are : replies ≡ told outcomes
+  pub replies_are : replies ≡ told (answered_from (length old.history) old.state.clock outcomes)
   pub ran : Ran fits count old.site 0 commands outcomes old.state spares new.state rest
   pub history : new.history ≡ old.history ++ entries_of outcomes
   pub run : Run old.site old.state (entries_of outcomes) new.state
@@ -40,7 +40,7 @@ pub record Gives {X : Type 0} (fits : X → Floor → Bool) (count : X → ℕ) 
 
 -- The output of lines: in their order nothing for a line that is skipped, `refused C1` or `refused C2` for one that is no
 -- command, `refused E90` for some commands, and for the others the replies of one run.
-abbrev pub IsOutputOf : {X : Type 0} → (X → Floor → Bool) → (X → ℕ) → (Reply → List ℕ) → List (List ℕ) → Seen → List X → Seen → List X → List (List ℕ) → Type 0
+abbrev pub IsOutputOf : {X : Type 0} → (X → Floor → Bool) → (X → ℕ) → (Answered → List ℕ) → List (List ℕ) → Seen → List X → Seen → List X → List (List ℕ) → Type 0
 IsOutputOf fits count text lines old spares new rest replies = Gives fits count (commands_of lines) (replies_to text lines) old spares new rest replies
 
 -- a line was written, or a front of it
@@ -49,7 +49,7 @@ Tells (Ok count) had has line = Appends had has line × (count ≡ 1)
 Tells (Err fault) had has line = WritesFront had has line
 
 -- one line was served: what it is answered was written
-pub record Serves {X : Type 0} (fits : X → Floor → Bool) (count : X → ℕ) (text : Reply → List ℕ) (line : Result (Option Command) LineFault) (old : Seen) (spares : List X) (new : Seen) (rest : List X)
+pub record Serves {X : Type 0} (fits : X → Floor → Bool) (count : X → ℕ) (text : Answered → List ℕ) (line : Result (Option Command) LineFault) (old : Seen) (spares : List X) (new : Seen) (rest : List X)
     (had has : Option (List ℕ)) (written : ℕ) : Type 0 where
   pub replies : List (List ℕ)
   pub gives : Gives fits count (asked line) (answers text line) old spares new rest replies
@@ -57,14 +57,14 @@ pub record Serves {X : Type 0} (fits : X → Floor → Bool) (count : X → ℕ)
   pub written_is : written ≡ length replies
 
 -- one line was served, and its reply was not written to the end
-pub record ServesUnwritten {X : Type 0} (fits : X → Floor → Bool) (count : X → ℕ) (text : Reply → List ℕ) (line : Result (Option Command) LineFault) (old : Seen) (spares : List X) (new : Seen) (rest : List X)
+pub record ServesUnwritten {X : Type 0} (fits : X → Floor → Bool) (count : X → ℕ) (text : Answered → List ℕ) (line : Result (Option Command) LineFault) (old : Seen) (spares : List X) (new : Seen) (rest : List X)
     (had has : Option (List ℕ)) : Type 0 where
   pub replies : List (List ℕ)
   pub gives : Gives fits count (asked line) (answers text line) old spares new rest replies
   pub writes : WritesFront had has (text_of replies)
 
 -- whole lines were read and served
-pub record Follows {X : Type 0} (fits : X → Floor → Bool) (count : X → ℕ) (text : Reply → List ℕ) (before after : Input) (old : Seen) (spares : List X) (new : Seen) (rest : List X)
+pub record Follows {X : Type 0} (fits : X → Floor → Bool) (count : X → ℕ) (text : Answered → List ℕ) (before after : Input) (old : Seen) (spares : List X) (new : Seen) (rest : List X)
     (had has : Option (List ℕ)) (written : ℕ) : Type 0 where
   pub read : List ℕ
   pub takes : Takes before after read
@@ -75,7 +75,7 @@ pub record Follows {X : Type 0} (fits : X → Floor → Bool) (count : X → ℕ
   pub written_is : written ≡ length replies
 
 -- All was read to the end, and what was written is the output of what was read, in so many lines.
-pub record Replays {X : Type 0} (fits : X → Floor → Bool) (count : X → ℕ) (text : Reply → List ℕ) (before after : Input) (old : Seen) (spares : List X) (new : Seen) (rest : List X)
+pub record Replays {X : Type 0} (fits : X → Floor → Bool) (count : X → ℕ) (text : Answered → List ℕ) (before after : Input) (old : Seen) (spares : List X) (new : Seen) (rest : List X)
     (had has : Option (List ℕ)) (written : ℕ) : Type 0 where
   pub read : List ℕ
   pub takes : Takes before after read
@@ -86,7 +86,7 @@ pub record Replays {X : Type 0} (fits : X → Floor → Bool) (count : X → ℕ
   pub written_is : written ≡ length replies
 
 -- these bytes were served, all of them
-pub record Outputs {X : Type 0} (fits : X → Floor → Bool) (count : X → ℕ) (text : Reply → List ℕ) (script : List ℕ) (old : Seen) (spares : List X) (new : Seen) (rest : List X)
+pub record Outputs {X : Type 0} (fits : X → Floor → Bool) (count : X → ℕ) (text : Answered → List ℕ) (script : List ℕ) (old : Seen) (spares : List X) (new : Seen) (rest : List X)
     (had has : Option (List ℕ)) (written : ℕ) : Type 0 where
   pub replies : List (List ℕ)
   pub output : IsOutputOf fits count text (lines_of script) old spares new rest replies
@@ -101,7 +101,7 @@ WritesUntil Endless had has bytes = Appends had has bytes
 
 -- A beginning of the script was served: the events of its commands stand, also one whose reply was not written to the
 -- end. What follows it in the bytes that were taken is part of a line that was not served.
-pub record Stops {X : Type 0} (fits : X → Floor → Bool) (count : X → ℕ) (text : Reply → List ℕ) (fault : ReplayFault) (before after : Input) (old : Seen) (spares : List X) (new : Seen) (rest : List X)
+pub record Stops {X : Type 0} (fits : X → Floor → Bool) (count : X → ℕ) (text : Answered → List ℕ) (fault : ReplayFault) (before after : Input) (old : Seen) (spares : List X) (new : Seen) (rest : List X)
     (had has : Option (List ℕ)) : Type 0 where
   pub read : List ℕ
   pub begun : List ℕ

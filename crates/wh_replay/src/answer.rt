@@ -5,7 +5,7 @@ ghost use Rattle.wh_lines.specs.Text.{short_line};
 ghost use Rattle.wh_event.specs.Reading.{Reads};
 ghost use Rattle.wh_event.specs.ReplyTexts.{reply_text};
 ghost use Rattle.wh_event.specs.declared.entry.Entry.{Entry as Line};
-ghost use Rattle.wh_log.specs.Told.{full_text, told_text};
+ghost use Rattle.wh_log.specs.Told.{told_text};
 ghost use Rattle.wh_replay.specs.Answers.{reply_line, said};
 ghost use Rattle.wh_replay.specs.Scripts.{Tells, Serves, ServesUnwritten};
 
@@ -41,42 +41,69 @@ fn tell_short<W: Write>(writer: &mut W, reply: &Reply) -> Result<u64, WriteFault
     write_line(writer, line.as_slice())
 }
 
-/// Tells a reply as the log has it, as a line.
-fn tell_full<W: Write>(writer: &mut W, reply: &Reply) -> Result<u64, WriteFault>
-    ensures { Tells result (W.contents writer.old) (W.contents writer.new) (reply_line (full_text reply.now)) }
+/// Tells a reply in a form that may be long, as a line.
+fn tell_long<W: Write>(
+    form: Form,
+    writer: &mut W,
+    place: u64,
+    clock: u32,
+    reply: &Reply,
+) -> Result<u64, WriteFault>
+    ensures { Tells result (W.contents writer.old) (W.contents writer.new) (reply_line (told_text form (record { place = place; clock = clock; reply = reply.now }))) }
 {
-    match tell(Form::Full, writer, reply) {
+    match tell(form, writer, place, clock, reply) {
         Ok(()) => write_line(writer, b"\n"),
         Err(fault) => Err(fault),
     }
 }
 
+/// Tells a reply in this form, as a line.
+fn tell_reply<W: Write>(
+    form: Form,
+    writer: &mut W,
+    place: u64,
+    clock: u32,
+    reply: &Reply,
+) -> Result<u64, WriteFault>
+    ensures { Tells result (W.contents writer.old) (W.contents writer.new) (reply_line (told_text form (record { place = place; clock = clock; reply = reply.now }))) }
+{
+    match form {
+        Form::Short => tell_short(writer, reply),
+        Form::Full | Form::Placed => tell_long(form, writer, place, clock, reply),
+    }
+}
+
 /// Tells what the last entry of a history answers, as a line.
-fn tell_last<W: Write>(form: Form, writer: &mut W, history: &[Entry]) -> Result<u64, WriteFault>
-    ensures { (front : List Line) → (entry : Line) → history.now ≡ front ++ entry ∷ [] → Tells result (W.contents writer.old) (W.contents writer.new) (reply_line (told_text form entry.reply)) }
+fn tell_last<W: Write>(
+    form: Form,
+    writer: &mut W,
+    place: u64,
+    clock: u32,
+    history: &[Entry],
+) -> Result<u64, WriteFault>
+    ensures { (front : List Line) → (entry : Line) → history.now ≡ front ++ entry ∷ [] → Tells result (W.contents writer.old) (W.contents writer.new) (reply_line (told_text form (record { place = place; clock = clock; reply = entry.reply }))) }
 {
     match history {
-        [.., entry] => match form {
-            Form::Short => tell_short(writer, &entry.reply),
-            Form::Full => tell_full(writer, &entry.reply),
-        },
+        [.., entry] => tell_reply(form, writer, place, clock, &entry.reply),
         [] => Ok(0),
     }
 }
 
-/// Tells what a command is answered, as a line: the reply of the entry that it added; with none it was refused for want of
-/// memory.
+/// Tells what a command is answered, as a line: the reply of the entry that it added, which has this place and found the clock
+/// so; with none it was refused for want of memory.
 fn tell_outcome<W: Write>(
     form: Form,
     writer: &mut W,
+    place: u64,
+    clock: u32,
     added: bool,
     history: &[Entry],
 ) -> Result<u64, WriteFault>
     ensures starved { added ≡ false → Tells result (W.contents writer.old) (W.contents writer.new) (reply_line (codes "refused E90")) }
-    ensures text { added ≡ true → (front : List Line) → (entry : Line) → history.now ≡ front ++ entry ∷ [] → Tells result (W.contents writer.old) (W.contents writer.new) (reply_line (told_text form entry.reply)) }
+    ensures text { added ≡ true → (front : List Line) → (entry : Line) → history.now ≡ front ++ entry ∷ [] → Tells result (W.contents writer.old) (W.contents writer.new) (reply_line (told_text form (record { place = place; clock = clock; reply = entry.reply }))) }
 {
     if added {
-        tell_last(form, writer, history)
+        tell_last(form, writer, place, clock, history)
     } else {
         write_line(writer, b"refused E90\n")
     }
@@ -95,9 +122,11 @@ pub fn obey<W: Write, P: Planner>(
     ensures few { IfOk result (λ count. count ≤ 1) }
     ensures err { OnErr result (ServesUnwritten P.fits_map P.slot_count (told_text form) (Ok (Some command.now)) warehouse.old.book spares.old.items warehouse.new.book spares.new.items (W.contents writer.old) (W.contents writer.new)) }
 {
-    let _before = warehouse.history();
+    let before = warehouse.history();
+    let place = before.len() as u64;
+    let clock = warehouse.clock();
     let added = warehouse.run_event(alloc, CALLER, command, spares);
-    tell_outcome(form, writer, added, warehouse.history())
+    tell_outcome(form, writer, place, clock, added, warehouse.history())
 }
 
 /// Reads a line, of which a front is kept, into a room: whether it asks for a command, which then stands there.

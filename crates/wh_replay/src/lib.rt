@@ -2,9 +2,11 @@
 #![tactic(auto)]
 
 mod answer;
+mod laws;
 mod script;
 
 pub use answer::{obey, read_kept};
+pub use laws::clocks_are;
 pub use script::{ReplayFault, Replayed, replay, serve};
 
 // handed on, for callers: what the items below take, return and speak of

@@ -1,3 +1,3 @@
 pub mod Staying
-pub mod Marking
-pub mod Spanning
+pub mod Chains
+pub mod Noting

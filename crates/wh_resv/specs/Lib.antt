@@ -1,4 +1,3 @@
 pub mod Others
 pub mod Calls
-pub mod Marked
-pub mod Spans
+pub mod Visits

@@ -6,7 +6,7 @@ ghost use Rattle.wh_grid.specs.declared.cell.Cell.{Cell};
 ghost use Rattle.wh_resv.specs.Others.{StaysAway};
 ghost use Rattle.wh_resv.specs.Calls.{StandsFrom, IsPastLast};
 
-use crate::marks::number_of;
+use crate::visits::number_of;
 use wh_grid::Cell;
 use wh_path::TimedPath;
 

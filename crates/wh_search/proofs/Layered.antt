@@ -6,7 +6,7 @@ use Rattle.wh_grid.specs.declared.cell.Cell.{Cell}
 use Rattle.wh_grid.specs.Grids.{IsPassable, IsMove}
 use Rattle.wh_search.specs.Steps.{Go}
 use Rattle.wh_search.specs.declared.errand.Errand.{Errand}
-use Rattle.wh_search.specs.declared.frontier.Node.{Node}
+use Rattle.wh_search.specs.declared.noted.Node.{Node}
 use Rattle.wh_search.specs.Frontiers.{Problem, problem, state_of, node_at, HasState, IsReached, IsExpanded, IsErrand, IsTrace}
 use Rattle.wh_search.specs.Layers.{IsLayered, Notes}
 use Rattle.wh_search.specs.States.{State, Arrives, Steps, IsEnd}

@@ -5,17 +5,13 @@ pub mod Reach
 pub mod Bound
 pub mod Visits
 pub mod Paths
-pub mod LinkLemmas
-pub mod Bins
 pub mod Kept
 pub mod Expands
-pub mod Told
 pub mod Searches
 pub mod Layered
 pub mod Trails
 pub mod Ways
 pub mod Stops
-pub mod Efforts
 pub mod Parks
 pub mod Nearest
 pub mod SightedStops

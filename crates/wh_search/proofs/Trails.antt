@@ -2,7 +2,7 @@
 use Rattle.std.proofs.Common.{◌≡◌, ℕ, ◌<◌, inl, inr, ◌∙◌, List, [], ◌∷◌, ◌++◌, length, reverse, refl, sym, subst, add-one, arith}
 use Rattle.std.proofs.lemmas.List.{reverse-append}
 use Rattle.wh_grid.specs.declared.cell.Cell.{Cell}
-use Rattle.wh_search.specs.declared.frontier.Node.{Node}
+use Rattle.wh_search.specs.declared.noted.Node.{Node}
 use Rattle.wh_search.specs.Frontiers.{Problem, state_of, node_at, IsChild, IsReached, IsTrace}
 use Rattle.wh_search.specs.States.{State, Leads}
 

@@ -4,8 +4,8 @@ use Rattle.wh_grid.specs.declared.cell.Cell.{Cell}
 use Rattle.wh_grid.specs.Grids.{Floor, passable_cells}
 use Rattle.wh_resv.specs.Others.{Others}
 use Rattle.wh_path.specs.Paths.{horizon, at, end, last_index, IsWalk, IsFree, cell_at, VisitsInOrder}
-use Rattle.wh_search.specs.declared.guided.Fault.{Fault}
-use Rattle.wh_search.specs.declared.guided.Fault.TheVariants.{NoPath, NoMemory}
+use Rattle.wh_search.specs.declared.fault.Fault.{Fault}
+use Rattle.wh_search.specs.declared.fault.Fault.TheVariants.{NoPath, NoMemory}
 
 -- a path that delivers, however long: a walk from loc that is at the stops in order and ends at the last one, free of all others for ever
 pub record IsDelivery (g : Floor) (others : Others) (loc : Cell) (stops : List Cell) (p : List Cell) : Type 0 where
@@ -28,12 +28,6 @@ pub record IsLawful (g : Floor) (others : Others) (loc : Cell) (stops : List Cel
 pub record IsLeast (g : Floor) (others : Others) (loc : Cell) (stops : List Cell) (p : List Cell) : Type 0 where
   pub lawful : IsLawful g others loc stops p
   pub least : (q : List Cell) → IsDelivery g others loc stops q → last_index p ≤ last_index q
-
--- there is a least path, and n is no less than its last index
-pub record IsEnough (g : Floor) (others : Others) (loc : Cell) (stops : List Cell) (n : ℕ) : Type 0 where
-  pub path : List Cell
-  pub least : IsLeast g others loc stops path
-  pub enough : last_index path ≤ n
 
 -- two to eight stops
 abbrev pub AreStops : List Cell → Type 0

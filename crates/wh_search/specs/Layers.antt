@@ -1,6 +1,6 @@
 -- what the search in layers keeps
 use Rattle.std.specs.Prelude.{◌≡◌, ℕ, ◌+◌, ◌<◌, ◌≤◌, ◌⊎◌, List, [], ◌∷◌, ◌++◌, length}
-use Rattle.wh_search.specs.declared.frontier.Node.{Node}
+use Rattle.wh_search.specs.declared.noted.Node.{Node}
 use Rattle.wh_search.specs.Frontiers.{Problem, node_at, state_of, HasState, IsReached, IsExpanded}
 
 -- a state was met: one that stands for it was there, or it was added

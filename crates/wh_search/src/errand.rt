@@ -12,8 +12,8 @@ ghost use Rattle.wh_search.specs.Frontiers.{IsErrand};
 ghost use Rattle.wh_search.specs.Guides.{guide_estimate};
 ghost use Rattle.wh_search.specs.States.{Arrives, IsEnd};
 
-use crate::frontier::holds;
 use crate::guide::Guide;
+use crate::noted::holds;
 use wh_grid::{Cell, Grid};
 use wh_resv::Reservations;
 

@@ -16,10 +16,10 @@ ghost use Rattle.wh_search.specs.States.{IsEnd};
 ghost use Rattle.wh_search.specs.Tours.{IsTour, IsLeastTour};
 
 use crate::errand::{Errand, arrive};
-use crate::frontier::{MOST, Node, holds, stands_for};
+use crate::fault::Fault;
 use crate::guide::Guide;
-use crate::guided::Fault;
 use crate::moves::moves_from;
+use crate::noted::{MOST, Node, holds, stands_for};
 use crate::trail::walk_back;
 use std::alloc::{AllocError, Global};
 use wh_grid::{Cell, Grid};

@@ -1,26 +1,18 @@
-//! A search in space and time, guided by distances, for a least lawful path.
+//! What is searched for, by which estimates, and a pass for a path that has no more steps than are estimated. `layers` is a
+//! plain search for tests.
 #![tactic(auto)]
 
 pub mod errand;
-mod fresh;
-pub mod frontier;
+mod fault;
 pub mod guide;
-mod guided;
 pub mod layers;
 mod memory;
-mod moment;
 pub mod moves;
-mod parking;
-pub mod queue;
-mod search;
+pub mod noted;
 mod seen;
-mod stop;
 mod straight;
 mod trail;
 
-pub use fresh::deliver;
-pub use guided::{Fault, deliver_guided, deliver_in, guided_steps};
+pub use fault::Fault;
 pub use memory::{MOST_KEPT, SearchMemory};
-pub use parking::{park, park_in};
-pub use stop::Stop;
-pub use straight::search_within;
+pub use straight::find_straight;

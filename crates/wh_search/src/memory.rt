@@ -2,9 +2,9 @@
 #![tactic(auto)]
 
 ghost use Rattle.std.specs.Prelude.{◌≡◌, ◌≤◌};
-ghost use Rattle.wh_search.specs.Rooms.{frontier_room};
+ghost use Rattle.wh_search.specs.Rooms.{noted_room};
 
-use crate::frontier::Frontier;
+use crate::noted::Noted;
 use std::alloc::Global;
 use std::marker::Model;
 
@@ -17,19 +17,19 @@ pub const MOST_KEPT: usize = 8192;
 /// Contracts see for how many entries there is room in its largest table.
 #[derive(Drop)]
 pub struct SearchMemory {
-    pub(crate) frontier: Frontier,
+    pub(crate) noted: Noted,
 }
 
 impl Model for SearchMemory {
     ghost use Rattle.std.specs.Prelude.{ℕ, ◌≤◌};
-    ghost use Rattle.wh_search.specs.Rooms.{frontier_room};
+    ghost use Rattle.wh_search.specs.Rooms.{noted_room};
     ghost use Rattle.wh_search.specs.declared.memory.TheConstants.{MOST_KEPT};
 
     ghost Value = { ℕ };
 
-    ghost view = { λ m. frontier_room m.frontier };
+    ghost view = { λ m. noted_room m.noted };
 
-    ghost invariant = { λ m. frontier_room m.frontier ≤ MOST_KEPT };
+    ghost invariant = { λ m. noted_room m.noted ≤ MOST_KEPT };
 }
 
 impl SearchMemory {
@@ -38,7 +38,7 @@ impl SearchMemory {
         ensures { result ≡ 0 }
     {
         SearchMemory {
-            frontier: Frontier::empty(alloc),
+            noted: Noted::empty(alloc),
         }
     }
 
@@ -48,15 +48,15 @@ impl SearchMemory {
         ensures value { result ≡ self.now }
         ensures bound { result ≤ MOST_KEPT }
     {
-        self.frontier.room()
+        self.noted.room()
     }
 }
 
 /// Gives all of it back where that is too much to be kept.
-pub fn settle(alloc: Global, frontier: &mut Frontier)
-    ensures { frontier_room frontier.new ≤ MOST_KEPT }
+pub fn settle(alloc: Global, noted: &mut Noted)
+    ensures { noted_room noted.new ≤ MOST_KEPT }
 {
-    if frontier.room() > MOST_KEPT {
-        *frontier = Frontier::empty(alloc);
+    if noted.room() > MOST_KEPT {
+        *noted = Noted::empty(alloc);
     }
 }

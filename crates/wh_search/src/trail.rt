@@ -5,7 +5,7 @@ ghost use Rattle.std.specs.Prelude.{◌≡◌, ℕ, ◌+◌, ◌<◌, ◌≤◌,
 ghost use Rattle.wh_search.specs.Frontiers.{problem, node_at, IsReached, IsTrace};
 
 use crate::errand::Errand;
-use crate::frontier::Node;
+use crate::noted::Node;
 use std::alloc::{AllocError, Global};
 use wh_path::TimedPath;
 

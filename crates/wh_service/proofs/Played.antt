@@ -16,7 +16,7 @@ use Rattle.wh_points.specs.Points.{Site}
 use Rattle.wh_points.specs.Formed.{IsFormed}
 use Rattle.wh_claims.specs.declared.bank.Bank.{Bank}
 use Rattle.wh_event.specs.declared.entry.Entry.{Entry}
-use Rattle.wh_event.specs.declared.reply.Reply.{Reply}
+use Rattle.wh_log.specs.Told.{Answered}
 use Rattle.wh_core.specs.States.{State, opened}
 use Rattle.wh_core.specs.Steps.{Run}
 use Rattle.wh_verify.specs.Drafts.{Seen}
@@ -26,7 +26,7 @@ use Rattle.wh_edge.specs.Site.{SiteRead}
 use Rattle.wh_edge.specs.declared.trouble.Trouble.{Trouble}
 use Rattle.wh_options.specs.declared.chosen.Fleet.{Fleet}
 use Rattle.wh_options.specs.declared.chosen.Tail.{Tail}
-use Rattle.wh_replay.specs.Answers.{commands_of, text_of}
+use Rattle.wh_replay.specs.Answers.{answered_from, commands_of, replies_to, text_of}
 use Rattle.wh_replay.specs.Scripts.{IsOutputOf}
 use Rattle.wh_replay.specs.declared.script.Replayed.{Replayed}
 use Rattle.wh_replay.specs.declared.script.ReplayFault.{ReplayFault}
@@ -127,7 +127,7 @@ opening_is fits count gives fleet site planners spares book makes range e o =
     o.opening ∙ ap (opened site.layout 0) (tied_slots count planners o.slots o.tied.seats o.tied.counts ∙ seats_are)
 
 -- the replies of a fleet's warehouse
-abbrev operates : {X : Type 0} (fits : X → Floor → Bool) (count : X → ℕ) (text : Reply → List ℕ) (gives : Gives X) (fleet : Fleet) (site : Site) (planners spares : List X) (lines : List (List ℕ))
+abbrev operates : {X : Type 0} (fits : X → Floor → Bool) (count : X → ℕ) (text : Answered → List ℕ) (gives : Gives X) (fleet : Fleet) (site : Site) (planners spares : List X) (lines : List (List ℕ))
     (book final : Seen) (rest : List X) (replies : List (List ℕ))
     → MakesPlanners fits count gives → IsOfFleet fleet → IsEquipped gives fleet site.grid (length site.layout.agents) planners spares
     → IsOpened fits count site planners book → IsOutputOf fits count text lines book spares final rest replies
@@ -143,7 +143,9 @@ operates fits count text gives fleet site planners spares lines book final rest 
       outcomes = g.outcomes;
       final = final.state;
       rest = map count rest;
-      replies_are = g.replies_are;
+      replies_are = g.replies_are
+          ∙ ap (λ (n : ℕ). replies_to text lines (answered_from n book.state.clock g.outcomes)) (ap length o.history)
+          ∙ ap (λ (s : State). replies_to text lines (answered_from 0 s.clock g.outcomes)) start;
       ran = subst (λ (s : State). RanFrom site s (replicate fleet.spares fleet.slots) (commands_of lines) g.outcomes final.state (map count rest)) start
           (subst (λ (l : List ℕ). RanFrom site book.state l (commands_of lines) g.outcomes final.state (map count rest)) spares_are seen);
       run = subst (λ (s : State). Run site s (entries_of g.outcomes) final.state) start run;
@@ -151,7 +153,7 @@ operates fits count text gives fleet site planners spares lines book final rest 
     }
 
 -- what follows the replies of it
-tail_is : {X : Type 0} (fits : X → Floor → Bool) (count : X → ℕ) (text : Reply → List ℕ) (gives : Gives X) (fleet : Fleet) (site : Site) (planners spares : List X) (tail : Tail) (lines : List (List ℕ))
+tail_is : {X : Type 0} (fits : X → Floor → Bool) (count : X → ℕ) (text : Answered → List ℕ) (gives : Gives X) (fleet : Fleet) (site : Site) (planners spares : List X) (tail : Tail) (lines : List (List ℕ))
     (book final : Seen) (rest : List X) (replies : List (List ℕ))
     → MakesPlanners fits count gives → IsOfFleet fleet → IsEquipped gives fleet site.grid (length site.layout.agents) planners spares
     → IsOpened fits count site planners book → (g : IsOutputOf fits count text lines book spares final rest replies)
@@ -161,7 +163,7 @@ tail_is fits count text gives fleet site planners spares tail lines book final r
     let grew = g.history ∙ ap (λ (h : List Entry). h ++ entries_of g.outcomes) o.history in
     ap (λ (s : State). tail_after tail s final.history final.state) opens ∙ ap (λ (h : List Entry). tail_after tail (opening fleet site) h final.state) grew
 
-abbrev finishes : {X : Type 0} (fits : X → Floor → Bool) (count : X → ℕ) (text : Reply → List ℕ) (gives : Gives X) (fleet : Fleet) (site : Site) (planners spares : List X) (old between new : Input)
+abbrev finishes : {X : Type 0} (fits : X → Floor → Bool) (count : X → ℕ) (text : Answered → List ℕ) (gives : Gives X) (fleet : Fleet) (site : Site) (planners spares : List X) (old between new : Input)
     (had has : Option (List ℕ)) (final : Seen) (written : ℕ)
     → SiteRead old between site.grid site.layout
     → MakesPlanners fits count gives → IsOfFleet fleet → IsEquipped gives fleet site.grid (length site.layout.agents) planners spares
@@ -181,7 +183,7 @@ finishes fits count text gives fleet site planners spares old between new had ha
       is_log = replay_logged text fleet site old between (lines_of p.replays.read) p.replays.replies at range done;
     }
 
-pub serves : {X : Type 0} (fits : X → Floor → Bool) (count : X → ℕ) (text : Reply → List ℕ) (gives : Gives X) (fleet : Fleet) (site : Site) (planners spares : List X) (tail : Tail) (old between new : Input)
+pub serves : {X : Type 0} (fits : X → Floor → Bool) (count : X → ℕ) (text : Answered → List ℕ) (gives : Gives X) (fleet : Fleet) (site : Site) (planners spares : List X) (tail : Tail) (old between new : Input)
     (had has : Option (List ℕ)) (written : ℕ)
     → SiteRead old between site.grid site.layout
     → MakesPlanners fits count gives → IsOfFleet fleet → IsEquipped gives fleet site.grid (length site.layout.agents) planners spares
@@ -196,7 +198,7 @@ serves fits count text gives fleet site planners spares tail old between new had
       written_is = q.replays.written_is;
     }
 
-serves_without : {X : Type 0} (fits : X → Floor → Bool) (count : X → ℕ) (text : Reply → List ℕ) (gives : Gives X) (fleet : Fleet) (site : Site) (planners spares : List X) (tail : Tail) (told : Trouble)
+serves_without : {X : Type 0} (fits : X → Floor → Bool) (count : X → ℕ) (text : Answered → List ℕ) (gives : Gives X) (fleet : Fleet) (site : Site) (planners spares : List X) (tail : Tail) (told : Trouble)
     (old between new : Input) (had has : Option (List ℕ))
     → SiteRead old between site.grid site.layout
     → MakesPlanners fits count gives → IsOfFleet fleet → IsEquipped gives fleet site.grid (length site.layout.agents) planners spares
@@ -211,7 +213,7 @@ serves_without fits count text gives fleet site planners spares tail told old be
       why = subst (λ (t : List ℕ). IsWhyNoTail told p.replied has t) same p.why;
     }
 
-serves_until : {X : Type 0} (fits : X → Floor → Bool) (count : X → ℕ) (text : Reply → List ℕ) (gives : Gives X) (fleet : Fleet) (site : Site) (planners spares : List X) (fault : ReplayFault)
+serves_until : {X : Type 0} (fits : X → Floor → Bool) (count : X → ℕ) (text : Answered → List ℕ) (gives : Gives X) (fleet : Fleet) (site : Site) (planners spares : List X) (fault : ReplayFault)
     (old between new : Input) (had has : Option (List ℕ))
     → SiteRead old between site.grid site.layout
     → MakesPlanners fits count gives → IsOfFleet fleet → IsEquipped gives fleet site.grid (length site.layout.agents) planners spares
@@ -230,7 +232,7 @@ serves_until fits count text gives fleet site planners spares fault old between 
 }
 
 -- why it was not served
-pub unserved : {X : Type 0} (fits : X → Floor → Bool) (count : X → ℕ) (text : Reply → List ℕ) (gives : Gives X) (fleet : Fleet) (site : Site) (planners spares : List X) (tail : Tail) (old between new : Input)
+pub unserved : {X : Type 0} (fits : X → Floor → Bool) (count : X → ℕ) (text : Answered → List ℕ) (gives : Gives X) (fleet : Fleet) (site : Site) (planners spares : List X) (tail : Tail) (old between new : Input)
     (had has : Option (List ℕ)) (told : Trouble)
     → SiteRead old between site.grid site.layout
     → MakesPlanners fits count gives → IsOfFleet fleet → IsEquipped gives fleet site.grid (length site.layout.agents) planners spares
@@ -252,12 +254,12 @@ unserved fits count text gives fleet site planners spares tail old between new h
       ]
 ]
 
-pub unequipped : (text : Reply → List ℕ) (fleet : Fleet) (site : Site) (tail : Tail) (old new : Input) (had has : Option (List ℕ)) (told : Trouble)
+pub unequipped : (text : Answered → List ℕ) (fleet : Fleet) (site : Site) (tail : Tail) (old new : Input) (had has : Option (List ℕ)) (told : Trouble)
     → SiteRead old new site.grid site.layout → IsWhyUnclaimed fleet.slots told → Keeps had has → IsWhyUnserved text fleet tail told old new had has
 unequipped text fleet site tail old new had has told at why kept = inr (inl (record { site = site; site_read = at; why = why }, kept))
 
 -- the same of an answer
-pub answer_serves : {X : Type 0} (fits : X → Floor → Bool) (count : X → ℕ) (text used : Reply → List ℕ) (gives : Gives X) (fleet : Fleet) (site : Site) (planners spares : List X) (tail : Tail) (old between new : Input)
+pub answer_serves : {X : Type 0} (fits : X → Floor → Bool) (count : X → ℕ) (text used : Answered → List ℕ) (gives : Gives X) (fleet : Fleet) (site : Site) (planners spares : List X) (tail : Tail) (old between new : Input)
     (had has : Option (List ℕ)) (answer : Result Replayed Trouble)
     → SiteRead old between site.grid site.layout
     → MakesPlanners fits count gives → IsOfFleet fleet → IsEquipped gives fleet site.grid (length site.layout.agents) planners spares
@@ -265,9 +267,9 @@ pub answer_serves : {X : Type 0} (fits : X → Floor → Bool) (count : X → �
 answer_serves fits count text used gives fleet site planners spares tail old between new had has answer at makes range e same plays =
     IfOk-weaker answer (λ r. Plays fits count text site planners spares tail between new had has r.replies) (λ r. Serves text fleet tail old new had has r.replies)
     (λ r p. serves fits count text gives fleet site planners spares tail old between new had has r.replies at makes range e p)
-    (subst (λ (u : Reply → List ℕ). IfOk answer (λ r. Plays fits count u site planners spares tail between new had has r.replies)) same plays)
+    (subst (λ (u : Answered → List ℕ). IfOk answer (λ r. Plays fits count u site planners spares tail between new had has r.replies)) same plays)
 
-pub answer_unserved : {X : Type 0} (fits : X → Floor → Bool) (count : X → ℕ) (text used : Reply → List ℕ) (gives : Gives X) (fleet : Fleet) (site : Site) (planners spares : List X) (tail : Tail) (old between new : Input)
+pub answer_unserved : {X : Type 0} (fits : X → Floor → Bool) (count : X → ℕ) (text used : Answered → List ℕ) (gives : Gives X) (fleet : Fleet) (site : Site) (planners spares : List X) (tail : Tail) (old between new : Input)
     (had has : Option (List ℕ)) (answer : Result Replayed Trouble)
     → SiteRead old between site.grid site.layout
     → MakesPlanners fits count gives → IsOfFleet fleet → IsEquipped gives fleet site.grid (length site.layout.agents) planners spares
@@ -275,14 +277,14 @@ pub answer_unserved : {X : Type 0} (fits : X → Floor → Bool) (count : X → 
 answer_unserved fits count text used gives fleet site planners spares tail old between new had has answer at makes range e same plays =
     IfErr-weaker answer (λ told. IsWhyUnplayed fits count text site planners spares tail told between new had has) (λ told. IsWhyUnserved text fleet tail told old new had has)
     (λ told p. unserved fits count text gives fleet site planners spares tail old between new had has told at makes range e p)
-    (subst (λ (u : Reply → List ℕ). IfErr answer (λ told. IsWhyUnplayed fits count u site planners spares tail told between new had has)) same plays)
+    (subst (λ (u : Answered → List ℕ). IfErr answer (λ told. IsWhyUnplayed fits count u site planners spares tail told between new had has)) same plays)
 
 -- and by which planners
-pub answer_fleet : {X : Type 0} (fits : X → Floor → Bool) (count : X → ℕ) (text used : Reply → List ℕ) (gives : Gives X) (fleet : Fleet) (site : Site) (planners spares : List X) (tail : Tail) (old between new : Input)
+pub answer_fleet : {X : Type 0} (fits : X → Floor → Bool) (count : X → ℕ) (text used : Answered → List ℕ) (gives : Gives X) (fleet : Fleet) (site : Site) (planners spares : List X) (tail : Tail) (old between new : Input)
     (had has : Option (List ℕ)) (answer : Result Replayed Trouble)
     → SiteRead old between site.grid site.layout → IsEquipped gives fleet site.grid (length site.layout.agents) planners spares
     → used ≡ text → IfOk answer (λ r. Plays fits count used site planners spares tail between new had has r.replies) → IfOk answer (λ r. ServesByFleet fits count text gives fleet tail old new had has r.replies)
 answer_fleet fits count text used gives fleet site planners spares tail old between new had has answer at e same plays =
     IfOk-weaker answer (λ r. Plays fits count text site planners spares tail between new had has r.replies) (λ r. ServesByFleet fits count text gives fleet tail old new had has r.replies)
     (λ r p. record { between = between; site = site; site_read = at; planners = planners; spares = spares; equipped = e; plays = p })
-    (subst (λ (u : Reply → List ℕ). IfOk answer (λ r. Plays fits count u site planners spares tail between new had has r.replies)) same plays)
+    (subst (λ (u : Answered → List ℕ). IfOk answer (λ r. Plays fits count u site planners spares tail between new had has r.replies)) same plays)

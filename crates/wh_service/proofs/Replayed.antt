@@ -10,7 +10,7 @@ use Rattle.wh_points.specs.Points.{Site}
 use Rattle.wh_event.specs.CommandLines.{command_of}
 use Rattle.wh_event.specs.declared.entry.Entry.{Entry}
 use Rattle.wh_event.specs.declared.event.Event.{Event}
-use Rattle.wh_event.specs.declared.reply.Reply.{Reply}
+use Rattle.wh_log.specs.Told.{Answered}
 use Rattle.wh_event.specs.declared.event.Spare.{Spare}
 use Rattle.wh_event.specs.declared.event.Command.{Command}
 use Rattle.wh_event.specs.declared.fault.LineFault.{LineFault}
@@ -94,7 +94,7 @@ few_of zero slots few = tt
 few_of (suc n) slots few = (few, few_of n slots few)
 
 -- the log of a replay is of the format
-pub replay_logged : (text : Reply → List ℕ) (fleet : Fleet) (site : Site) (old between : Input) (lines replies : List (List ℕ)) → SiteRead old between site.grid site.layout → IsOfFleet fleet
+pub replay_logged : (text : Answered → List ℕ) (fleet : Fleet) (site : Site) (old between : Input) (lines replies : List (List ℕ)) → SiteRead old between site.grid site.layout → IsOfFleet fleet
     → (done : Operates text fleet site lines replies) → length (entries_of done.outcomes) < 10 ^ 9
     → IsLogText (record { clock = 0; slots = replicate (length site.layout.agents) fleet.slots; entries = entries_of done.outcomes })
     (tail_text Log (opening fleet site) (entries_of done.outcomes) done.final)

@@ -1,6 +1,6 @@
 -- What the whole program comes to.
 use Rattle.std.proofs.Common.{◌≡◌, ◌≢◌, ◌⊎◌, ◌≤◌, ℕ, Bool, true, false, List, Option, Some, None, Result, Ok, Err, MatchOption, codes, inl, inr, refl, subst, sym, ◌∙◌, ap, arith}
-use Rattle.std.specs.Prelude.{OnOk, OnErr, is_some, option_map}
+use Rattle.std.specs.Prelude.{OnOk, OnErr, IfSome, is_some, option_map}
 use Rattle.std.specs.Io.KnownBytes.{Appends}
 use Rattle.wh_lines.specs.Input.{Input}
 use Rattle.wh_lines.specs.Output.{WritesFront}
@@ -13,6 +13,8 @@ use Rattle.wh_options.specs.Options.{GivesFleet, IsWritten, WordsGive}
 use Rattle.wh_options.specs.Requests.{AsksBy, help_flags, version_flags}
 use Rattle.wh_options.specs.Setting.{Setting, Text, value_of}
 use Rattle.wh_options.specs.declared.chosen.Fleet.{Fleet}
+use Rattle.wh_options.specs.declared.chosen.ReplayOptions.{ReplayOptions}
+use Rattle.wh_options.specs.declared.chosen.VehicleOptions.{VehicleOptions}
 use Rattle.wh_options.specs.declared.chosen.Options.{Options}
 use Rattle.wh_options.specs.declared.chosen.Options.TheVariants.{Check, Replay, Verify, Live}
 use Rattle.wh_options.specs.declared.refused.Refusal.{Refusal}
@@ -45,9 +47,26 @@ ranged : (value : Option Text) (n : ℕ) → MatchOption value (n ≡ 4) (λ tex
 ranged None n e = (omega (arith, e), omega (arith, e))
 ranged (Some text) n said = (said.1, said.2)
 
+one_ahead : (value : Option Text) (n : ℕ) → MatchOption value (n ≡ 1) (λ text. IsWritten n text × (1 ≤ n) × (n ≤ 1000)) → 1 ≤ n
+one_ahead None n e = omega (arith, e)
+one_ahead (Some text) n said = said.1
+
+some_ahead : (value : Option Text) (vehicles : Option VehicleOptions) (pace : VehicleOptions) → MatchOption value (vehicles ≡ None) (λ text. vehicles ≡ Some pace) → 1 ≤ pace.ahead →
+    IfSome vehicles (λ p. 1 ≤ p.ahead)
+some_ahead None vehicles pace is h = subst (λ (v : Option VehicleOptions). IfSome v (λ p. 1 ≤ p.ahead)) (sym is) tt
+some_ahead (Some text) vehicles pace is h = subst (λ (v : Option VehicleOptions). IfSome v (λ p. 1 ≤ p.ahead)) (sym is) h
+
+-- with vehicles the range is the fleet's, and one cell ahead at least
+pub late_range : (o : ReplayOptions) (pace : VehicleOptions) → HasRange (Replay o) → o.vehicles ≡ Some pace → IsOfFleet o.fleet × (1 ≤ pace.ahead)
+late_range o pace range is = (range.0, subst (λ (v : Option VehicleOptions). IfSome v (λ p. 1 ≤ p.ahead)) is range.1)
+
 pub in_range : (words : List Text) (o : Options) → WordsGive words o → HasRange o
 in_range words Check gives = tt
-in_range words (Replay o) gives = ranged (value_of (codes "slots") gives.1) o.fleet.slots gives.3.2.slots
+in_range words (Replay o) gives =
+    let v = gives.3.1.vehicles in (
+      ranged (value_of (codes "slots") gives.1) o.fleet.slots gives.3.1.fleet.slots,
+      some_ahead (value_of (codes "vehicles") gives.1) o.vehicles v.pace v.is (one_ahead (value_of (codes "ahead") gives.1) v.pace.ahead v.ahead),
+    )
 in_range words Verify gives = tt
 in_range words (Live o) gives = ranged (value_of (codes "slots") gives.1) o.fleet.slots gives.3.2.slots
 

@@ -1,5 +1,5 @@
 -- The planners that a run is given.
-use Rattle.std.specs.Prelude.{◌≡◌, ◌<◌, ◌≤◌, ℕ, Bool, true, List, length, All, Contains, Result, Ok}
+use Rattle.std.specs.Prelude.{◌≡◌, ◌<◌, ◌≤◌, ℕ, Bool, true, List, length, All, Contains, IfSome, Result, Ok}
 use Rattle.std.specs.List.{AllZip}
 use Rattle.std.specs.declared.alloc.AllocError.{AllocError}
 use Rattle.std.specs.Arc.{arc_value}
@@ -29,10 +29,10 @@ pub record MakesPlanners {X : Type 0} (fits : X → Floor → Bool) (count : X �
 abbrev pub IsOfFleet : Fleet → Type 0
 IsOfFleet fleet = (2 ≤ fleet.slots) × (fleet.slots ≤ 64)
 
--- the fleet that the options name keeps to that
+-- the fleet that the options name keeps to that, and vehicles may be told one cell ahead or more
 abbrev pub HasRange : Options → Type 0
 HasRange Check = Unit {0}
-HasRange (Replay o) = IsOfFleet o.fleet
+HasRange (Replay o) = IsOfFleet o.fleet × IfSome o.vehicles (λ pace. 1 ≤ pace.ahead)
 HasRange Verify = Unit {0}
 HasRange (Live o) = IsOfFleet o.fleet
 

@@ -1,5 +1,5 @@
 -- What a whole run of `replay` over a log file does.
-use Rattle.std.specs.Prelude.{◌≡◌, ◌⊎◌, ℕ, Bool, List, length, replicate, Option, IfSome, Result, All}
+use Rattle.std.specs.Prelude.{◌≡◌, ◌⊎◌, ◌<◌, ◌≤◌, ◌+◌, ℕ, Bool, true, List, length, replicate, Option, Some, IfSome, Result, All}
 use Rattle.std.specs.declared.alloc.AllocError.{AllocError}
 use Rattle.std.specs.Io.KnownBytes.{Appends, Keeps}
 use Rattle.wh_lines.specs.Input.{Input}
@@ -8,12 +8,14 @@ use Rattle.wh_points.specs.Points.{Site}
 use Rattle.wh_points.specs.Formed.{IsFormed}
 use Rattle.wh_claims.specs.Bank.{bank_total}
 use Rattle.wh_claims.specs.declared.bank.Bank.{Bank}
-use Rattle.wh_event.specs.declared.reply.Reply.{Reply}
+use Rattle.wh_log.specs.Told.{Answered}
 use Rattle.wh_core.specs.Laws.{IsOpening}
 use Rattle.wh_core.specs.Steps.{Run}
 use Rattle.wh_verify.specs.Drafts.{AllServed, Seen}
 use Rattle.wh_continue.specs.Starting.{IsWhyNoStart, StartsIn}
-use Rattle.wh_continue.specs.Running.{RunsOn, StopsRun}
+use Rattle.wh_continue.specs.Besides.{HoldsOther, StandsBeside}
+use Rattle.wh_continue.specs.Running.{LeavesFront, Opens, RunsOn, StopsRun}
+use Rattle.wh_continue.specs.declared.beside.Beside.{Beside}
 use Rattle.wh_continue.specs.declared.continuing.ContinueFault.TheVariants as continued
 use Rattle.wh_continue.specs.declared.running.KeepFault.{KeepFault}
 use Rattle.wh_continue.specs.declared.running.KeepFault.TheVariants as kept
@@ -23,7 +25,7 @@ use Rattle.wh_continue.specs.declared.starting.Start.{Start}
 use Rattle.wh_continue.specs.declared.starting.StartFault.TheVariants as started
 use Rattle.wh_journal.specs.declared.fault.JournaledFault.{JournaledFault}
 use Rattle.wh_journal.specs.declared.fault.JournaledFault.TheVariants as journaled
-use Rattle.wh_edge.specs.Site.{SiteRead, SiteFault}
+use Rattle.wh_edge.specs.Site.{SiteKept, SiteFault}
 use Rattle.wh_edge.specs.declared.trouble.Trouble.{Trouble}
 use Rattle.wh_edge.specs.declared.trouble.Trouble.TheVariants as trouble
 use Rattle.wh_options.specs.declared.chosen.Fleet.{Fleet}
@@ -52,27 +54,49 @@ pub record StartsFrom (fleet : Fleet) (site : Site) (file : Option (List ℕ)) (
   pub text_is : IfSome file (λ held. text ≡ held)
   pub starts : StartsIn site (first_slots fleet site) text start
 
--- A site was read, then the file, and planners were made for what the run starts from.
-pub record StartsOver {X : Type 0} (gives : PlannerParts → Result X AllocError → Type 0) (fleet : Fleet) (old between : Input) (file : Option (List ℕ))
+-- the file beside the log: what it told before and tells after, what of that was synced, and whether a call of it has failed
+pub record Siding : Type 0 where
+  pub before : Option (List ℕ)
+  pub after : Option (List ℕ)
+  pub synced : Option (List ℕ)
+  pub failed : Bool
+
+-- nothing of it has changed
+abbrev pub IsUntouched : Siding → Type 0
+IsUntouched beside = beside.after ≡ beside.before
+
+-- it holds this text and nothing else, all of it synced
+abbrev pub IsSet : Siding → List ℕ → Type 0
+IsSet beside text = Opens beside.before beside.after text × (beside.synced ≡ beside.after)
+
+-- A site was read, and stands beside the log, or a beginning of its text does; then the log was read, and planners were made
+-- for what the run starts from. Entries are told again from one on that the run has, or from its next one. Again, here and
+-- below, says from which, if any are.
+pub record StartsOver {X : Type 0} (gives : PlannerParts → Result X AllocError → Type 0) (fleet : Fleet) (again : Option ℕ) (old between : Input) (file : Option (List ℕ)) (beside : Siding)
     (site : Site) (start : Start) (planners spares : List X) : Type 0 where
-  pub site_read : SiteRead old between site.grid site.layout
+  pub text : List ℕ
+  pub site_read : SiteKept old between site.grid site.layout text
+  pub found : Beside
+  pub stands : StandsBeside beside.before text found
   pub starts : StartsFrom fleet site file start
+  pub within : IfSome again (λ first. first ≤ length start.book.history)
   pub seated : IsSeated gives fleet site.grid start.book.state.slots planners spares
 
--- The run went on from there: the script behind the site was served to its end, with planners for its agents, over the file,
--- which is the log of the whole run now, and what is to follow the replies follows them.
-pub record ServesKept {X : Type 0} (fits : X → Floor → Bool) (count : X → ℕ) (text : Reply → List ℕ) (gives : PlannerParts → Result X AllocError → Type 0) (fleet : Fleet) (tail : Tail)
-    (old new : Input) (had has file synced holds : Option (List ℕ)) : Type 0 where
+-- The run went on from there: the site stands beside the log, the script behind the site was served to its end, with planners
+-- for its agents, over the file, which is the log of the whole run now, and what is to follow the replies follows them.
+pub record ServesKept {X : Type 0} (fits : X → Floor → Bool) (count : X → ℕ) (text : Answered → List ℕ) (gives : PlannerParts → Result X AllocError → Type 0) (fleet : Fleet) (tail : Tail) (again : Option ℕ)
+    (old new : Input) (had has file synced holds : Option (List ℕ)) (beside : Siding) : Type 0 where
   pub site : Site
   pub between : Input
   pub start : Start
   pub planners : List X
   pub spares : List X
-  pub starts : StartsOver gives fleet old between file site start planners spares
+  pub starts : StartsOver gives fleet again old between file beside site start planners spares
+  pub is_set : IsSet beside starts.text
   pub rest : List X
   pub final : Seen
   pub replied : Option (List ℕ)
-  pub runs : RunsOn fits count text between new start.book spares final rest had replied file synced holds
+  pub runs : RunsOn fits count text again between new start.book spares final rest had replied file synced holds
   pub follows : Appends replied has (tail_after tail final.opening final.history final.state)
   -- the whole run, old entries and new ones, is one of the abstract warehouse, from an opening state of this site
   pub site_is : final.site ≡ site
@@ -92,7 +116,6 @@ journal_trouble journaled.Broken = trouble.Broken
 journal_trouble journaled.Endless = trouble.Endless
 journal_trouble journaled.Unwritten = trouble.Unwritten
 journal_trouble journaled.Unjournaled = trouble.Unkept
-journal_trouble journaled.NoMemory = trouble.NoMemory
 
 -- what is told of a run that was not brought to its end
 abbrev pub run_trouble : RunFault → Trouble
@@ -102,7 +125,15 @@ run_trouble (ran.Continue (continued.Replay fault)) = journal_trouble fault
 run_trouble (ran.Continue (continued.Resume fault)) = trouble.NoMemory
 run_trouble (ran.End fault) = keep_trouble fault
 
--- Why no run starts over the file of a site that was read: it was not to be read, or its text is none that a run goes on from,
+-- Why the file beside the log does not allow a run: it holds the text of another site, or another text, which is told as line
+-- 0; or it was not to be read; or memory was wanting.
+abbrev pub IsWhyAside : (beside : Option (List ℕ)) (text : List ℕ) → Trouble → Type 0
+IsWhyAside beside text (trouble.Log line) = (line ≡ 0) × HoldsOther beside text
+IsWhyAside beside text trouble.Unkept = Unit {0}
+IsWhyAside beside text trouble.NoMemory = Unit {0}
+IsWhyAside beside text _ = ⊥
+
+-- Why no run starts over the log of a site that was read: it was not to be read, or its text is none that a run goes on from,
 -- or memory was wanting.
 abbrev pub IsWhyNotStarted : Fleet → Site → Option (List ℕ) → Trouble → Type 0
 IsWhyNotStarted fleet site file (trouble.Log line) =
@@ -111,51 +142,80 @@ IsWhyNotStarted fleet site file trouble.Unkept = Unit {0}
 IsWhyNotStarted fleet site file trouble.NoMemory = Unit {0}
 IsWhyNotStarted fleet site file _ = ⊥
 
+-- A run could start, and entries are to be told again from one on that it has not come to: the first line that is wanting is
+-- told. Two lines stand before the entries.
+pub record IsBeyond (fleet : Fleet) (again : Option ℕ) (site : Site) (file : Option (List ℕ)) (told : Trouble) : Type 0 where
+  pub start : Start
+  pub starts : StartsFrom fleet site file start
+  pub first : ℕ
+  pub again_is : again ≡ Some first
+  pub beyond : length start.book.history < first
+  pub told_is : told ≡ trouble.Log (length start.book.history + 3)
+
+-- why no run starts over both files, the earlier first
+abbrev pub IsWhyNoRun : Fleet → (again : Option ℕ) → Site → (file beside : Option (List ℕ)) (text : List ℕ) → Trouble → Type 0
+IsWhyNoRun fleet again site file beside text told = IsWhyAside beside text told ⊎ IsWhyNotStarted fleet site file told ⊎ IsBeyond fleet again site file told
+
 -- the run starts, and a planner got no slots, or memory was wanting for one
 pub record IsUnequipped (fleet : Fleet) (site : Site) (file : Option (List ℕ)) (told : Trouble) : Type 0 where
   pub start : Start
   pub starts : StartsFrom fleet site file start
   pub why : IsWhyUnseated start.book.state.slots told ⊎ IsWhyUnclaimed fleet.slots told
 
--- A site was read, and there it ended: no run starts over the file, or its planners were not made.
-pub record EndsAtStart (fleet : Fleet) (told : Trouble) (old new : Input) (file : Option (List ℕ)) : Type 0 where
+-- A site was read, and there it ended: no run starts over the files, or its planners were not made.
+pub record EndsAtStart (fleet : Fleet) (again : Option ℕ) (told : Trouble) (old new : Input) (file beside : Option (List ℕ)) : Type 0 where
   pub site : Site
-  pub site_read : SiteRead old new site.grid site.layout
-  pub why : IsWhyNotStarted fleet site file told ⊎ IsUnequipped fleet site file told
+  pub text : List ℕ
+  pub site_read : SiteKept old new site.grid site.layout text
+  pub why : IsWhyNoRun fleet again site file beside text told ⊎ IsUnequipped fleet site file told
 
--- The run started, and was not brought to its end.
-pub record StopsKept {X : Type 0} (fits : X → Floor → Bool) (count : X → ℕ) (text : Reply → List ℕ) (gives : PlannerParts → Result X AllocError → Type 0) (fleet : Fleet) (fault : RunFault)
-    (old new : Input) (had has file : Option (List ℕ)) (failed : Bool) (synced holds : Option (List ℕ)) : Type 0 where
+-- A run starts, with planners, and the site could not be kept beside the log: what stood there stands, or a front of the text.
+pub record StopsAside {X : Type 0} (gives : PlannerParts → Result X AllocError → Type 0) (fleet : Fleet) (again : Option ℕ) (old new : Input) (file : Option (List ℕ)) (beside : Siding) : Type 0 where
+  pub site : Site
+  pub start : Start
+  pub planners : List X
+  pub spares : List X
+  pub starts : StartsOver gives fleet again old new file beside site start planners spares
+  pub left : LeavesFront beside.before beside.after starts.text
+  pub has_failed : beside.failed ≡ true
+
+-- The run started, with the site beside its log, and was not brought to its end.
+pub record StopsKept {X : Type 0} (fits : X → Floor → Bool) (count : X → ℕ) (text : Answered → List ℕ) (gives : PlannerParts → Result X AllocError → Type 0) (fleet : Fleet) (again : Option ℕ) (fault : RunFault)
+    (old new : Input) (had has file : Option (List ℕ)) (failed : Bool) (synced holds : Option (List ℕ)) (beside : Siding) : Type 0 where
   pub site : Site
   pub between : Input
   pub start : Start
   pub planners : List X
   pub spares : List X
-  pub starts : StartsOver gives fleet old between file site start planners spares
+  pub starts : StartsOver gives fleet again old between file beside site start planners spares
+  pub is_set : IsSet beside starts.text
   pub rest : List X
-  pub stops : StopsRun fits count text fault between new start planners spares rest had has file failed synced holds
+  pub stops : StopsRun fits count text again fault between new start planners spares rest had has file failed synced holds
 
 -- The run was brought to its end, and what is to follow the replies does not.
-pub record KeptWithoutTail {X : Type 0} (fits : X → Floor → Bool) (count : X → ℕ) (text : Reply → List ℕ) (gives : PlannerParts → Result X AllocError → Type 0) (fleet : Fleet) (tail : Tail)
-    (told : Trouble) (old new : Input) (had has file synced holds : Option (List ℕ)) : Type 0 where
+pub record KeptWithoutTail {X : Type 0} (fits : X → Floor → Bool) (count : X → ℕ) (text : Answered → List ℕ) (gives : PlannerParts → Result X AllocError → Type 0) (fleet : Fleet) (tail : Tail) (again : Option ℕ)
+    (told : Trouble) (old new : Input) (had has file synced holds : Option (List ℕ)) (beside : Siding) : Type 0 where
   pub site : Site
   pub between : Input
   pub start : Start
   pub planners : List X
   pub spares : List X
-  pub starts : StartsOver gives fleet old between file site start planners spares
+  pub starts : StartsOver gives fleet again old between file beside site start planners spares
+  pub is_set : IsSet beside starts.text
   pub rest : List X
   pub final : Seen
   pub replied : Option (List ℕ)
-  pub runs : RunsOn fits count text between new start.book spares final rest had replied file synced holds
+  pub runs : RunsOn fits count text again between new start.book spares final rest had replied file synced holds
   pub why : IsWhyNoTail told replied has (tail_after tail final.opening final.history final.state)
 
--- Why it ended otherwise, in this order: the site, the file, the bank and the planners, the run, what is to follow the
--- replies. Before the run starts nothing is written, and the file is as it was.
-abbrev pub IsWhyUnkept : {X : Type 0} → (X → Floor → Bool) → (X → ℕ) → (Reply → List ℕ) → (PlannerParts → Result X AllocError → Type 0) → Fleet → Tail → Trouble
-    → (old new : Input) → (had has file : Option (List ℕ)) → Bool → (synced holds : Option (List ℕ)) → Type 0
-IsWhyUnkept fits count text gives fleet tail told old new had has file failed synced holds =
-    (SiteFault told old new × Keeps had has × (holds ≡ file))
-    ⊎ (EndsAtStart fleet told old new file × Keeps had has × (holds ≡ file))
-    ⊎ ((fault : RunFault) × (told ≡ run_trouble fault) × StopsKept fits count text gives fleet fault old new had has file failed synced holds)
-    ⊎ KeptWithoutTail fits count text gives fleet tail told old new had has file synced holds
+-- Why it ended otherwise, in this order: the site, both files, the bank and the planners, the site's file, the run, what is to
+-- follow the replies. Before the run starts nothing is written, and the log is as it was; before its planners are made, so is
+-- the file beside it.
+abbrev pub IsWhyUnkept : {X : Type 0} → (X → Floor → Bool) → (X → ℕ) → (Answered → List ℕ) → (PlannerParts → Result X AllocError → Type 0) → Fleet → Tail → (again : Option ℕ) → Trouble
+    → (old new : Input) → (had has file : Option (List ℕ)) → Bool → (synced holds : Option (List ℕ)) → Siding → Type 0
+IsWhyUnkept fits count text gives fleet tail again told old new had has file failed synced holds beside =
+    (SiteFault told old new × Keeps had has × (holds ≡ file) × IsUntouched beside)
+    ⊎ (EndsAtStart fleet again told old new file beside.before × Keeps had has × (holds ≡ file) × IsUntouched beside)
+    ⊎ ((told ≡ trouble.Unkept) × StopsAside gives fleet again old new file beside × Keeps had has × (holds ≡ file))
+    ⊎ ((fault : RunFault) × (told ≡ run_trouble fault) × StopsKept fits count text gives fleet again fault old new had has file failed synced holds beside)
+    ⊎ KeptWithoutTail fits count text gives fleet tail again told old new had has file synced holds beside

@@ -2,6 +2,7 @@ pub mod Fleets
 pub mod Tails
 pub mod Plays
 pub mod Serves
+pub mod Late
 pub mod Kept
 pub mod Checks
 pub mod Verifies

@@ -9,8 +9,7 @@ use Rattle.wh_verify.specs.Drafts.{Seen}
 use Rattle.wh_replay.specs.Fleet.{IsTied}
 use Rattle.wh_edge.specs.declared.trouble.Trouble.{Trouble}
 use Rattle.wh_edge.specs.declared.trouble.Trouble.TheVariants as trouble
-use Rattle.wh_event.specs.declared.reply.Reply.{Reply}
-use Rattle.wh_log.specs.Told.{told_text}
+use Rattle.wh_log.specs.Told.{Answered, told_text}
 use Rattle.wh_log.specs.declared.form.Form.{Form}
 use Rattle.wh_log.specs.declared.form.Form.TheVariants as form
 use Rattle.wh_options.specs.declared.chosen.Replies.{Replies}
@@ -31,9 +30,10 @@ trouble_of replay.Unwritten = trouble.Unwritten
 abbrev pub form_of : Replies → Form
 form_of replies.Short = form.Short
 form_of replies.Full = form.Full
+form_of replies.Placed = form.Placed
 
 -- what a reply is told as
-abbrev pub text_by : Replies → Reply → List ℕ
+abbrev pub text_by : Replies → Answered → List ℕ
 text_by told = told_text (form_of told)
 
 -- the book of a warehouse that was opened at clock 0 with these planners, in the agents' order
@@ -46,7 +46,7 @@ pub record IsOpened {X : Type 0} (fits : X → Floor → Bool) (count : X → �
   pub history : book.history ≡ []
 
 -- A warehouse was opened, and served the script to its end. Text, here and below, says what a reply is told as.
-pub record PlaysThrough {X : Type 0} (fits : X → Floor → Bool) (count : X → ℕ) (text : Reply → List ℕ) (site : Site) (planners spares : List X)
+pub record PlaysThrough {X : Type 0} (fits : X → Floor → Bool) (count : X → ℕ) (text : Answered → List ℕ) (site : Site) (planners spares : List X)
     (before after : Input) (had has : Option (List ℕ)) (final : Seen) (written : ℕ) : Type 0 where
   pub book : Seen
   pub opened : IsOpened fits count site planners book
@@ -54,7 +54,7 @@ pub record PlaysThrough {X : Type 0} (fits : X → Floor → Bool) (count : X �
   pub replays : Replays fits count text before after book spares final rest had has written
 
 -- and what is to follow the replies follows them
-pub record Plays {X : Type 0} (fits : X → Floor → Bool) (count : X → ℕ) (text : Reply → List ℕ) (site : Site) (planners spares : List X) (tail : Tail)
+pub record Plays {X : Type 0} (fits : X → Floor → Bool) (count : X → ℕ) (text : Answered → List ℕ) (site : Site) (planners spares : List X) (tail : Tail)
     (before after : Input) (had has : Option (List ℕ)) (written : ℕ) : Type 0 where
   pub final : Seen
   pub replied : Option (List ℕ)
@@ -62,7 +62,7 @@ pub record Plays {X : Type 0} (fits : X → Floor → Bool) (count : X → ℕ) 
   pub follows : Appends replied has (tail_after tail final.opening final.history final.state)
 
 -- or it does not follow
-pub record PlaysWithoutTail {X : Type 0} (fits : X → Floor → Bool) (count : X → ℕ) (text : Reply → List ℕ) (site : Site) (planners spares : List X) (tail : Tail)
+pub record PlaysWithoutTail {X : Type 0} (fits : X → Floor → Bool) (count : X → ℕ) (text : Answered → List ℕ) (site : Site) (planners spares : List X) (tail : Tail)
     (told : Trouble) (before after : Input) (had has : Option (List ℕ)) : Type 0 where
   pub final : Seen
   pub replied : Option (List ℕ)
@@ -71,7 +71,7 @@ pub record PlaysWithoutTail {X : Type 0} (fits : X → Floor → Bool) (count : 
   pub why : IsWhyNoTail told replied has (tail_after tail final.opening final.history final.state)
 
 -- a warehouse was opened, and served a beginning of the script
-pub record PlaysUntil {X : Type 0} (fits : X → Floor → Bool) (count : X → ℕ) (text : Reply → List ℕ) (site : Site) (planners spares : List X)
+pub record PlaysUntil {X : Type 0} (fits : X → Floor → Bool) (count : X → ℕ) (text : Answered → List ℕ) (site : Site) (planners spares : List X)
     (fault : ReplayFault) (before after : Input) (had has : Option (List ℕ)) : Type 0 where
   pub book : Seen
   pub opened : IsOpened fits count site planners book
@@ -81,7 +81,7 @@ pub record PlaysUntil {X : Type 0} (fits : X → Floor → Bool) (count : X → 
 
 -- Why a script was not played to its end: memory was wanting to open the warehouse, or the reader or the writer failed, or what
 -- is to follow the replies does not.
-abbrev pub IsWhyUnplayed : {X : Type 0} → (X → Floor → Bool) → (X → ℕ) → (Reply → List ℕ) → Site → List X → List X → Tail → Trouble → Input → Input → Option (List ℕ) → Option (List ℕ) → Type 0
+abbrev pub IsWhyUnplayed : {X : Type 0} → (X → Floor → Bool) → (X → ℕ) → (Answered → List ℕ) → Site → List X → List X → Tail → Trouble → Input → Input → Option (List ℕ) → Option (List ℕ) → Type 0
 IsWhyUnplayed fits count text site planners spares tail told before after had has =
     ((told ≡ trouble.NoMemory) × (after ≡ before) × Keeps had has)
     ⊎ ((fault : ReplayFault) × (told ≡ trouble_of fault) × PlaysUntil fits count text site planners spares fault before after had has)

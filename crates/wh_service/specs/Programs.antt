@@ -18,7 +18,8 @@ use Rattle.wh_options.specs.declared.chosen.Options.TheVariants.{Check, Replay, 
 use Rattle.wh_options.specs.declared.chosen.ReplayOptions.{ReplayOptions}
 use Rattle.wh_service.specs.Checks.{IsWhyUnjudged, Judges}
 use Rattle.wh_service.specs.Hosts.{HostsTo, IsWhyUnhosted}
-use Rattle.wh_service.specs.Kept.{IsWhyUnkept, ServesKept}
+use Rattle.wh_service.specs.Late.{ObeysLate, pace_of}
+use Rattle.wh_service.specs.Kept.{IsWhyUnkept, ServesKept, Siding}
 use Rattle.wh_service.specs.Plays.{text_by}
 use Rattle.wh_service.specs.Serves.{IsWhyUnserved, ServesByFleet}
 use Rattle.wh_service.specs.Verifies.{IsWhyUnverified, Verifies}
@@ -47,27 +48,34 @@ Replayed fits count gives o (Ok status) old new had has =
     (status ≡ Done) × ((written : ℕ) × ServesByFleet fits count (text_by o.replies) gives o.fleet o.tail old new had has written)
 Replayed fits count gives o (Err told) old new had has = IsWhyUnserved (text_by o.replies) o.fleet o.tail told old new had has
 
--- `replay` over a file that told these bytes came to this; then it tells others, and so many of them outlive a kill.
-abbrev pub Kept : {X : Type 0} → (X → Floor → Bool) → (X → ℕ) → (PlannerParts → Result X AllocError → Type 0) → ReplayOptions → Result Status Trouble
-    → Input → Input → (had has file : Option (List ℕ)) → Type 0
-Kept fits count gives o (Ok status) old new had has file =
-    (status ≡ Done) × ((synced holds : Option (List ℕ)) × ServesKept fits count (text_by o.replies) gives o.fleet o.tail old new had has file synced holds)
-Kept fits count gives o (Err told) old new had has file =
-    (failed : Bool) × (synced holds : Option (List ℕ)) × IsWhyUnkept fits count (text_by o.replies) gives o.fleet o.tail told old new had has file failed synced holds
+-- what the log told, and the file beside it, before anything was done
+pub record Files : Type 0 where
+  pub log : Option (List ℕ)
+  pub site : Option (List ℕ)
 
--- over the file that was opened, or over none; file says what it told
+-- `replay` over files that told these bytes came to this; then they tell others, and so many of them outlive a kill.
+abbrev pub Kept : {X : Type 0} → (X → Floor → Bool) → (X → ℕ) → (PlannerParts → Result X AllocError → Type 0) → ReplayOptions → Result Status Trouble
+    → Input → Input → (had has : Option (List ℕ)) → Files → Type 0
+Kept fits count gives o (Ok status) old new had has files =
+    (status ≡ Done) × ((synced holds : Option (List ℕ)) × (beside : Siding) × (beside.before ≡ files.site)
+    × ServesKept fits count (text_by o.replies) gives o.fleet o.tail o.told old new had has files.log synced holds beside)
+Kept fits count gives o (Err told) old new had has files =
+    (failed : Bool) × (synced holds : Option (List ℕ)) × (beside : Siding) × (beside.before ≡ files.site)
+    × IsWhyUnkept fits count (text_by o.replies) gives o.fleet o.tail o.told told old new had has files.log failed synced holds beside
+
+-- over the files that were named, or over none; files says what they told
 abbrev pub ReplayedOver : {X : Type 0} → (X → Floor → Bool) → (X → ℕ) → (PlannerParts → Result X AllocError → Type 0) → ReplayOptions
-    → (file : Option (Option (List ℕ))) → Result Status Trouble → Input → Input → Option (List ℕ) → Option (List ℕ) → Type 0
+    → Option Files → Result Status Trouble → Input → Input → Option (List ℕ) → Option (List ℕ) → Type 0
 ReplayedOver fits count gives o None came old new had has = Replayed fits count gives o came old new had has
-ReplayedOver fits count gives o (Some file) came old new had has = Kept fits count gives o came old new had has file
+ReplayedOver fits count gives o (Some files) came old new had has = Kept fits count gives o came old new had has files
 
 -- what the options ask for was done, and came to this
 abbrev pub Did : {X : Type 0} → (X → Floor → Bool) → (X → ℕ) → (PlannerParts → Result X AllocError → Type 0) → Options
-    → (file : Option (Option (List ℕ))) → Result Status Trouble → Input → Input → Option (List ℕ) → Option (List ℕ) → Type 0
-Did fits count gives Check file came old new had has = Checked came old new had has
-Did fits count gives Verify file came old new had has = Verified came old new had has
-Did fits count gives (Live o) file came old new had has = Lived fits count gives o came old new had has
-Did fits count gives (Replay o) file came old new had has = ReplayedOver fits count gives o file came old new had has
+    → Option Files → Result Status Trouble → Input → Input → Option (List ℕ) → Option (List ℕ) → Type 0
+Did fits count gives Check files came old new had has = Checked came old new had has
+Did fits count gives Verify files came old new had has = Verified came old new had has
+Did fits count gives (Live o) files came old new had has = Lived fits count gives o came old new had has
+Did fits count gives (Replay o) files came old new had has = ReplayedOver fits count gives o files came old new had has
 
 -- whether the options name a log file
 abbrev pub names_file : Options → Bool
@@ -79,15 +87,16 @@ abbrev pub Ends : Result Status Trouble → Status → Option (List ℕ) → Opt
 Ends (Ok status) ended had has = (ended ≡ status) × Keeps had has
 Ends (Err told) ended had has = (ended ≡ status_of told) × WritesFront had has (trouble_text told)
 
--- The words give options, and what these ask for was done, over a log file where they name one.
+-- The words give options without vehicles, and what these ask for was done, over a log file and the file beside it where they name one.
 pub record Obeys {X : Type 0} (fits : X → Floor → Bool) (count : X → ℕ) (gives : PlannerParts → Result X AllocError → Type 0)
     (words : List Text) (ended : Status) (old new : Input) (had has blamed blames : Option (List ℕ)) : Type 0 where
   pub options : Options
   pub given : WordsGive words options
-  pub file : Option (Option (List ℕ))
-  pub named : is_some file ≡ names_file options
+  pub plain : pace_of options ≡ None
+  pub files : Option Files
+  pub named : is_some files ≡ names_file options
   pub came : Result Status Trouble
-  pub did : Did fits count gives options file came old new had has
+  pub did : Did fits count gives options files came old new had has
   pub ends : Ends came ended blamed blames
 
 -- The words give no options, or memory was wanting to read them; no input was read. Who asks for help or the version by a flag
@@ -102,4 +111,5 @@ pub record Declines (words : List Text) (ended : Status) (old new : Input) : Typ
 abbrev pub Comes : {X : Type 0} → (X → Floor → Bool) → (X → ℕ) → (PlannerParts → Result X AllocError → Type 0) → List Text → Status
     → (old new : Input) → (had has blamed blames : Option (List ℕ)) → Type 0
 Comes fits count gives words ended old new had has blamed blames =
-    Obeys fits count gives words ended old new had has blamed blames ⊎ Declines words ended old new
+    Obeys fits count gives words ended old new had has blamed blames ⊎ ObeysLate fits count gives words ended old new had has blamed blames
+    ⊎ Declines words ended old new

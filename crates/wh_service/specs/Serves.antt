@@ -9,7 +9,7 @@ use Rattle.wh_points.specs.Points.{Site}
 use Rattle.wh_points.specs.Formed.{IsFormed}
 use Rattle.wh_event.specs.declared.event.Command.{Command}
 use Rattle.wh_event.specs.declared.entry.Entry.{Entry}
-use Rattle.wh_event.specs.declared.reply.Reply.{Reply}
+use Rattle.wh_log.specs.Told.{Answered}
 use Rattle.wh_core.specs.Laws.{IsOpening}
 use Rattle.wh_core.specs.States.{State, opened}
 use Rattle.wh_core.specs.Steps.{Run}
@@ -26,7 +26,7 @@ use Rattle.wh_options.specs.declared.chosen.Tail.TheVariants.{Log}
 use Rattle.wh_options.specs.declared.refused.Refusal.{Refusal}
 use Rattle.wh_options.specs.declared.refused.Refusal.TheVariants.{Asked, Mistake, NoMemory}
 use Rattle.wh_log.specs.Logs.{IsLogText}
-use Rattle.wh_replay.specs.Answers.{commands_of, replies_to, text_of}
+use Rattle.wh_replay.specs.Answers.{answered_from, commands_of, replies_to, text_of}
 use Rattle.wh_replay.specs.Scripts.{WritesUntil}
 use Rattle.wh_replay.specs.declared.script.ReplayFault.{ReplayFault}
 use Rattle.wh_service.specs.Fleets.{IsEquipped, IsWhyUnclaimed}
@@ -51,13 +51,13 @@ abbrev pub RanFrom : Site → State → List ℕ → List Command → List (Opti
 RanFrom site old spares commands outcomes new rest =
     Ran (λ (slots : ℕ) (grid : Floor). true) (λ (slots : ℕ). slots) site 0 commands outcomes old spares new rest
 
--- These replies answer the lines: their commands ran from the opening state, with the fleet's spare planners. Text, here and
--- below, says what a reply is told as.
-pub record Operates (text : Reply → List ℕ) (fleet : Fleet) (site : Site) (lines : List (List ℕ)) (replies : List (List ℕ)) : Type 0 where
+-- These replies answer the lines: their commands ran from the opening state, with the fleet's spare planners. The first entry
+-- has place 0 in the history, and finds the clock at 0. Text, here and below, says what a reply is told as.
+pub record Operates (text : Answered → List ℕ) (fleet : Fleet) (site : Site) (lines : List (List ℕ)) (replies : List (List ℕ)) : Type 0 where
   pub outcomes : List (Option Entry)
   pub final : State
   pub rest : List ℕ
-  pub replies_are : replies ≡ replies_to text lines outcomes
+  pub replies_are : replies ≡ replies_to text lines (answered_from 0 0 outcomes)
   pub ran : RanFrom site (opening fleet site) (replicate fleet.spares fleet.slots) (commands_of lines) outcomes final rest
   -- the entries are one run of the abstract warehouse
   pub run : Run site (opening fleet site) (entries_of outcomes) final
@@ -67,7 +67,7 @@ pub record Operates (text : Reply → List ℕ) (fleet : Fleet) (site : Site) (l
 -- A site was read, all that followed was read to the end, and these are the replies to its lines. The run is from an opening
 -- state, so that each law of runs is one of it. The log of the entries, where they are fewer than 1,000,000,000, is of the
 -- format, so that it is read back as what was done.
-pub record Finishes (text : Reply → List ℕ) (fleet : Fleet) (old new : Input) : Type 0 where
+pub record Finishes (text : Answered → List ℕ) (fleet : Fleet) (old new : Input) : Type 0 where
   pub between : Input
   pub site : Site
   pub site_read : SiteRead old between site.grid site.layout
@@ -82,24 +82,24 @@ pub record Finishes (text : Reply → List ℕ) (fleet : Fleet) (old new : Input
       (tail_text Log (opening fleet site) (entries_of operates.outcomes) operates.final)
 
 -- what is to follow the replies: the log of its entries, or the ledger of its last state
-abbrev pub follows : {text : Reply → List ℕ} {fleet : Fleet} {old new : Input} → Tail → Finishes text fleet old new → List ℕ
+abbrev pub follows : {text : Answered → List ℕ} {fleet : Fleet} {old new : Input} → Tail → Finishes text fleet old new → List ℕ
 follows {text} {fleet} tail run = tail_after tail (opening fleet run.site) (entries_of run.operates.outcomes) run.operates.final
 
 -- All was served, and the replies and what is to follow them stand behind what was written.
-pub record Serves (text : Reply → List ℕ) (fleet : Fleet) (tail : Tail) (old new : Input) (had has : Option (List ℕ)) (written : ℕ) : Type 0 where
+pub record Serves (text : Answered → List ℕ) (fleet : Fleet) (tail : Tail) (old new : Input) (had has : Option (List ℕ)) (written : ℕ) : Type 0 where
   pub run : Finishes text fleet old new
   pub appends : Appends had has (text_of run.replies ++ follows tail run)
   pub written_is : written ≡ length run.replies
 
 -- All was served, the replies stand behind what was written, and what is to follow them does not.
-pub record ServesWithoutTail (text : Reply → List ℕ) (fleet : Fleet) (tail : Tail) (told : Trouble) (old new : Input) (had has : Option (List ℕ)) : Type 0 where
+pub record ServesWithoutTail (text : Answered → List ℕ) (fleet : Fleet) (tail : Tail) (told : Trouble) (old new : Input) (had has : Option (List ℕ)) : Type 0 where
   pub run : Finishes text fleet old new
   pub replied : Option (List ℕ)
   pub appends : Appends had replied (text_of run.replies)
   pub why : IsWhyNoTail told replied has (follows tail run)
 
 -- A site was read, and a beginning of what followed was served. After a write fault a front of the replies was written.
-pub record ServesUntil (text : Reply → List ℕ) (fleet : Fleet) (fault : ReplayFault) (old new : Input) (had has : Option (List ℕ)) : Type 0 where
+pub record ServesUntil (text : Answered → List ℕ) (fleet : Fleet) (fault : ReplayFault) (old new : Input) (had has : Option (List ℕ)) : Type 0 where
   pub between : Input
   pub site : Site
   pub site_read : SiteRead old between site.grid site.layout
@@ -113,7 +113,7 @@ pub record ServesUntil (text : Reply → List ℕ) (fleet : Fleet) (fault : Repl
 
 -- A site was read, planners were made for its agents and to stand by, all of the fleet's kind and with their claims on one
 -- bank, which has as many slots in all as the options name; and with these a warehouse served the script.
-pub record ServesByFleet {X : Type 0} (fits : X → Floor → Bool) (count : X → ℕ) (text : Reply → List ℕ) (gives : PlannerParts → Result X AllocError → Type 0) (fleet : Fleet) (tail : Tail)
+pub record ServesByFleet {X : Type 0} (fits : X → Floor → Bool) (count : X → ℕ) (text : Answered → List ℕ) (gives : PlannerParts → Result X AllocError → Type 0) (fleet : Fleet) (tail : Tail)
     (old new : Input) (had has : Option (List ℕ)) (written : ℕ) : Type 0 where
   pub between : Input
   pub site : Site
@@ -130,7 +130,7 @@ pub record EndsAtFleet (fleet : Fleet) (told : Trouble) (old new : Input) : Type
   pub why : IsWhyUnclaimed fleet.slots told
 
 -- Why a script was not served to its end, or what is to follow the replies does not. Before the script nothing is written.
-abbrev pub IsWhyUnserved : (Reply → List ℕ) → Fleet → Tail → Trouble → Input → Input → Option (List ℕ) → Option (List ℕ) → Type 0
+abbrev pub IsWhyUnserved : (Answered → List ℕ) → Fleet → Tail → Trouble → Input → Input → Option (List ℕ) → Option (List ℕ) → Type 0
 IsWhyUnserved text fleet tail told old new had has =
     (SiteFault told old new × Keeps had has)
     ⊎ (EndsAtFleet fleet told old new × Keeps had has)

@@ -1,11 +1,12 @@
 //! What `replay` does over a log file.
 
-ghost use Rattle.std.specs.Prelude.{◌≡◌, ◌≤◌, ◌⊎◌, IfErr, IfOk, OnOk, length, All};
+ghost use Rattle.std.specs.Prelude.{◌≡◌, ◌<◌, ◌≤◌, ◌⊎◌, ◌+◌, ◌^◌, ℕ, Some, IfErr, IfNone, IfOk, IfSome, OnOk, length, All};
 ghost use Rattle.std.specs.Arc.{arc_value};
 ghost use Rattle.wh_log.specs.Logs.{IsSlots};
 ghost use Rattle.wh_points.specs.Points.{IsLayout};
 ghost use Rattle.wh_service.specs.Fleets.{IsOfFleet, IsWhyUnclaimed, IsWhyUnseated, MakesPlanners};
-ghost use Rattle.wh_service.specs.Kept.{IsSeated, IsWhyNotStarted, IsWhyUnkept, ServesKept, StartsFrom, journal_trouble, keep_trouble, run_trouble};
+ghost use Rattle.wh_continue.specs.Besides.{StandsBeside};
+ghost use Rattle.wh_service.specs.Kept.{IsSeated, IsWhyAside, IsWhyNoRun, IsWhyNotStarted, IsWhyUnkept, ServesKept, StartsFrom, journal_trouble, keep_trouble, run_trouble};
 ghost use Rattle.wh_service.specs.Plays.{text_by};
 
 use crate::fleet::{members, seated};
@@ -17,10 +18,10 @@ use std::io::{Read, Write};
 use std::sync::Arc;
 use wh_claims::Bank;
 use wh_continue::{
-    ContinueFault, JournaledFault, KeepFault, LogFile, LogFileFault, RunFault, Setting, Start,
-    StartFault, find_start, run_on,
+    Beside, BesideFault, ContinueFault, JournaledFault, KeepFault, LogFile, LogFileFault, RunFault,
+    Setting, Start, StartFault, find_start, keep_beside, look_beside, run_on,
 };
-use wh_edge::{Site, Trouble, read_site};
+use wh_edge::{KeptSite, Site, Trouble, read_kept_site};
 use wh_grid::Grid;
 use wh_lines::Lines;
 use wh_options::{Fleet, ReplayOptions};
@@ -46,7 +47,6 @@ fn journal_trouble(fault: JournaledFault) -> Trouble
         JournaledFault::Endless => Trouble::Endless,
         JournaledFault::Unwritten => Trouble::Unwritten,
         JournaledFault::Unjournaled => Trouble::Unkept,
-        JournaledFault::NoMemory => Trouble::NoMemory,
     }
 }
 
@@ -92,7 +92,21 @@ fn equip_for<P: Planner, F: Fn(PlannerParts) -> Result<P, AllocError>>(
     }
 }
 
-/// What the file's text lets a run of the site start from.
+/// How much of a site's text the file beside the log holds.
+fn look_aside<L: LogFile>(alloc: Global, beside: &mut L, text: &[u8]) -> Result<Beside, Trouble>
+    ensures ok { IfOk result (StandsBeside (L.contents beside.old) text.now) }
+    ensures fault { IfErr result (IsWhyAside (L.contents beside.old) text.now) }
+    ensures same { L.contents beside.new ≡ L.contents beside.old }
+{
+    match look_beside(alloc, beside, text) {
+        Ok(found) => Ok(found),
+        Err(BesideFault::Other) => Err(Trouble::Log { line: 0 }),
+        Err(BesideFault::Unread) => Err(Trouble::Unkept),
+        Err(BesideFault::NoMemory) => Err(Trouble::NoMemory),
+    }
+}
+
+/// What the log's text lets a run of the site start from.
 fn start_over<L: LogFile>(
     alloc: Global,
     file: &mut L,
@@ -122,12 +136,62 @@ fn start_over<L: LogFile>(
     }
 }
 
-/// Reads a site, finds out from the log file what the run starts from, makes one planner for each agent, with the slots that
-/// its state tells, and then the spare ones, serves the script behind the site over the file, and writes what is to follow
-/// the replies. The first line written is `entries N`, the number of entries that the run has so far. What stands in the
-/// file outlives a kill, and no reply is told before its entry was synced. `make` makes one planner of its parts, and its
-/// error tells that memory is wanting. What can go wrong is told in this order: the site, the file, the bank and the
-/// planners, the run, what follows the replies. Before the run starts nothing is written, and the file is as it was.
+/// The line that is wanting in a log of so many entries, where entries are to be told again from one on that it does not come
+/// to. Two lines stand before the entries.
+fn wanting_line(again: Option<u32>, entries: u64) -> Option<u64>
+    requires few { entries < 2 ^ 63 }
+    ensures some { IfSome result (λ line. (line ≡ entries + 3) × ((first : ℕ) × (again ≡ Some first) × (entries < first))) }
+    ensures none { IfNone result (IfSome again (λ first. first ≤ entries)) }
+{
+    match again {
+        Some(first) if entries < u64::from(first) => Some(entries + 3),
+        _ => None,
+    }
+}
+
+/// What a run of the site starts from by both files, and how much of the site's text stands beside the log. The file beside
+/// it comes first.
+fn start_aside<L: LogFile>(
+    alloc: Global,
+    file: &mut L,
+    beside: &mut L,
+    text: &[u8],
+    grid: &Arc<Grid>,
+    points: Points,
+    options: &ReplayOptions<'_>,
+) -> Result<(Start, Beside), Trouble>
+    requires layout { IsLayout (arc_value grid.now) points }
+    requires some { 1 ≤ length points.agents }
+    requires range { IsOfFleet options.now.fleet }
+    ensures ok { IfOk result (λ r. StartsFrom options.now.fleet (record { grid = arc_value grid.now; layout = points }) (L.contents file.old) r.0) }
+    ensures stands { IfOk result (λ r. StandsBeside (L.contents beside.old) text.now r.1) }
+    ensures within { IfOk result (λ r. IfSome options.now.told (λ first. first ≤ length r.0.book.history)) }
+    ensures slots { IfOk result (λ r. All IsSlots r.0.book.state.slots) }
+    ensures fault { IfErr result (IsWhyNoRun options.now.fleet options.now.told (record { grid = arc_value grid.now; layout = points }) (L.contents file.old) (L.contents beside.old) text.now) }
+    ensures same { L.contents file.new ≡ L.contents file.old }
+    ensures same_beside { L.contents beside.new ≡ L.contents beside.old }
+{
+    let found = match look_aside(alloc, beside, text) {
+        Ok(found) => found,
+        Err(trouble) => return Err(trouble),
+    };
+    let start = match start_over(alloc, file, grid, points, &options.fleet) {
+        Ok(start) => start,
+        Err(trouble) => return Err(trouble),
+    };
+    match wanting_line(options.told, start.book.history().len() as u64) {
+        Some(line) => Err(Trouble::Log { line }),
+        None => Ok((start, found)),
+    }
+}
+
+/// Reads a site, finds out from the log file and the file beside it what the run starts from, makes one planner for each
+/// agent, with the slots that its state tells, and then the spare ones, keeps the site's text beside the log, serves the script
+/// behind the site over the log, and writes what is to follow the replies. The first line written is `entries N`, the number
+/// of entries that the run has so far, and behind it those that are to be told again. What stands in the log outlives a kill,
+/// and no reply is told before its entry was synced. `make` makes one planner of its parts, and its error tells that memory is
+/// wanting. What can go wrong is told in this order: the site, the file beside the log, the log, the bank and the planners, what
+/// is written beside the log, the run, what follows the replies. Before the run starts nothing is told, and the log is as it was.
 pub fn serve_kept<
     R: Read,
     W: Write,
@@ -140,18 +204,26 @@ pub fn serve_kept<
     output: &mut W,
     options: &ReplayOptions<'_>,
     file: &mut L,
+    beside: &mut L,
     make: F,
 ) -> Result<(), Trouble>
     requires range { IsOfFleet options.now.fleet }
     requires callable { F.IsAlwaysCallable make }
     requires makes { MakesPlanners P.fits_map P.slot_count (F.post make) }
-    ensures ok { OnOk result (ServesKept P.fits_map P.slot_count (text_by options.now.replies) (F.post make) options.now.fleet options.now.tail lines.old lines.new (W.contents output.old) (W.contents output.new) (L.contents file.old) (L.synced file.new) (L.contents file.new)) }
-    ensures fault { IfErr result (λ told. IsWhyUnkept P.fits_map P.slot_count (text_by options.now.replies) (F.post make) options.now.fleet options.now.tail told lines.old lines.new (W.contents output.old) (W.contents output.new) (L.contents file.old) (L.failed file.new) (L.synced file.new) (L.contents file.new)) }
+    ensures ok { OnOk result (ServesKept P.fits_map P.slot_count (text_by options.now.replies) (F.post make) options.now.fleet options.now.tail options.now.told lines.old lines.new (W.contents output.old) (W.contents output.new) (L.contents file.old) (L.synced file.new) (L.contents file.new)
+        (record { before = L.contents beside.old; after = L.contents beside.new; synced = L.synced beside.new; failed = L.failed beside.new })) }
+    ensures fault { IfErr result (λ told. IsWhyUnkept P.fits_map P.slot_count (text_by options.now.replies) (F.post make) options.now.fleet options.now.tail options.now.told told lines.old lines.new (W.contents output.old) (W.contents output.new) (L.contents file.old) (L.failed file.new) (L.synced file.new) (L.contents file.new)
+        (record { before = L.contents beside.old; after = L.contents beside.new; synced = L.synced beside.new; failed = L.failed beside.new })) }
 {
-    let Site { grid, points } = read_site(lines, alloc)?;
+    let KeptSite { site, text } = match read_kept_site(lines, alloc) {
+        Ok(kept) => kept,
+        Err(trouble) => return Err(trouble),
+    };
+    let bytes = text.as_slice();
+    let Site { grid, points } = site;
     let grid = Arc::new(alloc, grid)?;
-    let start = match start_over(alloc, file, &grid, points, &options.fleet) {
-        Ok(start) => start,
+    let (start, found) = match start_aside(alloc, file, beside, bytes, &grid, points, options) {
+        Ok(started) => started,
         Err(trouble) => return Err(trouble),
     };
     let slots = start.book.slots();
@@ -159,11 +231,17 @@ pub fn serve_kept<
         Ok(equipped) => equipped,
         Err(trouble) => return Err(trouble),
     };
+    match keep_beside(beside, bytes, found) {
+        Ok(()) => {}
+        Err(_) => return Err(Trouble::Unkept),
+    }
+    drop(text);
     let form = form_of(options.replies);
     let ran = run_on(
         lines,
         alloc,
         form,
+        options.told,
         file,
         output,
         start,

@@ -11,6 +11,7 @@ mod parts;
 mod program;
 mod running;
 mod tail;
+mod vehicles;
 mod verdict;
 mod verified;
 mod writing;
@@ -20,7 +21,8 @@ pub use kept::serve_kept;
 pub use live::host;
 pub use parts::PlannerParts;
 pub use program::{ended, play, serve};
-pub use running::run;
+pub use running::{end, run};
+pub use vehicles::serve_late;
 pub use verdict::judge;
 pub use verified::judge_log;
 

@@ -41,6 +41,7 @@ pub(crate) fn form_of(replies: Replies) -> Form
     match replies {
         Replies::Short => Form::Short,
         Replies::Full => Form::Full,
+        Replies::Placed => Form::Placed,
     }
 }
 

@@ -1,14 +1,15 @@
 //! The whole program: from its words and its input to its output and its status.
 
-ghost use Rattle.std.specs.Prelude.{◌≡◌, Bool, is_some, map, option_map};
+ghost use Rattle.std.specs.Prelude.{◌≡◌, Bool, Option, is_some, map, option_map};
 ghost use Rattle.wh_service.specs.Fleets.{HasRange, IsOfFleet, MakesPlanners};
-ghost use Rattle.wh_service.specs.Programs.{Comes, Did, Ends, ReplayedOver, names_file};
+ghost use Rattle.wh_service.specs.Programs.{Comes, Did, Ends, Files, ReplayedOver, names_file};
 ghost use Rattle.wh_service.specs.Serves.{ended_by};
 
 use crate::kept::serve_kept;
 use crate::live::host;
 use crate::parts::PlannerParts;
 use crate::program::{ended, serve};
+use crate::vehicles::{drive, late};
 use crate::verdict::judge;
 use crate::verified::judge_log;
 use crate::writing::write_text;
@@ -26,49 +27,73 @@ use wh_lines::Lines;
 use wh_options::{Options, Refusal, ReplayOptions, options, refusal_of};
 use wh_planner::Planner;
 
-/// The log file that the options name, if they name one. It is not opened yet.
-fn log_file<'a, T: Files<File = File>>(
-    rt: &'a T,
-    options: &Options<'a>,
-) -> Option<FileJournal<'a, T>>
+/// The files that keep a run: its log, and the file beside it that holds the site.
+#[derive(Drop)]
+struct KeptFiles<L> {
+    log: L,
+    site: L,
+}
+
+/// The name of the log file that the options name, if they name one.
+fn log_name<'a>(options: &Options<'a>) -> Option<&'a str>
     ensures { is_some result ≡ names_file options.now }
 {
     match options {
-        Options::Replay(options) => match options.log {
-            Some(name) => Some(FileJournal::new(rt, Path::new(name))),
-            None => None,
-        },
+        Options::Replay(options) => options.log,
         Options::Check | Options::Verify | Options::Live(_) => None,
     }
 }
 
-/// Replays over a file, or over none.
+/// The name of the file beside this log.
+fn site_name(alloc: Global, log: &str) -> Result<String, AllocError> {
+    let mut name = String::new(alloc);
+    name.push_str(log)?;
+    name.push_str(".site")?;
+    Ok(name)
+}
+
+/// The files of these names. They are not opened yet.
+fn kept_files<'a, T: Files<File = File>>(
+    rt: &'a T,
+    log: &'a str,
+    site: &'a str,
+) -> KeptFiles<FileJournal<'a, T>> {
+    KeptFiles {
+        log: FileJournal::new(rt, Path::new(log)),
+        site: FileJournal::new(rt, Path::new(site)),
+    }
+}
+
+/// Replays over files, or over none.
 fn replay<R: Read, W: Write, L: LogFile, P: Planner, F: Fn(PlannerParts) -> Result<P, AllocError>>(
     alloc: Global,
     lines: &mut Lines<R>,
     output: &mut W,
     options: &ReplayOptions<'_>,
-    file: &mut Option<L>,
+    files: &mut Option<KeptFiles<L>>,
     make: F,
 ) -> Result<Status, Trouble>
     requires range { IsOfFleet options.now.fleet }
     requires callable { F.IsAlwaysCallable make }
     requires makes { MakesPlanners P.fits_map P.slot_count (F.post make) }
-    ensures { ReplayedOver P.fits_map P.slot_count (F.post make) options.now (option_map L.contents file.old) result lines.old lines.new (W.contents output.old) (W.contents output.new) }
+    ensures { ReplayedOver P.fits_map P.slot_count (F.post make) options.now (option_map (λ f. record { log = L.contents f.log; site = L.contents f.site }) files.old) result lines.old lines.new (W.contents output.old) (W.contents output.new) }
 {
-    match file {
+    match files {
         None => match serve(alloc, lines, output, options, make) {
             Ok(_replayed) => Ok(Status::Done),
             Err(trouble) => Err(trouble),
         },
-        Some(file) => match serve_kept(alloc, lines, output, options, file, make) {
-            Ok(()) => Ok(Status::Done),
-            Err(trouble) => Err(trouble),
-        },
+        Some(files) => {
+            let site = &mut files.site;
+            match serve_kept(alloc, lines, output, options, &mut files.log, site, make) {
+                Ok(()) => Ok(Status::Done),
+                Err(trouble) => Err(trouble),
+            }
+        }
     }
 }
 
-/// Does what the options ask for, a replay over this file, or over none.
+/// Does what the options ask for, a replay over these files, or over none.
 fn obey<
     T: Threads + Wait + Sync,
     R: Read,
@@ -82,22 +107,57 @@ fn obey<
     lines: &mut Lines<R>,
     output: &mut W,
     options: &Options<'_>,
-    file: &mut Option<L>,
+    files: &mut Option<KeptFiles<L>>,
     make: F,
 ) -> Result<Status, Trouble>
     requires range { HasRange options.now }
     requires callable { F.IsAlwaysCallable make }
     requires makes { MakesPlanners P.fits_map P.slot_count (F.post make) }
-    ensures { Did P.fits_map P.slot_count (F.post make) options.now (option_map L.contents file.old) result lines.old lines.new (W.contents output.old) (W.contents output.new) }
+    ensures { Did P.fits_map P.slot_count (F.post make) options.now (option_map (λ f. record { log = L.contents f.log; site = L.contents f.site }) files.old) result lines.old lines.new (W.contents output.old) (W.contents output.new) }
 {
     match options {
         Options::Check => judge(rt, alloc, lines, output),
         Options::Verify => judge_log(alloc, lines, output),
-        Options::Replay(options) => replay(alloc, lines, output, options, file, make),
+        Options::Replay(options) => replay(alloc, lines, output, options, files, make),
         Options::Live(options) => match host(rt, alloc, lines, output, options, make) {
             Ok(()) => Ok(Status::Done),
             Err(trouble) => Err(trouble),
         },
+    }
+}
+
+/// Does what the options ask for, a replay over the files that they name, or over none.
+#[tactic(auto, using(crate::proofs::Whole::is_some_map, crate::proofs::Starved::starved))]
+fn obey_by_name<
+    'a,
+    T: Threads + Wait + Sync + Files<File = File>,
+    R: Read,
+    W: Write,
+    P: Planner,
+    F: Fn(PlannerParts) -> Result<P, AllocError>,
+>(
+    rt: &'a T,
+    alloc: Global,
+    lines: &mut Lines<R>,
+    output: &mut W,
+    options: &Options<'a>,
+    make: F,
+) -> Result<Status, Trouble>
+    requires range { HasRange options.now }
+    requires callable { F.IsAlwaysCallable make }
+    requires makes { MakesPlanners P.fits_map P.slot_count (F.post make) }
+    ensures { (files : Option Files) × (is_some files ≡ names_file options.now) × Did P.fits_map P.slot_count (F.post make) options.now files result lines.old lines.new (W.contents output.old) (W.contents output.new) }
+{
+    let Some(log) = log_name(options) else {
+        let mut none: Option<KeptFiles<FileJournal<'a, T>>> = None;
+        return obey(rt, alloc, lines, output, options, &mut none, make);
+    };
+    match site_name(alloc, log) {
+        Ok(site) => {
+            let mut files = Some(kept_files(rt, log, site.as_str()));
+            obey(rt, alloc, lines, output, options, &mut files, make)
+        }
+        Err(_) => Err(Trouble::NoMemory),
     }
 }
 
@@ -124,7 +184,7 @@ fn decline<W: Write, E: Write, X: Display>(
 }
 
 /// The status that tells what the program came to. A trouble is told by a line on standard error, as far as that takes it.
-fn end<E: Write>(errors: &mut E, came: Result<Status, Trouble>) -> Status
+pub fn end<E: Write>(errors: &mut E, came: Result<Status, Trouble>) -> Status
     ensures { Ends came result (E.contents errors.old) (E.contents errors.new) }
 {
     match came {
@@ -138,8 +198,8 @@ fn end<E: Write>(errors: &mut E, came: Result<Status, Trouble>) -> Status
 
 /// Does what the words ask for, over this input: the first word is the program's name. `make` makes one planner of its parts, and
 /// its error tells that memory is wanting. The answer is the status with which the program ends; one line on standard error
-/// tells what stopped it. A log file lies where `rt` finds files.
-#[tactic(auto, using(crate::proofs::Whole::in_range, crate::proofs::Whole::is_some_map))]
+/// tells what stopped it. A log file, and the one beside it, lie where `rt` finds files.
+#[tactic(auto, using(crate::proofs::Whole::in_range))]
 pub fn run<
     'a,
     T: Threads + Wait + Sync + Files<File = File>,
@@ -163,11 +223,13 @@ pub fn run<
     ensures { Comes P.fits_map P.slot_count (F.post make) (map S.text words.now) result lines.old lines.new (W.contents output.old) (W.contents output.new) (E.contents errors.old) (E.contents errors.new) }
 {
     match options(alloc, words) {
-        Ok(options) => {
-            let mut file = log_file(rt, &options);
-            let came = obey(rt, alloc, lines, output, &options, &mut file, make);
-            end(errors, came)
-        }
+        Ok(options) => match late(&options) {
+            Some((replay, pace)) => drive(alloc, lines, output, errors, &replay, pace, make),
+            None => {
+                let came = obey_by_name(rt, alloc, lines, output, &options, make);
+                end(errors, came)
+            }
+        },
         Err(error) => {
             let came = decline(output, errors, refusal_of(&error), &error);
             end(errors, came)

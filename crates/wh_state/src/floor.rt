@@ -146,9 +146,10 @@ impl Floor {
         &self.tasks
     }
 
-    /// Makes room for one task.
+    /// Makes room for one task. Room that there was stays.
     pub fn reserve_task(&mut self, alloc: Global) -> Result<(), AllocError>
         ensures state { self.new.state ≡ self.old.state }
+        ensures kept { self.old.room ≤ self.new.room }
         ensures room { OnOk result (1 ≤ self.new.room) }
         ensures full { OnErr result (self.old.room ≡ 0) }
     {

@@ -9,9 +9,8 @@ ghost use Rattle.wh_timetable.specs.Questions.{IsLastFree, IsNextFree, IsNeverFr
 
 use crate::beside::Beside;
 use crate::times::{free_until, next_free};
-use crate::within::free_within;
 use wh_grid::Cell;
-use wh_resv::{Reservations, Visits};
+use wh_resv::Reservations;
 
 /// The paths of some others, and whether nobody may follow another: who is where at which time, and what an agent may do
 /// beside them.
@@ -88,7 +87,6 @@ impl<'a> Occupancy for Beside<'a> {
     }
 }
 
-/// The last two ask for each time up to the horizon.
 impl<'a> Occupancy for Reservations<'a> {
     ghost others = { λ r. r };
 
@@ -118,38 +116,5 @@ impl<'a> Occupancy for Reservations<'a> {
 
     fn next_free(&self, cell: Cell, k: u64) -> Option<u64> {
         next_free(self, cell, k)
-    }
-}
-
-/// The last one asks for each time up to the horizon, the one before it for those times between which the cell is passed.
-impl<'a> Occupancy for Visits<'a> {
-    ghost others = { λ v. v };
-
-    fn horizon(&self) -> u64 {
-        self.others().horizon()
-    }
-
-    fn nofollow(&self) -> bool {
-        self.others().nofollow()
-    }
-
-    fn may_enter(&self, from: Cell, to: Cell, k: u64) -> bool {
-        self.others().may_enter(from, to, k)
-    }
-
-    fn may_rest(&self, cell: Cell, k: u64) -> bool {
-        self.others().may_rest(cell, k)
-    }
-
-    fn not_before(&self, cell: Cell) -> Option<u64> {
-        self.others().not_before(cell)
-    }
-
-    fn free_until(&self, cell: Cell, k: u64) -> Option<u64> {
-        free_within(self, cell, k)
-    }
-
-    fn next_free(&self, cell: Cell, k: u64) -> Option<u64> {
-        next_free(self.others(), cell, k)
     }
 }

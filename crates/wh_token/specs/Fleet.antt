@@ -86,7 +86,12 @@ abbrev pub IsSeated : {X : Type 0} → Option ℕ → List X → Type 0
 IsSeated (Some agent) planners = agent < length planners
 IsSeated None planners = Unit {0}
 
--- Only a Token asks a planner: at any other command the planners stay as they are.
+-- there are as many planners, and those of all other agents stay as they are
+pub record OthersStay {X : Type 0} (agent : ℕ) (old new : List X) : Type 0 where
+  pub seats : length new ≡ length old
+  pub others : (k : ℕ) → k ≢ agent → slice_get new k ≡ slice_get old k
+
+-- Only a Token asks a planner, that of its own agent: the others stay as they are. At any other command all of them stay.
 abbrev pub StaySeated : {X : Type 0} → Command → List X → List X → Type 0
-StaySeated (Command.Token agent) old new = Unit {0}
+StaySeated (Command.Token agent) old new = OthersStay agent old new
 StaySeated command old new = new ≡ old

@@ -19,9 +19,9 @@ ghost use Rattle.wh_core.specs.States.{opened, arrived, moved};
 ghost use Rattle.wh_core.specs.Laws.{IsOpening};
 ghost use Rattle.wh_core.specs.Steps.{Step, Run, Answers, IsDue, IsNext, NoneIsNext, IsDeliveryCell, IsAllowed, MakesWay, last_clock};
 ghost use Rattle.wh_shared.specs.Shares.{stored_grid};
-ghost use Rattle.wh_book.specs.Drafts.{IsSame, IsReady, Drafts, AllServed, ticked};
+ghost use Rattle.wh_book.specs.Drafts.{IsSame, IsReady, StaysReady, Drafts, AllServed, ticked};
 ghost use Rattle.wh_token.specs.Commands.{event_of};
-ghost use Rattle.wh_token.specs.Fleet.{IsTied, AllFit, RefusesToOpen, RefusesToResume, TellsSpare, TellsFor, Swaps, IsSeated, StaySeated, replaced_agent};
+ghost use Rattle.wh_token.specs.Fleet.{IsTied, AllFit, RefusesToOpen, RefusesToResume, TellsSpare, TellsFor, Swaps, IsSeated, OthersStay, StaySeated, replaced_agent};
 ghost use Rattle.wh_token.specs.Houses.{StaysAt};
 ghost use Rattle.wh_token.specs.Runs.{RunsOne, Ran as RanBy, WantsSpare, entries_of};
 
@@ -288,6 +288,7 @@ impl<P: Planner> Warehouse<P> {
         requires due { IsDue self.old.book.state agent }
         requires task { task < length self.old.book.state.tasks }
         ensures book { self.new.book ≡ self.old.book }
+        ensures others { OthersStay agent self.old.planners self.new.planners }
         ensures lawful { IfOk result (λ path. (job : Job) × IsTask self.old.book.state.tasks task job
             × IsLawful self.old.book.site.grid self.old.book.site.layout.nofollow self.old.book.state.paths agent (length job.stops) (Delivers job.stops) path) }
         ensures no_path { IfErr result (λ fault. fault ≡ PlanFault.NoPath → ((job : Job) × IsTask self.old.book.state.tasks task job
@@ -314,6 +315,7 @@ impl<P: Planner> Warehouse<P> {
     ) -> Result<TimedPath, PlanFault>
         requires due { IsDue self.old.book.state agent }
         ensures book { self.new.book ≡ self.old.book }
+        ensures others { OthersStay agent self.old.planners self.new.planners }
         ensures lawful { IfOk result (IsLawful self.old.book.site.grid self.old.book.site.layout.nofollow self.old.book.state.paths agent 2 (ParksAt (Contains allowed.now))) }
         ensures no_path { IfErr result (λ fault. fault ≡ PlanFault.NoPath → HasNoClearWay self.old.book.site.grid self.old.book.state.paths agent (ParksAt (Contains allowed.now))) }
     {
@@ -338,6 +340,7 @@ impl<P: Planner> Warehouse<P> {
         requires next { (job : Job) × IsNext self.old.book.site self.old.book.state agent task job }
         requires room { 1 ≤ self.old.book.entry_room }
         ensures book { self.new.book ≡ self.old.book }
+        ensures others { OthersStay agent self.old.planners self.new.planners }
         ensures drafts { IfOk result (Drafts self.old.book caller (Asked.Request agent)) }
     {
         match self.plan_delivery(alloc, agent, task) {
@@ -363,6 +366,7 @@ impl<P: Planner> Warehouse<P> {
         requires allowed { (cell : Place) → Contains allowed.now cell ↔ IsAllowed self.old.book.site self.old.book.state agent cell }
         requires room { 1 ≤ self.old.book.entry_room }
         ensures book { self.new.book ≡ self.old.book }
+        ensures others { OthersStay agent self.old.planners self.new.planners }
         ensures drafts { IfOk result (Drafts self.old.book caller (Asked.Request agent)) }
     {
         match self.plan_parking(alloc, agent, allowed) {
@@ -408,10 +412,12 @@ impl<P: Planner> Warehouse<P> {
     }
 
     /// The draft of a request by a due agent. Where no task is there for it, none is clear of all ends.
+    #[tactic(auto, using(crate::proofs::Seats::others_same))]
     fn draft_choice(&mut self, alloc: Global, caller: u32, agent: u32) -> Result<Draft, AllocError>
         requires due { IsDue self.old.book.state agent }
         requires room { 1 ≤ self.old.book.entry_room }
         ensures book { self.new.book ≡ self.old.book }
+        ensures others { OthersStay agent self.old.planners self.new.planners }
         ensures drafts { IfOk result (Drafts self.old.book caller (Asked.Request agent)) }
     {
         if let Some(task) = self.book.next(agent, &mut self.near) {
@@ -428,9 +434,11 @@ impl<P: Planner> Warehouse<P> {
     }
 
     /// The draft of a request. Where no task is open the agent rests, wherever it is.
+    #[tactic(auto, using(crate::proofs::Seats::others_same))]
     fn draft_request(&mut self, alloc: Global, caller: u32, agent: u32) -> Result<Draft, AllocError>
         requires room { 1 ≤ self.old.book.entry_room }
         ensures book { self.new.book ≡ self.old.book }
+        ensures others { OthersStay agent self.old.planners self.new.planners }
         ensures drafts { IfOk result (Drafts self.old.book caller (Asked.Request agent)) }
     {
         match self.answer_at_once(agent) {
@@ -443,6 +451,7 @@ impl<P: Planner> Warehouse<P> {
     }
 
     /// The draft of a command. It makes every growth that the commit needs.
+    #[tactic(auto, using(crate::proofs::Seats::seated_same, crate::proofs::Seats::seated_token))]
     fn draft(
         &mut self,
         alloc: Global,
@@ -451,6 +460,8 @@ impl<P: Planner> Warehouse<P> {
         told: Spare,
     ) -> Result<Draft, AllocError>
         ensures same { IsSame self.old.book self.new.book }
+        ensures entry_room { self.old.book.entry_room ≤ self.new.book.entry_room }
+        ensures task_room { self.old.book.task_room ≤ self.new.book.task_room }
         ensures drafts { IfOk result (Drafts self.new.book caller (event_of command told)) }
         ensures still { StaySeated command self.old.planners self.new.planners }
     {
@@ -470,7 +481,9 @@ impl<P: Planner> Warehouse<P> {
         }
     }
 
-    /// Plans and makes every growth; the state and the history stay.
+    /// Plans and makes every growth; the state and the history stay. What was prepared before, and is neither committed nor
+    /// withdrawn, may be committed still.
+    #[tactic(auto, using(crate::proofs::Readied::stays_ready))]
     pub fn prepare(
         &mut self,
         alloc: Global,
@@ -479,6 +492,7 @@ impl<P: Planner> Warehouse<P> {
         spare: Option<P>,
     ) -> Result<Ready<P>, (NoMemory, Option<P>)>
         ensures same { IsSame self.old.book self.new.book }
+        ensures stays { StaysReady self.old.book self.new.book }
         ensures ready { IfOk result (λ ready. IsReady self.new.book ready.draft) }
         ensures caller { IfOk result (λ ready. ready.draft.entry.caller ≡ caller) }
         ensures event { IfOk result (λ ready. ((told : Told) × (ready.draft.entry.event ≡ event_of command told))) }

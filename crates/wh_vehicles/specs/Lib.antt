@@ -2,3 +2,4 @@ pub mod Plans
 pub mod Reports
 pub mod Notices
 pub mod Driving
+pub mod Visits

@@ -5,7 +5,7 @@ mod follower;
 mod laws;
 mod verifier;
 
-pub use laws::runs_are_logs;
+pub use laws::{runs_are_logs, verdicts_are_one};
 pub use verifier::{Verified, verify};
 
 // handed on, for callers: what the items below take, return and speak of

@@ -72,6 +72,8 @@ fn texts_and_statuses(rt: HostRuntime) {
     assert_eq!(rt; log.status().number(), 1);
     assert!(rt; Trouble::Unkept.text().as_slice() == b"refused X5\n".as_slice());
     assert_eq!(rt; Trouble::Unkept.status().number(), 3);
+    assert!(rt; Trouble::MayFollow.text().as_slice() == b"refused V4\n".as_slice());
+    assert_eq!(rt; Trouble::MayFollow.status().number(), 1);
     assert_eq!(rt; Trouble::from(AllocError).status().number(), 4);
 }
 

@@ -135,12 +135,12 @@ fn written_as_it_was_read(rt: HostRuntime) -> Result<(), Fail> {
     Ok(())
 }
 
-/// The replies of a log in this form, a line for each.
+/// The replies of a log in this form, a line for each, as if the greatest clock stood before each.
 fn replies(alloc: Global, form: Form, text: &[u8]) -> Result<Vec<u8>, Fail> {
     let log = read_log(alloc, text)?;
     let mut told = Vec::new(alloc);
-    for entry in log.entries() {
-        if tell(form, &mut told, &entry.reply).is_err() {
+    for (place, entry) in log.entries().iter().enumerate() {
+        if tell(form, &mut told, place as u64, 1_000_000_000, &entry.reply).is_err() {
             return Err("it is told")?;
         }
         told.push(b'\n')?;
@@ -160,6 +160,11 @@ fn told_in_few_words_and_in_all(rt: HostRuntime) -> Result<(), Fail> {
     assert_eq!(rt;
         full.as_slice(),
         b"accepted 0\ntook 0 path 0,1 1,1 1,0 1,1 2,1 3,1 3,0\nclock 1 picked 0 dropped 0\n".as_slice()
+    );
+    let placed = replies(alloc, Form::Placed, LOG)?;
+    assert_eq!(rt;
+        placed.as_slice(),
+        b"0 1000000000 accepted 0\n1 1000000000 took 0 path 0,1 1,1 1,0 1,1 2,1 3,1 3,0\n2 1000000000 clock 1 picked 0 dropped 0\n".as_slice()
     );
     let full = replies(alloc, Form::Full, ALL)?;
     assert_eq!(rt;

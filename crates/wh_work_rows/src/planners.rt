@@ -10,7 +10,7 @@ use wh_path::TimedPath;
 use wh_planner::{Duty, Planner, Scene};
 use wh_planners::Sharing;
 use wh_resv::Reservations;
-use wh_search::deliver;
+use wh_search::layers;
 use wh_shared::SharedFields;
 
 /// An open map of 8 by 6 cells, in which the cells at x = 4 but for the one at y = 0 are blocked.
@@ -50,7 +50,10 @@ fn a_path_is_as_short_as_by_whole_fields(rt: HostRuntime) -> Result<(), Fail> {
     ];
     assert!(rt; grid.passable(loc));
     assert!(rt; others.may_rest(loc, 0));
-    let whole = deliver(rt.alloc(), &grid, &others, loc, &stops).expect(&rt, "there is a path");
+    let whole = layers::deliver(rt.alloc(), &grid, &others, loc, &stops).expect(
+        &rt,
+        "there is a path",
+    );
     let scene = Scene {
         grid: &grid,
         nofollow: true,

@@ -1,31 +1,36 @@
-use Rattle.std.proofs.Common.{List, length, subst}
+use Rattle.std.proofs.Common.{◌≡◌, ◌∙◌, ℕ, List, ◌++◌, length, ap, ap₂, subst}
 use Rattle.std.specs.Io.KnownBytes.{Appends}
 use Rattle.wh_event.specs.declared.entry.Entry.{Entry}
-use Rattle.wh_continue.specs.Running.{count_line, last_line}
+use Rattle.wh_continue.specs.Running.{count_line, first_text, last_line, told_again}
 use Rattle.wh_continue.proofs.Begun.{whole_log}
 use Rattle.wh_continue.proofs.running.run_on.Goals as goal
 
 pub returns-in-Ok-end_log-clause-runs : goal.returns-in-Ok-end_log-clause-runs
 returns-in-Ok-end_log-clause-runs g c =
     let had = g.W.Write.contents c.args.writer.now in
-    let counted = g.W.Write.contents c.tell_count.new.writer in
+    let counted = g.W.Write.contents c.tell_first.new.writer in
     let file = g.L.Journal.contents c.args.file.now in
     let begun = g.L.Journal.contents c.begin_log.new.file in
     let kept = g.L.Journal.contents c.continue_run.new.journal in
     let holds = g.L.Journal.contents c.end_log.new.journal in
     let new = c.in-Ok-continue_run.warehouse.book in
     let ends : Appends kept holds (last_line (length new.history)) =
-    subst (λ (entries : List Entry). Appends kept holds (last_line (length entries))) c.history-2.ensures.value c.in-Ok-end_log.ensures.ok in record {
+    subst (λ (entries : List Entry). Appends kept holds (last_line (length entries))) c.history-3.ensures.value c.in-Ok-end_log.ensures.ok in
+    let lines : c.as_slice.result.now ≡ told_again c.args.again c.args.start.book.history =
+    c.as_slice.ensures.value ∙ c.in-Ok.ensures ∙ ap (told_again c.args.again) c.history.ensures.value in
+    let text : count_line (length c.history-2.result.now) ++ c.as_slice.result.now ≡ first_text c.args.again c.args.start.book.history =
+    ap₂ (λ (entries : List Entry) (told : List ℕ). count_line (length entries) ++ told) c.history-2.ensures.value lines in
+    record {
       counted = counted;
       begun = begun;
       counts = record {
-        counts = subst (λ (entries : List Entry). Appends had counted (count_line (length entries))) c.history.ensures.value c.in-Ok-tell_count.ensures.ok;
-        begins = c.in-Ok.ensures.stays;
+        counts = subst (λ (bytes : List ℕ). Appends had counted bytes) text c.in-Ok-tell_first.ensures.ok;
+        begins = c.in-Ok-begin_log.ensures.stays;
       };
       safe = g.L.Journal.synced c.continue_run.new.journal;
       kept = kept;
       replays = c.in-Ok-continue_run.ensures.replays;
       ends = ends;
       synced_is = c.in-Ok-end_log.ensures.synced;
-      whole = whole_log file begun kept holds c.args.start.book new c.in-Ok.ensures.stays c.in-Ok-continue_run.ensures.log ends;
+      whole = whole_log file begun kept holds c.args.start.book new c.in-Ok-begin_log.ensures.stays c.in-Ok-continue_run.ensures.log ends;
     }

@@ -6,7 +6,7 @@ use Rattle.wh_dispatch.specs.declared.script.DispatchFault.TheVariants.{Endless}
 use Rattle.wh_dispatch.proofs.script.serve_all.Goals as goal
 
 pub loop-init : goal.loop-init
-loop-init g c = record { follows = from_start _ _ _ _ c.args.lines.now c.args.warehouse.now.book c.args.spares.now.items c.args.vehicles.now.order _; bound = refl }
+loop-init g c = record { follows = from_start _ _ _ _ c.args.lines.now c.args.warehouse.now.book c.args.spares.now.items c.args.vehicles.now _; bound = refl }
 
 pub serve-requires-clause-manned : goal.serve-requires-clause-manned
 serve-requires-clause-manned g c κs within = manned_on _ _ _ _ _ _ _ _ _ _ _ _ _ _ c.loop.invariant.follows c.requires.manned
@@ -18,7 +18,7 @@ returns-in-Err-clause-fault g c =
 pub returns-in-Err-serve-clause-fault : goal.returns-in-Err-serve-clause-fault
 returns-in-Err-serve-clause-fault g c =
     from_begun _ _ _ _ c.args.lines.now c.loop.lines c.next_line.new.self _ _ _ _ _ _ _ _ _ c.loop.invariant.follows c.next_line.ensures.writer
-    _ _ c.serve.new.vehicles.order _ c.next_line.new.line _ c.loop.invariant.bound c.in-Err-serve.fault c.in-Ok.next c.in_default.not-End c.in-Ok.ensures.ok c.in-Err-serve.ensures.err
+    _ _ c.serve.new.vehicles _ c.next_line.new.line _ c.loop.invariant.bound c.in-Err-serve.fault c.in-Ok.next c.in_default.not-End c.in-Ok.ensures.ok c.in-Err-serve.ensures.err
 
 pub returns-then-is_err-clause-fault : goal.returns-then-is_err-clause-fault
 returns-then-is_err-clause-fault g c =

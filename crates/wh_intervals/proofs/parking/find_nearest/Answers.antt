@@ -10,8 +10,8 @@ use Rattle.wh_search.proofs.Parks.{parking_weaker}
 use Rattle.wh_search.proofs.Nearest.{nearest_estimates}
 use Rattle.wh_intervals.proofs.parking.find_nearest.Goals as goal
 
-pub search_both-requires-clause-errand : goal.search_both-requires-clause-errand
-search_both-requires-clause-errand c =
+pub find_least-requires-clause-errand : goal.find_least-requires-clause-errand
+find_least-requires-clause-errand c =
     let g = c.args.grid.now in
     let ends = c.args.allowed.now in
     record {
@@ -31,7 +31,7 @@ returns c =
     let g = c.args.grid.now in
     let o = c.args.others.now in
     let ends = c.args.allowed.now in
-    ok_weaker c.search_both.result
+    ok_weaker c.find_least.result
     (λ found. MatchOption found ((q : List Cell) → IsTour g o c.args.loc [] ends q → ⊥) (λ p. IsLeastTour g o c.args.loc [] ends p))
     (λ found. MatchOption found ((q : List Cell) → IsParking g o c.args.loc ends q → ⊥) (λ p. IsLeastParking g o c.args.loc ends p))
-    (λ found h. parking_weaker g o c.args.loc ends found h) c.search_both.ensures
+    (λ found h. parking_weaker g o c.args.loc ends found h) c.find_least.ensures

@@ -14,8 +14,8 @@ use Rattle.wh_intervals.proofs.sighted.find_sighted.Goals as goal
 pub returns-in_default : goal.returns-in_default
 returns-in_default c = record { found = λ q d. c.in_default.ensures.none (last_index q) (delivery_rests c.args.grid.now c.args.others.now c.args.loc c.args.stops.now q d) }
 
-pub search_both-requires-clause-errand : goal.search_both-requires-clause-errand
-search_both-requires-clause-errand c =
+pub find_least-requires-clause-errand : goal.find_least-requires-clause-errand
+find_least-requires-clause-errand c =
     let g = c.args.grid.now in
     let stops = c.args.stops.now in
     let n = length stops - 1 in
@@ -53,8 +53,8 @@ returns c =
     let via = take n stops in
     let ends = take (length stops - n) (drop n stops) in
     record {
-      found = ok_weaker c.search_both.result
+      found = ok_weaker c.find_least.result
           (λ found. MatchOption found ((q : List Cell) → IsTour g o c.args.loc via ends q → ⊥) (λ p. IsLeastTour g o c.args.loc via ends p))
           (λ found. MatchOption found ((q : List Cell) → IsDelivery g o c.args.loc stops q → ⊥) (λ p. IsLeast g o c.args.loc stops p))
-          (λ found h. path_weaker g o c.args.loc stops via ends found c.requires.stops.0 refl (last_part stops) h) c.search_both.ensures;
+          (λ found h. path_weaker g o c.args.loc stops via ends found c.requires.stops.0 refl (last_part stops) h) c.find_least.ensures;
     }

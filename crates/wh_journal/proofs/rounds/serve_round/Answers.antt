@@ -10,6 +10,6 @@ returns-then-has_failed-clause-fault g c =
 
 pub returns-in-Err-clause-fault : goal.returns-in-Err-clause-fault
 returns-in-Err-clause-fault g c =
-    journaled_failed g.P.Planner.fits_map g.P.Planner.slot_count (told_text c.args.form) c.in-Err.fault c.args.lines.now c.round_once.new.lines c.fail.new.self c.args.warehouse.now.book c.args.spares.now.items c.round_once.new.warehouse.book c.round_once.new.spares.items
-    (g.W.Write.contents c.args.writer.now) (g.W.Write.contents c.round_once.new.writer) (g.J.Journal.contents c.args.journal.now) (g.J.Journal.failed c.round_once.new.journal) (g.J.Journal.synced c.round_once.new.journal)
-    (g.J.Journal.contents c.round_once.new.journal) c.fail.ensures c.in-Err.ensures.fault
+    journaled_failed g.P.Planner.fits_map g.P.Planner.slot_count (told_text c.args.form) c.in-Err.fault c.args.lines.now c.serve_parts.new.lines c.fail.new.self c.args.warehouse.now.book c.args.spares.now.items c.serve_parts.new.warehouse.book c.serve_parts.new.spares.items
+    (g.W.Write.contents c.args.writer.now) (g.W.Write.contents c.serve_parts.new.writer) (g.J.Journal.contents c.args.journal.now) (g.J.Journal.failed c.serve_parts.new.journal) (g.J.Journal.synced c.serve_parts.new.journal)
+    (g.J.Journal.contents c.serve_parts.new.journal) c.fail.ensures c.in-Err.ensures.fault

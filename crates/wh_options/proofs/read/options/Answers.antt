@@ -5,12 +5,13 @@ use Rattle.clap.specs.Kinds.{HasKind, IsAmong, Kinds}
 use Rattle.clap.specs.Values.{kind_of}
 use Rattle.clap.specs.declared.error.Error.{Error}
 use Rattle.clap.specs.declared.error.kind.ErrorKind.{ErrorKind}
-use Rattle.clap.specs.declared.error.kind.ErrorKind.TheVariants.{DisplayHelp, DisplayVersion, OutOfMemory}
+use Rattle.clap.specs.declared.error.kind.ErrorKind.TheVariants.{ArgumentConflict, DisplayHelp, DisplayVersion, MissingRequiredArgument, OutOfMemory}
 use Rattle.wh_options.specs.Requests.{IsKind}
 use Rattle.wh_options.proofs.Asks.{help_is_given, version_is_given}
-use Rattle.wh_options.proofs.Exact.{given_is_taken}
+use Rattle.wh_options.proofs.Amiss.{clashing_never, kind_clashing, kind_lacking, lacking_never, mistaken_never}
+use Rattle.wh_options.proofs.Exact.{each_is_taken, given_is_taken}
 use Rattle.wh_options.proofs.Once.{given_once}
-use Rattle.wh_options.proofs.Menus.{menu_is_simple, words_give}
+use Rattle.wh_options.proofs.Menus.{menu_is_simple, words_give, words_mistaken}
 use Rattle.wh_options.proofs.read.options.Goals as goal
 
 -- a list of kinds is not empty and of one
@@ -29,20 +30,96 @@ one_kind k kinds e (inr among) only = elim (subst (λ ks. IsAmong (kind_of e) ks
 same_kind : (k : ErrorKind) (d e : Error) → e ≡ d → IsKind k d → IsKind k e
 same_kind k d e same is = subst (IsKind k) (sym same) is
 
-pub returns : goal.returns
-returns g c =
+pub returns-in-Ok-clause-ok : goal.returns-in-Ok-clause-ok
+returns-in-Ok-clause-ok g c =
     let menu = c.in_ok-warehouse_command.ensures in
     let simple = menu_is_simple _ menu in
     let found = c.in_ok-matches.ensures in
-    let gives = words_give _ (map g.W.AsStr.text c.args.words.now) c.read_options.result menu (found.kinds simple.0)
-    (λ name rows e. c.read_options.ensures name rows ((found.matches simple.1).1 ∙ e)) in
-    record {
-      ok = gives;
-      only = λ p other. given_once (map g.W.AsStr.text c.args.words.now) p c.read_options.result other gives;
-      refused = tt;
-      help = λ asks. some_kind DisplayHelp _ (help_is_given _ _ menu asks) (found.kinds simple.0);
-      version = λ asks. some_kind DisplayVersion _ (version_is_given _ _ menu asks) (found.kinds simple.0);
-    }
+    let gives = words_give _ (map g.W.AsStr.text c.args.words.now) c.in-Ok.options menu (found.kinds simple.0)
+    (λ name rows e. c.in-Ok.ensures.read name rows ((found.matches simple.1).1 ∙ e)) in
+    gives
+
+pub returns-in-Ok-clause-only : goal.returns-in-Ok-clause-only
+returns-in-Ok-clause-only g c =
+    let menu = c.in_ok-warehouse_command.ensures in
+    let simple = menu_is_simple _ menu in
+    let found = c.in_ok-matches.ensures in
+    let gives = words_give _ (map g.W.AsStr.text c.args.words.now) c.in-Ok.options menu (found.kinds simple.0)
+    (λ name rows e. c.in-Ok.ensures.read name rows ((found.matches simple.1).1 ∙ e)) in
+    λ p other. given_once (map g.W.AsStr.text c.args.words.now) p c.in-Ok.options other gives
+
+pub returns-in-Ok-clause-lacking : goal.returns-in-Ok-clause-lacking
+returns-in-Ok-clause-lacking g c =
+    let menu = c.in_ok-warehouse_command.ensures in
+    let simple = menu_is_simple _ menu in
+    let found = c.in_ok-matches.ensures in
+    let gives = words_give _ (map g.W.AsStr.text c.args.words.now) c.in-Ok.options menu (found.kinds simple.0)
+    (λ name rows e. c.in-Ok.ensures.read name rows ((found.matches simple.1).1 ∙ e)) in
+    λ amiss. lacking_never (map g.W.AsStr.text c.args.words.now) amiss c.in-Ok.options gives
+
+pub returns-in-Ok-clause-clashing : goal.returns-in-Ok-clause-clashing
+returns-in-Ok-clause-clashing g c =
+    let menu = c.in_ok-warehouse_command.ensures in
+    let simple = menu_is_simple _ menu in
+    let found = c.in_ok-matches.ensures in
+    let gives = words_give _ (map g.W.AsStr.text c.args.words.now) c.in-Ok.options menu (found.kinds simple.0)
+    (λ name rows e. c.in-Ok.ensures.read name rows ((found.matches simple.1).1 ∙ e)) in
+    λ amiss. clashing_never (map g.W.AsStr.text c.args.words.now) amiss c.in-Ok.options gives
+
+pub returns-in-Ok-clause-help : goal.returns-in-Ok-clause-help
+returns-in-Ok-clause-help g c =
+    let menu = c.in_ok-warehouse_command.ensures in
+    let simple = menu_is_simple _ menu in
+    let found = c.in_ok-matches.ensures in
+    λ asks. some_kind DisplayHelp _ (help_is_given _ _ menu asks) (found.kinds simple.0)
+
+pub returns-in-Ok-clause-version : goal.returns-in-Ok-clause-version
+returns-in-Ok-clause-version g c =
+    let menu = c.in_ok-warehouse_command.ensures in
+    let simple = menu_is_simple _ menu in
+    let found = c.in_ok-matches.ensures in
+    λ asks. some_kind DisplayVersion _ (version_is_given _ _ menu asks) (found.kinds simple.0)
+
+pub returns-clause-refused : goal.returns-clause-refused
+returns-clause-refused g c =
+    let menu = c.in_ok-warehouse_command.ensures in
+    let simple = menu_is_simple _ menu in
+    let found = c.in_ok-matches.ensures in
+    let wrong = words_mistaken _ (map g.W.AsStr.text c.args.words.now) c.in-Err.mistake menu (found.kinds simple.0)
+    (λ name rows e. c.in-Err.ensures.mistaken name rows ((found.matches simple.1).1 ∙ e)) in
+    λ o gives. absurd (mistaken_never (map g.W.AsStr.text c.args.words.now) wrong.given c.in-Err.mistake wrong.says wrong.is o gives)
+
+pub returns-clause-lacking : goal.returns-clause-lacking
+returns-clause-lacking g c =
+    let menu = c.in_ok-warehouse_command.ensures in
+    let simple = menu_is_simple _ menu in
+    let found = c.in_ok-matches.ensures in
+    let wrong = words_mistaken _ (map g.W.AsStr.text c.args.words.now) c.in-Err.mistake menu (found.kinds simple.0)
+    (λ name rows e. c.in-Err.ensures.mistaken name rows ((found.matches simple.1).1 ∙ e)) in
+    λ amiss. inl (c.in_ok-error-in-Err.ensures ∙ kind_lacking (map g.W.AsStr.text c.args.words.now) wrong.given c.in-Err.mistake wrong.says wrong.is amiss)
+
+pub returns-clause-clashing : goal.returns-clause-clashing
+returns-clause-clashing g c =
+    let menu = c.in_ok-warehouse_command.ensures in
+    let simple = menu_is_simple _ menu in
+    let found = c.in_ok-matches.ensures in
+    let wrong = words_mistaken _ (map g.W.AsStr.text c.args.words.now) c.in-Err.mistake menu (found.kinds simple.0)
+    (λ name rows e. c.in-Err.ensures.mistaken name rows ((found.matches simple.1).1 ∙ e)) in
+    λ amiss. inl (c.in_ok-error-in-Err.ensures ∙ kind_clashing (map g.W.AsStr.text c.args.words.now) wrong.given c.in-Err.mistake wrong.says wrong.is amiss)
+
+pub returns-clause-help : goal.returns-clause-help
+returns-clause-help g c =
+    let menu = c.in_ok-warehouse_command.ensures in
+    let simple = menu_is_simple _ menu in
+    let found = c.in_ok-matches.ensures in
+    λ asks. absurd (some_kind DisplayHelp _ (help_is_given _ _ menu asks) (found.kinds simple.0))
+
+pub returns-clause-version : goal.returns-clause-version
+returns-clause-version g c =
+    let menu = c.in_ok-warehouse_command.ensures in
+    let simple = menu_is_simple _ menu in
+    let found = c.in_ok-matches.ensures in
+    λ asks. absurd (some_kind DisplayVersion _ (version_is_given _ _ menu asks) (found.kinds simple.0))
 
 only_memory : (kinds : Kinds) (e : Error) → HasKind kinds e → kinds ≡ [] → kind_of e ≡ OutOfMemory
 only_memory kinds e (inl memory) none = memory
@@ -74,3 +151,23 @@ returns-in_err-matches-clause-version g c =
     rw came.1 (λ asks.
     same_kind DisplayVersion c.in_err-matches.field-0.0 came.0 came.2
     (one_kind DisplayVersion _ c.in_err-matches.field-0.0 (c.in_err-matches.ensures.kinds simple.0) (version_is_given _ (map g.W.AsStr.text c.args.words.now) menu asks)))
+
+pub returns-in_err-matches-clause-lacking : goal.returns-in_err-matches-clause-lacking
+returns-in_err-matches-clause-lacking g c =
+    let menu = c.in_ok-warehouse_command.ensures in
+    let simple = menu_is_simple _ menu in
+    let came = err_from_is_err_and c.from_residual-in_err-matches.result c.from_residual-in_err-matches.ensures.1 in
+    rw came.1 (λ amiss.
+    let fine = each_is_taken _ (map g.W.AsStr.text c.args.words.now) amiss.settings amiss.options menu amiss.line amiss.each in
+    same_kind MissingRequiredArgument c.in_err-matches.field-0.0 came.0 came.2
+    (inr (only_memory _ c.in_err-matches.field-0.0 (c.in_err-matches.ensures.kinds simple.0) fine)))
+
+pub returns-in_err-matches-clause-clashing : goal.returns-in_err-matches-clause-clashing
+returns-in_err-matches-clause-clashing g c =
+    let menu = c.in_ok-warehouse_command.ensures in
+    let simple = menu_is_simple _ menu in
+    let came = err_from_is_err_and c.from_residual-in_err-matches.result c.from_residual-in_err-matches.ensures.1 in
+    rw came.1 (λ amiss.
+    let fine = each_is_taken _ (map g.W.AsStr.text c.args.words.now) amiss.settings amiss.options menu amiss.line amiss.each in
+    same_kind ArgumentConflict c.in_err-matches.field-0.0 came.0 came.2
+    (inr (only_memory _ c.in_err-matches.field-0.0 (c.in_err-matches.ensures.kinds simple.0) fine)))

@@ -1,6 +1,6 @@
 use Rattle.std.proofs.Common.{◌≡◌, ℕ, ◌<◌, List, length, subst, sym, arith}
 use Rattle.std.proofs.lemmas.List.{get_or_read}
-use Rattle.wh_search.specs.declared.frontier.Node.{Node}
+use Rattle.wh_search.specs.declared.noted.Node.{Node}
 use Rattle.wh_search.specs.Frontiers.{problem, node_at, state_of, IsReached, IsTrace}
 use Rattle.wh_search.specs.States.{IsEnd}
 use Rattle.wh_search.proofs.Layered.{layers_none, layers_found}

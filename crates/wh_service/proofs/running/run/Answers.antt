@@ -1,8 +1,23 @@
-use Rattle.std.proofs.Common.{inr}
+use Rattle.std.proofs.Common.{inl, inr, map, subst}
+use Rattle.wh_options.specs.Options.{WordsGive}
+use Rattle.wh_options.specs.declared.chosen.Options.{Options}
 use Rattle.wh_service.proofs.Whole.{declines}
 use Rattle.wh_service.proofs.running.run.Goals as goal
 
+-- a replay with vehicles
+pub returns-in-Some : goal.returns-in-Some
+returns-in-Some g c =
+    inr (inl (record {
+      options = c.in-Some.replay;
+      given = subst (λ (o : Options). WordsGive (map g.S.AsStr.text c.args.words.now) o) c.in-Some.ensures.0 c.in-Ok.ensures.ok;
+      pace = c.in-Some.pace;
+      late = c.in-Some.ensures.1;
+      came = c.drive.ensures.0;
+      did = c.drive.ensures.1;
+      ends = c.drive.ensures.2;
+    }))
+
 pub returns-in-Err : goal.returns-in-Err
 returns-in-Err g c =
-    inr (declines _ _ _ _ _ _ c.decline-came.result _ _ _ _ c.decline-came.ensures.0 c.refusal_of.ensures.asked c.refusal_of.ensures.memory c.decline-came.ensures.1 c.end-in-Err.ensures
-    c.in-Err.ensures.refused c.in-Err.ensures.help c.in-Err.ensures.version)
+    inr (inr (declines _ _ _ _ _ _ c.decline-came.result _ _ _ _ c.decline-came.ensures.0 c.refusal_of.ensures.asked c.refusal_of.ensures.memory c.decline-came.ensures.1 c.end-in-Err.ensures
+    c.in-Err.ensures.refused c.in-Err.ensures.help c.in-Err.ensures.version))

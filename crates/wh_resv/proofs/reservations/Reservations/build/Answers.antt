@@ -10,4 +10,4 @@ invariant_of-result c =
     let i = c.args.except in
     let parts = horizon-append (take i xs) (take (length xs - (i + 1)) (drop (i + 1) xs)) in
     let whole : c.max-latest.result ≡ max (horizon (take i xs)) (horizon (take (length xs - (i + 1)) (drop (i + 1) xs))) = omega arith in
-    (c.requires, c.in_ok-marks.ensures.some, c.in_ok-marks.ensures.marked, whole ∙ sym parts ∙ ap horizon (sym (remove-slices xs i c.requires)), omega arith)
+    (record { one = c.requires; chained = c.in_ok-log.ensures.chained; truth = c.in_ok-log.ensures.truth; noted = c.in_ok-log.ensures.noted }, whole ∙ sym parts ∙ ap horizon (sym (remove-slices xs i c.requires)), omega arith)

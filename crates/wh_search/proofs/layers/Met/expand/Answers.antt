@@ -1,7 +1,7 @@
 use Rattle.std.proofs.Common.{◌≡◌, ◌+◌, ◌<◌, ◌≤◌, length, take, subst, sym, arith}
 use Rattle.std.proofs.lemmas.List.{take_all, get_or_read}
 use Rattle.wh_search.specs.Steps.{Go}
-use Rattle.wh_search.specs.declared.frontier.Node.{Node}
+use Rattle.wh_search.specs.declared.noted.Node.{Node}
 use Rattle.wh_search.specs.declared.layers.Met.{Met}
 use Rattle.wh_search.specs.Frontiers.{problem, node_at, state_of}
 use Rattle.wh_search.specs.States.{IsEnd}

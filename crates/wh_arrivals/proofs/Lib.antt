@@ -1,0 +1,4 @@
+mod Tracks
+mod Walks
+mod Once
+mod Prefixes

@@ -1,0 +1,6 @@
+//! The first fault of a map and of a points file: laws that what the readers tell is it. Nothing runs here.
+#![tactic(auto)]
+
+mod laws;
+
+pub use laws::{map_faults_are, point_faults_are};

@@ -1,0 +1,199 @@
+//! The calls for a task of two to eight stops, and for parking.
+#![tactic(auto)]
+
+ghost use Rattle.std.specs.Prelude.{◌≡◌, ℕ, ◌+◌, ◌-◌, ◌*◌, ◌<◌, ◌≤◌, ◌^◌, List, IfOk, IfSome, MatchOption, length};
+ghost use Rattle.wh_grid.specs.declared.cell.Cell.{Cell};
+ghost use Rattle.wh_grid.specs.Grids.{IsPassable};
+ghost use Rattle.wh_path.specs.Paths.{last_index};
+ghost use Rattle.wh_resv.specs.Others.{MayRest};
+ghost use Rattle.wh_search.specs.Deliveries.{IsDelivery, IsLawful, IsLeast, IfNoPath, AreStops};
+ghost use Rattle.wh_search.specs.Fields.{AreFieldsOf};
+ghost use Rattle.wh_search.specs.Guides.{IsOnward};
+ghost use Rattle.wh_intervals.specs.Efforts.{MovesAtMost, IsSearch, IsEffort, IsEnough};
+ghost use Rattle.wh_search.specs.Parkings.{IsParking, IsLeastParking};
+
+use crate::errand::{Errand, first_end};
+use crate::search::search;
+use crate::stay::Stay;
+use std::alloc::{AllocError, Global};
+use wh_field::{Field, NearestField};
+use wh_grid::{Cell, Grid};
+use wh_path::TimedPath;
+use wh_search::Fault;
+use wh_search::errand::arrive;
+use wh_search::guide::{Guide, onward_of};
+use wh_timetable::Occupancy;
+
+/// A least path, or none where there is no delivery; and what was expanded.
+fn find<'x, T: Occupancy>(
+    alloc: Global,
+    grid: &'x Grid,
+    others: &'x T,
+    loc: Cell,
+    stops: &'x [Cell],
+    fields: &'x [Option<&'x Field>],
+    expanded: &mut Vec<Stay>,
+) -> Result<Option<TimedPath>, AllocError>
+    requires inside { IsPassable grid.now loc }
+    requires clear { MayRest (T.others others.now) loc 0 }
+    requires stops { AreStops stops.now }
+    requires fields { AreFieldsOf grid.now stops.now fields.now }
+    ensures expanded { IfOk result (λ found. IfSome found (λ p. IsSearch grid.now (T.others others.now) loc stops.now fields.now (last_index p) expanded.new.items)) }
+    ensures moves { IfOk result (λ found. IfSome found (λ p. MovesAtMost p (length expanded.new.items))) }
+    ensures found { IfOk result (λ found. MatchOption found
+        ((q : List Cell) → IsDelivery grid.now (T.others others.now) loc stops.now q → ⊥)
+        (λ p. IsLeast grid.now (T.others others.now) loc stops.now p)) }
+{
+    let Some(soonest) = others.not_before(stops[stops.len() - 1]) else {
+        return Ok(None);
+    };
+    let onward = onward_of(alloc, stops, fields)?;
+    let last = stops.len() - 1;
+    let via = &stops[..last];
+    let ends = &stops[last..];
+    let horizon = others.horizon();
+    let errand = Errand {
+        grid,
+        others,
+        loc,
+        via,
+        ends,
+        guide: Guide::Stops {
+            fields,
+            onward: &onward,
+        },
+        first: arrive(via, 0, loc),
+        limit: horizon + stops.len() as u64 * u64::from(grid.cells()),
+        base: first_end(others, stops[last], soonest),
+    };
+    search(alloc, &errand, expanded)
+}
+
+/// A lawful path from loc through the stops, with the least last index of all. The fields that are
+/// there guide the search. `NoPath` exactly where no path delivers, however long; else `NoMemory`
+/// where memory ran out.
+pub fn deliver_guided<'x, T: Occupancy>(
+    alloc: Global,
+    grid: &'x Grid,
+    others: &'x T,
+    loc: Cell,
+    stops: &'x [Cell],
+    fields: &'x [Option<&'x Field>],
+) -> Result<TimedPath, Fault>
+    requires inside { IsPassable grid.now loc }
+    requires clear { MayRest (T.others others.now) loc 0 }
+    requires stops { AreStops stops.now }
+    requires fields { AreFieldsOf grid.now stops.now fields.now }
+    ensures lawful { IfOk result (λ p. IsLawful grid.now (T.others others.now) loc stops.now p) }
+    ensures least { IfOk result (λ p. (q : List Cell) → IsDelivery grid.now (T.others others.now) loc stops.now q → last_index p ≤ last_index q) }
+    ensures none { IfNoPath result ((q : List Cell) → IsDelivery grid.now (T.others others.now) loc stops.now q → ⊥) }
+{
+    let mut expanded = Vec::new(alloc);
+    match find(alloc, grid, others, loc, stops, fields, &mut expanded) {
+        Ok(Some(path)) => Ok(path),
+        Ok(None) => Err(Fault::NoPath),
+        Err(_) => Err(Fault::NoMemory),
+    }
+}
+
+/// How many arrivals, each of a cell, a time, a number of stops behind and a time up to which it
+/// may wait, have their successors made by `deliver_guided` on these arguments; or its fault.
+/// They are those of a best-first search: each can be reached and may, by the fields, lead to a
+/// least path, and for all that may lead to a shorter one they stand. Of no state at any time do two
+/// stand. They are no fewer than the moves of some least path.
+pub fn guided_steps<'x, T: Occupancy>(
+    alloc: Global,
+    grid: &'x Grid,
+    others: &'x T,
+    loc: Cell,
+    stops: &'x [Cell],
+    fields: &'x [Option<&'x Field>],
+) -> Result<u64, Fault>
+    requires inside { IsPassable grid.now loc }
+    requires clear { MayRest (T.others others.now) loc 0 }
+    requires stops { AreStops stops.now }
+    requires fields { AreFieldsOf grid.now stops.now fields.now }
+    ensures effort { IfOk result (λ n. IsEffort grid.now (T.others others.now) loc stops.now fields.now n) }
+    ensures enough { IfOk result (λ n. IsEnough grid.now (T.others others.now) loc stops.now n) }
+    ensures none { IfNoPath result ((q : List Cell) → IsDelivery grid.now (T.others others.now) loc stops.now q → ⊥) }
+{
+    let mut expanded = Vec::new(alloc);
+    match find(alloc, grid, others, loc, stops, fields, &mut expanded) {
+        Ok(Some(_path)) => Ok(expanded.len() as u64),
+        Ok(None) => Err(Fault::NoPath),
+        Err(_) => Err(Fault::NoMemory),
+    }
+}
+
+/// A least path to one of the allowed cells, or none, by the field of them all; and what was expanded.
+fn find_by<'x, T: Occupancy>(
+    alloc: Global,
+    grid: &'x Grid,
+    others: &'x T,
+    loc: Cell,
+    allowed: &'x [Cell],
+    field: &'x NearestField,
+    expanded: &mut Vec<Stay>,
+) -> Result<Option<TimedPath>, AllocError>
+    requires inside { IsPassable grid.now loc }
+    requires clear { MayRest (T.others others.now) loc 0 }
+    requires field { field.now ≡ record { grid = grid.now; cells = allowed.now } }
+    ensures { IfOk result (λ found. MatchOption found
+        ((q : List Cell) → IsParking grid.now (T.others others.now) loc allowed.now q → ⊥)
+        (λ p. IsLeastParking grid.now (T.others others.now) loc allowed.now p)) }
+{
+    let horizon = others.horizon();
+    let errand = Errand {
+        grid,
+        others,
+        loc,
+        via: &[],
+        ends: allowed,
+        guide: Guide::Nearest { field },
+        first: 0,
+        limit: horizon + u64::from(grid.cells()),
+        base: 0,
+    };
+    search(alloc, &errand, expanded)
+}
+
+/// A least path to one of the allowed cells, or none; it makes the field of them all.
+fn find_parking<T: Occupancy>(
+    alloc: Global,
+    grid: &Grid,
+    others: &T,
+    loc: Cell,
+    allowed: &[Cell],
+) -> Result<Option<TimedPath>, AllocError>
+    requires inside { IsPassable grid.now loc }
+    requires clear { MayRest (T.others others.now) loc 0 }
+    ensures { IfOk result (λ found. MatchOption found
+        ((q : List Cell) → IsParking grid.now (T.others others.now) loc allowed.now q → ⊥)
+        (λ p. IsLeastParking grid.now (T.others others.now) loc allowed.now p)) }
+{
+    let field = NearestField::from(alloc, grid, allowed)?;
+    let mut expanded = Vec::new(alloc);
+    find_by(alloc, grid, others, loc, allowed, &field, &mut expanded)
+}
+
+/// A lawful path from loc to one of the allowed cells, with the least last index of all; it makes
+/// the field of them all. `NoPath` exactly where no path parks, however long; else `NoMemory` where
+/// memory ran out.
+pub fn park<'x, T: Occupancy>(
+    alloc: Global,
+    grid: &'x Grid,
+    others: &'x T,
+    loc: Cell,
+    allowed: &'x [Cell],
+) -> Result<TimedPath, Fault>
+    requires inside { IsPassable grid.now loc }
+    requires clear { MayRest (T.others others.now) loc 0 }
+    ensures least { IfOk result (λ p. IsLeastParking grid.now (T.others others.now) loc allowed.now p) }
+    ensures none { IfNoPath result ((q : List Cell) → IsParking grid.now (T.others others.now) loc allowed.now q → ⊥) }
+{
+    match find_parking(alloc, grid, others, loc, allowed) {
+        Ok(Some(path)) => Ok(path),
+        Ok(None) => Err(Fault::NoPath),
+        Err(_) => Err(Fault::NoMemory),
+    }
+}

@@ -1,0 +1,10 @@
+use Rattle.std.proofs.Common.{length}
+use Rattle.wh_resv.specs.Visits.{visit_at, IsDuring, Bars}
+use Rattle.wh_resv.proofs.Chains.{IsPassed}
+use Rattle.wh_resv.proofs.questions.is_open.Given as goal
+
+abbrev pub invariant-loop-at : goal.invariant-loop-at
+invariant-loop-at l = IsPassed l.log.visits.items l.fn.to l.at (λ i. Bars l.paths (visit_at l.log.visits.items i) l.from l.k → ⊥)
+
+abbrev pub decreases-loop-at : goal.decreases-loop-at
+decreases-loop-at l = l.at

@@ -1,0 +1,29 @@
+-- Memory was wanting for the name of the file beside a log: nothing was read or written.
+use Rattle.std.proofs.Common.{◌≡◌, ℕ, Bool, false, List, Option, Some, None, Result, Err, inl, refl}
+use Rattle.std.proofs.KnownBytes.{Keeps-refl}
+use Rattle.std.specs.Prelude.{is_some}
+use Rattle.std.specs.declared.alloc.AllocError.{AllocError}
+use Rattle.wh_grid.specs.Grids.{Floor}
+use Rattle.wh_lines.specs.Input.{Input}
+use Rattle.wh_edge.specs.declared.trouble.Trouble.TheVariants as trouble
+use Rattle.wh_options.specs.declared.chosen.Options.{Options}
+use Rattle.wh_options.specs.declared.chosen.Options.TheVariants.{Check, Replay, Verify, Live}
+use Rattle.wh_options.specs.declared.chosen.ReplayOptions.{ReplayOptions}
+use Rattle.wh_service.specs.Programs.{Did, Files, ReplayedOver, names_file}
+use Rattle.wh_service.specs.declared.parts.PlannerParts.{PlannerParts}
+
+module _ {X : Type 0} (fits : X → Floor → Bool) (count : X → ℕ) (gives : PlannerParts → Result X AllocError → Type 0) (input : Input) (had : Option (List ℕ)) where
+  -- files for a replay that names some, or none
+  over : {N : Type 0} (o : ReplayOptions) (log : Option N) → (files : Option Files) × (is_some files ≡ is_some log) × ReplayedOver fits count gives o files (Err trouble.NoMemory) input input had had
+  over o None = (None, refl, inl (tt, Keeps-refl had))
+  over o (Some name) = (
+    Some (record { log = None; site = None }),
+    refl,
+    (false, None, None, record { before = None; after = None; synced = None; failed = false }, refl, inl (tt, Keeps-refl had, refl, refl)),
+  )
+
+  pub starved : (o : Options) → (files : Option Files) × (is_some files ≡ names_file o) × Did fits count gives o files (Err trouble.NoMemory) input input had had
+  starved Check = (None, refl, (tt, Keeps-refl had))
+  starved Verify = (None, refl, Keeps-refl had)
+  starved (Live o) = (None, refl, inl (tt, Keeps-refl had))
+  starved (Replay o) = over o o.log

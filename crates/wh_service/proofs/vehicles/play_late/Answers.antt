@@ -1,0 +1,75 @@
+use Rattle.std.proofs.Common.{◌∙◌, inl, inr, refl, subst, sym}
+use Rattle.std.specs.Io.KnownBytes.{Appends}
+use Rattle.std.proofs.KnownBytes.{Keeps-refl}
+use Rattle.wh_verify.specs.Drafts.{Seen}
+use Rattle.wh_log.specs.Told.{told_text}
+use Rattle.wh_drive.specs.Drives as drives
+use Rattle.wh_vehicles.specs.Plans.{places}
+use Rattle.wh_dispatch.specs.Crews.{Crew, IsManned}
+use Rattle.wh_service.specs.Tails.{IsWhyNoTail, tail_after}
+use Rattle.wh_service.proofs.Drove.{driven, stopped}
+use Rattle.wh_service.proofs.Played.{opened_with}
+use Rattle.wh_service.proofs.vehicles.play_late.Goals as goal
+
+pub returns-in-Err-clause-fault : goal.returns-in-Err-clause-fault
+returns-in-Err-clause-fault g c = inl (refl, refl, Keeps-refl _)
+
+pub returns-in-Err-dispatch-clause-fault : goal.returns-in-Err-dispatch-clause-fault
+returns-in-Err-dispatch-clause-fault g c =
+    let book : Seen = c.in-Ok.warehouse.book in
+    let crew : Crew = c.in-Ok-open.vehicles in
+    let m = subst (λ n. IsManned book crew (drives.opened book.site.layout.nofollow n (places book.state))) c.from-ahead.ensures c.in-Ok-open.ensures.manned in
+    let s = stopped g.P.Planner.fits_map g.P.Planner.slot_count (told_text c.args.form) c.args.pace.behind c.args.pace.ahead crew.bound c.args.lines.now c.dispatch.new.lines book c.args.spares.items crew
+    c.dispatch.new.warehouse.book c.dispatch.new.spares.items (g.W.Write.contents c.args.output.now) (g.W.Write.contents c.dispatch.new.writer)
+    (c.in-Ok-open.ensures.bound ∙ c.from-behind.ensures) m c.in-Err-dispatch.fault c.in-Err-dispatch.ensures.fault in
+    inr (inl (
+      c.in-Err-dispatch.fault,
+      c.trouble_of.ensures,
+      record {
+        book = book;
+        opened = opened_with _ _ _ _ c.in-Ok.warehouse.planners _ c.in-Ok.ensures.site c.in-Ok.ensures.opening c.in-Ok.ensures.history c.in-Ok.ensures.planners c.in-Ok.ensures.tied;
+        final = s.0;
+        stops = s.1;
+      },
+    ))
+
+pub returns-in-Ok-write_tail-clause-ok : goal.returns-in-Ok-write_tail-clause-ok
+returns-in-Ok-write_tail-clause-ok g c =
+    let book : Seen = c.in-Ok.warehouse.book in
+    let crew : Crew = c.in-Ok-open.vehicles in
+    let m = subst (λ n. IsManned book crew (drives.opened book.site.layout.nofollow n (places book.state))) c.from-ahead.ensures c.in-Ok-open.ensures.manned in
+    let r = driven g.P.Planner.fits_map g.P.Planner.slot_count (told_text c.args.form) c.args.pace.behind c.args.pace.ahead crew.bound c.args.lines.now c.dispatch.new.lines book c.args.spares.items crew
+    c.dispatch.new.warehouse.book c.dispatch.new.spares.items (g.W.Write.contents c.args.output.now) (g.W.Write.contents c.dispatch.new.writer)
+    (c.in-Ok-open.ensures.bound ∙ c.from-behind.ensures) m c.dispatch.new.vehicles c.in-Ok-dispatch.ensures.ok in
+    record {
+      final = r.final;
+      replied = g.W.Write.contents c.dispatch.new.writer;
+      drives = record {
+        book = book;
+        opened = opened_with _ _ _ _ c.in-Ok.warehouse.planners _ c.in-Ok.ensures.site c.in-Ok.ensures.opening c.in-Ok.ensures.history c.in-Ok.ensures.planners c.in-Ok.ensures.tied;
+        dispatches = r.dispatches;
+      };
+      follows = subst (λ (b : Seen). Appends (g.W.Write.contents c.dispatch.new.writer) (g.W.Write.contents c.write_tail.new.output) (tail_after c.args.tail b.opening b.history b.state)) (sym r.book_is)
+          c.in-Ok-write_tail.ensures.ok;
+      left_is = c.on_their_way.ensures ∙ r.count_is;
+    }
+
+pub returns-clause-fault : goal.returns-clause-fault
+returns-clause-fault g c =
+    let book : Seen = c.in-Ok.warehouse.book in
+    let crew : Crew = c.in-Ok-open.vehicles in
+    let m = subst (λ n. IsManned book crew (drives.opened book.site.layout.nofollow n (places book.state))) c.from-ahead.ensures c.in-Ok-open.ensures.manned in
+    let r = driven g.P.Planner.fits_map g.P.Planner.slot_count (told_text c.args.form) c.args.pace.behind c.args.pace.ahead crew.bound c.args.lines.now c.dispatch.new.lines book c.args.spares.items crew
+    c.dispatch.new.warehouse.book c.dispatch.new.spares.items (g.W.Write.contents c.args.output.now) (g.W.Write.contents c.dispatch.new.writer)
+    (c.in-Ok-open.ensures.bound ∙ c.from-behind.ensures) m c.dispatch.new.vehicles c.in-Ok-dispatch.ensures.ok in
+    inr (inr record {
+      final = r.final;
+      replied = g.W.Write.contents c.dispatch.new.writer;
+      drives = record {
+        book = book;
+        opened = opened_with _ _ _ _ c.in-Ok.warehouse.planners _ c.in-Ok.ensures.site c.in-Ok.ensures.opening c.in-Ok.ensures.history c.in-Ok.ensures.planners c.in-Ok.ensures.tied;
+        dispatches = r.dispatches;
+      };
+      why = subst (λ (b : Seen). IsWhyNoTail c.in-Err-write_tail.trouble (g.W.Write.contents c.dispatch.new.writer) (g.W.Write.contents c.write_tail.new.output) (tail_after c.args.tail b.opening b.history b.state)) (sym r.book_is)
+          c.in-Err-write_tail.ensures.fault;
+    })
