@@ -260,6 +260,7 @@ def test_vehicles_of_a_run_that_is_driven():
     assert (status, errors) == (0, '') and rows[1].endswith(' behind' + 20 * ' 0') and rows[2].startswith('counts agree'), out
     last = re.fullmatch(r'no two vehicles meet in [0-9.]+ seconds: (\d+) steps, (\d+) visits, at most [1-8] steps behind', rows[-1])
     assert last and last.groups() == (figures['steps'], '400'), (rows[-1], figures)
+    assert tool('drive.py', SHELVES, '--transcript', transcript)[::2] == (2, 'drive.py: --transcript: it is for --late\n')
 
 
 # ---- a judge of its own: a state that goes forward entry by entry, as the warehouse's does
