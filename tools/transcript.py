@@ -16,6 +16,7 @@ from dataclasses import dataclass, field
 
 import runs
 
+NUMBERS = {'clock': 1, 'go': 4, 'arrived': 2, 'visited': 3, 'held': 2}    # that are read of a line; `held` is `refused V1`
 OTHER_RUN = 'is this the transcript of another run?'
 
 
@@ -130,19 +131,18 @@ class Reader:
         self.found.end = float(time)
         if text == '%%':
             return False
-        words = text.split(' ')
-        kind = 'held' if words[:2] == ['refused', 'V1'] else words[0]
-        take = {'clock': self.clock, 'go': self.go, 'arrived': self.arrived, 'visited': self.visited, 'held': self.held}.get(kind)
-        if take:
-            numbers = [runs.number(word) for word in (text.replace(',', ' ').split(' ')[2 if kind == 'held' else 1:])]
-            if kind == 'clock':
-                numbers = numbers[:1]
-            if None in numbers or len(numbers) != {'clock': 1, 'go': 4, 'arrived': 2, 'visited': 3, 'held': 2}[kind]:
-                raise runs.Fault(f'{self.name} line {self.line}: `{text[:40]}` is no line of `replay --vehicles`')
-            if kind != 'clock' and numbers[0] >= len(self.told):
-                raise self.fault(f'there is no agent {numbers[0]}')
-            take(*numbers)
+        kind, _, rest = ('held ' + text.removeprefix('refused V1 ') if text.startswith('refused V1 ') else text).partition(' ')
+        if kind in NUMBERS:
+            self.take(kind, text, [runs.number(word) for word in rest.replace(',', ' ').split(' ')])
         return True
+
+    def take(self, kind: str, text: str, numbers: list[int | None]) -> None:
+        numbers = numbers[:1] if kind == 'clock' else numbers    # the counts are the log's affair
+        if None in numbers or len(numbers) != NUMBERS[kind]:
+            raise runs.Fault(f'{self.name} line {self.line}: `{text[:40]}` is no line of `replay --vehicles`')
+        if kind != 'clock' and numbers[0] >= len(self.told):
+            raise self.fault(f'there is no agent {numbers[0]}')
+        getattr(self, kind)(*numbers)
 
     def settle(self, agent: int) -> None:
         self.reached[agent] = passed(self.run, agent, self.reached[agent], self.found.clock)
