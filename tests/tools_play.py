@@ -3,7 +3,8 @@
 
     tests/tools_play.py [--shelves LOG]
 
-The rows for examples/deliveries were worked out by hand from the two paths in examples/deliveries.log. For the log of
+The rows for examples/deliveries were worked out by hand from the two paths in examples/deliveries.log, and so were those of
+vehicles that carry these out late. For the log of
 examples/shelves (made by the program, by --shelves or the environment's WAREHOUSE, default ./warehouse) a small judge in
 this file redoes cells and phases by itself at random clocks. The last line is `N passed, M failed`; status 1 if any failed.
 """
@@ -14,6 +15,7 @@ import json
 import os
 import random
 import re
+import shlex
 import subprocess
 import sys
 import tempfile
@@ -146,6 +148,119 @@ def test_figures_worked_by_hand():
     status, out, errors = tool('stats.py', '--no-header', INSTANCE, LOG)
     assert (status, out, errors) == (0, f'{LOG},{FIGURES}\n', ''), out
     assert 'the log has 2 agents' in tool('stats.py', SHELVES, LOG)[2]
+
+
+# ---- vehicles behind their plan: the two paths above, carried out late, with up to two cells told ahead
+
+TRANSCRIPT = """0 accepted 0
+0 clock 1 picked 0 dropped 0
+0 go 0 1 1,1
+0 go 1 1 3,1
+1 clock 2 picked 2 dropped 0
+1 go 0 2 1,0
+1 go 1 2 3,2
+1.5 arrived 1 1
+2 clock 3 picked 0 dropped 0
+2.25 arrived 1 2
+2.25 visited 1 1 0
+2.25 go 1 3 3,1
+3 clock 4 picked 0 dropped 0
+4 clock 5 picked 0 dropped 0
+4.2 refused V1 0 5
+4.5 arrived 0 2
+4.5 visited 0 0 0
+4.5 go 0 3 1,1
+4.5 go 0 4 2,1
+5 arrived 1 3
+5 go 1 5 3,2
+6 arrived 1 5
+6 arrived 1 2
+7 arrived 0 4
+7 go 0 5 3,1
+8 clock 6 picked 0 dropped 1
+8 go 0 6 3,0
+9 arrived 0 6
+9 visited 0 0 1
+9 go 1 6 3,1
+10 clock 7 picked 0 dropped 0
+10 go 1 7 2,1
+"""
+# as each clock ends, before the next tick: step 4 of agent 1 stays at 3,1 and is passed at once, as is each of agent 0 from 7 on
+VEHICLES = ['0,1 4,1 behind 0 0', '0,1>1,1 4,1>3,1 behind 1 1', '0,1>1,1>1,0 3,1>3,2 behind 2 1', '0,1>1,1>1,0 3,2>3,1 behind 3 1',
+            '0,1>1,1>1,0 3,2>3,1 behind 4 2', '2,1>3,1 3,2 behind 1 0', '3,0 3,2>3,1 behind 0 1', '3,0 3,2>3,1>2,1 behind 0 2']
+
+
+def late(transcript: str, *words: str) -> tuple[int, str, str]:
+    return tool('play.py', INSTANCE, LOG, '--vehicles', file_of(transcript), *words)
+
+
+def test_vehicles_worked_by_hand():
+    rows = [f'{row} vehicles {cells}' for row, cells in zip(ROWS, VEHICLES)]
+    last = ['counts agree in 9 ticks', 'no two vehicles meet in 10 seconds: 12 steps, 3 visits, at most 5 steps behind']
+    status, out, errors = late(TRANSCRIPT, '--check')
+    assert (status, out.splitlines(), errors) == (0, rows + last, ''), out + errors
+    assert late(TRANSCRIPT, '--check', '5')[1].splitlines() == [rows[5]] + last
+
+
+def test_vehicles_that_meet_are_told():
+    # agent 0 is told into 3,1 while agent 1 is on its way out of it
+    wrong = TRANSCRIPT.replace('7 go 0 5 3,1\n', '').replace('6 arrived 1 5\n', '5.5 arrived 0 4\n5.5 go 0 5 3,1\n6 arrived 1 5\n')
+    line = 'second 5.5: vehicle 0 is told into 3,1, which vehicle 1 occupies'
+    status, out, _ = late(wrong, '--check', '5')
+    assert (status, out.splitlines()[-1]) == (1, 'vehicles meet at ' + line), out
+    status, page, errors = late(wrong)
+    assert (status, data_of(page)['vehicles']['meetings'], errors) == (0, [line], f'play.py: vehicles meet at {line}\n')
+
+
+def test_page_with_vehicles():
+    page = late(TRANSCRIPT)[1]
+    found = data_of(page)['vehicles']
+    assert (found['end'], found['ticks'], found['most'], found['meetings']) == (1000, [0, 100, 200, 300, 400, 800, 1000], 5, [])
+    assert found['go'][1] == [[0, 1], [100, 2], [225, 3], [500, 5], [900, 6], [1000, 7]]
+    assert found['at'] == [[[450, 2], [700, 4], [900, 6]], [[150, 1], [225, 2], [500, 3], [600, 5]]]
+    assert (found['visits'], found['held']) == ([[450, 900], [225]], [[420, 800, 0]])
+    assert data_of(tool('play.py', INSTANCE, LOG)[1])['vehicles'] is None and 'http' not in page
+
+
+def test_still_with_vehicles():
+    import xml.etree.ElementTree as tree
+    root = tree.fromstring(late(TRANSCRIPT, '--svg', '4')[1])
+    # two agents and a ring where the plan of each is; five cells are occupied
+    assert len(root.findall('.//{*}circle')) == 4 and len(root.findall('.//{*}rect[@fill-opacity]')) == 5
+
+
+def test_transcripts_that_do_not_fit():
+    for old, new, told in (
+            ('0 clock 1', 'clock 1', 'line 2: `clock 1 picked 0 dropped 0` does not begin with a second'),
+            ('2 clock 3', '1.2 clock 3', 'line 9: the second 1.2 stands behind 1.5'),
+            ('2 clock 3', '2 clock 4', 'line 9: the clock goes from 2 to 4'),
+            ('go 0 1 1,1', 'go 2 1 1,1', 'line 3: there is no agent 2'),
+            ('go 0 1 1,1', 'go 0 1 1,', 'line 3: `go 0 1 1,` is no line of'),
+            ('go 0 1 1,1', 'go 0 1 0,0', 'line 3: step 1 of agent 0 is not to 0,0'),
+            ('go 0 1 1,1', 'go 0 2 1,0', 'line 3: agent 0 is told step 2 behind 0, at clock 1'),
+            ('arrived 1 1', 'arrived 1 3', 'line 8: agent 1 has arrived at step 3, and was told 2'),
+            ('visited 1 1 0', 'visited 1 0 0', 'line 11: visit 0 of task 0 is not the next of agent 1'),
+            ('1.5 arrived 1 1', '1.5 visited 1 1 0', 'line 8: vehicle 1 has not come to stop 0 of task 1'),
+            ('V1 0 5', 'V1 0 4', 'line 15: agent 0 is 5 steps behind, and not 4')):
+        assert old in TRANSCRIPT
+        status, out, errors = late(TRANSCRIPT.replace(old, new, 1), '--check')
+        assert (status, out, errors.count('\n')) == (1, '', 1) and told in errors, (told, errors)
+    assert 'no line `SECONDS clock 1 ..`' in late('0 accepted 0\n', '--check')[2]
+    assert 'is none of 0 to 7' in late(TRANSCRIPT, '--check', '8')[2] and '--animate' in late(TRANSCRIPT, '--animate')[2]
+
+
+def test_vehicles_of_a_run_that_is_driven():
+    kept, transcript = file_of(''), file_of('')
+    status, out, errors = tool('drive.py', SHELVES, '--late', '3', '--ahead', '3', '--spread', '0.6', '--save', kept, '--transcript',
+                               transcript, '--program', f'{shlex.quote(OPTIONS.program)} replay')
+    assert status == 0, errors
+    figures = dict(line.split(' ') for line in out.splitlines())
+    status, out, errors = tool('play.py', SHELVES, kept, '--vehicles', transcript, '--check', '0', figures['ticks'])
+    rows = out.splitlines()
+    assert (status, errors) == (0, '') and rows[1].endswith(' behind' + 20 * ' 0') and rows[2].startswith('counts agree'), out
+    last = re.fullmatch(r'no two vehicles meet in [0-9.]+ seconds: (\d+) steps, (\d+) visits, at most [1-8] steps behind', rows[-1])
+    assert last and last.groups() == (figures['steps'], '400'), (rows[-1], figures)
+    assert tool('drive.py', SHELVES, '--transcript', transcript)[::2] == (2, 'drive.py: --transcript: it is for --late\n')
 
 
 # ---- a judge of its own: a state that goes forward entry by entry, as the warehouse's does

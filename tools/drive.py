@@ -489,6 +489,7 @@ def words_of_options() -> argparse.Namespace:
     parser.add_argument('--ahead', type=int, default=1, metavar='N', help='with --late: cells ahead that a vehicle is told (%(default)s)')
     parser.add_argument('--spread', type=float, default=0.3, metavar='X', help='with --late: how far speeds differ, 0 to 0.9 (%(default)s)')
     parser.add_argument('--stop', type=float, default=0.0, metavar='SECONDS', help='with --late: so long vehicle 0 stands once, from second 100 on')
+    parser.add_argument('--transcript', metavar='FILE', help='with --late: write there what the program tells, each line behind its second')
     parser.add_argument('--wait', type=float, metavar='SECONDS', help='stop where nothing comes for so long (never)')
     options = parser.parse_args()
     if not 1 <= options.batch <= MOST_IN_BATCH:
@@ -497,6 +498,8 @@ def words_of_options() -> argparse.Namespace:
         fail('--cells: short replies tell no cells')
     if options.log is not None and options.save is not None:
         fail('--save: with --log the log stands there')
+    if options.transcript is not None and options.late is None:
+        fail('--transcript: it is for --late')
     if options.late is not None and not 0 <= options.spread <= 0.9:
         fail(f'--spread {options.spread:g}: 0 to 0.9 is wanted')
     if options.wait is not None and not 0 < options.wait < 1e6:
@@ -563,10 +566,15 @@ def run(options: argparse.Namespace, fleet: Fleet) -> tuple[bytes, str, int]:
 def run_late(options: argparse.Namespace, site: runs.Site, orders: list[tuple[int, str]]) -> NoReturn:
     """Vehicles that are late, in a simulation."""
     words = shlex.split(options.program) + ['--vehicles', '--behind', str(options.behind), '--ahead', str(options.ahead)]
+    words += ['--tail', 'log'] if options.save else []
     try:
-        late = drive_late(words, site, orders, options.late, options.spread, options.stop)
+        with open(options.transcript or os.devnull, 'w') as transcript:
+            late = drive_late(words, site, orders, options.late, options.spread, options.stop, transcript if options.transcript else None)
     except LateStop as stop:
         fail(str(stop))
+    if options.save:
+        with open(options.save, 'wb') as file:
+            file.write(log_of(late.client.tail))
     for name, value in late_figures(late):
         print(name, value)
     sys.exit(0)

@@ -4,6 +4,7 @@
     drive.py INSTANCE --late 1                          the orders are those of INSTANCE's third section
     drive.py INSTANCE --late 1 --behind 1               with a barrier: the clock waits for all
     drive.py INSTANCE --late 1 --spread 0.5 --stop 60   each step up to half as long again or short; vehicle 0 stands a minute
+    drive.py INSTANCE --late 1 --save run.log --transcript run.told    what tools/play.py --vehicles plays
 
 A line `rule nofollow` is added where INSTANCE has none. The time is the simulation's own: a step takes a second, times
 the vehicle's own pace and a chance factor (both from SEED, as far from 1 as --spread says), and half a second more where the
@@ -16,6 +17,9 @@ It judges on its own what is told: `go` names the next step of a vehicle, to a n
 and one that no other vehicle occupies, from the cell where it has arrived to the last that it was told. So no two vehicles are
 ever at one cell or exchange cells, whatever their times; and each order is delivered, its visits told in order.
 
+With --transcript FILE each line that the program writes stands there, behind the simulation's second; with --save FILE the log
+at the end.
+
 It prints a name and a number a line: orders, done, `seconds` to the last delivery, `per100s` orders delivered in 100 of them,
 ticks, `held` ticks that were refused since a vehicle was behind, `steps` that vehicles made, `waits` of vehicles that stood before
 one, `repeated` reports.
@@ -26,6 +30,7 @@ import heapq
 import random
 import subprocess
 from collections import deque
+from typing import TextIO
 
 import runs
 
@@ -89,13 +94,14 @@ class Client:
 
     def end(self) -> int:
         self.process.stdin.close()
-        self.process.stdout.read()
+        self.tail = self.process.stdout.read()
         return self.process.wait()
 
 
 class Late:
-    def __init__(self, client: Client, site: runs.Site, orders: list[tuple[int, str]], seed: int, spread: float, stop: float):
-        self.client, self.site, self.spread, self.stop = client, site, spread, stop
+    def __init__(self, client: Client, site: runs.Site, orders: list[tuple[int, str]], seed: int, spread: float, stop: float,
+                 transcript: TextIO | None = None):
+        self.client, self.site, self.spread, self.stop, self.transcript = client, site, spread, stop, transcript
         self.random = random.Random(seed)
         self.orders = deque(orders)
         self.floor = Floor(site)
@@ -118,6 +124,8 @@ class Late:
 
     def ask(self, line: str) -> str:
         said = self.client.ask(line)
+        if self.transcript:
+            self.transcript.writelines(f'{self.now:.3f} {told}\n' for told in said)
         reply, rest = said[0], said[1:]
         for words in (text.split(' ') for text in rest):
             if words[0] == 'visited':
@@ -254,12 +262,13 @@ def figures(late: Late) -> list[tuple[str, object]]:
             ('held', late.held), ('steps', late.steps), ('waits', late.waits), ('repeated', late.repeated)]
 
 
-def drive_late(words: list[str], site: runs.Site, orders: list[tuple[int, str]], seed: int, spread: float, stop: float) -> Late:
+def drive_late(words: list[str], site: runs.Site, orders: list[tuple[int, str]], seed: int, spread: float, stop: float,
+               transcript: TextIO | None = None) -> Late:
     """Drives all orders to their ends; raises Stop where that is not so, or vehicles would meet."""
     text = site.text
     if not site.nofollow:
         text = text[:-len(b'%%\n')] + b'rule nofollow\n%%\n'
-    late = Late(Client(words, site, text), site, orders, seed, spread, stop)
+    late = Late(Client(words, site, text), site, orders, seed, spread, stop, transcript)
     try:
         late.run()
         status = late.client.end()

@@ -2,6 +2,7 @@
 from __future__ import annotations
 
 import runs
+from transcript import Vehicles
 
 CELL = 32
 BAND = 30    # below the floor: clock and legend
@@ -78,11 +79,29 @@ def load(inner: str = '', opacity: int = 1) -> str:
     return (f'<rect x="4" y="-14" width="9" height="9" fill="#ffd33d" stroke="#000" opacity="{opacity}">{inner}</rect>')
 
 
-def still(run: runs.Run, clock: int) -> str:
-    if not run.start <= clock <= run.clock:
-        raise runs.Fault(f'clock {clock} is none of {run.start} to {run.clock}')
+def late(vehicles: Vehicles, agent: int, clock: int) -> list[str]:
+    """The cells that a vehicle occupies; where it is behind, the steps it was not told, and a ring at its plan's place."""
+    state, marks = vehicles.state(agent, clock), []
+    for x, y in map(middle, state.cells):
+        marks.append(f'<rect x="{x - CELL * .46:g}" y="{y - CELL * .46:g}" width="{CELL * .92:g}" height="{CELL * .92:g}" '
+                     f'fill="{colour(agent)}" fill-opacity=".3" stroke="{colour(agent)}"/>')
+    if state.behind:
+        steps = [middle(vehicles.run.place(agent, step)) for step in range(state.last, clock + 1)]
+        x, y = steps[-1]
+        marks.append(f'<path class="y" stroke-dasharray="5 4" stroke="{colour(agent)}" d="M{"L".join("%g,%g" % step for step in steps)}"/>'
+                     f'<circle cx="{x:g}" cy="{y:g}" r="{CELL * .3:g}" fill="none" stroke="{colour(agent)}" stroke-width="2.5"/>'
+                     f'<text class="t" x="{x:g}" y="{y + 4:g}" text-anchor="middle" style="font-weight:bold">{state.behind}</text>')
+    return marks
+
+
+def still(run: runs.Run, clock: int, vehicles: Vehicles | None = None) -> str:
+    last = vehicles.clock if vehicles else run.clock
+    if not run.start <= clock <= last:
+        raise runs.Fault(f'clock {clock} is none of {run.start} to {last}')
     body, carrying = [], set()
-    for task in run.tasks:
+    for agent in range(len(run.ways)) if vehicles else ():
+        body += late(vehicles, agent, clock)
+    for task in vehicles.tasks() if vehicles else run.tasks:
         phase = task.phase(clock)
         if phase in ('open', 'assigned', 'carried'):
             made = sum(visit <= clock for visit in task.visits) if phase == 'carried' else 0
@@ -98,7 +117,7 @@ def still(run: runs.Run, clock: int) -> str:
             line = 'L'.join('%g,%g' % middle(cell) for cell in ahead)
             body.append(f'<path class="y" stroke="{colour(agent)}" d="M{line}"/>')
     for agent in range(len(run.ways)):
-        x, y = middle(run.place(agent, clock))
+        x, y = middle(vehicles.state(agent, clock).cells[0] if vehicles else run.place(agent, clock))
         body.append(f'<g transform="translate({x:g},{y:g})">{body_of(agent, load() if agent in carrying else "")}</g>')
     return frame(run.site, body, [f'<text class="t" x="6" y="{run.site.height * CELL + 21}">clock {clock}</text>'])
 
