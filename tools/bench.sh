@@ -115,6 +115,7 @@ instances() {
     $make --columns 81 --rows 81 --agents 250 --tasks 1000 --ticks 1500 > "$folder/large"
     $make --columns 512 --rows 512 --open --agents 100 --tasks 200 --ticks 2500 > "$folder/open"
     $make --columns 1024 --rows 1024 --open --agents 100 --tasks 0 --ticks 0 > "$folder/wide"
+    python3 "$root/tools/floods.py" rests 1000 20 3000 > "$folder/rests"
 }
 
 whole_runs() {
@@ -129,6 +130,7 @@ whole_runs() {
     row 'open map, 512 x 512, 100 agents, 200 tasks' "$folder/open" replay --planner near
     peers
     row '1,000,000 ticks, 21 x 35, 50 agents' "$folder/ticks" replay --planner near
+    row '3000 rests among 1000 open tasks, 20 agents' "$folder/rests" replay --planner near
     row '4096 points, 512 x 512' "$folder/open" check
     row '4096 points, 1024 x 1024' "$folder/wide" check
     if "$program" replay --tail log < "$folder/ticks" > "$folder/log" 2> /dev/null; then
@@ -137,6 +139,9 @@ whole_runs() {
         "$program" replay --tail log < "$folder/large" > "$folder/log"
         with_log "$folder/large" "$folder/log" > "$folder/large_log"
         row 'log of the large warehouse' "$folder/large_log" verify
+        "$program" replay --tail log < "$folder/rests" > "$folder/log"
+        with_log "$folder/rests" "$folder/log" > "$folder/rests_log"
+        row 'log of the 3000 rests' "$folder/rests_log" verify
     fi
 }
 

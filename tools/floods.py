@@ -16,10 +16,11 @@ Families, and their numbers:
                      no path leads to it
   beside N LEGS      agent 0 walks LEGS stops to and fro on an open map and ends beside agent 1, whose way is straight on
   blocked T A        A agents, T open tasks, none of which can be done for where an agent rests
+  rests T A N        the same tasks, and then N requests by turns, which all find that nothing can be done
   wide N A           an open map of N by N, A agents, one far task each: distance fields of whole maps
 
 All but `unreachable` and `late` are well-formed where the numbers are large enough: `warehouse check` tells.
-The last request of an instance is the dear one.
+The last request of an instance is the dear one; of `rests` none is, where what one has found serves the next.
 """
 import sys
 
@@ -146,13 +147,14 @@ def beside(n, legs):
     put(open_rows(n, n), points, ['submit x ' + ' '.join(walk + ['E']), 'token 0', 'submit y S T', 'token 1'])
 
 
-def blocked(tasks, agents):
+def blocked(tasks, agents, asks=None):
     n = 2 * agents + 4
     points = [f'station H{i} {2 * i} 0' for i in range(agents)] + [f'station G {n - 1} 4', f'station F {n - 1} 6']
     points += [f'parking Q{i} {2 * i} 2' for i in range(agents)] + [f'agent Q{i}' for i in range(agents)]
     script = ['submit c H0 G', 'token 0']
-    for t in range(tasks):
-        script += [f'submit c H{1 + t % (agents - 1)} G F', f'token {1 + t % (agents - 1)}']
+    orders = [f'submit c H{1 + t % (agents - 1)} G F' for t in range(tasks)]
+    tokens = [f'token {1 + t % (agents - 1)}' for t in range(tasks if asks is None else asks)]
+    script += [line for both in zip(orders, tokens) for line in both] if asks is None else orders + tokens
     put(open_rows(n, 8), points, script)
 
 
@@ -165,7 +167,7 @@ def wide(n, agents):
 
 
 FAMILIES = {'stops': (stops, 3), 'unreachable': (lambda n, k: stops(n, k, 0, True), 2), 'ring': (ring, 2), 'door': (door, 2),
-            'hall': (hall, 2), 'late': (late, 3), 'beside': (beside, 2), 'blocked': (blocked, 2), 'wide': (wide, 2)}
+            'hall': (hall, 2), 'late': (late, 3), 'beside': (beside, 2), 'blocked': (blocked, 2), 'rests': (blocked, 3), 'wide': (wide, 2)}
 
 
 def main(words):

@@ -4,3 +4,4 @@ pub mod Choices
 pub mod Ways
 pub mod Reachable
 pub mod Reaching
+pub mod Quiet

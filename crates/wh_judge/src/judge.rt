@@ -1,15 +1,16 @@
 //! The judge of a log's entries.
 #![tactic(auto)]
 
-ghost use Rattle.std.specs.Prelude.{◌≡◌, ◌≤◌, false, IsTrue, IfOk, OnOk, OnErr, length};
+ghost use Rattle.std.specs.Prelude.{◌≡◌, ◌≤◌, true, false, IsTrue, IfOk, OnOk, OnErr, length};
 ghost use Rattle.wh_points.specs.Points.{IsLayout};
 ghost use Rattle.wh_core.specs.States.{State, opened};
 ghost use Rattle.wh_core.specs.Steps.{Step, last_clock};
-ghost use Rattle.wh_judge.specs.Judged.{Decides, IsReachable, IsStep};
+ghost use Rattle.wh_judge.specs.Judged.{Decides, IsQuiet, IsReachable, IsStep};
 
 use crate::instance::Instance;
 use crate::plain::{close, replace, tick};
 use crate::requests::request;
+use crate::rests::quiet_after;
 use crate::submitting::submit;
 use std::alloc::{AllocError, Global};
 use std::marker::Model;
@@ -24,11 +25,13 @@ fn answer(
     instance: &Instance,
     floor: &mut Floor,
     near: &mut LazyField,
+    is_quiet: bool,
     event: Event,
     reply: Reply,
 ) -> Result<bool, AllocError>
     requires reached { IsReachable instance.now floor.old.state }
     requires grid { near.old.grid ≡ instance.now.grid }
+    requires quiet { is_quiet ≡ true → IsQuiet floor.old.state }
     ensures answer { IfOk result (Decides instance.now floor.old.state reply event floor.new.state) }
     ensures kept { IfOk result (λ b. b ≡ false → floor.new.state ≡ floor.old.state) }
     ensures err { OnErr result (floor.new.state ≡ floor.old.state) }
@@ -44,11 +47,41 @@ fn answer(
             stops.stops(),
             &reply,
         ),
-        Event::Request { agent } => request(alloc, instance, floor, near, agent, reply),
+        Event::Request { agent } => {
+            request(alloc, instance, floor, near, is_quiet, agent, reply)
+        }
         Event::Tick => Ok(tick(instance, floor, &reply)),
         Event::Replace { agent, spare } => Ok(replace(instance, floor, agent, spare, &reply)),
         Event::Close => Ok(close(instance, floor, &reply)),
     }
+}
+
+/// The same, with what is noted of the open tasks.
+fn answer_and_note(
+    alloc: Global,
+    instance: &Instance,
+    floor: &mut Floor,
+    near: &mut LazyField,
+    is_quiet: &mut bool,
+    event: Event,
+    reply: Reply,
+) -> Result<bool, AllocError>
+    requires reached { IsReachable instance.now floor.old.state }
+    requires grid { near.old.grid ≡ instance.now.grid }
+    requires quiet { is_quiet.old ≡ true → IsQuiet floor.old.state }
+    ensures answer { IfOk result (Decides instance.now floor.old.state reply event floor.new.state) }
+    ensures kept { IfOk result (λ b. b ≡ false → floor.new.state ≡ floor.old.state) }
+    ensures err { OnErr result (floor.new.state ≡ floor.old.state) }
+    ensures reached { IsReachable instance.now floor.new.state }
+    ensures grid { near.new.grid ≡ instance.now.grid }
+    ensures quiet { is_quiet.new ≡ true → IsQuiet floor.new.state }
+{
+    let after = quiet_after(*is_quiet, &reply);
+    let is_step = answer(alloc, instance, floor, near, *is_quiet, event, reply)?;
+    if is_step {
+        *is_quiet = after;
+    }
+    Ok(is_step)
 }
 
 /// The state of a warehouse as it opens over the instance.
@@ -70,23 +103,25 @@ fn opening(
 }
 
 /// The warehouse as a log tells it: the instance, and the state after the entries so far. Beside the state it keeps one
-/// distance field, for its questions.
+/// distance field, for its questions, and a note of the last rest.
 #[derive(Drop)]
 pub struct Judge<'a> {
     instance: Instance<'a>,
     floor: Floor,
     near: LazyField,
+    /// No open task is clear of all ends, as the last rest showed. What may change that takes it back.
+    is_quiet: bool,
 }
 
 impl<'a> Model for Judge<'a> {
-    ghost use Rattle.std.specs.Prelude.{◌≡◌};
-    ghost use Rattle.wh_judge.specs.Judged.{Judged, IsReachable};
+    ghost use Rattle.std.specs.Prelude.{◌≡◌, true};
+    ghost use Rattle.wh_judge.specs.Judged.{Judged, IsQuiet, IsReachable};
 
     ghost Value = { Judged };
 
     ghost view = { λ j. record { site = j.instance; state = j.floor.state } };
 
-    ghost invariant = { λ j. IsReachable j.instance j.floor.state × (j.near.grid ≡ j.instance.grid) };
+    ghost invariant = { λ j. IsReachable j.instance j.floor.state × (j.near.grid ≡ j.instance.grid) × (j.is_quiet ≡ true → IsQuiet j.floor.state) };
 }
 
 impl<'a> Judge<'a> {
@@ -110,6 +145,7 @@ impl<'a> Judge<'a> {
             instance,
             floor,
             near,
+            is_quiet: false,
         })
     }
 
@@ -121,6 +157,7 @@ impl<'a> Judge<'a> {
         ensures err { OnErr result (self.new ≡ self.old) }
     {
         self.floor = opening(alloc, &self.instance, clock, slots)?;
+        self.is_quiet = false;
         Ok(())
     }
 
@@ -142,6 +179,7 @@ impl<'a> Judge<'a> {
             instance,
             floor,
             near,
+            ..
         } = self;
         drop(instance);
         drop(near);
@@ -157,11 +195,12 @@ impl<'a> Judge<'a> {
         ensures site { self.new.site ≡ self.old.site }
     {
         let Entry { event, reply, .. } = entry;
-        answer(
+        answer_and_note(
             alloc,
             &self.instance,
             &mut self.floor,
             &mut self.near,
+            &mut self.is_quiet,
             event,
             reply,
         )

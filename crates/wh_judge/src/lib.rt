@@ -10,6 +10,7 @@ mod lacking;
 pub mod laws;
 mod plain;
 mod requests;
+mod rests;
 mod routes;
 mod submitting;
 

@@ -1,7 +1,7 @@
 //! The answers to an agent that asks for something to do.
 #![tactic(auto)]
 
-ghost use Rattle.std.specs.Prelude.{◌≡◌, ◌<◌, ◌↔◌, false, IsTrue, IfOk, OnErr, length};
+ghost use Rattle.std.specs.Prelude.{◌≡◌, ◌<◌, ◌↔◌, true, false, IsTrue, IfOk, OnErr, length};
 ghost use Rattle.wh_path.specs.Paths.{end};
 ghost use Rattle.wh_points.specs.Points.{IsPointCell};
 ghost use Rattle.wh_tasks.specs.declared.task.Task.{Task as Job};
@@ -10,13 +10,14 @@ ghost use Rattle.wh_event.specs.declared.event.Event.TheVariants as events;
 ghost use Rattle.wh_event.specs.declared.reply.Reply.TheVariants as replies;
 ghost use Rattle.wh_event.specs.declared.reply.Refusal.TheVariants as refusals;
 ghost use Rattle.wh_core.specs.Steps.{Refuses, IsNext, IsAllowed};
-ghost use Rattle.wh_judge.specs.Judged.{Decides, IsReachable};
+ghost use Rattle.wh_judge.specs.Judged.{Decides, IsQuiet, IsReachable};
 
 use crate::agents::{is_due, is_moving, is_stranger};
 use crate::choice::is_next;
 use crate::course::{is_course, may_deliver};
 use crate::instance::Instance;
 use crate::lacking::{lacks_way, makes_way, may_rest};
+use crate::rests::rests_by_note;
 use std::alloc::{AllocError, Global};
 use wh_book::{Floor, may_end};
 use wh_event::{Refusal, Reply};
@@ -96,15 +97,25 @@ fn take(
     true
 }
 
-/// Whether the agent may be told to rest.
-fn rest(instance: &Instance, floor: &Floor, near: &mut LazyField, agent: u32) -> bool
+/// Whether the agent may be told to rest. It takes constant time where the note tells it.
+fn rest(
+    instance: &Instance,
+    floor: &Floor,
+    near: &mut LazyField,
+    is_quiet: bool,
+    agent: u32,
+) -> bool
     requires reached { IsReachable instance.now floor.now.state }
     requires grid { near.old.grid ≡ instance.now.grid }
+    requires quiet { is_quiet ≡ true → IsQuiet floor.now.state }
     ensures answer { Decides instance.now floor.now.state replies.Rested (events.Request agent) floor.now.state result }
     ensures grid { near.new.grid ≡ instance.now.grid }
 {
     if !is_due(floor, agent) {
         return false;
+    }
+    if rests_by_note(floor, is_quiet, agent) {
+        return true;
     }
     if !may_rest(instance, floor, near, agent) {
         return false;
@@ -197,11 +208,13 @@ pub fn request(
     instance: &Instance,
     floor: &mut Floor,
     near: &mut LazyField,
+    is_quiet: bool,
     agent: u32,
     reply: Reply,
 ) -> Result<bool, AllocError>
     requires reached { IsReachable instance.now floor.old.state }
     requires grid { near.old.grid ≡ instance.now.grid }
+    requires quiet { is_quiet ≡ true → IsQuiet floor.old.state }
     ensures answer { IfOk result (Decides instance.now floor.old.state reply (events.Request agent) floor.new.state) }
     ensures kept { IfOk result (λ b. b ≡ false → floor.new.state ≡ floor.old.state) }
     ensures err { OnErr result (floor.new.state ≡ floor.old.state) }
@@ -210,7 +223,7 @@ pub fn request(
     match reply {
         Reply::Accepted { .. } => Ok(false),
         Reply::Took { task, path } => Ok(take(instance, floor, near, agent, task, path)),
-        Reply::Rested => Ok(rest(instance, floor, near, agent)),
+        Reply::Rested => Ok(rest(instance, floor, near, is_quiet, agent)),
         Reply::Parked { point, path } => Ok(park(instance, floor, near, agent, &point, path)),
         Reply::Clock { .. } => Ok(false),
         Reply::Replaced { .. } => Ok(false),
