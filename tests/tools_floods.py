@@ -4,8 +4,8 @@
     tests/tools_floods.py            the program is taken from WAREHOUSE, else ./warehouse
 
 When the last request of each ends was worked out by hand, or is told by a search of this script's own, one layer of
-time after another, over the paths that the log has. The last line is `N passed, M failed`, and the status is 1 where
-one failed.
+time after another, over the paths that the log has. And a log of many rests is judged as quickly as they were served. The
+last line is `N passed, M failed`, and the status is 1 where one failed.
 """
 import os
 import resource
@@ -160,6 +160,25 @@ def test_none_floods() -> None:
     for words in (('door', 128, 4), ('hall', 200, 150), ('late', 100, 7, 1), ('ring', 401, 201), ('stops', 128, 8, 2),
                   ('unreachable', 64, 8), ('beside', 400, 7)):
         bounded_too(*words)
+
+
+def spent(text: str, *words: str) -> tuple[float, str]:
+    """The program's processor seconds, and what it told."""
+    before = resource.getrusage(resource.RUSAGE_CHILDREN)
+    done = subprocess.run([PROGRAM, *words], input=text, capture_output=True, text=True, preexec_fn=bounded)
+    after = resource.getrusage(resource.RUSAGE_CHILDREN)
+    assert done.returncode == 0, (done.returncode, done.stderr)
+    return after.ru_utime + after.ru_stime - before.ru_utime - before.ru_stime, done.stdout
+
+
+def test_rests_are_judged_as_soon_as_served() -> None:
+    text = made('rests', 1000, 20, 10000)
+    served, told = spent(text, 'replay', '--tail', 'log')
+    replies, log = told.split('%%\n')
+    assert replies.splitlines()[-10000:] == ['rested'] * 10000
+    judged, verdict = spent('%%\n'.join([*text.split('%%\n')[:2], log]), 'verify')
+    assert verdict == 'run 11002\n', verdict    # 1001 orders, 10001 requests
+    assert judged < 2 * served + 0.2, (judged, served)
 
 
 def test_families_and_numbers_are_wanted() -> None:
