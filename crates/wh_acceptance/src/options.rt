@@ -1,5 +1,6 @@
 //! The command line from outside: each subcommand, both spellings of an option, and refusals.
 use clap::error::ErrorKind;
+use std::alloc::{AllocError, Global};
 use std::test::*;
 use wh_options::{
     Fleet, LiveOptions, Options, PlannerKind, Refusal, ReplayOptions, Replies, Tail,
@@ -13,251 +14,243 @@ const FLEET: Fleet = Fleet {
     spares: 0,
 };
 
+const PLAIN: ReplayOptions<'static> = ReplayOptions {
+    fleet: FLEET,
+    tail: Tail::Nothing,
+    replies: Replies::Short,
+    log: None,
+    told: None,
+    vehicles: None,
+};
+
+const LEDGER: ReplayOptions<'static> = ReplayOptions {
+    fleet: Fleet { slots: 8, ..FLEET },
+    tail: Tail::Ledger,
+    replies: Replies::Full,
+    ..PLAIN
+};
+
+/// Words behind `warehouse replay`, and the options that they give.
+const REPLAYS: [(&[&str], ReplayOptions<'static>); 17] = [
+    (&[], PLAIN),
+    (&["--slots=8", "--tail=ledger", "--replies=full"], LEDGER),
+    (
+        &["--replies", "full", "--tail", "ledger", "--slots", "8"],
+        LEDGER,
+    ),
+    (&["--replies", "short"], PLAIN),
+    (
+        &["--replies=placed"],
+        ReplayOptions {
+            replies: Replies::Placed,
+            ..PLAIN
+        },
+    ),
+    (
+        &["--tail=log"],
+        ReplayOptions {
+            tail: Tail::Log,
+            ..PLAIN
+        },
+    ),
+    (
+        &["--tail=none", "--replies=full"],
+        ReplayOptions {
+            replies: Replies::Full,
+            ..PLAIN
+        },
+    ),
+    (
+        &["--log", "a.log"],
+        ReplayOptions {
+            log: Some("a.log"),
+            ..PLAIN
+        },
+    ),
+    (
+        &["--slots=4", "--log=kept/a b=c"],
+        ReplayOptions {
+            log: Some("kept/a b=c"),
+            ..PLAIN
+        },
+    ),
+    // A hyphen alone is a name as any, and one that has more behind it must stand in the option's word.
+    (
+        &["--log", "-", "--tail=none"],
+        ReplayOptions {
+            log: Some("-"),
+            ..PLAIN
+        },
+    ),
+    (
+        &["--log=--tail"],
+        ReplayOptions {
+            log: Some("--tail"),
+            ..PLAIN
+        },
+    ),
+    (
+        &["--told", "0", "--log", "a.log"],
+        ReplayOptions {
+            log: Some("a.log"),
+            told: Some(0),
+            ..PLAIN
+        },
+    ),
+    (
+        &["--log", "a.log", "--told=999999999"],
+        ReplayOptions {
+            log: Some("a.log"),
+            told: Some(999_999_999),
+            ..PLAIN
+        },
+    ),
+    (
+        &["--vehicles"],
+        ReplayOptions {
+            vehicles: Some(VehicleOptions {
+                behind: 8,
+                ahead: 1,
+            }),
+            ..PLAIN
+        },
+    ),
+    (
+        &["--behind", "1", "--vehicles", "--"],
+        ReplayOptions {
+            vehicles: Some(VehicleOptions {
+                behind: 1,
+                ahead: 1,
+            }),
+            ..PLAIN
+        },
+    ),
+    (
+        &["--vehicles", "--ahead=1000", "--behind=1000"],
+        ReplayOptions {
+            vehicles: Some(VehicleOptions {
+                behind: 1000,
+                ahead: 1000,
+            }),
+            ..PLAIN
+        },
+    ),
+    (&["--planner=near"], PLAIN),
+];
+
+/// Words that are refused, and the kind of the error.
+const MISTAKES: [(&[&str], ErrorKind); 25] = [
+    (&["replay", "--log"], ErrorKind::InvalidValue),
+    (&["replay", "--log="], ErrorKind::InvalidValue),
+    (&["replay", "--log", ""], ErrorKind::InvalidValue),
+    (
+        &["replay", "--log", "--tail", "log"],
+        ErrorKind::InvalidValue,
+    ),
+    (&["replay", "--log", "-x"], ErrorKind::UnknownArgument),
+    (
+        &["replay", "--log=a.log", "--log", "a.log"],
+        ErrorKind::ArgumentConflict,
+    ),
+    (&["check", "--log", "x"], ErrorKind::UnknownArgument),
+    (&["live", "--log=x"], ErrorKind::UnknownArgument),
+    (
+        &["replay", "--told", "0"],
+        ErrorKind::MissingRequiredArgument,
+    ),
+    (
+        &["replay", "--behind=8"],
+        ErrorKind::MissingRequiredArgument,
+    ),
+    (
+        &["replay", "--ahead", "1", "--log", "a"],
+        ErrorKind::MissingRequiredArgument,
+    ),
+    (
+        &["replay", "--vehicles", "--log", "a"],
+        ErrorKind::ArgumentConflict,
+    ),
+    (&["replay", "--vehicles=true"], ErrorKind::TooManyValues),
+    (
+        &["replay", "--vehicles", "true"],
+        ErrorKind::UnknownArgument,
+    ),
+    (
+        &["replay", "--vehicles", "--vehicles"],
+        ErrorKind::ArgumentConflict,
+    ),
+    (
+        &["replay", "--vehicles", "--behind", "0"],
+        ErrorKind::ValueValidation,
+    ),
+    (
+        &["replay", "--vehicles", "--ahead", "1001"],
+        ErrorKind::ValueValidation,
+    ),
+    (&["live", "--vehicles"], ErrorKind::UnknownArgument),
+    (&["replay", "--slots", "65"], ErrorKind::ValueValidation),
+    (&["go"], ErrorKind::InvalidSubcommand),
+    (
+        &["replay", "--slots=4", "--slots=4"],
+        ErrorKind::ArgumentConflict,
+    ),
+    (&["replay", "--replies", "long"], ErrorKind::InvalidValue),
+    (&["replay", "--replies=Full"], ErrorKind::InvalidValue),
+    (&["replay", "--replies=log"], ErrorKind::InvalidValue),
+    (&["live", "--replies=full"], ErrorKind::UnknownArgument),
+];
+
+/// The program's name, with these words behind it.
+fn command<'a>(alloc: Global, words: &[&'a str]) -> Result<Vec<&'a str>, AllocError> {
+    let mut all = Vec::new(alloc);
+    all.push("warehouse")?;
+    all.extend_from_slice(words)?;
+    Ok(all)
+}
+
+/// Whether the words of a command line give these options.
+fn gives(alloc: Global, words: &[&str], wanted: Options<'_>) -> bool {
+    match options(alloc, words) {
+        Ok(found) => found == wanted,
+        Err(_) => false,
+    }
+}
+
+/// Whether the words of a command line are refused as a mistake of this kind.
+fn is_refused(alloc: Global, words: &[&str], kind: ErrorKind) -> bool {
+    match options(alloc, words) {
+        Ok(_) => false,
+        Err(error) => {
+            error.kind() == kind && refusal_of(&error) == Refusal::Mistake && error.use_stderr()
+        }
+    }
+}
+
 #[test]
-fn subcommands_with_their_defaults(rt: HostRuntime) -> Result<(), Fail> {
+fn options_of_replay(rt: HostRuntime) -> Result<(), Fail> {
+    for (words, wanted) in REPLAYS {
+        let mut all = command(rt.alloc(), &["replay"])?;
+        all.extend_from_slice(words)?;
+        assert!(rt; gives(rt.alloc(), all.as_slice(), Options::Replay(wanted)));
+    }
+    Ok(())
+}
+
+#[test]
+fn other_subcommands(rt: HostRuntime) {
     let alloc = rt.alloc();
-    let words = ["warehouse", "check", "--"];
-    assert_eq!(rt; options(alloc, words.as_slice())?, Options::Check);
-    let words = ["warehouse", "verify"];
-    assert_eq!(rt; options(alloc, words.as_slice())?, Options::Verify);
-    let words = ["warehouse", "replay"];
-    let replay = ReplayOptions {
-        fleet: FLEET,
-        tail: Tail::Nothing,
-        replies: Replies::Short,
-        log: None,
-        told: None,
-        vehicles: None,
-    };
-    assert_eq!(rt; options(alloc, words.as_slice())?, Options::Replay(replay));
-    let words = ["warehouse", "live"];
+    assert!(rt; gives(alloc, &["warehouse", "check", "--"], Options::Check));
+    assert!(rt; gives(alloc, &["warehouse", "verify"], Options::Verify));
     let live = LiveOptions {
         fleet: FLEET,
         turns: 64,
         journal: 10_000,
     };
-    assert_eq!(rt; options(alloc, words.as_slice())?, Options::Live(live));
-    Ok(())
+    assert!(rt; gives(alloc, &["warehouse", "live"], Options::Live(live)));
 }
 
 #[test]
-fn an_option_in_one_word_or_two(rt: HostRuntime) -> Result<(), Fail> {
-    let alloc = rt.alloc();
-    let replay = ReplayOptions {
-        fleet: Fleet { slots: 8, ..FLEET },
-        tail: Tail::Ledger,
-        replies: Replies::Full,
-        log: None,
-        told: None,
-        vehicles: None,
-    };
-    let joined = [
-        "warehouse",
-        "replay",
-        "--slots=8",
-        "--tail=ledger",
-        "--replies=full",
-    ];
-    assert_eq!(rt; options(alloc, joined.as_slice())?, Options::Replay(replay));
-    let apart = [
-        "warehouse",
-        "replay",
-        "--replies",
-        "full",
-        "--tail",
-        "ledger",
-        "--slots",
-        "8",
-    ];
-    assert_eq!(rt; options(alloc, apart.as_slice())?, Options::Replay(replay));
-    Ok(())
-}
-
-fn replay(tail: Tail, replies: Replies) -> Options<'static> {
-    Options::Replay(ReplayOptions {
-        fleet: FLEET,
-        tail,
-        replies,
-        log: None,
-        told: None,
-        vehicles: None,
-    })
-}
-
-fn kept(name: &str) -> Options<'_> {
-    Options::Replay(ReplayOptions {
-        fleet: FLEET,
-        tail: Tail::Nothing,
-        replies: Replies::Short,
-        log: Some(name),
-        told: None,
-        vehicles: None,
-    })
-}
-
-#[test]
-fn a_log_by_its_name(rt: HostRuntime) -> Result<(), Fail> {
-    let alloc = rt.alloc();
-    let apart = ["warehouse", "replay", "--log", "a.log"];
-    assert_eq!(rt; options(alloc, apart.as_slice())?, kept("a.log"));
-    let joined = ["warehouse", "replay", "--slots=4", "--log=kept/a b=c"];
-    assert_eq!(rt; options(alloc, joined.as_slice())?, kept("kept/a b=c"));
-    // A hyphen alone is a name as any, and one that has more behind it must stand in the option's word.
-    let hyphen = ["warehouse", "replay", "--log", "-", "--tail=none"];
-    assert_eq!(rt; options(alloc, hyphen.as_slice())?, kept("-"));
-    let hyphens = ["warehouse", "replay", "--log=--tail"];
-    assert_eq!(rt; options(alloc, hyphens.as_slice())?, kept("--tail"));
-    Ok(())
-}
-
-fn told(name: &str, first: u32) -> Options<'_> {
-    Options::Replay(ReplayOptions {
-        fleet: FLEET,
-        tail: Tail::Nothing,
-        replies: Replies::Short,
-        log: Some(name),
-        told: Some(first),
-        vehicles: None,
-    })
-}
-
-#[test]
-fn entries_told_again(rt: HostRuntime) -> Result<(), Fail> {
-    let alloc = rt.alloc();
-    let least = ["warehouse", "replay", "--told", "0", "--log", "a.log"];
-    assert_eq!(rt; options(alloc, least.as_slice())?, told("a.log", 0));
-    let most = ["warehouse", "replay", "--log", "a.log", "--told=999999999"];
-    assert_eq!(rt;
-        options(alloc, most.as_slice())?,
-        told("a.log", 999_999_999)
-    );
-    Ok(())
-}
-
-fn driven(behind: u32, ahead: u32) -> Options<'static> {
-    Options::Replay(ReplayOptions {
-        fleet: FLEET,
-        tail: Tail::Nothing,
-        replies: Replies::Short,
-        log: None,
-        told: None,
-        vehicles: Some(VehicleOptions { behind, ahead }),
-    })
-}
-
-#[test]
-fn vehicles_at_their_pace(rt: HostRuntime) -> Result<(), Fail> {
-    let alloc = rt.alloc();
-    let plain = ["warehouse", "replay", "--vehicles"];
-    assert_eq!(rt; options(alloc, plain.as_slice())?, driven(8, 1));
-    let before = ["warehouse", "replay", "--behind", "1", "--vehicles", "--"];
-    assert_eq!(rt; options(alloc, before.as_slice())?, driven(1, 1));
-    let both = [
-        "warehouse",
-        "replay",
-        "--vehicles",
-        "--ahead=1000",
-        "--behind=1000",
-    ];
-    assert_eq!(rt; options(alloc, both.as_slice())?, driven(1000, 1000));
-    Ok(())
-}
-
-/// The kind of error with which the words are refused.
-fn refused<R: AllocGlobal>(rt: &R, words: &[&str]) -> Option<ErrorKind> {
-    match options(rt.alloc(), words) {
-        Ok(_) => None,
-        Err(error) => Some(error.kind()),
-    }
-}
-
-#[test]
-fn mistakes_in_a_log(rt: HostRuntime) {
-    let none = ["warehouse", "replay", "--log"];
-    assert!(rt; refused(&rt, none.as_slice()) == Some(ErrorKind::InvalidValue));
-    let empty = ["warehouse", "replay", "--log="];
-    assert!(rt; refused(&rt, empty.as_slice()) == Some(ErrorKind::InvalidValue));
-    let blank = ["warehouse", "replay", "--log", ""];
-    assert!(rt; refused(&rt, blank.as_slice()) == Some(ErrorKind::InvalidValue));
-    let option = ["warehouse", "replay", "--log", "--tail", "log"];
-    assert!(rt; refused(&rt, option.as_slice()) == Some(ErrorKind::InvalidValue));
-    let flag = ["warehouse", "replay", "--log", "-x"];
-    assert!(rt; refused(&rt, flag.as_slice()) == Some(ErrorKind::UnknownArgument));
-    let twice = ["warehouse", "replay", "--log=a.log", "--log", "a.log"];
-    assert!(rt; refused(&rt, twice.as_slice()) == Some(ErrorKind::ArgumentConflict));
-    let check = ["warehouse", "check", "--log", "x"];
-    assert!(rt; refused(&rt, check.as_slice()) == Some(ErrorKind::UnknownArgument));
-    let live = ["warehouse", "live", "--log=x"];
-    assert!(rt; refused(&rt, live.as_slice()) == Some(ErrorKind::UnknownArgument));
-}
-
-#[test]
-fn options_that_do_not_go_together(rt: HostRuntime) {
-    let untold = ["warehouse", "replay", "--told", "0"];
-    assert!(rt; refused(&rt, untold.as_slice()) == Some(ErrorKind::MissingRequiredArgument));
-    let behind = ["warehouse", "replay", "--behind=8"];
-    assert!(rt; refused(&rt, behind.as_slice()) == Some(ErrorKind::MissingRequiredArgument));
-    let ahead = ["warehouse", "replay", "--ahead", "1", "--log", "a"];
-    assert!(rt; refused(&rt, ahead.as_slice()) == Some(ErrorKind::MissingRequiredArgument));
-    let both = ["warehouse", "replay", "--vehicles", "--log", "a"];
-    assert!(rt; refused(&rt, both.as_slice()) == Some(ErrorKind::ArgumentConflict));
-}
-
-#[test]
-fn the_text_of_two_that_do_not_go_together(rt: HostRuntime) -> Result<(), Fail> {
-    let words = ["warehouse", "replay", "--vehicles", "--log", "a"];
-    let error = options(rt.alloc(), words.as_slice()).expect_err(&rt, "both");
-    assert_eq!(rt; refusal_of(&error), Refusal::Mistake);
-    let text = format!(in rt.alloc(); "{error}")?;
-    let first = "error: the argument '--vehicles' cannot be used with '--log <FILE>'\n";
-    assert!(rt; text.as_str().starts_with(first));
-    Ok(())
-}
-
-#[test]
-fn mistakes_in_vehicles(rt: HostRuntime) {
-    let value = ["warehouse", "replay", "--vehicles=true"];
-    assert!(rt; refused(&rt, value.as_slice()) == Some(ErrorKind::TooManyValues));
-    let word = ["warehouse", "replay", "--vehicles", "true"];
-    assert!(rt; refused(&rt, word.as_slice()) == Some(ErrorKind::UnknownArgument));
-    let twice = ["warehouse", "replay", "--vehicles", "--vehicles"];
-    assert!(rt; refused(&rt, twice.as_slice()) == Some(ErrorKind::ArgumentConflict));
-    let none = ["warehouse", "replay", "--vehicles", "--behind", "0"];
-    assert!(rt; refused(&rt, none.as_slice()) == Some(ErrorKind::ValueValidation));
-    let far = ["warehouse", "replay", "--vehicles", "--ahead", "1001"];
-    assert!(rt; refused(&rt, far.as_slice()) == Some(ErrorKind::ValueValidation));
-    let live = ["warehouse", "live", "--vehicles"];
-    assert!(rt; refused(&rt, live.as_slice()) == Some(ErrorKind::UnknownArgument));
-}
-
-#[test]
-fn replies_by_their_word(rt: HostRuntime) -> Result<(), Fail> {
-    let alloc = rt.alloc();
-    let short = ["warehouse", "replay", "--replies", "short"];
-    assert_eq!(rt;
-        options(alloc, short.as_slice())?,
-        replay(Tail::Nothing, Replies::Short)
-    );
-    let full = ["warehouse", "replay", "--replies=full"];
-    assert_eq!(rt;
-        options(alloc, full.as_slice())?,
-        replay(Tail::Nothing, Replies::Full)
-    );
-    let logged = ["warehouse", "replay", "--tail=log"];
-    assert_eq!(rt;
-        options(alloc, logged.as_slice())?,
-        replay(Tail::Log, Replies::Short)
-    );
-    let other = ["warehouse", "replay", "--tail=none", "--replies=full"];
-    assert_eq!(rt;
-        options(alloc, other.as_slice())?,
-        replay(Tail::Nothing, Replies::Full)
-    );
-    Ok(())
-}
-
-#[test]
-fn every_option_of_live(rt: HostRuntime) -> Result<(), Fail> {
+fn every_option_of_live(rt: HostRuntime) {
     let words = [
         "warehouse",
         "live",
@@ -281,72 +274,59 @@ fn every_option_of_live(rt: HostRuntime) -> Result<(), Fail> {
         turns: 7,
         journal: 1_000_000,
     };
-    assert_eq!(rt; options(rt.alloc(), words.as_slice())?, Options::Live(live));
+    assert!(rt; gives(rt.alloc(), words.as_slice(), Options::Live(live)));
+}
+
+#[test]
+fn mistakes(rt: HostRuntime) -> Result<(), Fail> {
+    for (words, kind) in MISTAKES {
+        let all = command(rt.alloc(), words)?;
+        assert!(rt; is_refused(rt.alloc(), all.as_slice(), kind));
+    }
     Ok(())
 }
 
-#[test]
-fn mistakes(rt: HostRuntime) {
-    let range = ["warehouse", "replay", "--slots", "65"];
-    let error = options(rt.alloc(), range.as_slice()).expect_err(&rt, "range");
-    assert!(rt; error.kind() == ErrorKind::ValueValidation);
-    assert_eq!(rt; refusal_of(&error), Refusal::Mistake);
-    let unknown = ["warehouse", "go"];
-    let error = options(rt.alloc(), unknown.as_slice()).expect_err(&rt, "unknown");
-    assert!(rt; error.kind() == ErrorKind::InvalidSubcommand);
-    assert_eq!(rt; refusal_of(&error), Refusal::Mistake);
-    let twice = ["warehouse", "replay", "--slots=4", "--slots=4"];
-    let error = options(rt.alloc(), twice.as_slice()).expect_err(&rt, "twice");
-    assert!(rt; error.kind() == ErrorKind::ArgumentConflict && error.use_stderr());
-}
-
-#[test]
-fn mistakes_in_replies(rt: HostRuntime) {
-    let other = ["warehouse", "replay", "--replies", "long"];
-    let error = options(rt.alloc(), other.as_slice()).expect_err(&rt, "another word");
-    assert!(rt; error.kind() == ErrorKind::InvalidValue);
-    assert_eq!(rt; refusal_of(&error), Refusal::Mistake);
-    let capital = ["warehouse", "replay", "--replies=Full"];
-    let error = options(rt.alloc(), capital.as_slice()).expect_err(&rt, "a capital");
-    assert!(rt; error.kind() == ErrorKind::InvalidValue);
-    let tail = ["warehouse", "replay", "--replies=log"];
-    let error = options(rt.alloc(), tail.as_slice()).expect_err(&rt, "a tail");
-    assert!(rt; error.kind() == ErrorKind::InvalidValue);
-    let twice = ["warehouse", "replay", "--replies=full", "--replies", "full"];
-    let error = options(rt.alloc(), twice.as_slice()).expect_err(&rt, "twice");
-    assert!(rt; error.kind() == ErrorKind::ArgumentConflict && error.use_stderr());
-    let live = ["warehouse", "live", "--replies=full"];
-    let error = options(rt.alloc(), live.as_slice()).expect_err(&rt, "live");
-    assert!(rt; error.kind() == ErrorKind::UnknownArgument);
-    assert_eq!(rt; refusal_of(&error), Refusal::Mistake);
+/// What a request for help or the version is answered; of other words it is empty.
+fn asked(alloc: Global, words: &[&str]) -> Result<String, AllocError> {
+    match options(alloc, words) {
+        Err(error) if refusal_of(&error) == Refusal::Asked && !error.use_stderr() => {
+            format!(in alloc; "{error}")
+        }
+        _ => Ok(String::new(alloc)),
+    }
 }
 
 #[test]
 fn help_and_version(rt: HostRuntime) -> Result<(), Fail> {
-    let alloc = rt.alloc();
-    let words = ["warehouse", "replay", "--help"];
-    let help = options(alloc, words.as_slice()).expect_err(&rt, "help");
-    assert_eq!(rt; refusal_of(&help), Refusal::Asked);
-    let text = format!(in alloc; "{help}")?;
-    assert!(rt;
-        text.as_str()
-            .contains("Usage: warehouse replay [OPTIONS]\n"),
-        "{text}"
-    );
-    assert!(rt; text.as_str().contains("--slots <N>"), "{text}");
-    assert!(rt; text.as_str().contains("--log <FILE>"), "{text}");
-    assert!(rt; text.as_str().contains("--vehicles  "), "{text}");
-    assert!(rt;
-        text.as_str().contains("[default: short] [possible values: short, full, placed]\n"),
-        "{text}"
-    );
-    let words = ["warehouse", "--version"];
-    let version = options(alloc, words.as_slice()).expect_err(&rt, "version");
-    assert_eq!(rt; refusal_of(&version), Refusal::Asked);
-    let text = format!(in alloc; "{version}")?;
-    assert!(rt; text.as_str() == "warehouse 0.1.0\n", "{text}");
-    let words = ["warehouse", "live", "-V"];
-    let version = options(alloc, words.as_slice()).expect_err(&rt, "version");
-    assert!(rt; version.kind() == ErrorKind::DisplayVersion && !version.use_stderr());
+    let help = asked(rt.alloc(), &["warehouse", "replay", "--help"])?;
+    for line in [
+        "Usage: warehouse replay [OPTIONS]\n",
+        "--slots <N>",
+        "--log <FILE>",
+        "--vehicles  ",
+        "[default: short] [possible values: short, full, placed]\n",
+    ] {
+        assert!(rt; help.as_str().contains(line));
+    }
+    let version = asked(rt.alloc(), &["warehouse", "--version"])?;
+    assert!(rt; version.as_str() == "warehouse 0.1.0\n");
+    let version = asked(rt.alloc(), &["warehouse", "live", "-V"])?;
+    assert!(rt; !version.as_str().is_empty());
+    Ok(())
+}
+
+/// What is told of a mistake; of other words it is empty.
+fn told(alloc: Global, words: &[&str]) -> Result<String, AllocError> {
+    match options(alloc, words) {
+        Err(error) if refusal_of(&error) == Refusal::Mistake => format!(in alloc; "{error}"),
+        _ => Ok(String::new(alloc)),
+    }
+}
+
+#[test]
+fn the_text_of_a_mistake(rt: HostRuntime) -> Result<(), Fail> {
+    let text = told(rt.alloc(), &["warehouse", "replay", "--told", "0"])?;
+    let first = "error: the argument '--told <N>' needs '--log <FILE>'\n";
+    assert!(rt; text.as_str().starts_with(first));
     Ok(())
 }

@@ -1,5 +1,5 @@
 //! Sites and works from outside, and the texts of troubles.
-use std::alloc::AllocError;
+use std::alloc::{AllocError, Global};
 use std::test::*;
 use wh_edge::{
     ScriptFault, ScriptPlace, Trouble, Work, agent_work, client_work, clock_work, read_site,
@@ -10,93 +10,126 @@ use wh_points::{Fault, FaultKind};
 
 const MAP: &[u8] = b"type octile\nheight 1\nwidth 3\nmap\n..@\n%%\n";
 
-/// The text of what is wrong with an input of these two parts; of a site that is read it is empty.
-fn refusal<R: AllocGlobal>(rt: &R, map: &[u8], points: &[u8]) -> Result<Vec<u8>, Fail> {
-    let mut input = Vec::new(rt.alloc());
-    input.extend_from_slice(map)?;
-    input.extend_from_slice(points)?;
-    let mut lines = Lines::new(input.as_slice());
-    let mut told = Vec::new(rt.alloc());
-    if let Err(trouble) = read_site(&mut lines, rt.alloc()) {
-        told.extend_from_slice(trouble.text().as_slice())?;
+const SITE: &[u8] =
+    b"type octile\nheight 1\nwidth 3\nmap\n..@\n%%\nstation A 0 0\nparking P 1 0\nagent P\n%%\ntick\n";
+
+/// Inputs that are no site, and what is told of them.
+const NO_SITES: [(&[u8], &[u8]); 5] = [
+    (b"", b"refused M1 line 1\n"),
+    (
+        b"type octile\nheight 1\nwidth 3\nmap\n.x.\n",
+        b"refused M4 line 5\n",
+    ),
+    (
+        b"type octile\nheight 1\nwidth 3\nmap\n..@\n%%\n\nstation A 2 0\n",
+        b"refused P4 line 2\n",
+    ),
+    (
+        b"type octile\nheight 1\nwidth 3\nmap\n..@\n%%\nrule nofollow\nrule nofollow\n",
+        b"refused P10 line 2\n",
+    ),
+    (MAP, b"refused P7 line 1\n"),
+];
+
+/// Troubles, each with its text and the number of its status.
+const TROUBLES: [(Trouble, &[u8], u8); 6] = [
+    (
+        Trouble::Points(Fault {
+            kind: FaultKind::RuleTwice,
+            line: u64::MAX,
+        }),
+        b"refused P10 line 18446744073709551615\n",
+        1,
+    ),
+    (Trouble::Short { free: 3 }, b"refused B1 free 3\n", 1),
+    (Trouble::Unwritten, b"refused X3\n", 3),
+    (Trouble::Log { line: 12 }, b"refused L1 line 12\n", 1),
+    (Trouble::Unkept, b"refused X5\n", 3),
+    (Trouble::MayFollow, b"refused V4\n", 1),
+];
+
+/// Whether the input is no site, and this is told.
+fn is_refused(alloc: Global, input: &[u8], text: &[u8]) -> bool {
+    match read_site(&mut Lines::new(input), alloc) {
+        Ok(_) => false,
+        Err(trouble) => trouble.text().as_slice() == text,
     }
-    Ok(told)
+}
+
+/// A map, and points with one byte more than they may have.
+fn with_a_long_line(alloc: Global) -> Result<Vec<u8>, AllocError> {
+    let mut input = Vec::new(alloc);
+    input.extend_from_slice(MAP)?;
+    for _ in 0..1_048_577 {
+        input.push(b'#')?;
+    }
+    Ok(input)
+}
+
+/// The width of the map, how many points there are, and how many bytes wait behind the site.
+fn measures(alloc: Global, input: &[u8]) -> Result<(u16, u32, usize), Trouble> {
+    let mut lines = Lines::new(input);
+    let site = read_site(&mut lines, alloc)?;
+    Ok((site.grid.width(), site.points.len(), lines.waiting().len()))
 }
 
 #[test]
-fn a_site(rt: HostRuntime) -> Result<(), Fail> {
-    let mut input = Vec::new(rt.alloc());
-    input.extend_from_slice(MAP)?;
-    input.extend_from_slice(b"station A 0 0\nparking P 1 0\nagent P\n%%\ntick\n")?;
-    let mut lines = Lines::new(input.as_slice());
-    let Ok(site) = read_site(&mut lines, rt.alloc()) else {
-        return Err("a good site")?;
-    };
-    assert_eq!(rt; site.grid.width(), 3);
-    assert_eq!(rt; site.points.len(), 2);
-    assert_eq!(rt; lines.waiting().len(), 5);
-    Ok(())
+fn a_site(rt: HostRuntime) {
+    assert!(rt; measures(rt.alloc(), SITE) == Ok((3, 2, 5)));
 }
 
 #[test]
 fn no_site(rt: HostRuntime) -> Result<(), Fail> {
-    assert!(rt; refusal(&rt, b"", b"")?.as_slice() == b"refused M1 line 1\n".as_slice());
-    let letter = b"type octile\nheight 1\nwidth 3\nmap\n.x.\n".as_slice();
-    assert!(rt; refusal(&rt, letter, b"")?.as_slice() == b"refused M4 line 5\n".as_slice());
-    let blocked = b"\nstation A 2 0\n".as_slice();
-    assert!(rt; refusal(&rt, MAP, blocked)?.as_slice() == b"refused P4 line 2\n".as_slice());
-    let twice = b"rule nofollow\nrule nofollow\n".as_slice();
-    assert!(rt; refusal(&rt, MAP, twice)?.as_slice() == b"refused P10 line 2\n".as_slice());
-    assert!(rt; refusal(&rt, MAP, b"")?.as_slice() == b"refused P7 line 1\n".as_slice());
-    let long = vec![in rt.alloc(); b'#'; 1_048_577]?;
-    assert!(rt; refusal(&rt, MAP, long.as_slice())?.as_slice() == b"refused X4\n".as_slice());
+    for (input, text) in NO_SITES {
+        assert!(rt; is_refused(rt.alloc(), input, text));
+    }
+    let long = with_a_long_line(rt.alloc())?;
+    assert!(rt; is_refused(rt.alloc(), long.as_slice(), b"refused X4\n"));
     Ok(())
 }
 
 #[test]
 fn texts_and_statuses(rt: HostRuntime) {
-    let fault = Fault {
-        kind: FaultKind::RuleTwice,
-        line: u64::MAX,
-    };
-    let points = Trouble::Points(fault);
-    assert!(rt; points.text().as_slice() == b"refused P10 line 18446744073709551615\n".as_slice());
-    assert_eq!(rt; points.status().number(), 1);
-    let short = Trouble::Short { free: 3 };
-    assert!(rt; short.text().as_slice() == b"refused B1 free 3\n".as_slice());
-    assert_eq!(rt; short.status().number(), 1);
-    assert!(rt; Trouble::Unwritten.text().as_slice() == b"refused X3\n".as_slice());
-    assert_eq!(rt; Trouble::Unwritten.status().number(), 3);
-    let log = Trouble::Log { line: 12 };
-    assert!(rt; log.text().as_slice() == b"refused L1 line 12\n".as_slice());
-    assert_eq!(rt; log.status().number(), 1);
-    assert!(rt; Trouble::Unkept.text().as_slice() == b"refused X5\n".as_slice());
-    assert_eq!(rt; Trouble::Unkept.status().number(), 3);
-    assert!(rt; Trouble::MayFollow.text().as_slice() == b"refused V4\n".as_slice());
-    assert_eq!(rt; Trouble::MayFollow.status().number(), 1);
+    for (trouble, text, status) in TROUBLES {
+        assert!(rt; trouble.text().as_slice() == text && trouble.status().number() == status);
+    }
     assert_eq!(rt; Trouble::from(AllocError).status().number(), 4);
 }
 
 #[test]
-fn works(rt: HostRuntime) -> Result<(), Fail> {
+fn works_of_clients(rt: HostRuntime) -> Result<(), Fail> {
     let Ok(work) = client_work(rt.alloc(), b"submit x A B\n\n# note\ntick\r\n") else {
         return Err("a good script")?;
     };
     let work: Work = work;
-    assert_eq!(rt; work.commands.len(), 2);
-    assert!(rt; matches!(work.commands[0], Command::Submit { .. }));
-    assert!(rt; matches!(work.commands[1], Command::Tick));
+    let is_read = matches!(
+        work.commands.as_slice(),
+        [Command::Submit { .. }, Command::Tick]
+    );
+    assert!(rt; is_read);
+    Ok(())
+}
+
+#[test]
+fn scripts_with_a_bad_line(rt: HostRuntime) {
     let refused: Result<Work, ScriptFault> = client_work(rt.alloc(), b"tick\nmove\n");
     let place = ScriptPlace {
         kind: LineFault::Form,
         line: 2,
     };
     assert!(rt; matches!(refused, Err(ScriptFault::At(at)) if at == place));
+}
+
+#[test]
+fn works_of_agents_and_the_clock(rt: HostRuntime) -> Result<(), Fail> {
     let agent: Work = agent_work(rt.alloc(), 3, 4)?;
-    assert_eq!(rt; agent.commands.len(), 4);
-    assert!(rt; matches!(agent.commands[3], Command::Token { agent: 3 }));
+    let asks = matches!(
+        agent.commands.as_slice(),
+        [_, _, _, Command::Token { agent: 3 }]
+    );
+    assert!(rt; asks);
     let clock: Work = clock_work(rt.alloc(), 5)?;
-    assert_eq!(rt; clock.commands.len(), 5);
-    assert!(rt; matches!(clock.commands[0], Command::Tick));
+    let ticks = matches!(clock.commands.as_slice(), [Command::Tick, _, _, _, _]);
+    assert!(rt; ticks);
     Ok(())
 }

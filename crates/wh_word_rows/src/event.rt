@@ -35,37 +35,51 @@ fn are(names: &[Name], words: &[&[u8]]) -> bool {
     true
 }
 
+/// The agent that a line asks for, by `token` or by `replace`.
+fn agent_of(line: &[u8]) -> Option<(bool, u32)> {
+    match read_line(line) {
+        Ok(Some(Command::Token { agent })) => Some((true, agent)),
+        Ok(Some(Command::Replace { agent })) => Some((false, agent)),
+        _ => None,
+    }
+}
+
+fn ticks(line: &[u8]) -> bool {
+    matches!(read_line(line), Ok(Some(Command::Tick)))
+}
+
+fn closes(line: &[u8]) -> bool {
+    matches!(read_line(line), Ok(Some(Command::Close)))
+}
+
+fn is_skipped(line: &[u8]) -> bool {
+    matches!(read_line(line), Ok(None))
+}
+
+/// The fault of a line that is none.
+fn fault_of(line: &[u8]) -> Option<LineFault> {
+    read_line(line).err()
+}
+
 #[test]
 fn commands(rt: HostRuntime) {
     assert!(rt; submits(b"submit x A B", b"x", &[b"A", b"B"]));
-    assert!(rt;
-        submits(
-            b"\t submit  x\tA B C D E F G H ",
-            b"x",
-            &[b"A", b"B", b"C", b"D", b"E", b"F", b"G", b"H"]
-        )
-    );
-    assert!(rt; matches!(read_line(b"token 0"), Ok(Some(Command::Token { agent: 0 }))));
-    assert!(rt;
-        matches!(
-            read_line(b"token 000000007"),
-            Ok(Some(Command::Token { agent: 7 }))
-        )
-    );
-    assert!(rt;
-        matches!(
-            read_line(b"replace 999999999"),
-            Ok(Some(Command::Replace { agent: 999_999_999 }))
-        )
-    );
-    assert!(rt; matches!(read_line(b"tick"), Ok(Some(Command::Tick))));
-    assert!(rt; matches!(read_line(b"close "), Ok(Some(Command::Close))));
+    let eight: [&[u8]; 8] = [b"A", b"B", b"C", b"D", b"E", b"F", b"G", b"H"];
+    assert!(rt; submits(b"\t submit  x\tA B C D E F G H ", b"x", eight.as_slice()));
+    for (line, agent) in [
+        (b"token 0".as_slice(), (true, 0)),
+        (b"token 000000007", (true, 7)),
+        (b"replace 999999999", (false, 999_999_999)),
+    ] {
+        assert!(rt; agent_of(line) == Some(agent));
+    }
+    assert!(rt; ticks(b"tick") && closes(b"close "));
 }
 
 #[test]
 fn skipped_and_refused_lines(rt: HostRuntime) {
     for line in [b"".as_slice(), b" \t ", b"# note", b"  #submit x A B"] {
-        assert!(rt; matches!(read_line(line), Ok(None)));
+        assert!(rt; is_skipped(line));
     }
     for line in [
         b"submit x A".as_slice(),
@@ -80,7 +94,7 @@ fn skipped_and_refused_lines(rt: HostRuntime) {
         b"ticks",
         b"Close",
     ] {
-        assert!(rt; matches!(read_line(line), Err(LineFault::Form)));
+        assert!(rt; fault_of(line) == Some(LineFault::Form));
     }
 }
 
@@ -89,9 +103,9 @@ fn long_lines(rt: HostRuntime) {
     let mut line = [b' '; 257];
     line[..12].copy_from_slice(b"submit x A B");
     assert!(rt; submits(&line[..256], b"x", &[b"A", b"B"]));
-    assert!(rt; matches!(read_line(&line), Err(LineFault::TooLong)));
+    assert!(rt; fault_of(&line) == Some(LineFault::TooLong));
     line[0] = b'#';
-    assert!(rt; matches!(read_line(&line), Err(LineFault::TooLong)));
+    assert!(rt; fault_of(&line) == Some(LineFault::TooLong));
 }
 
 fn name(word: &[u8]) -> Name {
@@ -107,63 +121,75 @@ fn path(alloc: Global, steps: u64) -> Result<TimedPath, AllocError> {
     Ok(path)
 }
 
+fn is_told(reply: &Reply, text: &[u8]) -> bool {
+    write_reply(reply).as_slice() == text
+}
+
 #[test]
-fn replies(rt: HostRuntime) -> Result<(), Fail> {
-    let far = name(b"ABCDEFGHIJKLMNOP");
+fn replies(rt: HostRuntime) {
     let clock = Reply::Clock {
         now: 1_000_000_000,
         picked: 2,
         dropped: 1_000_000,
     };
+    assert!(rt; is_told(&clock, b"clock 1000000000 picked 2 dropped 1000000"));
+    assert!(rt; is_told(&Reply::Accepted { task: 999_999 }, b"accepted 999999"));
+    assert!(rt; is_told(&Reply::Replaced { slots: 64 }, b"replaced 64"));
+    assert!(rt; is_told(&Reply::Rested, b"rested") && is_told(&Reply::Closed, b"closed"));
+}
+
+#[test]
+fn replies_with_a_path(rt: HostRuntime) -> Result<(), Fail> {
     let took = Reply::Took {
         task: 0,
         path: path(rt.alloc(), 6)?,
     };
+    assert!(rt; is_told(&took.copy(rt.alloc())?, b"took 0 end 6"));
     let parked = Reply::Parked {
-        point: far,
+        point: name(b"ABCDEFGHIJKLMNOP"),
         path: path(rt.alloc(), 0)?,
     };
-    let table = [
-        (
-            Reply::Accepted { task: 999_999 },
-            b"accepted 999999".as_slice(),
-        ),
-        (took.copy(rt.alloc())?, b"took 0 end 6"),
-        (Reply::Rested, b"rested"),
-        (parked, b"parked ABCDEFGHIJKLMNOP end 0"),
-        (clock, b"clock 1000000000 picked 2 dropped 1000000"),
-        (Reply::Replaced { slots: 64 }, b"replaced 64"),
-        (Reply::Closed, b"closed"),
-    ];
-    for (reply, text) in &table {
-        assert!(rt; write_reply(reply).as_slice() == *text);
-    }
+    assert!(rt; is_told(&parked, b"parked ABCDEFGHIJKLMNOP end 0"));
     Ok(())
 }
 
+fn is_refused(refusal: Refusal, text: &[u8]) -> bool {
+    is_told(&Reply::Refused(refusal.copy()), text)
+}
+
 #[test]
-fn refusals(rt: HostRuntime) {
-    let table = [
-        (
-            Refusal::UnknownPoint(name(b"Z")),
-            b"refused E1 Z".as_slice(),
-        ),
-        (Refusal::NotStation(name(b"P1")), b"refused E2 P1"),
-        (Refusal::TasksFull, b"refused E3"),
-        (Refusal::UnknownAgent(7), b"refused E4 7"),
-        (Refusal::Moving(6), b"refused E5 6"),
-        (
+fn refusals_that_name(rt: HostRuntime) {
+    assert!(rt; is_refused(Refusal::UnknownPoint(name(b"Z")), b"refused E1 Z"));
+    assert!(rt; is_refused(Refusal::NotStation(name(b"P1")), b"refused E2 P1"));
+    assert!(rt; is_refused(Refusal::UnknownAgent(7), b"refused E4 7"));
+    assert!(rt; is_refused(Refusal::Moving(6), b"refused E5 6"));
+    assert!(rt;
+        is_refused(
             Refusal::Moving(u64::MAX),
-            b"refused E5 18446744073709551615",
-        ),
-        (Refusal::NoPath, b"refused E6"),
-        (Refusal::ClockFull, b"refused E7"),
-        (Refusal::Closed, b"refused E8"),
-        (Refusal::ForeignPlanner, b"refused E9"),
-        (Refusal::NoSpare, b"refused E10"),
-    ];
-    for (refusal, text) in &table {
-        assert!(rt; write_reply(&Reply::Refused(refusal.copy())).as_slice() == *text);
+            b"refused E5 18446744073709551615"
+        )
+    );
+}
+
+#[test]
+fn refusals_that_name_nothing(rt: HostRuntime) {
+    assert!(rt; is_refused(Refusal::TasksFull, b"refused E3"));
+    assert!(rt; is_refused(Refusal::NoPath, b"refused E6"));
+    assert!(rt; is_refused(Refusal::ClockFull, b"refused E7"));
+    assert!(rt; is_refused(Refusal::Closed, b"refused E8"));
+    assert!(rt; is_refused(Refusal::ForeignPlanner, b"refused E9"));
+    assert!(rt; is_refused(Refusal::NoSpare, b"refused E10"));
+}
+
+/// Whether the entry, of this caller, hands in this task as number 5.
+fn hands_in(entry: &Entry, caller: u32, client: &[u8], stops: &[&[u8]]) -> bool {
+    let is_answered = entry.caller == caller && is_told(&entry.reply, b"accepted 5");
+    match &entry.event {
+        Event::Submit {
+            client: name,
+            stops: names,
+        } => { is_answered && name.as_slice() == client && are(names.stops().as_slice(), stops) }
+        _ => false,
     }
 }
 
@@ -172,24 +198,15 @@ fn entries(rt: HostRuntime) -> Result<(), Fail> {
     let mut names: ArrayVec<Name, 8> = ArrayVec::new();
     names.push(name(b"A"));
     names.push(name(b"B"));
-    let client = name(b"x");
-    let stops = KeptStops::new(rt.alloc(), Stops::of(names).copy())?;
     let entry = Entry {
         caller: 63,
-        event: Event::Submit { client, stops },
+        event: Event::Submit {
+            client: name(b"x"),
+            stops: KeptStops::new(rt.alloc(), Stops::of(names).copy())?,
+        },
         reply: Reply::Accepted { task: 5 },
     };
-    let Entry {
-        caller,
-        event,
-        reply,
-    } = entry.copy(rt.alloc())?;
-    assert_eq!(rt; caller, 63);
-    assert!(rt; write_reply(&reply).as_slice() == b"accepted 5".as_slice());
-    let Event::Submit { client, stops } = event else {
-        return Err(Fail::new("another event"));
-    };
-    assert!(rt; client.as_slice() == b"x".as_slice());
-    assert!(rt; are(stops.stops().as_slice(), &[b"A", b"B"]));
+    let copy = entry.copy(rt.alloc())?;
+    assert!(rt; hands_in(&copy, 63, b"x", &[b"A", b"B"]));
     Ok(())
 }

@@ -164,26 +164,46 @@ fn lines_are_the_same_in_one_piece_and_byte_by_byte(rt: HostRuntime) -> Result<(
     Ok(())
 }
 
+/// Of each part its byte, so many times, and its end.
+fn parts_of(alloc: Global, parts: &[(u8, usize, &[u8])]) -> Result<Vec<u8>, AllocError> {
+    let mut text = Vec::new(alloc);
+    for (byte, count, end) in parts {
+        for _ in 0..*count {
+            text.push(*byte)?;
+        }
+        text.extend_from_slice(end)?;
+    }
+    Ok(text)
+}
+
+/// Whether the next line is a whole one with this text, or too long where there is none, and the bytes at hand behind it
+/// end with these.
+fn goes_on(lines: &mut Lines<&[u8]>, text: Option<&[u8]>, waiting: &[u8]) -> bool {
+    let mut line = CommandLine::new();
+    let mut sink = Flushes {
+        count: 0,
+        room: 1000,
+    };
+    lines.next_line(&mut sink, &mut line) == Ok(Next::Whole)
+        && line.text() == text
+        && lines.waiting().ends_with(waiting)
+}
+
 #[test]
 fn a_line_may_have_any_length(rt: HostRuntime) -> Result<(), Fail> {
-    let mut text = vec![in rt.alloc(); b'a'; 256]?;
-    text.extend_from_slice(b"\r\n")?;
-    text.extend_from_slice(vec![in rt.alloc(); b'b'; 257]?.as_slice())?;
-    text.extend_from_slice(b"\n")?;
-    text.extend_from_slice(vec![in rt.alloc(); b'c'; 1_000_000]?.as_slice())?;
-    text.extend_from_slice(b"\nnext\n")?;
+    let parts: [(u8, usize, &[u8]); 4] = [
+        (b'a', 256, b"\r\n"),
+        (b'b', 257, b"\n"),
+        (b'c', 1_000_000, b"\n"),
+        (b'd', 4, b"\n"),
+    ];
+    let text = parts_of(rt.alloc(), parts.as_slice())?;
     let mut lines = Lines::new(text.as_slice());
-    let mut line = CommandLine::new();
-    let mut sink = Vec::new(rt.alloc());
-    assert!(rt; lines.next_line(&mut sink, &mut line) == Ok(Next::Whole));
-    assert!(rt; line.text() == Some(&text[..256]));
-    assert!(rt; lines.next_line(&mut sink, &mut line) == Ok(Next::Whole));
-    assert!(rt; line.text() == None);
-    assert!(rt; lines.next_line(&mut sink, &mut line) == Ok(Next::Whole));
-    assert!(rt; line.text() == None);
-    assert!(rt; lines.waiting() == b"next\n".as_slice());
-    assert!(rt; lines.next_line(&mut sink, &mut line) == Ok(Next::Whole));
-    assert!(rt; line.text() == Some(b"next".as_slice()));
+    assert!(rt; goes_on(&mut lines, Some(&text[..256]), b"c"));
+    assert!(rt; goes_on(&mut lines, None, b"c"));
+    assert!(rt; goes_on(&mut lines, None, b"dddd\n"));
+    assert!(rt; lines.waiting().len() == 5);
+    assert!(rt; goes_on(&mut lines, Some(b"dddd".as_slice()), b""));
     assert!(rt; lines.waiting().is_empty());
     Ok(())
 }
