@@ -3,9 +3,9 @@
 # Markdown: the machine, its load, then a table of the least of several runs. docs/PERFORMANCE.md keeps what it printed.
 # Where there is a g++, the unproved peer in tools/peer runs the three warehouses too.
 #
-#   tools/bench.sh [all|parts|runs|floods]        RUNS=5 tools/bench.sh runs
+#   tools/bench.sh [all|parts|instructions|runs|floods]        RUNS=5 tools/bench.sh runs
 #
-# The parts want valgrind, and each of their runs is made once. It builds what is not built. Run it on a machine that does
+# The parts and the instructions want valgrind, and each of their runs is made once. It builds what is not built. Run it on a machine that does
 # nothing else; instructions do not depend on that.
 set -eu
 
@@ -73,6 +73,33 @@ parts() {
     calls '10000 tasks, 512 x 512, 4 agents' "$folder/many" replay --planner near
     calls 'one task, 4096 x 4096' "$folder/widest" replay --planner near
     calls '1,000,000 tasks of 10,000 clients' "$folder/counted" replay --tail ledger
+}
+
+# Million instructions of the three warehouses, as a row.
+#   totals NAME PROGRAM WORDS..
+totals() {
+    local name=$1 run row=
+    shift
+    for run in small large open; do
+        valgrind -q --tool=callgrind --callgrind-out-file="$folder/calls" "$@" < "$folder/$run" > "$folder/$run.output" 2> /dev/null
+        row+=" $(awk '/^totals:/ { printf "%.1f", $2 / 1e6 }' "$folder/calls") |"
+        [[ ! -e $folder/$run.first ]] || cmp "$folder/$run.first" "$folder/$run.output"    # both print the same
+        mv -- "$folder/$run.output" "$folder/$run.first"
+    done
+    echo "| $name |$row"
+}
+
+instructions() {
+    command -v valgrind > /dev/null || { echo 'bench.sh: no valgrind, so no instructions' >&2; return 0; }
+    instances
+    echo
+    echo '| Million instructions | small warehouse | large warehouse | open map |'
+    echo '|---|---|---|---|'
+    totals 'the program' "$program" replay --planner near
+    if command -v g++ > /dev/null; then
+        g++ -O2 -march=x86-64-v2 -std=c++17 -o "$folder/peer" "$root/tools/peer/main.cpp"
+        totals 'the peer in C++' "$folder/peer" replay
+    fi
 }
 
 # One run of the program on an input, as a row.
@@ -162,9 +189,10 @@ floods() {
 }
 
 case $what in
-    all) machine; parts; whole_runs; floods ;;
+    all) machine; parts; instructions; whole_runs; floods ;;
     parts) machine; parts ;;
+    instructions) machine; instructions ;;
     runs) machine; whole_runs ;;
     floods) machine; floods ;;
-    *) echo "bench.sh: all, parts, runs or floods" >&2; exit 2 ;;
+    *) echo "bench.sh: all, parts, instructions, runs or floods" >&2; exit 2 ;;
 esac
