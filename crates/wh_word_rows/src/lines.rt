@@ -176,17 +176,31 @@ fn parts_of(alloc: Global, parts: &[(u8, usize, &[u8])]) -> Result<Vec<u8>, Allo
     Ok(text)
 }
 
-/// Whether the next line is a whole one with this text, or too long where there is none, and the bytes at hand behind it
-/// end with these.
-fn goes_on(lines: &mut Lines<&[u8]>, text: Option<&[u8]>, waiting: &[u8]) -> bool {
+/// Whether the text is this byte, so many times.
+fn repeats(text: &[u8], byte: u8, count: usize) -> bool {
+    for found in text {
+        if *found != byte {
+            return false;
+        }
+    }
+    text.len() == count
+}
+
+/// Whether the next line is a whole one of this byte, so many times, or too long where none is given, and the bytes at
+/// hand behind it end with these.
+fn goes_on(lines: &mut Lines<&[u8]>, wanted: Option<(u8, usize)>, waiting: &[u8]) -> bool {
     let mut line = CommandLine::new();
     let mut sink = Flushes {
         count: 0,
         room: 1000,
     };
-    lines.next_line(&mut sink, &mut line) == Ok(Next::Whole)
-        && line.text() == text
-        && lines.waiting().ends_with(waiting)
+    let is_whole = lines.next_line(&mut sink, &mut line) == Ok(Next::Whole);
+    let is_wanted = match (line.text(), wanted) {
+        (Some(text), Some((byte, count))) => repeats(text, byte, count),
+        (None, None) => true,
+        _ => false,
+    };
+    is_whole && is_wanted && lines.waiting().ends_with(waiting)
 }
 
 #[test]
@@ -199,11 +213,11 @@ fn a_line_may_have_any_length(rt: HostRuntime) -> Result<(), Fail> {
     ];
     let text = parts_of(rt.alloc(), parts.as_slice())?;
     let mut lines = Lines::new(text.as_slice());
-    assert!(rt; goes_on(&mut lines, Some(&text[..256]), b"c"));
+    assert!(rt; goes_on(&mut lines, Some((b'a', 256)), b"c"));
     assert!(rt; goes_on(&mut lines, None, b"c"));
     assert!(rt; goes_on(&mut lines, None, b"dddd\n"));
     assert!(rt; lines.waiting().len() == 5);
-    assert!(rt; goes_on(&mut lines, Some(b"dddd".as_slice()), b""));
+    assert!(rt; goes_on(&mut lines, Some((b'd', 4)), b""));
     assert!(rt; lines.waiting().is_empty());
     Ok(())
 }
