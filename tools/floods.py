@@ -22,6 +22,7 @@ Families, and their numbers:
 All but `unreachable` and `late` are well-formed where the numbers are large enough: `warehouse check` tells.
 The last request of an instance is the dear one; of `rests` none is, where what one has found serves the next.
 """
+import os
 import sys
 
 
@@ -183,4 +184,10 @@ def main(words):
 
 
 if __name__ == '__main__':
-    sys.exit(main(sys.argv[1:]))
+    try:
+        status = main(sys.argv[1:])
+        sys.stdout.flush()
+    except BrokenPipeError:    # whoever reads has enough
+        os.dup2(os.open(os.devnull, os.O_WRONLY), sys.stdout.fileno())
+        status = 1
+    sys.exit(status)
