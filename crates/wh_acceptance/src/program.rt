@@ -83,7 +83,7 @@ const RUN: &str =
 const PASSED_BY: &str =
     "wlog 2\nstart 0 slots 4 4\n0 submit x A B = accepted 0\n0 token 0 = took 0 path 0,1 1,1 2,1 3,1 3,0\n0 tick = clock 1 picked 0 dropped 0\nend 3\n";
 
-const ROWS: [Row; 18] = [
+const ROWS: [Row; 19] = [
     Row {
         words: &["warehouse", "check"],
         points: POINTS,
@@ -183,9 +183,9 @@ const ROWS: [Row; 18] = [
     Row {
         words: &["warehouse", "replay", "--spares", "1", "--slots", "3"],
         points: POINTS,
-        rest: "replace 0\nreplace 1\nclose\n",
+        rest: "replace 0\nreplace 1\nclose\nreplace 1\n",
         status: 0,
-        output: "replaced 3\nrefused E10\nclosed\n",
+        output: "replaced 3\nrefused E10\nclosed\nrefused E8\n",
         errors: "",
     },
     Row {
@@ -219,6 +219,15 @@ const ROWS: [Row; 18] = [
         status: 1,
         output: "",
         errors: "refused C1 line 2\n",
+    },
+    // 62 clients, of whom each has an empty section.
+    Row {
+        words: &["warehouse", "live"],
+        points: POINTS,
+        rest: "%%\n%%\n%%\n%%\n%%\n%%\n%%\n%%\n%%\n%%\n%%\n%%\n%%\n%%\n%%\n%%\n%%\n%%\n%%\n%%\n%%\n%%\n%%\n%%\n%%\n%%\n%%\n%%\n%%\n%%\n%%\n%%\n%%\n%%\n%%\n%%\n%%\n%%\n%%\n%%\n%%\n%%\n%%\n%%\n%%\n%%\n%%\n%%\n%%\n%%\n%%\n%%\n%%\n%%\n%%\n%%\n%%\n%%\n%%\n%%\n%%\n",
+        status: 1,
+        output: "",
+        errors: "refused E94\n",
     },
     Row {
         words: &["warehouse", "--version"],

@@ -257,7 +257,7 @@ fn tails(rt: HostRuntime) -> Result<(), Fail> {
 }
 
 /// A row on a map of its own: the whole input, its name and what is answered.
-const SITES: [(&str, PlannerKind, &str, &str); 6] = [
+const SITES: [(&str, PlannerKind, &str, &str); 7] = [
     (
         "an agent stands in the only way",
         NEAR,
@@ -291,6 +291,14 @@ const SITES: [(&str, PlannerKind, &str, &str); 6] = [
         PATIENT,
         "type octile\nheight 2\nwidth 5\nmap\n.....\n@.@@@\n%%\nstation S 0 0\nstation M 1 1\nstation Q 2 0\nstation T 4 0\nagent S\nagent M\n%%\nsubmit x M T\ntoken 1\nsubmit y Q S\ntoken 0\n",
         "accepted 0\ntook 0 end 4\naccepted 1\ntook 1 end 8\n",
+    ),
+    // Agent 2 goes 3 steps to A and 39 to Z. Agent 3 stands where y is to be delivered, and may not take it, since agent 1 is at
+    // its pickup: so it makes way, to where agent 2 was. Then agent 1 takes y, and goes 2 steps.
+    (
+        "four agents, a long way, and one that makes way",
+        NEAR,
+        "type octile\nheight 2\nwidth 40\nmap\n........................................\n........................................\n%%\nstation A 0 0\nstation Z 39 0\nparking P0 0 1\nparking P2 2 1\nstation Q 5 1\nstation R 7 1\nagent P0\nagent R\nagent P2\nagent Q\n%%\nsubmit x A Z\ntoken 2\nsubmit y R Q\ntoken 3\ntoken 1\ntoken 0\n",
+        "accepted 0\ntook 0 end 42\naccepted 1\nparked P2 end 3\ntook 1 end 2\nrested\n",
     ),
     (
         "a letter that no map has",
