@@ -1,13 +1,12 @@
 -- A log file that was begun, or ended.
 use Rattle.std.proofs.Common.{◌≡◌, inl, inr, ℕ, List, [], ◌∷◌, ◌++◌, length, take, drop, refl, sym, ap, ◌∙◌, subst, Option, None, Some, take-append-drop}
-use Rattle.std.specs.Prelude.{Bool, true, IfSome, MatchOption, IfErr, OnErr, Result, Ok, Err}
+use Rattle.std.specs.Prelude.{Bool, true, IfSome, IfErr, OnErr, Result, Ok, Err}
 use Rattle.std.proofs.Math.Seq.{take-length}
 use Rattle.std.specs.Io.KnownBytes.{Appends}
 use Rattle.wh_words.specs.Lines.{text_of as lines_text}
 use Rattle.wh_points.specs.Points.{Site}
 use Rattle.wh_resume.specs.Drafts.{Seen}
 use Rattle.wh_event.specs.declared.entry.Entry.{Entry}
-use Rattle.wh_resume.specs.Resuming.{IsFront}
 use Rattle.wh_log.specs.declared.version.Version.TheVariants.{Two}
 use Rattle.wh_log.specs.Logs.{Content, end_line}
 use Rattle.wh_log.specs.Torn.{begun_lines, Holds}

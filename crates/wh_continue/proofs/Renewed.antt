@@ -1,22 +1,17 @@
 -- A log of version 1 that was made one of version 2.
-use Rattle.std.proofs.Common.{◌≡◌, ◌⊎◌, inl, inr, ℕ, Bool, false, List, [], ◌∷◌, ◌++◌, map, length, take, refl, sym, ap, ◌∙◌, subst, Option, None, Some}
-use Rattle.std.specs.Prelude.{IfOk, OnErr, Result, Ok, Err, slice_set}
-use Rattle.std.specs.List.{AllByRecursion}
+use Rattle.std.proofs.Common.{◌≡◌, inl, inr, ℕ, false, List, [], ◌∷◌, ◌++◌, map, length, take, refl, sym, ap, ◌∙◌, subst, Option, None, Some}
+use Rattle.std.specs.Prelude.{OnErr, Result, Ok, Err}
 use Rattle.std.proofs.lemmas.List.{append-nil}
 use Rattle.wh_words.specs.Lines.{text_of as lines_text}
-use Rattle.wh_event.specs.declared.entry.Entry.{Entry}
 use Rattle.wh_log.specs.Spelling.{entry_line}
-use Rattle.wh_log.specs.Ranges.{Keeps}
 use Rattle.wh_log.specs.declared.version.Version.{Version}
 use Rattle.wh_log.specs.declared.version.Version.TheVariants.{One, Two}
-use Rattle.wh_log.specs.Logs.{Content, Fits, head_line, start_line, end_line, log_lines}
-use Rattle.wh_log.specs.Torn.{begun_lines, Holds}
-use Rattle.wh_log.proofs.Fronts.{kept_by_all}
+use Rattle.wh_log.specs.Logs.{head_line, start_line, end_line}
+use Rattle.wh_log.specs.Torn.{begun_lines}
 use Rattle.wh_points.specs.Points.{Site}
 use Rattle.wh_resume.specs.Drafts.{Seen}
 use Rattle.wh_journal.specs.Cutting.{front_of, MayCut, MayPut}
 use Rattle.wh_continue.specs.declared.running.KeepFault.{KeepFault}
-use Rattle.wh_continue.specs.declared.starting.Start.{Start}
 use Rattle.wh_continue.specs.Starting.{GoesOnFrom, StartsIn}
 use Rattle.wh_continue.specs.Renewing.{CutOnesAreTwos, IsHalfRenewed, LeavesHalfRenewed, OnesAreTwos, in_two, told_in_two}
 use Rattle.wh_continue.specs.Running.{IsLeftAt, LeftGoesOn}

@@ -1,7 +1,6 @@
 -- a log of version 1 as one of version 2: each of its lines but the first is a line of version 2 too, and means the same
 use Rattle.std.specs.Prelude.{option_map, ◌≡◌, ◌⊎◌, ℕ, Bool, List, take, slice_set, Option, Some, IfSome}
 use Rattle.wh_words.specs.Lines.{text_of as lines_text}
-use Rattle.wh_points.specs.Points.{Site}
 use Rattle.wh_log.specs.declared.version.Version.{Version}
 use Rattle.wh_log.specs.declared.version.Version.TheVariants.{One, Two}
 use Rattle.wh_log.specs.Logs.{Content, Fits, log_lines}

@@ -1,5 +1,5 @@
 -- a run over its log file, from what the file holds to the line that ends it
-use Rattle.std.specs.Prelude.{option_map, ◌≡◌, ◌⊎◌, ℕ, Bool, true, List, [], ◌∷◌, ◌++◌, length, take, drop, codes, decimal, Option, None, Some, IfSome, MatchOption}
+use Rattle.std.specs.Prelude.{option_map, ◌≡◌, ◌⊎◌, ℕ, Bool, true, List, [], ◌∷◌, ◌++◌, length, drop, codes, decimal, Option, None, Some, IfSome, MatchOption}
 use Rattle.std.specs.Io.KnownBytes.{Appends, Keeps}
 use Rattle.wh_points.specs.Points.{Site}
 use Rattle.wh_grid.specs.Grids.{Floor}
