@@ -73,6 +73,8 @@ class Whole:
         """How many entries stand whole in what a life left of the file: a front of the log, and all that were told. A
         life that came to the end of what it was sent has an end line too."""
         text = text or b''
+        if text.startswith(b'wlog 1\n'):    # not gone on with yet: its lines are those of version 2
+            text = b'wlog 2' + text[6:]
         count = max(0, text.count(b'\n') - 2)
         if text and not self.log.startswith(text):
             lines = text.split(b'\n')

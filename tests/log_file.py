@@ -52,6 +52,11 @@ def is_left(file: str, outcome: tuple[bytes, bytes, int], errors: bytes, status:
     demand(read_file(file + '.site') in (None, CROSS.beside()), f'beside it stands {read_file(file + ".site")!r}')
 
 
+def in_version_1(text: bytes) -> bytes:
+    """The same lines as a log of version 1."""
+    return b'wlog 1' + text.removeprefix(b'wlog 2').removeprefix(b'wlog 1')
+
+
 def script(*lines: str, site: bytes = CROSS.site) -> bytes:
     return site + ''.join(line + '\n' for line in lines).encode()
 
@@ -335,13 +340,35 @@ def test_other_slots_than_were_begun() -> None:
 
 
 def test_version_1() -> None:
-    text = CROSS.log.replace(b'wlog 2', b'wlog 1')
-    same(CROSS.verify(text), b'run %d\n' % len(CROSS.commands))
-    file = path('log', text)
-    is_left(file, replay(script('tick'), file), b'refused L1 line 1\n', 1, text)
-    # of this one the second line is wanting
-    file = path('log', b'wlog 1\n')
-    is_left(file, replay(script('tick'), file), b'refused L1 line 2\n', 1, b'wlog 1\n')
+    # whole, without its end line, and cut in a line: it is gone on from, and is the log of the whole run in version 2
+    for count, ended, torn in ((len(CROSS.commands), True, b''), (5, False, b''), (5, True, b''), (3, False, b'0 tok'), (0, False, b'')):
+        text = in_version_1(CROSS.text(count, ended) + torn)
+        file = path('log', text)
+        go_on(CROSS, file, count)
+        same(CROSS.verify(read_file(file)), b'run %d\n' % len(CROSS.commands))
+        # what is told again are lines of it
+        file = path('log', text)
+        same(replay(CROSS.site, file, '--told', '0'), (b'entries %d\n' % count + b''.join(CROSS.text(count).splitlines(True)[2:]), b'', 0))
+        same(read_file(file), CROSS.text(count, True))
+    # a line that is added may have more stops than version 1 has
+    file = path('log', in_version_1(CROSS.text(0)))
+    same(replay(script('submit x A B C'), file), (b'entries 0\naccepted 0\n', b'', 0))
+    same(read_file(file), CROSS.head + b'0 submit x A B C = accepted 0\nend 1\n')
+
+
+def test_version_1_that_is_refused() -> None:
+    # no byte is changed: of these the second line is wanting, three stops are none of version 1, a line is no step, the site is
+    # another, entries are wanting, no planner has so many slots, the bank is short, the site is no more the file's
+    three = b'0 submit x A B C = accepted 0\n'
+    for text, words, site, errors in ((b'wlog 1\n', (), CROSS.site, b'refused L1 line 2\n'), (CROSS.head + three, (), CROSS.site, b'refused L1 line 3\n'),
+                                      (CROSS.text(5) + b'0 tick = rested\n', (), CROSS.site, b'refused L1 line 8\n'),
+                                      (CROSS.text(5), ('--told', '6'), CROSS.site, b'refused L1 line 8\n'),
+                                      (CROSS.head + b'0 replace 1 fits 65 = replaced 65\n', (), CROSS.site, b'refused L1 line 3\n'),
+                                      (CROSS.text(5), ('--bank', '7'), CROSS.site, b'refused B1 free 3\n'),
+                                      (CROSS.text(5), (), CROSS.site.replace(b'station A', b'station E'), b'refused L1 line 3\n')):
+        text = in_version_1(text)
+        file = path('log', text)
+        is_left(file, replay(script('tick', site=site), file, *words), errors, 1, text)
 
 
 def test_a_planner_that_no_planner_can_take_the_place_of() -> None:

@@ -210,7 +210,8 @@ ssize_t writev(int file, const struct iovec *parts, int count)
     return whole;
 }
 
-/* The file is written at its end alone; a call that names a place is told, and the test refuses it. */
+/* The file is written where it stands: at its end, or at the digit of its version. A call that names a place is told, and the
+ * test refuses it. */
 ssize_t pwrite(int file, const void *bytes, size_t size, off_t place)
 {
     if (is_kept(file))

@@ -7,12 +7,13 @@ the power before each.
 
 tests/order.c, built by cc, notes each call on the file, on the one beside it (FILE.site) and on their folder, and each write
 to the standard output. A small run is taken line by line, each behind the reply to the one before: begun with no file, and
-gone on with from one that a life before has left, with its end line or a torn one, and a whole or a torn file beside it.
+gone on with from one that a life before has left, with its end line or a torn one, and a whole or a torn file beside it; and
+from a log of version 1.
 
 - order: each file is locked before a byte of it is read, and never emptied as it is opened; both and their folder are synced
   before a line is told; the file is not made and not changed before the one beside it is synced; nothing is told while
   anything in a file is not synced; nor is anything at the end. There is no more than one sync for each read of the standard
-  input, and three at the start and the end, and two of the file beside it. What is told stands in the file.
+  input, and three at the start and the end (four with version 1), and two of the file beside it. What is told stands in the file.
 - fails: each call in turn fails, alone and with all later ones, with EIO, and with ENOSPC where a write has put half of its
   bytes there. The program ends with `refused X5` and status 3; all that it told stands in the file, which is a front of the
   log and, where no later call fails, no longer than what was synced; and the run is gone on with, to the log of the script at
@@ -83,7 +84,8 @@ class Stand:
                 Case('gone on with', half, LINES, self.site), Case('gone on with and no site', half, LINES, None),
                 Case('gone on with behind an end line', self.whole.text(LINES, True), LINES, self.site),
                 Case('gone on with behind a torn line', half + self.whole.entries[LINES][:5], LINES, self.site),
-                Case('begun with a torn head', self.whole.head[:20], 0, self.site)]
+                Case('begun with a torn head', self.whole.head[:20], 0, self.site),
+                Case('gone on with from version 1', b'wlog 1' + half[6:] + self.whole.entries[LINES][:5], LINES, self.site)]
 
     def put(self, text: bytes | None, site: bytes | None) -> None:
         shutil.rmtree(self.kept, ignore_errors=True)
@@ -152,7 +154,8 @@ def in_order(stand: Stand, case: Case) -> None:
         syncs[which] += word == 'sync'
     reads = sum(call.what == 'ask' for call in seen.calls)
     demand(told and not any(wet.values()), f'at the end this is not synced: {wet}')
-    demand(syncs['file'] <= reads + 3 and syncs['site'] <= 2, f'{syncs} syncs for {reads} reads')
+    at_ends = 4 if (case.text or b'').startswith(b'wlog 1') else 3
+    demand(syncs['file'] <= reads + at_ends and syncs['site'] <= 2, f'{syncs} syncs for {reads} reads')
 
 
 def parted(call: Call) -> tuple[str, str, str]:
@@ -207,11 +210,13 @@ def left_by_a_cut(stand: Stand, case: Case, seen: Seen, which: str) -> list[byte
         safe = min(safe_length(seen.calls, before, which), len(text))
         if len(text) > safe:
             whole += [text[:safe], text[:safe] + bytes(len(text) - safe), text[:safe] + bytes(4096)]
-        # where it was cut, and that was not synced, it is as it was
-        cuts = [place for place, call in enumerate(seen.calls) if parted(call)[:2] == (which, 'cut')]
-        syncs = [place for place, call in enumerate(seen.calls) if parted(call)[:2] == (which, 'sync')]
-        if cuts and before and (not syncs or max(syncs) < min(cuts)):
+        # where it was cut, or its version put there, and that was not synced, it is as it was
+        cuts, puts, syncs = ([place for place, call in enumerate(seen.calls) if parted(call)[:2] == (which, word)] for word in ('cut', 'put', 'sync'))
+        if cuts + puts and before and (not syncs or max(syncs) < min(cuts + puts)):
             whole.append(before)
+        # or of version 2, and not cut
+        if cuts and puts and syncs and before and puts[0] < syncs[-1] < cuts[0]:
+            whole.append(b'wlog 2' + before[6:])
     made = [place for place, call in enumerate(seen.calls) if parted(call)[0] == which and 'open create' in call.what]
     named = [place for place, call in enumerate(seen.calls) if call.what == 'folder sync']
     if before is None and (not made or not named or max(named) < min(made)):

@@ -1,16 +1,15 @@
 -- A log file that was begun, or ended.
 use Rattle.std.proofs.Common.{◌≡◌, inl, inr, ℕ, List, [], ◌∷◌, ◌++◌, length, take, drop, refl, sym, ap, ◌∙◌, subst, Option, None, Some, take-append-drop}
-use Rattle.std.specs.Prelude.{Bool, true, IfSome, MatchOption, IfErr, OnErr, Result, Ok, Err}
+use Rattle.std.specs.Prelude.{Bool, true, IfSome, IfErr, OnErr, Result, Ok, Err}
 use Rattle.std.proofs.Math.Seq.{take-length}
 use Rattle.std.specs.Io.KnownBytes.{Appends}
 use Rattle.wh_words.specs.Lines.{text_of as lines_text}
 use Rattle.wh_points.specs.Points.{Site}
 use Rattle.wh_resume.specs.Drafts.{Seen}
 use Rattle.wh_event.specs.declared.entry.Entry.{Entry}
-use Rattle.wh_resume.specs.Resuming.{IsFront}
 use Rattle.wh_log.specs.declared.version.Version.TheVariants.{Two}
 use Rattle.wh_log.specs.Logs.{Content, end_line}
-use Rattle.wh_log.specs.Torn.{begun_lines}
+use Rattle.wh_log.specs.Torn.{begun_lines, Holds}
 use Rattle.wh_log.proofs.Fronts.{text-append}
 use Rattle.wh_journal.specs.Cutting.{front_of, MayCut}
 use Rattle.wh_journal.specs.Scripts.{WritesFront}
@@ -21,9 +20,10 @@ use Rattle.wh_resume.specs.declared.recovery.Recovery.TheVariants as told
 use Rattle.wh_continue.specs.Starting.{Begins, BreaksAt, GoesOnFrom, StartsIn, first_lines}
 use Rattle.wh_continue.specs.declared.running.KeepFault.{KeepFault}
 use Rattle.wh_continue.specs.declared.running.KeepFault.TheVariants.{Unkept}
-use Rattle.wh_continue.specs.Running.{IsStartOf, IsWholeLog, IsLeft, LeavesFront, Opens, OpensShort, opening_lines, last_line}
+use Rattle.wh_continue.specs.Renewing.{LeavesHalfRenewed, in_two, told_in_two}
+use Rattle.wh_continue.specs.Running.{IsStartOf, IsWholeLog, IsLeft, IsLeftAt, LeavesFront, Opens, OpensShort, opening_lines, last_line}
 use Rattle.wh_continue.specs.declared.starting.Start.{Start}
-use Rattle.wh_continue.proofs.Closing.{whole_is_log}
+use Rattle.wh_continue.proofs.Closing.{holds_in_two, whole_is_log}
 
 -- what stands for a file: it holds the book's log, if it tells its bytes, and does tell them if it did
 pub record Stands (file new : Option (List ℕ)) (book : Seen) : Type 0 where
@@ -38,12 +38,13 @@ stands_some : (text : List ℕ) (new : Option (List ℕ)) (book : Seen) → IsLo
 stands_some text new book is = record { stays = is; holds = subst (λ (n : Option (List ℕ)). HoldsLog n book) (sym is) refl }
 
 -- where the run goes on, the file was cut behind its whole lines
-pub begun_found : (file new : Option (List ℕ)) (start : Start) (bytes : ℕ) → IsStartOf file start → start.bytes ≡ Some bytes → new ≡ front_of bytes file → Stands file new start.book
+pub begun_found : (file new : Option (List ℕ)) (start : Start) (bytes : ℕ) → IsStartOf file start → start.bytes ≡ Some bytes → new ≡ front_of bytes (told_in_two start.version file) → Stands file new start.book
 begun_found None new start bytes of is cut = record { stays = tt; holds = subst (λ (n : Option (List ℕ)). HoldsLog n start.book) (sym cut) tt }
 begun_found (Some text) new start bytes of is cut =
-    let from : GoesOnFrom of.0 text bytes start.book =
-    subst (λ (b : Option ℕ). StartsIn of.0 of.1 text (record { book = start.book; bytes = b })) is of.2 in
-    stands_some text new start.book (cut ∙ whole_is_log of.0 from.content from.is_ended text bytes start.book from.holds from.goes_on)
+    let from : GoesOnFrom of.0 start.version text bytes start.book =
+    subst (λ (b : Option ℕ). StartsIn of.0 of.1 text (record { book = start.book; bytes = b; version = start.version })) is of.2 in
+    let holds : Holds Two from.content from.is_ended (in_two start.version text) bytes = holds_in_two start.version from.content from.is_ended text bytes from.holds in
+    stands_some text new start.book (cut ∙ whole_is_log of.0 from.content from.is_ended (in_two start.version text) bytes start.book holds from.goes_on)
 
 -- the two lines stand alone in a file that was emptied
 opened_alone : (bytes : List ℕ) (new : Option (List ℕ)) → Appends (Some []) new bytes → new ≡ Some bytes
@@ -76,16 +77,17 @@ pub begun_new : (file new : Option (List ℕ)) (start : Start) → IsStartOf fil
 begun_new None new start of is opens = record { stays = tt; holds = subst (λ (n : Option (List ℕ)). HoldsLog n start.book) (sym opens) tt }
 begun_new (Some text) new start of is opens =
     let from : Begins of.0 of.1 text start.book =
-    subst (λ (b : Option ℕ). StartsIn of.0 of.1 text (record { book = start.book; bytes = b })) is of.2 in
+    subst (λ (b : Option ℕ). StartsIn of.0 of.1 text (record { book = start.book; bytes = b; version = start.version })) is of.2 in
     stands_some text new start.book (opens ∙ opening_is_log of.0 of.1 text start.book from)
 
 -- a file that was not begun
-pub left_found : (file new : Option (List ℕ)) (start : Start) (bytes : ℕ) → start.bytes ≡ Some bytes → MayCut bytes file new → IsLeft start file new
-left_found None new start bytes is may = tt
-left_found (Some text) new start bytes is may = elim may [
-  | inl same ↦ (text, same, inl refl)
-  | inr cut ↦ (take bytes text, cut, inr (subst (λ (b : Option ℕ). MatchOption b (IsFront (take bytes text) (opening_lines start.book)) (λ (n : ℕ). take bytes text ≡ take n text)) (sym is) refl))
-]
+pub left_found : (file new : Option (List ℕ)) (start : Start) (bytes : ℕ) → start.bytes ≡ Some bytes → LeavesHalfRenewed start.version bytes file new → IsLeft start file new
+left_found None new start bytes is half = tt
+left_found (Some text) new start bytes is half = (
+  half.0,
+  half.1,
+  subst (λ (b : Option ℕ). IsLeftAt (record { book = start.book; bytes = b; version = start.version }) text half.0) (sym is) half.2,
+)
 
 pub left_new : (file new : Option (List ℕ)) (start : Start) → start.bytes ≡ None
     → LeavesFront file new (opening_lines start.book) → IsLeft start file new
@@ -93,10 +95,7 @@ left_new None new start is left = tt
 left_new (Some text) new start is left = (
   left.0,
   left.1,
-  elim left.2 [
-    | inl same ↦ inl same
-    | inr front ↦ inr (subst (λ (b : Option ℕ). MatchOption b (IsFront left.0 (opening_lines start.book)) (λ (n : ℕ). left.0 ≡ take n text)) (sym is) front)
-  ],
+  subst (λ (b : Option ℕ). IsLeftAt (record { book = start.book; bytes = b; version = start.version }) text left.0) (sym is) left.2,
 )
 
 -- the log of the book and the end line are its whole log

@@ -1,5 +1,5 @@
 -- a run over its log file, from what the file holds to the line that ends it
-use Rattle.std.specs.Prelude.{option_map, ◌≡◌, ◌⊎◌, ℕ, Bool, true, List, [], ◌∷◌, ◌++◌, length, take, drop, codes, decimal, Option, None, Some, IfSome, MatchOption}
+use Rattle.std.specs.Prelude.{option_map, ◌≡◌, ◌⊎◌, ℕ, Bool, true, List, [], ◌∷◌, ◌++◌, length, drop, codes, decimal, Option, None, Some, IfSome, MatchOption}
 use Rattle.std.specs.Io.KnownBytes.{Appends, Keeps}
 use Rattle.wh_points.specs.Points.{Site}
 use Rattle.wh_grid.specs.Grids.{Floor}
@@ -8,6 +8,7 @@ use Rattle.wh_resume.specs.Drafts.{Seen}
 use Rattle.wh_event.specs.declared.entry.Entry.{Entry}
 use Rattle.wh_log.specs.Told.{Answered}
 use Rattle.wh_lines.specs.Input.{Input}
+use Rattle.wh_log.specs.declared.version.Version.{Version}
 use Rattle.wh_log.specs.declared.version.Version.TheVariants.{Two}
 use Rattle.wh_log.specs.Logs.{end_line, log_lines, head_line, start_line}
 use Rattle.wh_resume.specs.Resuming.{IsFront}
@@ -15,7 +16,8 @@ use Rattle.wh_journal.specs.Scripts.{WritesFront}
 use Rattle.wh_journal.specs.Journals.{ReplaysJournaled, lines_for}
 use Rattle.wh_journal.specs.Surviving.{StaysLog, told_by}
 use Rattle.wh_continue.specs.Closing.{StopsShort}
-use Rattle.wh_continue.specs.Starting.{StartsIn}
+use Rattle.wh_continue.specs.Starting.{GoesOnFrom, StartsIn}
+use Rattle.wh_continue.specs.Renewing.{IsHalfRenewed}
 use Rattle.wh_continue.specs.declared.running.KeepFault.{KeepFault}
 use Rattle.wh_continue.specs.declared.running.KeepFault.TheVariants.{Unkept, NoMemory}
 use Rattle.wh_continue.specs.declared.running.RunFault.{RunFault}
@@ -50,13 +52,20 @@ IsStartOf file start = IfSome file (λ text. (site : Site) × (slots : List ℕ)
 abbrev pub IsWholeLog : Option (List ℕ) → Seen → Type 0
 IsWholeLog journal book = journal ≡ Some (lines_text (log_lines Two (told_by book)))
 
--- What is left of a file that was not begun: it is as it was; or, where the run goes on, its whole lines are; or, where it
--- begins, a front of the first two lines.
+-- What is left of a file that was not begun: it is as it was; or, where the run goes on, it is of version 2 now, all of it or
+-- its whole lines; or, where it begins, a front of the first two lines.
 abbrev pub IsLeftAt : Start → (text left : List ℕ) → Type 0
-IsLeftAt start text left = (left ≡ text) ⊎ MatchOption start.bytes (IsFront left (opening_lines start.book)) (λ bytes. left ≡ take bytes text)
+IsLeftAt start text left = MatchOption start.bytes ((left ≡ text) ⊎ IsFront left (opening_lines start.book)) (λ bytes. IsHalfRenewed start.version bytes text left)
 
 abbrev pub IsLeft : Start → (file holds : Option (List ℕ)) → Type 0
 IsLeft start file holds = IfSome file (λ text. (left : List ℕ) × (holds ≡ Some left) × IsLeftAt start text left)
+
+-- Whatever of these is left of a file with which a run goes on is the log of that run, of version 1 or 2: the next start goes
+-- on from the same entries.
+abbrev pub LeftGoesOn : Type 0
+LeftGoesOn =
+    (site : Site) (slots text left : List ℕ) (start : Start) (bytes : ℕ) → start.bytes ≡ Some bytes → StartsIn site slots text start → IsLeftAt start text left →
+    (version : Version) × GoesOnFrom site version left bytes start.book
 
 -- a file that tells its bytes holds these lines alone, and one that tells nothing tells nothing
 abbrev pub Opens : (file holds : Option (List ℕ)) → List ℕ → Type 0

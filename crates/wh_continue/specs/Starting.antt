@@ -4,7 +4,8 @@ use Rattle.wh_points.specs.Points.{Site}
 use Rattle.wh_words.specs.Lines.{text_of as lines_text}
 use Rattle.wh_core.specs.States.{opened}
 use Rattle.wh_resume.specs.Drafts.{Seen}
-use Rattle.wh_log.specs.declared.version.Version.TheVariants.{One, Two}
+use Rattle.wh_log.specs.declared.version.Version.{Version}
+use Rattle.wh_log.specs.declared.version.Version.TheVariants.{Two}
 use Rattle.wh_log.specs.Logs.{Content, IsSlots, head_line, start_line}
 use Rattle.wh_log.specs.Torn.{Holds, IsUnopened}
 use Rattle.wh_resume.specs.Resuming.{BeginsOtherwise, BreaksOff, EndsBefore, GoesOn, IsFront}
@@ -31,17 +32,17 @@ pub record Begins (site : Site) (slots text : List ℕ) (book : Seen) : Type 0 w
   pub front : IsFront text (first_lines slots)
   pub unbegun : IsUnbegun site slots book
 
--- The lines that stand whole in so many bytes are the log of a run of this site, but for its end line, and the book goes on
--- from their entries. Behind them stand the end line, or bytes with no line feed.
-pub record GoesOnFrom (site : Site) (text : List ℕ) (bytes : ℕ) (book : Seen) : Type 0 where
+-- The lines that stand whole in so many bytes are the log of a run of this site, in this version, but for its end line, and
+-- the book goes on from their entries. Behind them stand the end line, or bytes with no line feed.
+pub record GoesOnFrom (site : Site) (version : Version) (text : List ℕ) (bytes : ℕ) (book : Seen) : Type 0 where
   pub content : Content
   pub is_ended : Bool
-  pub holds : Holds Two content is_ended text bytes
+  pub holds : Holds version content is_ended text bytes
   pub goes_on : GoesOn site content book
 
 -- what a run starts from
 abbrev pub StartsIn : Site → (slots text : List ℕ) → Start → Type 0
-StartsIn site slots text start = MatchOption start.bytes (Begins site slots text start.book) (λ bytes. GoesOnFrom site text bytes start.book)
+StartsIn site slots text start = MatchOption start.bytes (Begins site slots text start.book) (λ bytes. GoesOnFrom site start.version text bytes start.book)
 
 -- a planner that is put in another's place has 2 to 64 slots, as each planner that the program makes
 abbrev pub HasOwnSlots : Reply → Type 0
@@ -61,9 +62,10 @@ pub record IsFirstOther (history : List Entry) (place : ℕ) : Type 0 where
 
 -- The log of a run in which this line, from 1, is the first that tells of such a planner: two lines stand before the entries.
 pub record NamesOther (site : Site) (text : List ℕ) (line : ℕ) : Type 0 where
+  pub version : Version
   pub bytes : ℕ
   pub book : Seen
-  pub goes_on : GoesOnFrom site text bytes book
+  pub goes_on : GoesOnFrom site version text bytes book
   pub place : ℕ
   pub first : IsFirstOther book.history place
   pub line_is : line ≡ 3 + place
@@ -73,13 +75,6 @@ abbrev pub TellsOther : List Entry → StartFault → Type 0
 TellsOther history (Bad line) = (place : ℕ) × IsFirstOther history place × (line ≡ 3 + place)
 TellsOther history NoMemory = ⊥
 
--- the log of a run in version 1
-pub record IsOfVersionOne (text : List ℕ) : Type 0 where
-  pub content : Content
-  pub is_ended : Bool
-  pub bytes : ℕ
-  pub holds : Holds One content is_ended text bytes
-
 -- Of a text with which no run goes on: the first line, from 1, with which no log of a run of this site goes on; or, where
 -- fewer than two lines stand whole, the first that is not as it was to be written.
 pub record BreaksAt (site : Site) (slots text : List ℕ) (line : ℕ) : Type 0 where
@@ -87,8 +82,7 @@ pub record BreaksAt (site : Site) (slots text : List ℕ) (line : ℕ) : Type 0 
   pub ends : EndsBefore text line bytes
   pub why : BreaksOff site text line ⊎ BeginsOtherwise (first_lines slots) text
 
--- Why no run starts. A log of version 1 is refused with its first line, since nothing is added to it; one that tells of a
--- planner which the program could not make, with that line.
+-- Why no run starts. A log that tells of a planner which the program could not make is refused with that line.
 abbrev pub IsWhyNoStart : Site → (slots text : List ℕ) → StartFault → Type 0
-IsWhyNoStart site slots text (Bad line) = BreaksAt site slots text line ⊎ (IsOfVersionOne text × (line ≡ 1)) ⊎ NamesOther site text line
+IsWhyNoStart site slots text (Bad line) = BreaksAt site slots text line ⊎ NamesOther site text line
 IsWhyNoStart site slots text NoMemory = Unit {0}

@@ -8,7 +8,8 @@ ghost use Rattle.wh_core.specs.Steps.{Run};
 ghost use Rattle.wh_log.specs.Told.{told_text};
 ghost use Rattle.wh_journal.specs.Surviving.{HoldsLog, StaysLog};
 ghost use Rattle.wh_journal.specs.Scripts.{WritesFront};
-ghost use Rattle.wh_journal.specs.Cutting.{MayCut, front_of};
+ghost use Rattle.wh_journal.specs.Cutting.{MayCut, MayPut, front_of};
+ghost use Rattle.wh_continue.specs.Renewing.{LeavesHalfRenewed, told_in_two};
 ghost use Rattle.wh_continue.specs.Running.{BeginsShort, EndsShort, IsStartOf, LeavesFront, Opens, OpensShort, RunsOn, StopsRun, count_line, last_line, opening_lines, told_again};
 
 use crate::continuing::{ContinueFault, continue_run};
@@ -19,7 +20,7 @@ use std::io::{Read, Write};
 use wh_event::{Entry, put, put_number};
 use wh_journal::{Journal, LogFile, Warehouse};
 use wh_lines::{Lines, write_all};
-use wh_log::{Form, NoMemory, begun_text, end_text, entries_text};
+use wh_log::{Form, NoMemory, Version, begun_text, end_text, entries_text};
 use wh_planner::Planner;
 use wh_resume::Book;
 
@@ -79,6 +80,37 @@ pub(crate) fn cut_behind<L: LogFile>(file: &mut L, bytes: usize) -> Result<(), K
     }
 }
 
+/// Makes the log in a file one of version 2. Only the digit in the first line of version 1 differs, so that there is nothing
+/// between, also where the power is cut.
+fn renew<L: LogFile>(file: &mut L, version: Version) -> Result<(), KeepFault>
+    ensures ok { OnOk result (L.contents file.new ≡ told_in_two version (L.contents file.old)) }
+    ensures fault { IfErr result (λ fault. fault ≡ KeepFault.Unkept) }
+    ensures left { OnErr result ((version ≡ Version.One) × MayPut 5 50 (L.contents file.old) (L.contents file.new)) }
+    ensures failed { OnErr result (L.failed file.new ≡ true) }
+{
+    match version {
+        Version::Two => Ok(()),
+        Version::One => match file.put(5, b'2') {
+            Ok(()) => Ok(()),
+            Err(_) => Err(KeepFault::Unkept),
+        },
+    }
+}
+
+/// Cuts the log in a file behind so many bytes, and syncs it, once it is one of version 2.
+fn keep_front<L: LogFile>(file: &mut L, version: Version, bytes: usize) -> Result<(), KeepFault>
+    ensures ok { OnOk result (L.contents file.new ≡ front_of bytes (told_in_two version (L.contents file.old))) }
+    ensures synced { OnOk result (L.synced file.new ≡ L.contents file.new) }
+    ensures fault { IfErr result (λ fault. fault ≡ KeepFault.Unkept) }
+    ensures left { OnErr result (LeavesHalfRenewed version bytes (L.contents file.old) (L.contents file.new)) }
+    ensures failed { OnErr result (L.failed file.new ≡ true) }
+{
+    match renew(file, version) {
+        Ok(()) => cut_behind(file, bytes),
+        Err(fault) => Err(fault),
+    }
+}
+
 /// Writes a text into a file that is to hold nothing else, and syncs it.
 pub(crate) fn write_alone<L: LogFile>(file: &mut L, text: &[u8]) -> Result<(), KeepFault>
     ensures ok { OnOk result (Opens (L.contents file.old) (L.contents file.new) text.now) }
@@ -105,8 +137,8 @@ fn write_opening<L: LogFile>(alloc: Global, file: &mut L, book: &Book) -> Result
     write_alone(file, text.as_slice())
 }
 
-/// Makes the file the log of the run so far, but for the end line: what was cut is taken away, and where no run was begun
-/// the first two lines are written.
+/// Makes the file the log of the run so far, of version 2, but for the end line: a log of version 1 is made one of version 2,
+/// then what was cut is taken away; where no run was begun the first two lines are written.
 pub fn begin_log<L: LogFile>(alloc: Global, file: &mut L, start: &Start) -> Result<(), KeepFault>
     requires starts { IsStartOf (L.contents file.old) start.now }
     ensures stays { OnOk result (StaysLog (L.contents file.old) (L.contents file.new) start.now.book) }
@@ -115,7 +147,7 @@ pub fn begin_log<L: LogFile>(alloc: Global, file: &mut L, start: &Start) -> Resu
     ensures fault { IfErr result (λ fault. BeginsShort fault start.now (L.contents file.old) (L.contents file.new) (L.failed file.new)) }
 {
     match start.bytes {
-        Some(bytes) => cut_behind(file, bytes),
+        Some(bytes) => keep_front(file, start.version, bytes),
         None => write_opening(alloc, file, &start.book),
     }
 }

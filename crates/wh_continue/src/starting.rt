@@ -19,6 +19,8 @@ pub struct Start {
     pub book: Book,
     /// How many bytes of the file tell it; none where it was not begun.
     pub bytes: Option<usize>,
+    /// The version in which they tell it.
+    pub version: Version,
 }
 
 /// Why no run starts.
@@ -54,15 +56,19 @@ fn begin(alloc: Global, setting: Setting, slots: Vec<u32>) -> Result<Start, Allo
     ensures bytes { IfOk result (λ start. start.bytes ≡ None) }
 {
     let book = Book::open(alloc, setting, 0, slots)?;
-    Ok(Start { book, bytes: None })
+    Ok(Start {
+        book,
+        bytes: None,
+        version: Version::Two,
+    })
 }
 
 /// What a run starts from that goes on.
 fn go_on(resumed: Resumed) -> Result<Start, StartFault>
-    requires two { resumed.version ≡ Version.Two }
     requires slots { AllByRecursion IsSlots resumed.book.opening.slots }
     ensures book { IfOk result (λ start. start.book ≡ resumed.book) }
     ensures bytes { IfOk result (λ start. start.bytes ≡ Some resumed.bytes) }
+    ensures version { IfOk result (λ start. start.version ≡ resumed.version) }
     ensures slots { IfOk result (λ start. All IsSlots start.book.state.slots) }
     ensures fault { IfErr result (TellsOther resumed.book.history) }
 {
@@ -74,15 +80,16 @@ fn go_on(resumed: Resumed) -> Result<Start, StartFault>
     Ok(Start {
         book: resumed.book,
         bytes: Some(resumed.bytes),
+        version: resumed.version,
     })
 }
 
 /// Finds out what a run of the site starts from, by the text that its log file holds, where each planner is to have these
-/// slots, 2 to 64, at an opening. A text in which fewer than two lines stand whole is taken for a run that was not begun only
+/// slots, 2 to 64, at an opening. A log of either version is gone on from. A text in which fewer than two lines stand whole is taken for a run that was not begun only
 /// where it is a beginning of the two lines that this very run would write first: no other file is.
 ///
-/// Errors: `Bad` with the first line with which no log of a run of this site goes on, with line 1 for a log of version 1, with
-/// the line of an entry that tells of a planner with more slots or fewer; `NoMemory`.
+/// Errors: `Bad` with the first line with which no log of a run of this site goes on, or with the line of an entry that tells
+/// of a planner with more slots or fewer; `NoMemory`.
 pub fn find_start(
     alloc: Global,
     setting: Setting,
@@ -100,9 +107,6 @@ pub fn find_start(
     match recover(alloc, setting, begun.as_slice(), text)? {
         Recovery::Unopened(setting) => Ok(begin(alloc, setting, slots)?),
         Recovery::Bad { line, .. } => Err(StartFault::Bad { line }),
-        Recovery::Resumed(resumed) => match resumed.version {
-            Version::One => Err(StartFault::Bad { line: 1 }),
-            Version::Two => go_on(resumed),
-        },
+        Recovery::Resumed(resumed) => go_on(resumed),
     }
 }

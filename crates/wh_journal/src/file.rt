@@ -12,14 +12,14 @@ use std::io::{ErrorKind, Read, Seek, SeekFrom};
 use std::path::Path;
 use wh_replay::write_all;
 
-/// A file that is open and locked, at whose end each write goes.
+/// A file that is open and locked. What is appended goes behind its last byte.
 #[derive(Drop)]
 struct OpenLog {
     file: File,
     length: u64,
     /// So many bytes of it were synced.
     safe: u64,
-    /// Whether it was cut: before that nothing is written.
+    /// Whether it was cut: before that nothing is appended.
     is_cut: bool,
 }
 
@@ -31,12 +31,13 @@ enum Standing {
     Found(OpenLog),
 }
 
-/// A journal in the file at a path, at whose end it writes. Of a file's bytes no contract can say anything.
+/// A journal in the file at a path. Of a file's bytes no contract can say anything.
 ///
 /// `text` opens what stands there, never empties it, and locks it before a byte is read; one that another has locked, or that
 /// is no regular file, is `Unread`, and is left as it is. Where nothing stands, nothing is made, and the text is empty.
-/// `cut` makes the file where nothing stood, sets its length, and syncs it and its folder. It fails, and touches nothing, where
-/// `text` told no text before, where the text had fewer bytes, and where another made the file or changed its length since.
+/// `put` writes one byte over another, and syncs. `cut` makes the file where nothing stood, sets its length, and syncs it and
+/// its folder. Both fail, and touch nothing, where `text` told no text before, where the text had fewer bytes, and where another
+/// made the file or changed its length since.
 ///
 /// After a sync that failed, a later one may succeed although bytes were lost, so from the first fault on each call fails and
 /// no byte is written. On the first fault of `append` or `sync` the file is set back to its length at the last sync, where
@@ -61,7 +62,7 @@ fn lock(file: &File) -> io::Result<()> {
 
 /// Opens what stands at a path, where something does, and makes nothing.
 fn open_standing<R: Files<File = File>>(files: &R, path: Path<'_>) -> io::Result<Option<File>> {
-    match OpenOptions::new().read(true).append(true).open(files, path) {
+    match OpenOptions::new().read(true).write(true).open(files, path) {
         Ok(file) => Ok(Some(file)),
         Err(error) if error.kind() == ErrorKind::NotFound => Ok(None),
         Err(error) => Err(error),
@@ -86,7 +87,7 @@ fn lock_and_read(alloc: Global, file: &mut File) -> io::Result<Vec<u8>> {
 fn make<R: Files<File = File>>(files: &R, path: Path<'_>) -> io::Result<File> {
     let file = OpenOptions::new()
         .read(true)
-        .append(true)
+        .write(true)
         .create_new(true)
         .open(files, path)?;
     match lock(&file) {
@@ -119,7 +120,7 @@ impl OpenLog {
         if !self.is_cut {
             return Err(JournalFault);
         }
-        if write_all(&mut self.file, bytes).is_err() {
+        if self.write_at(self.length, bytes).is_err() {
             self.set_back();
             return Err(JournalFault);
         }
@@ -139,6 +140,29 @@ impl OpenLog {
         Ok(())
     }
 
+    /// Writes bytes behind the first so many.
+    fn write_at(&mut self, place: u64, bytes: &[u8]) -> io::Result<()> {
+        self.file.seek(SeekFrom::Start(place))?;
+        match write_all(&mut self.file, bytes) {
+            Ok(()) => Ok(()),
+            Err(_) => Err(io::Error::from(ErrorKind::Other)),
+        }
+    }
+
+    /// Whether the file still is as long as it was.
+    fn is_unchanged(&self) -> io::Result<bool> {
+        Ok(self.file.metadata()?.len() == self.length)
+    }
+
+    /// Writes a byte over another, where the file still is as long as it was, and syncs.
+    fn put(&mut self, place: u64, byte: u8) -> io::Result<()> {
+        if !self.is_unchanged()? || place >= self.length {
+            return Err(io::Error::from(ErrorKind::InvalidInput));
+        }
+        self.write_at(place, [byte].as_slice())?;
+        self.file.sync_all()
+    }
+
     /// Lets go what was not synced, where that can be done.
     fn set_back(&mut self) {
         drop(self.file.set_len(self.safe));
@@ -151,8 +175,7 @@ impl OpenLog {
         path: Path<'_>,
         length: u64,
     ) -> io::Result<()> {
-        let now = self.file.metadata()?.len();
-        if now != self.length || length > self.length {
+        if !self.is_unchanged()? || length > self.length {
             return Err(io::Error::from(ErrorKind::InvalidInput));
         }
         self.file.set_len(length)?;
@@ -260,6 +283,19 @@ impl<'a, R: Files<File = File>> LogFile for FileJournal<'a, R> {
             Err(error) if error.kind() == ErrorKind::OutOfMemory => Err(LogFileFault::NoMemory),
             Err(_) => Err(LogFileFault::Unread),
         }
+    }
+
+    fn put(&mut self, place: usize, byte: u8) -> Result<(), JournalFault> {
+        if self.has_failed {
+            return Err(JournalFault);
+        }
+        if let Standing::Found(log) = &mut self.standing {
+            if log.put(place as u64, byte).is_ok() {
+                return Ok(());
+            }
+        }
+        self.has_failed = true;
+        Err(JournalFault)
     }
 
     fn cut(&mut self, bytes: usize) -> Result<(), JournalFault> {

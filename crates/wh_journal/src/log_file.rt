@@ -2,7 +2,7 @@
 #![tactic(auto)]
 
 ghost use Rattle.std.specs.Prelude.{◌≡◌, true, false, OnOk, OnErr, IfOk, IfSome, IsErr};
-ghost use Rattle.wh_journal.specs.Cutting.{front_of, MayCut};
+ghost use Rattle.wh_journal.specs.Cutting.{front_of, with_byte, MayCut, MayPut};
 
 use crate::journal::{Journal, JournalFault};
 use std::alloc::Global;
@@ -17,8 +17,8 @@ pub enum LogFileFault {
 }
 
 /// A journal whose bytes were kept before, by another life of the program. A start takes these steps in their order: `text`;
-/// others judge the text, and where it is refused nothing has changed; `cut`, also where nothing is cut off, since the life
-/// before may not have synced; and then the calls of `Journal`.
+/// others judge the text, and where it is refused nothing has changed; `put`, where a byte of it is to be another; `cut`, also
+/// where nothing is cut off, since the life before may not have synced; and then the calls of `Journal`.
 pub trait LogFile: Journal {
     /// All bytes that it holds. Nothing changes. One that was not made yet holds none.
     fn text(&mut self, alloc: Global) -> Result<Vec<u8>, LogFileFault>
@@ -26,6 +26,17 @@ pub trait LogFile: Journal {
         ensures contents { Self.contents self.new ≡ Self.contents self.old }
         ensures synced { Self.synced self.new ≡ Self.synced self.old }
         ensures failed { Self.failed self.new ≡ Self.failed self.old };
+
+    /// From now on this byte stands at a place, in place of the one that stood there, and all that it holds outlives a kill. On
+    /// a fault it may stand there or not: with one byte there is nothing between.
+    fn put(&mut self, place: usize, byte: u8) -> Result<(), JournalFault>
+        ensures ok { OnOk result (Self.contents self.new ≡ with_byte place byte (Self.contents self.old)) }
+        ensures synced { OnOk result (Self.synced self.new ≡ Self.contents self.new) }
+        ensures err { OnErr result (MayPut place byte (Self.contents self.old) (Self.contents self.new)) }
+        ensures err_synced { OnErr result (MayPut place byte (Self.synced self.old) (Self.synced self.new)) }
+        ensures open { OnOk result (Self.failed self.new ≡ false) }
+        ensures failed { OnErr result (Self.failed self.new ≡ true) }
+        ensures again { Self.failed self.old ≡ true → IsErr result × (Self.contents self.new ≡ Self.contents self.old) };
 
     /// From now on it holds the first so many bytes of what it held, which outlive a kill, and what is appended stands behind
     /// them. On a fault it may be cut or not.

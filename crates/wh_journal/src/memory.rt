@@ -68,6 +68,16 @@ impl LogFile for MemoryJournal {
         }
     }
 
+    fn put(&mut self, place: usize, byte: u8) -> Result<(), JournalFault> {
+        if self.has_failed || place >= self.held.len() {
+            self.has_failed = true;
+            return Err(JournalFault);
+        }
+        self.held[place] = byte;
+        self.safe = self.held.len();
+        Ok(())
+    }
+
     fn cut(&mut self, bytes: usize) -> Result<(), JournalFault> {
         if self.has_failed {
             return Err(JournalFault);

@@ -25,6 +25,7 @@ use Rattle.wh_service.specs.Fleets.{AreSeated, IsMember, IsWhyUnclaimed, IsWhyUn
 use Rattle.wh_service.specs.Kept.{IsSeated, IsSet, IsWhyUnkept, ServesKept, Siding, StartsFrom, StartsOver, first_slots, run_trouble}
 use Rattle.wh_service.specs.Tails.{IsWhyNoTail, tail_after}
 use Rattle.wh_log.specs.Told.{Answered}
+use Rattle.wh_log.specs.declared.version.Version.{Version}
 use Rattle.wh_lines.specs.Input.{Input}
 use Rattle.wh_core.specs.Laws.{IsOpening}
 use Rattle.wh_core.specs.Steps.{Run}
@@ -51,13 +52,13 @@ unseated slots k trouble.NoMemory within few = tt
 unseated slots k told within few = absurd few
 
 -- the run starts on the site
-site_at : (site : Site) (slots text : List ℕ) (book : Seen) (bytes : Option ℕ)
-    → MatchOption bytes (Begins site slots text book) (λ (n : ℕ). GoesOnFrom site text n book) → book.site ≡ site
-site_at site slots text book None starts = starts.unbegun.site_is
-site_at site slots text book (Some n) starts = starts.goes_on.site_is
+site_at : (site : Site) (slots text : List ℕ) (book : Seen) (version : Version) (bytes : Option ℕ)
+    → MatchOption bytes (Begins site slots text book) (λ (n : ℕ). GoesOnFrom site version text n book) → book.site ≡ site
+site_at site slots text book version None starts = starts.unbegun.site_is
+site_at site slots text book version (Some n) starts = starts.goes_on.site_is
 
 pub start_site : (site : Site) (slots text : List ℕ) (start : Start) → StartsIn site slots text start → start.book.site ≡ site
-start_site site slots text start starts = site_at site slots text start.book start.bytes starts
+start_site site slots text start starts = site_at site slots text start.book start.version start.bytes starts
 
 starts_of : {fleet : Fleet} {site : Site} {start : Start} (file : Option (List ℕ)) → StartsFrom fleet site file start → IsStartOf file start
 starts_of {fleet} {site} {start} None from = tt
