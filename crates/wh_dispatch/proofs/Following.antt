@@ -28,7 +28,7 @@ use Rattle.wh_dispatch.specs.Scripts.{Serves, Begins, Follows, Dispatches, Stops
 use Rattle.wh_dispatch.proofs.Texts.{all_then, until_then, until_all}
 
 -- what a line says is told by what is kept of it
-heard_is : (raw : List ℕ) → heard_in (short_line raw) ≡ heard (without_cr raw)
+pub heard_is : (raw : List ℕ) → heard_in (short_line raw) ≡ heard (without_cr raw)
 heard_is raw =
     let text = without_cr raw in
     elim (leb_tells (length text) 256) [

@@ -9,3 +9,4 @@ pub mod Serving
 pub mod Following
 pub mod Rows
 pub mod Together
+pub mod SettingOut

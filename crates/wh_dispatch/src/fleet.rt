@@ -12,8 +12,9 @@ ghost use Rattle.wh_order.specs.Settling.{IsQuiet, Settles};
 ghost use Rattle.wh_vehicles.specs.Driving.{AnswersReport, TellsLate, NoneIsLate};
 ghost use Rattle.wh_vehicles.specs.Plans.{places};
 ghost use Rattle.wh_dispatch.specs.declared.visits.Pending.{Pending as Watched};
-ghost use Rattle.wh_dispatch.specs.Crews.{Crew, IsManned, is_under_way};
+ghost use Rattle.wh_dispatch.specs.Crews.{AreWatched, Crew, IsManned, is_under_way};
 ghost use Rattle.wh_dispatch.specs.Lines.{visit_lines};
+ghost use Rattle.wh_dispatch.specs.SettingOut.{NoneIsTold, untold_of};
 ghost use Rattle.wh_dispatch.specs.Visiting.{IsStanding, taken_in, kept_first, listed, due_visits, left_after};
 
 use crate::script::DispatchFault;
@@ -26,6 +27,7 @@ use wh_grid::Cell;
 use wh_order::{Told, VisitOrder};
 use wh_planner::Planner;
 use wh_replay::Warehouse;
+use wh_tasks::Task;
 use wh_vehicles::{Notice, Report, answer_report, late};
 
 /// The vehicles of a warehouse, each at its own pace.
@@ -78,6 +80,52 @@ fn write_row<P: Planner>(row: &mut Vec<Cell>, warehouse: &Warehouse<P>)
     for agent in 0..warehouse.agents() {
         row[agent as usize] = warehouse.cell(agent);
     }
+}
+
+/// The task, to be kept as one of which no visit was told, if an agent has it.
+fn untold(n: u32, task: &Task) -> Option<Pending>
+    ensures { result ≡ untold_of n task.now }
+{
+    match task.agent {
+        None => None,
+        Some(agent) => Some(Pending {
+            agent,
+            task: n,
+            stops: task.stops.as_slice().len() as u32,
+            told: 0,
+        }),
+    }
+}
+
+/// Adds a task as one of which no visit was told, if an agent has it.
+fn add_untold(row: &mut Vec<Pending>, n: u32, task: &Task) -> Result<(), AllocError>
+    ensures { OnOk result (row.new.items ≡ row.old.items ++ listed (untold_of n task.now)) }
+{
+    if let Some(one) = untold(n, task) {
+        row.push(one)?;
+    }
+    Ok(())
+}
+
+/// How many tasks there are.
+fn task_count<P: Planner>(warehouse: &Warehouse<P>) -> u32
+    ensures { result ≡ length warehouse.now.book.state.tasks }
+{
+    warehouse.book().tasks().len()
+}
+
+/// All tasks that agents have, to be kept as if no visit had been told.
+fn all_untold<P: Planner>(
+    alloc: Global,
+    warehouse: &Warehouse<P>,
+) -> Result<Vec<Pending>, AllocError>
+    ensures { IfOk result (λ row. AreWatched warehouse.now.book.state NoneIsTold row.items) }
+{
+    let mut row = Vec::new(alloc);
+    for n in 0..task_count(warehouse) {
+        add_untold(&mut row, n, warehouse.task(n))?;
+    }
+    Ok(row)
 }
 
 /// The task that an agent takes by an entry, but for its stops.
@@ -153,6 +201,38 @@ impl Vehicles {
             told,
             pending,
         })
+    }
+
+    /// The vehicles of a warehouse that goes on, by the order of their visits, as if none had been told. The clock waits while one
+    /// is `bound` steps or more behind.
+    pub fn stand<P: Planner>(
+        alloc: Global,
+        warehouse: &Warehouse<P>,
+        order: VisitOrder,
+        bound: u64,
+    ) -> Result<Vehicles, AllocError>
+        ensures order { IfOk result (λ v. v.order ≡ order) }
+        ensures untold { IfOk result (λ v. AreWatched warehouse.now.book.state NoneIsTold v.pending) }
+        ensures bound { IfOk result (λ v. v.bound ≡ bound) }
+    {
+        let row = row_of(alloc, warehouse)?;
+        let mut told = Vec::new(alloc);
+        told.reserve(row.len())?;
+        let pending = all_untold(alloc, warehouse)?;
+        Ok(Vehicles {
+            order,
+            bound,
+            row,
+            told,
+            pending,
+        })
+    }
+
+    /// The order of their visits.
+    pub fn order(&self) -> &VisitOrder
+        ensures { result.now ≡ self.now.order }
+    {
+        &self.order
     }
 
     /// What a report is answered.

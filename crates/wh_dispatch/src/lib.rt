@@ -10,4 +10,5 @@ mod telling;
 mod visits;
 
 pub use fleet::Vehicles;
+pub use line::{serve, set_out};
 pub use script::{DispatchFault, dispatch};

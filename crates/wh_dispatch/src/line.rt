@@ -10,6 +10,8 @@ ghost use Rattle.wh_drive.specs.Drives.{Drive};
 ghost use Rattle.wh_order.specs.Orders.{Represents};
 ghost use Rattle.wh_vehicles.specs.Driving.{NoneIsLate};
 ghost use Rattle.wh_dispatch.specs.declared.visits.Pending.{Pending};
+ghost use Rattle.wh_dispatch.specs.Crews.{AreWatched};
+ghost use Rattle.wh_dispatch.specs.SettingOut.{NoneIsTold, SomeInStep, SetsOutFrom};
 ghost use Rattle.wh_dispatch.specs.Lines.{AsksToGoOn, Reported, Asked, heard_in, go_lines, visit_lines};
 ghost use Rattle.wh_dispatch.specs.Visiting.{IsStanding, SomeStanding, due_visits, left_after};
 ghost use Rattle.wh_dispatch.specs.Scripts.{TellsAll, TellsSome, Hears, HearsSome, ServesFrom, BeginsFrom, SomeManned};
@@ -68,6 +70,22 @@ fn go_on<W: Write, P: Planner>(
         Ok(()) => tell_gone(writer, vehicles, warehouse),
         Err(_) => Err(DispatchFault::NoMemory),
     }
+}
+
+/// Has vehicles that stand as their order says, and of which nothing was told, go on as far as they may. All visits that they have
+/// made by then are told, and then the steps that they are to make.
+pub fn set_out<W: Write, P: Planner>(
+    writer: &mut W,
+    vehicles: &mut Vehicles,
+    warehouse: &Warehouse<P>,
+) -> Result<(), DispatchFault>
+    requires stand { SomeInStep warehouse.now.book vehicles.old.order }
+    requires untold { AreWatched warehouse.now.book.state NoneIsTold vehicles.old.pending }
+    ensures ok { OnOk result (SetsOutFrom warehouse.now.book vehicles.old vehicles.new (W.contents writer.old) (W.contents writer.new)) }
+    ensures err { IfErr result (λ fault. (d : Drive) → Represents vehicles.old.order d → (e : Drive) × TellsSome fault warehouse.now.book vehicles.old.pending d e (W.contents writer.old) (W.contents writer.new)) }
+    ensures bound { vehicles.new.bound ≡ vehicles.old.bound }
+{
+    go_on(writer, vehicles, warehouse)
 }
 
 /// Runs a tick for which room is made, and has the vehicles go on.
@@ -253,8 +271,9 @@ fn serve_command<W: Write, P: Planner>(
     }
 }
 
-/// Serves a line, of which a front is kept. The command is a room for what it asks.
-pub(crate) fn serve<W: Write, P: Planner>(
+/// Serves a line, of which a front is kept. The command is a room for what it asks. What the line is told is written at once,
+/// and nothing is flushed.
+pub fn serve<W: Write, P: Planner>(
     line: &CommandLine,
     command: &mut Command,
     alloc: Global,

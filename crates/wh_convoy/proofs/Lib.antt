@@ -1,0 +1,5 @@
+mod Joining
+mod Gathered
+mod Standing
+mod Kept
+mod Settled

@@ -1,0 +1,4 @@
+pub mod Keeping
+pub mod Faults
+pub mod Convoys
+pub mod Laws
