@@ -135,15 +135,23 @@ const BEFORE_THE_LAST: [((u32, u32), Load); 7] = [
     ((0, 0), CARRYING_ON),
 ];
 
+/// Whether agent 0 carries the first task over that way.
+fn is_carried(alloc: Global, floor: &mut Floor) -> Result<bool, Fail> {
+    take(alloc, floor, 0, 0, &OVER_THREE)?;
+    Ok(
+        is_loaded(floor, 0, FETCHING)
+            && go_on(floor, &BEFORE_THE_LAST)
+            && is_in(floor, 0, Phase::Carried)
+            && go_on(floor, &[((0, 1), Load::None)])
+            && is_in(floor, 0, Phase::Done),
+    )
+}
+
 #[test]
 fn three_stops(rt: HostRuntime) -> Result<(), Fail> {
     let mut floor = floor_with(rt.alloc(), &[START])?;
     assert!(rt; submit(rt.alloc(), &mut floor, &[A, C, B])? == 0 && is_in(&floor, 0, Phase::Open));
-    take(rt.alloc(), &mut floor, 0, 0, &OVER_THREE)?;
-    assert!(rt; is_loaded(&floor, 0, FETCHING));
-    assert!(rt; go_on(&mut floor, &BEFORE_THE_LAST) && is_in(&floor, 0, Phase::Carried));
-    assert!(rt; go_on(&mut floor, &[((0, 1), Load::None)]) && is_in(&floor, 0, Phase::Done));
-    assert!(rt; is_visited(&floor, 0, &[2, 4, 8]));
+    assert!(rt; is_carried(rt.alloc(), &mut floor)? && is_visited(&floor, 0, &[2, 4, 8]));
     Ok(())
 }
 
@@ -220,17 +228,29 @@ fn submit_both(alloc: Global, floor: &mut Floor) -> Result<(), Fail> {
     Ok(())
 }
 
+fn may_choose_so(floor: &Floor) -> bool {
+    for (agent, task, may) in CHOICES {
+        if may_choose(floor, agent, task) != Some(may) {
+            return false;
+        }
+    }
+    true
+}
+
+/// Agent 1 parks elsewhere, and then takes a task.
+fn go_elsewhere(alloc: Global, floor: &mut Floor) -> Result<bool, Fail> {
+    park(alloc, floor, 1, &[B, Cell { x: 3, y: 1 }])?;
+    let may_at_once = may_choose(floor, 0, 1) == Some(true);
+    let may_then = tick(floor).is_some() && may_choose(floor, 0, 1) == Some(true);
+    take(alloc, floor, 1, 1, &[Cell { x: 3, y: 1 }, RIGHT])?;
+    Ok(may_at_once && may_then && may_choose(floor, 0, 0) == Some(false))
+}
+
 #[test]
 fn ends_of_others(rt: HostRuntime) -> Result<(), Fail> {
     let mut floor = floor_with(rt.alloc(), &[A, B])?;
     submit_both(rt.alloc(), &mut floor)?;
-    for (agent, task, may) in CHOICES {
-        assert!(rt; may_choose(&floor, agent, task) == Some(may));
-    }
-    park(rt.alloc(), &mut floor, 1, &[B, Cell { x: 3, y: 1 }])?;
-    assert!(rt; may_choose(&floor, 0, 1) == Some(true));
-    assert!(rt; tick(&mut floor).is_some() && may_choose(&floor, 0, 1) == Some(true));
-    take(rt.alloc(), &mut floor, 1, 1, &[Cell { x: 3, y: 1 }, RIGHT])?;
-    assert!(rt; may_choose(&floor, 0, 0) == Some(false));
+    assert!(rt; may_choose_so(&floor));
+    assert!(rt; go_elsewhere(rt.alloc(), &mut floor)?);
     Ok(())
 }

@@ -1,6 +1,8 @@
 //! Tasks on small maps: which is nearest, and how they go from phase to phase.
 #![tactic(auto)]
 
+ghost use Rattle.std.specs.Prelude.{◌≡◌, length};
+
 use std::alloc::{AllocError, Global};
 use std::test::Fail;
 use wh_field::LazyField;
@@ -108,40 +110,90 @@ fn is_nearest_barred(set: &mut TaskSet, lazy: &mut LazyField, ends: &EndSet<'_>)
         && set.nearest(lazy, ends) == Some(2)
 }
 
+/// Two are at the left and the right. The second comes to a stop of the nearest task at last.
+fn are_nearest(alloc: Global, set: &mut TaskSet, lazy: &mut LazyField) -> Result<bool, Fail> {
+    let mut all = PathEnds::of(alloc, 5, 3, &[A, RIGHT])?;
+    let are_nearest = are_nearest_as_they_come(alloc, set, lazy, &all.but(0))?;
+    all.set(1, B);
+    Ok(are_nearest && is_nearest_barred(set, lazy, &all.but(0)))
+}
+
+/// The distances from the cell at the left.
+fn from_left(alloc: Global) -> Result<LazyField, AllocError> {
+    let grid = map(alloc)?;
+    LazyField::from(alloc, &grid, LEFT)
+}
+
 #[test]
 fn nearest_task_first(rt: HostRuntime) -> Result<(), Fail> {
-    let grid = map(rt.alloc())?;
-    let mut lazy = LazyField::from(rt.alloc(), &grid, LEFT)?;
-    let mut all = PathEnds::of(rt.alloc(), 5, 3, &[A, RIGHT])?;
+    let mut lazy = from_left(rt.alloc())?;
     let mut set = TaskSet::new(rt.alloc(), 5, 3)?;
-    assert!(rt; are_nearest_as_they_come(rt.alloc(), &mut set, &mut lazy, &all.but(0))?);
-    all.set(1, B);
-    assert!(rt; is_nearest_barred(&mut set, &mut lazy, &all.but(0)));
+    assert!(rt; are_nearest(rt.alloc(), &mut set, &mut lazy)?);
     Ok(())
+}
+
+/// Which task is nearest to the cell at the right, where the distances were those of the left before.
+fn nearest_from_right(alloc: Global, set: &TaskSet) -> Result<Option<u32>, AllocError> {
+    let grid = map(alloc)?;
+    let mut lazy = LazyField::from(alloc, &grid, LEFT)?;
+    lazy.turn(alloc, &grid, RIGHT)?;
+    nearest_beside(alloc, set, &mut lazy)
+}
+
+fn nearest_beside(
+    alloc: Global,
+    set: &TaskSet,
+    lazy: &mut LazyField,
+) -> Result<Option<u32>, AllocError> {
+    let all = PathEnds::of(alloc, 5, 3, &[A, RIGHT])?;
+    Ok(set.nearest(lazy, &all.but(0)))
 }
 
 #[test]
 fn nearest_of_the_open_ones(rt: HostRuntime) -> Result<(), Fail> {
-    let grid = map(rt.alloc())?;
-    let mut lazy = LazyField::from(rt.alloc(), &grid, LEFT)?;
-    let all = PathEnds::of(rt.alloc(), 5, 3, &[A, RIGHT])?;
     let mut set = TaskSet::new(rt.alloc(), 5, 3)?;
     submit_all(rt.alloc(), &mut set, &[[D, C], [A, B], [C, D]])?;
     assert!(rt; assign(&mut set, 1));
-    lazy.turn(rt.alloc(), &grid, RIGHT)?;
-    assert!(rt; set.nearest(&mut lazy, &all.but(0)) == Some(0));
+    assert!(rt; nearest_from_right(rt.alloc(), &set)? == Some(0));
     Ok(())
 }
+
+/// Agents, cells, and whether another of three agents ends there.
+fn are_ends(all: &PathEnds, ends: &[(u32, Cell, bool)]) -> bool
+    requires { length all.now ≡ 3 }
+{
+    for (agent, cell, is_end) in ends {
+        if *agent >= 3 || all.but(*agent).has(*cell) != *is_end {
+            return false;
+        }
+    }
+    true
+}
+
+const AT_FIRST: [(u32, Cell, bool); 5] = [
+    (0, A, false),
+    (1, A, true),
+    (1, B, true),
+    (0, LEFT, false),
+    (0, OUTSIDE, false),
+];
+
+const WITH_ONE_OUTSIDE: [(u32, Cell, bool); 3] = [
+    (1, B, false),
+    (1, OUTSIDE, true),
+    (2, OUTSIDE, false),
+];
+
+const WITH_TWO_AT_ONE: [(u32, Cell, bool); 3] = [(0, A, true), (2, A, true), (1, OUTSIDE, false)];
 
 #[test]
 fn ends_of_others(rt: HostRuntime) -> Result<(), Fail> {
     let mut all = PathEnds::of(rt.alloc(), 5, 3, &[A, B, B])?;
-    assert!(rt; !all.but(0).has(A) && all.but(1).has(A) && all.but(1).has(B));
-    assert!(rt; !all.but(0).has(LEFT) && !all.but(0).has(OUTSIDE));
+    assert!(rt; are_ends(&all, &AT_FIRST));
     all.set(2, OUTSIDE);
-    assert!(rt; !all.but(1).has(B) && all.but(1).has(OUTSIDE) && !all.but(2).has(OUTSIDE));
+    assert!(rt; are_ends(&all, &WITH_ONE_OUTSIDE));
     all.set(2, A);
-    assert!(rt; all.but(0).has(A) && all.but(2).has(A) && !all.but(1).has(OUTSIDE));
+    assert!(rt; are_ends(&all, &WITH_TWO_AT_ONE));
     Ok(())
 }
 
@@ -165,19 +217,29 @@ fn is_next(set: &mut TaskSet, lazy: &mut LazyField, ends: &EndSet<'_>, n: u32) -
     set.nearest(lazy, ends) == Some(n) && assign(set, n)
 }
 
+fn are_taken_in_turn(set: &mut TaskSet, lazy: &mut LazyField, ends: &EndSet<'_>) -> bool {
+    for n in [2, 1, 0, 3] {
+        if !is_next(set, lazy, ends, n) {
+            return false;
+        }
+    }
+    set.nearest(lazy, ends).is_none()
+}
+
+/// Whether the tasks are taken in turn by one at the left of the row.
+fn are_taken(alloc: Global, set: &mut TaskSet) -> Result<bool, AllocError> {
+    let here = Cell { x: 0, y: 0 };
+    let grid = row(alloc)?;
+    let mut lazy = LazyField::from(alloc, &grid, here)?;
+    let all = PathEnds::of(alloc, 40, 1, &[here])?;
+    Ok(are_taken_in_turn(set, &mut lazy, &all.but(0)))
+}
+
 #[test]
 fn far_tasks(rt: HostRuntime) -> Result<(), Fail> {
-    let here = Cell { x: 0, y: 0 };
-    let grid = row(rt.alloc())?;
-    let mut lazy = LazyField::from(rt.alloc(), &grid, here)?;
-    let all = PathEnds::of(rt.alloc(), 40, 1, &[here])?;
     let mut set = TaskSet::new(rt.alloc(), 40, 1)?;
     submit_along(rt.alloc(), &mut set, &[37, 30, 20, 38])?;
-    let ends = all.but(0);
-    for n in [2, 1, 0, 3] {
-        assert!(rt; is_next(&mut set, &mut lazy, &ends, n));
-    }
-    assert!(rt; set.nearest(&mut lazy, &ends).is_none());
+    assert!(rt; are_taken(rt.alloc(), &mut set)?);
     Ok(())
 }
 
@@ -215,29 +277,65 @@ fn is_visited(set: &TaskSet, clocks: &[u32]) -> bool {
     set.len() > 0 && set.task(0).visits.as_slice() == clocks
 }
 
+/// Whether the first task goes from those that are open to the agent that is to visit its stops.
+fn is_given(set: &mut TaskSet) -> bool {
+    let was_open = set.delivers_at(B) && !set.delivers_at(A) && is_in(set, 0, Phase::Open);
+    was_open
+        && assign(set, 0)
+        && is_in(set, 0, Phase::Assigned)
+        && !set.is_open(0)
+        && !set.delivers_at(B)
+        && !set.may_visit(0, 2)
+}
+
 #[test]
 fn stops_that_repeat(rt: HostRuntime) -> Result<(), Fail> {
     let mut set = TaskSet::new(rt.alloc(), 5, 3)?;
-    assert!(rt; submit(rt.alloc(), &mut set, &[A, A, B, B])? == 0 && is_in(&set, 0, Phase::Open));
-    assert!(rt; set.delivers_at(B) && !set.delivers_at(A));
-    assert!(rt; assign(&mut set, 0) && is_in(&set, 0, Phase::Assigned));
-    assert!(rt; !set.is_open(0) && !set.delivers_at(B) && !set.may_visit(0, 2));
-    assert!(rt; are_visited(&mut set));
+    assert!(rt; submit(rt.alloc(), &mut set, &[A, A, B, B])? == 0);
+    assert!(rt; is_given(&mut set) && are_visited(&mut set));
     assert!(rt; are_done(&set, 1) && is_visited(&set, &[5, 5, 7, 9]));
     Ok(())
 }
+
+/// Whether each cell is a stop of an open task, and whether one is delivered there.
+fn are_stops(set: &TaskSet, cells: &[(Cell, bool, bool)]) -> bool {
+    for (cell, is_stop, is_delivery) in cells {
+        if set.stops_at(*cell) != *is_stop || set.delivers_at(*cell) != *is_delivery {
+            return false;
+        }
+    }
+    true
+}
+
+const BOTH_OPEN: [(Cell, bool, bool); 5] = [
+    (A, true, true),
+    (B, true, true),
+    (C, true, false),
+    (D, false, false),
+    (OUTSIDE, true, false),
+];
+
+const SECOND_OPEN: [(Cell, bool, bool); 4] = [
+    (A, true, true),
+    (B, false, false),
+    (C, true, false),
+    (OUTSIDE, false, false),
+];
+
+const NONE_OPEN: [(Cell, bool, bool); 3] = [
+    (A, false, false),
+    (B, false, false),
+    (C, false, false),
+];
 
 #[test]
 fn stops_of_open_tasks(rt: HostRuntime) -> Result<(), Fail> {
     let mut set = TaskSet::new(rt.alloc(), 5, 3)?;
     submit(rt.alloc(), &mut set, &[A, OUTSIDE, A, B])?;
     submit(rt.alloc(), &mut set, &[C, A])?;
-    assert!(rt; set.stops_at(A) && set.stops_at(B) && set.stops_at(OUTSIDE) && !set.stops_at(D));
-    assert!(rt; set.delivers_at(A) && set.delivers_at(B) && !set.delivers_at(OUTSIDE));
-    assert!(rt; assign(&mut set, 0));
-    assert!(rt; set.stops_at(A) && !set.stops_at(B) && !set.stops_at(OUTSIDE));
-    assert!(rt; assign(&mut set, 1));
-    assert!(rt; !set.stops_at(A) && !set.stops_at(C) && !set.delivers_at(A));
+    assert!(rt; are_stops(&set, &BOTH_OPEN));
+    assert!(rt; assign(&mut set, 0) && are_stops(&set, &SECOND_OPEN));
+    assert!(rt; assign(&mut set, 1) && are_stops(&set, &NONE_OPEN));
     Ok(())
 }
 
@@ -295,19 +393,23 @@ fn is_foretold(set: &TaskSet, here: Cell) -> bool {
     set.len() > 0 && foretell(set, 0, here) == told
 }
 
+/// Whether the second task, with both stops at one cell, is picked up and delivered there at once.
+fn is_done_at_once(set: &mut TaskSet) -> bool {
+    let at_once = Arrived {
+        load: Load::None,
+        picked: true,
+        dropped: true,
+    };
+    assign(set, 1) && come(set, 1, 6, C) == Some(at_once)
+}
+
 #[test]
 fn arrivals(rt: HostRuntime) -> Result<(), Fail> {
     let mut set = TaskSet::new(rt.alloc(), 5, 3)?;
     submit(rt.alloc(), &mut set, &[A, A, B, B])?;
     submit(rt.alloc(), &mut set, &[C, C])?;
     assert!(rt; assign(&mut set, 0) && set.len() == 2 && is_foretold(&set, A));
-    assert!(rt; arrives_as_said(&mut set));
-    let at_once = Arrived {
-        load: Load::None,
-        picked: true,
-        dropped: true,
-    };
-    assert!(rt; assign(&mut set, 1) && come(&mut set, 1, 6, C) == Some(at_once));
+    assert!(rt; arrives_as_said(&mut set) && is_done_at_once(&mut set));
     assert!(rt; Load::Fetching(1).task() == Some(1));
     Ok(())
 }

@@ -13,20 +13,24 @@ const POINTS: &[u8] =
 const RULE: &[u8] =
     b"parking P0 0 1\nparking P1 4 1\nstation A 1 0\nstation B 3 0\nstation C 1 2\nstation D 3 2\nagent P0\nagent P1\nrule nofollow\n";
 
-/// What a text is over the map and these points: how many entries, or 100 and the bad line.
-fn told(alloc: Global, points: &[u8], log: &[u8]) -> Option<u64> {
-    let Ok(grid) = Grid::read(alloc, MAP) else {
-        return None;
-    };
-    let Ok(points) = Points::read(alloc, &grid, points) else {
+/// What a text is over a map and these points: how many entries, or 100 and the bad line.
+fn told_over(alloc: Global, grid: &Grid, points: &[u8], log: &[u8]) -> Option<u64> {
+    let Ok(points) = Points::read(alloc, grid, points) else {
         return None;
     };
     if points.agents().is_empty() {
         return None;
     }
-    match verify(alloc, &grid, &points, log) {
+    match verify(alloc, grid, &points, log) {
         Ok(Verified::Run { entries }) => Some(u64::from(entries)),
         Ok(Verified::Bad { line }) => Some(line.saturating_add(100)),
+        Err(_) => None,
+    }
+}
+
+fn told(alloc: Global, points: &[u8], log: &[u8]) -> Option<u64> {
+    match Grid::read(alloc, MAP) {
+        Ok(grid) => told_over(alloc, &grid, points, log),
         Err(_) => None,
     }
 }
