@@ -1,8 +1,8 @@
 //! A planner for tests alone, in a box.
 ghost use Rattle.std.specs.Prelude.{true};
 
-use std::alloc::Global;
-use std::num::NonZeroUsize;
+use crate::shared::number;
+use std::alloc::{AllocError, Global};
 use std::sync::Arc;
 use std::test::Fail;
 use wh_grid::{Cell, Grid};
@@ -40,32 +40,33 @@ impl Planner for Forgetful {
     }
 }
 
+fn is_forgotten(planned: Result<TimedPath, PlanFault>) -> bool {
+    matches!(planned, Err(PlanFault::NoMemory))
+}
+
+/// A row of two cells.
+fn row(alloc: Global) -> Result<Grid, AllocError> {
+    Ok(Grid::new(2, 1, [true, true].to_vec(alloc)?))
+}
+
 #[test]
 fn a_box_plans_as_the_planner_in_it(rt: HostRuntime) -> Result<(), Fail> {
-    let grid = Arc::new(
-        rt.alloc(),
-        Grid::new(2, 1, vec![in rt.alloc(); true, true]?),
-    )?;
-    let Some(most) = NonZeroUsize::new(1) else {
-        return Err("one is more than none")?;
-    };
-    let mut fields = SharedFields::new(rt.alloc(), Arc::try_clone(&grid)?, most)?;
+    let grid = Arc::new(rt.alloc(), row(rt.alloc())?)?;
+    let mut fields = SharedFields::new(rt.alloc(), Arc::try_clone(&grid)?, number(1)?)?;
     let here = Cell { x: 0, y: 0 };
     let paths = [TimedPath::one(rt.alloc(), here)?];
+    let mut planner: Box<dyn Planner> = Box::new(rt.alloc(), Forgetful { slots: 3 })?;
+    assert!(rt; planner.slots() == 3);
+    if !planner.fits(&grid) {
+        return Err("it plans on every grid".into());
+    }
     let scene = Scene {
         grid: &grid,
         nofollow: true,
         paths: &paths,
         agent: 0,
     };
-    let mut planner: Box<dyn Planner> = Box::new(rt.alloc(), Forgetful { slots: 3 })?;
-    assert_eq!(rt; planner.slots(), 3);
-    if !planner.fits(&grid) {
-        return Err("it plans on every grid")?;
-    }
-    let allowed = [here];
-    let duty = Duty::Park { allowed: &allowed };
-    let found = planner.plan(rt.alloc(), &mut fields, &scene, duty);
-    assert!(rt; matches!(found, Err(PlanFault::NoMemory)));
+    let duty = Duty::Park { allowed: &[here] };
+    assert!(rt; is_forgotten(planner.plan(rt.alloc(), &mut fields, &scene, duty)));
     Ok(())
 }

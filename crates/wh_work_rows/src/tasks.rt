@@ -1,7 +1,9 @@
 //! Tasks on small maps: which is nearest, and how they go from phase to phase.
 #![tactic(auto)]
 
-use std::process::Abort;
+ghost use Rattle.std.specs.Prelude.{◌≡◌, length};
+
+use std::alloc::{AllocError, Global};
 use std::test::Fail;
 use wh_field::LazyField;
 use wh_grid::{Cell, Grid};
@@ -28,197 +30,393 @@ const LEFT: Cell = Cell { x: 0, y: 1 };
 
 const RIGHT: Cell = Cell { x: 4, y: 1 };
 
+/// A cell outside the map.
+const OUTSIDE: Cell = Cell { x: 3, y: 9 };
+
 /// Submits a task at clock 3.
-fn submit<R: AllocGlobal + Abort>(rt: &R, set: &mut TaskSet, stops: Places) -> Result<u32, Fail> {
+fn submit(alloc: Global, set: &mut TaskSet, stops: &[Cell]) -> Result<u32, Fail> {
     let client = Name::read(b"x").ok_or("no name")?;
-    set.reserve(rt.alloc())?;
-    assert!(rt; set.room() && set.len() < 1_000_000);
-    Ok(set.submit(client, stops, 3))
+    set.reserve(alloc)?;
+    if !set.room() || set.len() >= 1_000_000 || stops.len() < 2 || stops.len() > 8 {
+        return Err("this is no task, or there is no room".into());
+    }
+    Ok(set.submit(client, Places::of(stops), 3))
 }
 
-/// Gives a task to agent 0.
-fn assign<R: Abort>(rt: &R, set: &mut TaskSet, n: u32) {
-    assert!(rt; set.is_open(n));
-    set.assign(n, 0);
+/// Gives a task to agent 0, where it is open.
+fn assign(set: &mut TaskSet, n: u32) -> bool {
+    let is_open = set.is_open(n);
+    if is_open {
+        set.assign(n, 0);
+    }
+    is_open
 }
 
 /// Visits the next stop of a task.
-fn visit<R: Abort>(rt: &R, set: &mut TaskSet, n: u32, clock: u32) -> Visit {
-    assert!(rt; set.may_visit(n, clock));
-    set.visit(n, clock)
+fn visit(set: &mut TaskSet, n: u32, clock: u32) -> Option<Visit> {
+    if set.may_visit(n, clock) {
+        Some(set.visit(n, clock))
+    } else {
+        None
+    }
 }
 
 /// The arrivals of a task's agent.
-fn come<R: Abort>(rt: &R, set: &mut TaskSet, n: u32, clock: u32, here: Cell) -> Arrived {
-    assert!(rt; set.may_visit(n, clock));
-    arrive(set, n, clock, here)
+fn come(set: &mut TaskSet, n: u32, clock: u32, here: Cell) -> Option<Arrived> {
+    if set.may_visit(n, clock) {
+        Some(arrive(set, n, clock, here))
+    } else {
+        None
+    }
 }
 
-fn phase<R: Abort>(rt: &R, set: &TaskSet, n: u32) -> Phase {
-    assert!(rt; n < set.len());
-    set.phase(n)
+fn is_in(set: &TaskSet, n: u32, phase: Phase) -> bool {
+    n < set.len() && set.phase(n) == phase
+}
+
+fn map(alloc: Global) -> Result<Grid, AllocError> {
+    Ok(Grid::new(5, 3, MAP.to_vec(alloc)?))
+}
+
+fn submit_all(alloc: Global, set: &mut TaskSet, tasks: &[[Cell; 2]]) -> Result<(), Fail> {
+    for stops in tasks {
+        submit(alloc, set, stops)?;
+    }
+    Ok(())
+}
+
+/// Tasks in the order in which they are submitted, and which one is nearest then.
+const COMING: [([Cell; 2], u32); 3] = [([D, C], 0), ([A, B], 1), ([C, D], 1)];
+
+fn are_nearest_as_they_come(
+    alloc: Global,
+    set: &mut TaskSet,
+    lazy: &mut LazyField,
+    ends: &EndSet<'_>,
+) -> Result<bool, Fail> {
+    let mut are = set.nearest(lazy, ends).is_none();
+    for (stops, nearest) in COMING {
+        submit(alloc, set, &stops)?;
+        are = are && set.nearest(lazy, ends) == Some(nearest);
+    }
+    Ok(are)
 }
 
 /// Where another rests at a stop of the nearest task, the next one is taken.
-fn nearest_is_barred<R: Abort>(rt: &R, set: &mut TaskSet, lazy: &mut LazyField, ends: &EndSet<'_>) {
-    assert!(rt; set.eligible(0, ends) && !set.eligible(1, ends) && !set.eligible(3, ends));
-    assert_eq!(rt; set.nearest(lazy, ends), Some(2));
+fn is_nearest_barred(set: &mut TaskSet, lazy: &mut LazyField, ends: &EndSet<'_>) -> bool {
+    set.eligible(0, ends)
+        && !set.eligible(1, ends)
+        && !set.eligible(3, ends)
+        && set.nearest(lazy, ends) == Some(2)
+}
+
+/// Two are at the left and the right. The second comes to a stop of the nearest task at last.
+fn are_nearest(alloc: Global, set: &mut TaskSet, lazy: &mut LazyField) -> Result<bool, Fail> {
+    let mut all = PathEnds::of(alloc, 5, 3, &[A, RIGHT])?;
+    let are_nearest = are_nearest_as_they_come(alloc, set, lazy, &all.but(0))?;
+    all.set(1, B);
+    Ok(are_nearest && is_nearest_barred(set, lazy, &all.but(0)))
+}
+
+/// The distances from the cell at the left.
+fn from_left(alloc: Global) -> Result<LazyField, AllocError> {
+    let grid = map(alloc)?;
+    LazyField::from(alloc, &grid, LEFT)
 }
 
 #[test]
 fn nearest_task_first(rt: HostRuntime) -> Result<(), Fail> {
-    let grid = Grid::new(5, 3, MAP.to_vec(rt.alloc())?);
-    let mut lazy = LazyField::from(rt.alloc(), &grid, LEFT)?;
-    let mut all = PathEnds::of(rt.alloc(), 5, 3, &[A, RIGHT])?;
+    let mut lazy = from_left(rt.alloc())?;
     let mut set = TaskSet::new(rt.alloc(), 5, 3)?;
-    assert_eq!(rt; set.nearest(&mut lazy, &all.but(0)), None);
-    submit(&rt, &mut set, Places::of(&[D, C]))?;
-    submit(&rt, &mut set, Places::of(&[A, B]))?;
-    assert_eq!(rt; set.nearest(&mut lazy, &all.but(0)), Some(1));
-    submit(&rt, &mut set, Places::of(&[C, D]))?;
-    assert_eq!(rt; set.nearest(&mut lazy, &all.but(0)), Some(1));
-    all.set(1, B);
-    nearest_is_barred(&rt, &mut set, &mut lazy, &all.but(0));
+    assert!(rt; are_nearest(rt.alloc(), &mut set, &mut lazy)?);
     Ok(())
+}
+
+/// Which task is nearest to the cell at the right, where the distances were those of the left before.
+fn nearest_from_right(alloc: Global, set: &TaskSet) -> Result<Option<u32>, AllocError> {
+    let grid = map(alloc)?;
+    let mut lazy = LazyField::from(alloc, &grid, LEFT)?;
+    lazy.turn(alloc, &grid, RIGHT)?;
+    nearest_beside(alloc, set, &mut lazy)
+}
+
+fn nearest_beside(
+    alloc: Global,
+    set: &TaskSet,
+    lazy: &mut LazyField,
+) -> Result<Option<u32>, AllocError> {
+    let all = PathEnds::of(alloc, 5, 3, &[A, RIGHT])?;
+    Ok(set.nearest(lazy, &all.but(0)))
 }
 
 #[test]
 fn nearest_of_the_open_ones(rt: HostRuntime) -> Result<(), Fail> {
-    let grid = Grid::new(5, 3, MAP.to_vec(rt.alloc())?);
-    let mut lazy = LazyField::from(rt.alloc(), &grid, LEFT)?;
-    let all = PathEnds::of(rt.alloc(), 5, 3, &[A, RIGHT])?;
     let mut set = TaskSet::new(rt.alloc(), 5, 3)?;
-    submit(&rt, &mut set, Places::of(&[D, C]))?;
-    submit(&rt, &mut set, Places::of(&[A, B]))?;
-    submit(&rt, &mut set, Places::of(&[C, D]))?;
-    assign(&rt, &mut set, 1);
-    lazy.turn(rt.alloc(), &grid, RIGHT)?;
-    assert_eq!(rt; set.nearest(&mut lazy, &all.but(0)), Some(0));
+    submit_all(rt.alloc(), &mut set, &[[D, C], [A, B], [C, D]])?;
+    assert!(rt; assign(&mut set, 1));
+    assert!(rt; nearest_from_right(rt.alloc(), &set)? == Some(0));
     Ok(())
 }
+
+/// Agents, cells, and whether another of three agents ends there.
+fn are_ends(all: &PathEnds, ends: &[(u32, Cell, bool)]) -> bool
+    requires { length all.now ≡ 3 }
+{
+    for (agent, cell, is_end) in ends {
+        if *agent >= 3 || all.but(*agent).has(*cell) != *is_end {
+            return false;
+        }
+    }
+    true
+}
+
+const AT_FIRST: [(u32, Cell, bool); 5] = [
+    (0, A, false),
+    (1, A, true),
+    (1, B, true),
+    (0, LEFT, false),
+    (0, OUTSIDE, false),
+];
+
+const WITH_ONE_OUTSIDE: [(u32, Cell, bool); 3] = [
+    (1, B, false),
+    (1, OUTSIDE, true),
+    (2, OUTSIDE, false),
+];
+
+const WITH_TWO_AT_ONE: [(u32, Cell, bool); 3] = [(0, A, true), (2, A, true), (1, OUTSIDE, false)];
 
 #[test]
 fn ends_of_others(rt: HostRuntime) -> Result<(), Fail> {
-    let outside = Cell { x: 3, y: 9 };
     let mut all = PathEnds::of(rt.alloc(), 5, 3, &[A, B, B])?;
-    assert!(rt; !all.but(0).has(A) && all.but(1).has(A) && all.but(1).has(B));
-    assert!(rt; !all.but(0).has(LEFT) && !all.but(0).has(outside));
-    all.set(2, outside);
-    assert!(rt; !all.but(1).has(B) && all.but(1).has(outside) && !all.but(2).has(outside));
+    assert!(rt; are_ends(&all, &AT_FIRST));
+    all.set(2, OUTSIDE);
+    assert!(rt; are_ends(&all, &WITH_ONE_OUTSIDE));
     all.set(2, A);
-    assert!(rt; all.but(0).has(A) && all.but(2).has(A) && !all.but(1).has(outside));
+    assert!(rt; are_ends(&all, &WITH_TWO_AT_ONE));
     Ok(())
 }
 
-// A row of 40 cells, of which the one at 35 is blocked.
+/// A row of 40 cells, of which the one at 35 is blocked.
+fn row(alloc: Global) -> Result<Grid, AllocError> {
+    let mut cells = vec![in alloc; true; 40]?;
+    cells[35] = false;
+    Ok(Grid::new(40, 1, cells))
+}
+
+/// Tasks at these places of the row.
+fn submit_along(alloc: Global, set: &mut TaskSet, places: &[u16]) -> Result<(), Fail> {
+    for x in places {
+        submit(alloc, set, &[Cell { x: *x, y: 0 }, Cell { x: 0, y: 0 }])?;
+    }
+    Ok(())
+}
+
+/// Whether a task is the nearest; it is taken then.
+fn is_next(set: &mut TaskSet, lazy: &mut LazyField, ends: &EndSet<'_>, n: u32) -> bool {
+    set.nearest(lazy, ends) == Some(n) && assign(set, n)
+}
+
+fn are_taken_in_turn(set: &mut TaskSet, lazy: &mut LazyField, ends: &EndSet<'_>) -> bool {
+    for n in [2, 1, 0, 3] {
+        if !is_next(set, lazy, ends, n) {
+            return false;
+        }
+    }
+    set.nearest(lazy, ends).is_none()
+}
+
+/// Whether the tasks are taken in turn by one at the left of the row.
+fn are_taken(alloc: Global, set: &mut TaskSet) -> Result<bool, AllocError> {
+    let here = Cell { x: 0, y: 0 };
+    let grid = row(alloc)?;
+    let mut lazy = LazyField::from(alloc, &grid, here)?;
+    let all = PathEnds::of(alloc, 40, 1, &[here])?;
+    Ok(are_taken_in_turn(set, &mut lazy, &all.but(0)))
+}
+
 #[test]
 fn far_tasks(rt: HostRuntime) -> Result<(), Fail> {
-    let mut row = vec![in rt.alloc(); true; 40]?;
-    row[35] = false;
-    let grid = Grid::new(40, 1, row);
-    let mut lazy = LazyField::from(rt.alloc(), &grid, Cell { x: 0, y: 0 })?;
-    let all = PathEnds::of(rt.alloc(), 40, 1, &[Cell { x: 0, y: 0 }])?;
-    let ends = all.but(0);
     let mut set = TaskSet::new(rt.alloc(), 40, 1)?;
-    for x in [37, 30, 20, 38] {
-        submit(
-            &rt,
-            &mut set,
-            Places::of(&[Cell { x, y: 0 }, Cell { x: 0, y: 0 }]),
-        )?;
-    }
-    for n in [2, 1, 0, 3] {
-        assert_eq!(rt; set.nearest(&mut lazy, &ends), Some(n));
-        assign(&rt, &mut set, n);
-    }
-    assert_eq!(rt; set.nearest(&mut lazy, &ends), None);
+    submit_along(rt.alloc(), &mut set, &[37, 30, 20, 38])?;
+    assert!(rt; are_taken(rt.alloc(), &mut set)?);
     Ok(())
+}
+
+/// Clocks of the visits of a task with four stops, what each visit is, and the phase behind it.
+const VISITS: [(u32, Visit, Phase); 4] = [
+    (5, Visit::First, Phase::Carried),
+    (5, Visit::Between, Phase::Carried),
+    (7, Visit::Between, Phase::Carried),
+    (9, Visit::Last, Phase::Done),
+];
+
+fn are_visited(set: &mut TaskSet) -> bool {
+    for (clock, kind, phase) in VISITS {
+        if visit(set, 0, clock) != Some(kind) || !is_in(set, 0, phase) {
+            return false;
+        }
+    }
+    true
+}
+
+/// Whether all tasks are done, and there are so many.
+fn are_done(set: &TaskSet, count: u32) -> bool {
+    set.len() == count
+        && set.counts()
+            == Counts {
+                open_tasks: 0,
+                assigned: 0,
+                carried: 0,
+                done: count,
+            }
+}
+
+/// Whether these are the clocks of the first task's visits.
+fn is_visited(set: &TaskSet, clocks: &[u32]) -> bool {
+    set.len() > 0 && set.task(0).visits.as_slice() == clocks
+}
+
+/// Whether the first task goes from those that are open to the agent that is to visit its stops.
+fn is_given(set: &mut TaskSet) -> bool {
+    let was_open = set.delivers_at(B) && !set.delivers_at(A) && is_in(set, 0, Phase::Open);
+    was_open
+        && assign(set, 0)
+        && is_in(set, 0, Phase::Assigned)
+        && !set.is_open(0)
+        && !set.delivers_at(B)
+        && !set.may_visit(0, 2)
 }
 
 #[test]
 fn stops_that_repeat(rt: HostRuntime) -> Result<(), Fail> {
     let mut set = TaskSet::new(rt.alloc(), 5, 3)?;
-    assert_eq!(rt; submit(&rt, &mut set, Places::of(&[A, A, B, B]))?, 0);
-    assert_eq!(rt; phase(&rt, &set, 0), Phase::Open);
-    assert!(rt; set.delivers_at(B) && !set.delivers_at(A));
-    assign(&rt, &mut set, 0);
-    assert_eq!(rt; phase(&rt, &set, 0), Phase::Assigned);
-    assert!(rt; !set.is_open(0) && !set.delivers_at(B) && !set.may_visit(0, 2));
-    assert_eq!(rt; visit(&rt, &mut set, 0, 5), Visit::First);
-    assert_eq!(rt; visit(&rt, &mut set, 0, 5), Visit::Between);
-    assert_eq!(rt; phase(&rt, &set, 0), Phase::Carried);
-    assert_eq!(rt; visit(&rt, &mut set, 0, 7), Visit::Between);
-    assert_eq!(rt; visit(&rt, &mut set, 0, 9), Visit::Last);
-    assert_eq!(rt; phase(&rt, &set, 0), Phase::Done);
-    assert!(rt; set.len() == 1);
-    assert!(rt; set.task(0).visits.as_slice() == [5, 5, 7, 9].as_slice());
-    let counts = Counts {
-        open_tasks: 0,
-        assigned: 0,
-        carried: 0,
-        done: 1,
-    };
-    assert_eq!(rt; set.counts(), counts);
+    assert!(rt; submit(rt.alloc(), &mut set, &[A, A, B, B])? == 0);
+    assert!(rt; is_given(&mut set) && are_visited(&mut set));
+    assert!(rt; are_done(&set, 1) && is_visited(&set, &[5, 5, 7, 9]));
     Ok(())
 }
+
+/// Whether each cell is a stop of an open task, and whether one is delivered there.
+fn are_stops(set: &TaskSet, cells: &[(Cell, bool, bool)]) -> bool {
+    for (cell, is_stop, is_delivery) in cells {
+        if set.stops_at(*cell) != *is_stop || set.delivers_at(*cell) != *is_delivery {
+            return false;
+        }
+    }
+    true
+}
+
+const BOTH_OPEN: [(Cell, bool, bool); 5] = [
+    (A, true, true),
+    (B, true, true),
+    (C, true, false),
+    (D, false, false),
+    (OUTSIDE, true, false),
+];
+
+const SECOND_OPEN: [(Cell, bool, bool); 4] = [
+    (A, true, true),
+    (B, false, false),
+    (C, true, false),
+    (OUTSIDE, false, false),
+];
+
+const NONE_OPEN: [(Cell, bool, bool); 3] = [
+    (A, false, false),
+    (B, false, false),
+    (C, false, false),
+];
 
 #[test]
 fn stops_of_open_tasks(rt: HostRuntime) -> Result<(), Fail> {
-    let outside = Cell { x: 3, y: 9 };
     let mut set = TaskSet::new(rt.alloc(), 5, 3)?;
-    submit(&rt, &mut set, Places::of(&[A, outside, A, B]))?;
-    submit(&rt, &mut set, Places::of(&[C, A]))?;
-    assert!(rt; set.stops_at(A) && set.stops_at(B) && set.stops_at(outside) && !set.stops_at(D));
-    assert!(rt; set.delivers_at(A) && set.delivers_at(B) && !set.delivers_at(outside));
-    assign(&rt, &mut set, 0);
-    assert!(rt; set.stops_at(A) && !set.stops_at(B) && !set.stops_at(outside));
-    assign(&rt, &mut set, 1);
-    assert!(rt; !set.stops_at(A) && !set.stops_at(C) && !set.delivers_at(A));
+    submit(rt.alloc(), &mut set, &[A, OUTSIDE, A, B])?;
+    submit(rt.alloc(), &mut set, &[C, A])?;
+    assert!(rt; are_stops(&set, &BOTH_OPEN));
+    assert!(rt; assign(&mut set, 0) && are_stops(&set, &SECOND_OPEN));
+    assert!(rt; assign(&mut set, 1) && are_stops(&set, &NONE_OPEN));
     Ok(())
 }
 
-#[test]
-fn arrivals(rt: HostRuntime) -> Result<(), Fail> {
-    let mut set = TaskSet::new(rt.alloc(), 5, 3)?;
-    submit(&rt, &mut set, Places::of(&[A, A, B, B]))?;
-    submit(&rt, &mut set, Places::of(&[C, C]))?;
-    assign(&rt, &mut set, 0);
-    assert!(rt; set.len() == 2);
+const TWO_VISITED: Load = Load::Carrying {
+    task: 0,
+    visited: 2,
+};
+
+/// Clocks and cells of the agent that has the first task, with its arrivals: A and B are stops twice each.
+const COMES: [(u32, Cell, Arrived); 3] = [
+    (
+        4,
+        A,
+        Arrived {
+            load: TWO_VISITED,
+            picked: true,
+            dropped: false,
+        },
+    ),
+    (
+        5,
+        C,
+        Arrived {
+            load: TWO_VISITED,
+            picked: false,
+            dropped: false,
+        },
+    ),
+    (
+        6,
+        B,
+        Arrived {
+            load: Load::None,
+            picked: false,
+            dropped: true,
+        },
+    ),
+];
+
+fn arrives_as_said(set: &mut TaskSet) -> bool {
+    for (clock, cell, arrived) in COMES {
+        if come(set, 0, clock, cell) != Some(arrived) {
+            return false;
+        }
+    }
+    true
+}
+
+/// Whether it is foretold that the first task is picked up where its agent comes to a cell, and no more.
+fn is_foretold(set: &TaskSet, here: Cell) -> bool {
     let told = Foretold {
         picked: true,
         dropped: false,
     };
-    assert_eq!(rt; foretell(&set, 0, A), told);
-    let twice = Arrived {
-        load: Load::Carrying {
-            task: 0,
-            visited: 2,
-        },
-        picked: true,
-        dropped: false,
-    };
-    assert_eq!(rt; come(&rt, &mut set, 0, 4, A), twice);
-    let elsewhere = Arrived {
-        picked: false,
-        ..twice
-    };
-    assert_eq!(rt; come(&rt, &mut set, 0, 5, C), elsewhere);
-    let delivered = Arrived {
-        load: Load::None,
-        picked: false,
-        dropped: true,
-    };
-    assert_eq!(rt; come(&rt, &mut set, 0, 6, B), delivered);
-    assign(&rt, &mut set, 1);
+    set.len() > 0 && foretell(set, 0, here) == told
+}
+
+/// Whether the second task, with both stops at one cell, is picked up and delivered there at once.
+fn is_done_at_once(set: &mut TaskSet) -> bool {
     let at_once = Arrived {
         load: Load::None,
         picked: true,
         dropped: true,
     };
-    assert_eq!(rt; come(&rt, &mut set, 1, 6, C), at_once);
-    assert_eq!(rt; Load::Fetching(1).task(), Some(1));
+    assign(set, 1) && come(set, 1, 6, C) == Some(at_once)
+}
+
+#[test]
+fn arrivals(rt: HostRuntime) -> Result<(), Fail> {
+    let mut set = TaskSet::new(rt.alloc(), 5, 3)?;
+    submit(rt.alloc(), &mut set, &[A, A, B, B])?;
+    submit(rt.alloc(), &mut set, &[C, C])?;
+    assert!(rt; assign(&mut set, 0) && set.len() == 2 && is_foretold(&set, A));
+    assert!(rt; arrives_as_said(&mut set) && is_done_at_once(&mut set));
+    assert!(rt; Load::Fetching(1).task() == Some(1));
+    Ok(())
+}
+
+#[test]
+fn laws_stand(_rt: HostRuntime) {
     laws::phases_are_as_said();
     laws::arrivals_visit_all();
     laws::nearest_is_one();
-    Ok(())
 }

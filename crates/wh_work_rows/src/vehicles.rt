@@ -5,24 +5,56 @@ use crate::order::crossing;
 use arrayvec::ArrayVec;
 use std::test::Fail;
 use wh_grid::Cell;
+use wh_order::VisitOrder;
 use wh_vehicles::{Notice, Report, answer_report, late, put_notice, read_report};
 
+/// Lines, each with the report that it is, if it is one.
+const LINES: [(&[u8], Option<Report>); 7] = [
+    (b"at 3 12", Some(Report { agent: 3, step: 12 })),
+    (b" at\t03  0012 ", Some(Report { agent: 3, step: 12 })),
+    (b"at 3", None),
+    (b"at 3 12 1", None),
+    (b"at x 12", None),
+    (b"tick", None),
+    (
+        b"at 0 99999999999",
+        Some(Report {
+            agent: 0,
+            step: 4294967295,
+        }),
+    ),
+];
+
 #[test]
-fn reports_are_read(rt: HostRuntime) -> Result<(), Fail> {
-    let report = Report { agent: 3, step: 12 };
-    assert_eq!(rt; read_report(b"at 3 12"), Some(report));
-    assert_eq!(rt; read_report(b" at\t03  0012 "), Some(report));
-    assert_eq!(rt; read_report(b"at 3"), None);
-    assert_eq!(rt; read_report(b"at 3 12 1"), None);
-    assert_eq!(rt; read_report(b"at x 12"), None);
-    assert_eq!(rt; read_report(b"tick"), None);
-    let far = Report {
-        agent: 0,
-        step: 4294967295,
-    };
-    assert_eq!(rt; read_report(b"at 0 99999999999"), Some(far));
-    Ok(())
+fn reports_are_read(rt: HostRuntime) {
+    for (line, report) in LINES {
+        assert!(rt; read_report(line) == report);
+    }
 }
+
+/// Notices, each with its text.
+const NOTICES: [(Notice, &[u8]); 6] = [
+    (
+        Notice::Go {
+            agent: 3,
+            step: 12,
+            cell: Cell { x: 4, y: 65535 },
+        },
+        b"go 3 12 4,65535",
+    ),
+    (Notice::Arrived { agent: 0, step: 7 }, b"arrived 0 7"),
+    (
+        Notice::Visited {
+            agent: 1,
+            task: 20,
+            visit: 0,
+        },
+        b"visited 1 20 0",
+    ),
+    (Notice::Behind { agent: 1, steps: 8 }, b"refused V1 1 8"),
+    (Notice::UnknownAgent { agent: 9 }, b"refused V2 9"),
+    (Notice::NotTold { agent: 2, step: 5 }, b"refused V3 2 5"),
+];
 
 /// Whether a notice has the text.
 fn says(notice: Notice, text: &[u8]) -> bool {
@@ -32,62 +64,53 @@ fn says(notice: Notice, text: &[u8]) -> bool {
 }
 
 #[test]
-fn notices_have_texts(rt: HostRuntime) -> Result<(), Fail> {
-    let cell = Cell { x: 4, y: 65535 };
-    assert!(rt;
-        says(
-            Notice::Go {
-                agent: 3,
-                step: 12,
-                cell
-            },
-            b"go 3 12 4,65535"
-        )
-    );
-    assert!(rt; says(Notice::Arrived { agent: 0, step: 7 }, b"arrived 0 7"));
-    assert!(rt;
-        says(
-            Notice::Visited {
-                agent: 1,
-                task: 20,
-                visit: 0
-            },
-            b"visited 1 20 0"
-        )
-    );
-    assert!(rt; says(Notice::Behind { agent: 1, steps: 8 }, b"refused V1 1 8"));
-    assert!(rt; says(Notice::UnknownAgent { agent: 9 }, b"refused V2 9"));
-    assert!(rt; says(Notice::NotTold { agent: 2, step: 5 }, b"refused V3 2 5"));
-    Ok(())
+fn notices_have_texts(rt: HostRuntime) {
+    for (notice, text) in NOTICES {
+        assert!(rt; says(notice, text));
+    }
+}
+
+/// Reports, each with its answer, and with who is behind by five steps then.
+const REPORTS: [(Report, Notice, Option<Notice>); 4] = [
+    (
+        Report { agent: 0, step: 2 },
+        Notice::Arrived { agent: 0, step: 2 },
+        Some(Notice::Behind { agent: 1, steps: 5 }),
+    ),
+    (
+        Report { agent: 0, step: 2 },
+        Notice::Arrived { agent: 0, step: 2 },
+        Some(Notice::Behind { agent: 1, steps: 5 }),
+    ),
+    (
+        Report { agent: 0, step: 3 },
+        Notice::NotTold { agent: 0, step: 3 },
+        Some(Notice::Behind { agent: 1, steps: 5 }),
+    ),
+    (
+        Report { agent: 3, step: 1 },
+        Notice::UnknownAgent { agent: 3 },
+        Some(Notice::Behind { agent: 1, steps: 5 }),
+    ),
+];
+
+/// Whether all reports are answered so, one after the other.
+fn answers_all(order: &mut VisitOrder) -> bool {
+    for (report, answer, behind) in REPORTS {
+        if answer_report(order, report) != answer || late(order, 5) != behind {
+            return false;
+        }
+    }
+    true
 }
 
 #[test]
 fn reports_are_answered(rt: HostRuntime) -> Result<(), Fail> {
-    let mut order = crossing(&rt, 3)?;
+    let mut order = crossing(rt.alloc(), 3)?;
     let mut told = Vec::new(rt.alloc());
     order.settle(&mut told)?;
-    let report = Report { agent: 0, step: 2 };
-    let arrived = Notice::Arrived { agent: 0, step: 2 };
-    assert_eq!(rt;
-        late(&order, 5),
-        Some(Notice::Behind { agent: 0, steps: 5 })
-    );
-    assert_eq!(rt; answer_report(&mut order, report), arrived);
-    assert_eq!(rt; answer_report(&mut order, report), arrived);
-    assert_eq!(rt;
-        late(&order, 5),
-        Some(Notice::Behind { agent: 1, steps: 5 })
-    );
-    assert_eq!(rt; late(&order, 6), None);
-    let early = Report { agent: 0, step: 3 };
-    assert_eq!(rt;
-        answer_report(&mut order, early),
-        Notice::NotTold { agent: 0, step: 3 }
-    );
-    let unknown = Report { agent: 3, step: 1 };
-    assert_eq!(rt;
-        answer_report(&mut order, unknown),
-        Notice::UnknownAgent { agent: 3 }
-    );
+    assert!(rt; late(&order, 5) == Some(Notice::Behind { agent: 0, steps: 5 }));
+    assert!(rt; answers_all(&mut order));
+    assert!(rt; late(&order, 6).is_none());
     Ok(())
 }
