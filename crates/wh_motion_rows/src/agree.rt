@@ -2,14 +2,17 @@
 //! layers of time does: on small made maps with walls, beside agents that wander, rest in doors, meet one another or stand
 //! in walls.
 
-use std::process::Abort;
+use crate::errands::{
+    Found, delivered_by_layers, delivered_in, delivered_led, delivered_unled, outcome, parked,
+    parked_by_layers, parked_in,
+};
+use std::alloc::{AllocError, Global};
 use std::test::Fail;
-use wh_field::{Field, Sight};
 use wh_grid::{Cell, Grid};
-use wh_intervals::{deliver_guided, deliver_sighted, park, park_in};
+use wh_intervals::{deliver_guided, park};
 use wh_path::TimedPath;
 use wh_resv::Reservations;
-use wh_search::{Fault, SearchMemory, layers};
+use wh_search::SearchMemory;
 use wh_timetable::{Beside, Sides, Timetable};
 
 /// Numbers that look drawn by lot, the same in each run.
@@ -37,13 +40,12 @@ impl Dice {
 }
 
 /// A floor of 5 by 4 cells, some of them blocked.
-fn floor<R: Abort + AllocGlobal>(rt: &R, dice: &mut Dice) -> Result<Grid, Fail> {
-    let mut walkable = Vec::new(rt.alloc());
-    for _ in 0..20 {
-        walkable.push(dice.roll(5) != 0)?;
+fn floor(alloc: Global, dice: &mut Dice) -> Result<Grid, AllocError> {
+    let mut walkable = [true; 20];
+    for i in 0..20 {
+        walkable[i] = dice.roll(5) != 0;
     }
-    assert_eq!(rt; walkable.len(), 20);
-    Ok(Grid::new(5, 4, walkable))
+    Ok(Grid::new(5, 4, walkable.to_vec(alloc)?))
 }
 
 /// The cell beside one, or that cell.
@@ -59,169 +61,255 @@ fn beside(here: Cell, way: u16) -> Cell {
     next
 }
 
+fn walk(path: &mut TimedPath, grid: &Grid, dice: &mut Dice, steps: u16) -> Result<(), AllocError> {
+    let mut here = path.start();
+    for _ in 0..steps {
+        let next = beside(here, dice.roll(5));
+        if grid.passable(next) {
+            here = next;
+        }
+        path.push(here)?;
+    }
+    Ok(())
+}
+
 /// A walk of a few steps from anywhere, also from a wall; one in three only rests.
-fn wander<R: Abort + AllocGlobal>(rt: &R, grid: &Grid, dice: &mut Dice) -> Result<TimedPath, Fail> {
-    let mut here = dice.cell();
-    let mut cells = Vec::new(rt.alloc());
-    cells.push(here)?;
-    if dice.roll(3) != 0 {
-        for _ in 0..dice.roll(12) {
-            let next = beside(here, dice.roll(5));
-            if grid.passable(next) {
-                here = next;
-            }
-            cells.push(here)?;
-        }
-    }
-    assert!(rt; cells.len() > 0);
-    Ok(TimedPath::over(cells))
+fn wander(alloc: Global, grid: &Grid, dice: &mut Dice) -> Result<TimedPath, AllocError> {
+    let here = dice.cell();
+    let steps = if dice.roll(3) == 0 { 0 } else { dice.roll(12) };
+    let mut path = TimedPath::one(alloc, here)?;
+    walk(&mut path, grid, dice, steps)?;
+    Ok(path)
 }
 
-/// The last index of what was found; none where there is no path.
-fn last<R: Abort + AllocGlobal>(
-    rt: &R,
-    found: Result<TimedPath, Fault>,
-) -> Result<Option<u64>, Fail> {
-    match found {
-        Ok(p) => Ok(Some(p.remaining())),
-        Err(fault) => {
-            assert_eq!(rt; fault, Fault::NoPath);
-            Ok(None)
-        }
+/// Some come to the paths that wander.
+fn crowd(
+    alloc: Global,
+    paths: &mut Vec<TimedPath>,
+    grid: &Grid,
+    dice: &mut Dice,
+) -> Result<(), AllocError> {
+    for _ in 0..dice.roll(4) {
+        paths.push(wander(alloc, grid, dice)?)?;
     }
+    Ok(())
 }
 
-/// Two errands of an agent at a cell, by visits: to deliver through the stops, and to park at the first
-/// of them. Answers when they end.
-fn ends<R: Abort + AllocGlobal>(
-    rt: &R,
+/// Two errands of an agent: when it has delivered through some stops, and when it has parked at one of the first two.
+#[derive(Clone, Copy, PartialEq, Eq)]
+struct Both {
+    delivered: Found,
+    parked: Found,
+}
+
+fn by_layers(
+    alloc: Global,
     grid: &Grid,
     others: &Reservations,
     loc: Cell,
     stops: &[Cell],
-) -> Result<(Option<u64>, Option<u64>), Fail> {
-    assert!(rt; grid.passable(loc));
-    assert!(rt; others.may_rest(loc, 0));
-    assert!(rt; stops.len() >= 2);
-    assert!(rt; stops.len() <= 8);
-    let bare = [None; 8];
-    let none = &bare[..stops.len()];
-    let plain = layers::deliver(rt.alloc(), grid, others, loc, stops);
-    let delivered = last(rt, plain)?;
-    let found = deliver_guided(rt.alloc(), grid, others, loc, stops, none);
-    assert_eq!(rt; last(rt, found)?, delivered);
-    let mut memory = SearchMemory::empty(rt.alloc());
-    let blind: [Option<Sight>; 8] = [None; 8];
-    let sights = &blind[..stops.len()];
-    let found = deliver_sighted(rt.alloc(), &mut memory, grid, others, loc, stops, sights);
-    assert_eq!(rt; last(rt, found)?, delivered);
-    let pair = [stops[0], stops[1]];
-    let first = Field::from(rt.alloc(), grid, pair[0])?;
-    let second = Field::from(rt.alloc(), grid, pair[1])?;
-    let fields = [Some(&first), Some(&second)];
-    let plain = layers::deliver(rt.alloc(), grid, others, loc, &pair);
-    let guided = deliver_guided(rt.alloc(), grid, others, loc, &pair, &fields);
-    assert_eq!(rt; last(rt, guided)?, last(rt, plain)?);
-    let plain = layers::park(rt.alloc(), grid, others, loc, &pair);
-    let parked = last(rt, plain)?;
-    let found = park(rt.alloc(), grid, others, loc, &pair);
-    assert_eq!(rt; last(rt, found)?, parked);
-    let found = park_in(rt.alloc(), &mut memory, grid, others, loc, &pair);
-    assert_eq!(rt; last(rt, found)?, parked);
-    Ok((delivered, parked))
+    pair: [Cell; 2],
+) -> Both {
+    Both {
+        delivered: delivered_by_layers(alloc, grid, others, loc, stops),
+        parked: parked_by_layers(alloc, grid, others, loc, &pair),
+    }
 }
 
-/// The same errands by a timetable, where the paths have one.
-fn told<R: Abort + AllocGlobal>(
-    rt: &R,
+fn by_intervals(
+    alloc: Global,
+    grid: &Grid,
+    others: &Reservations,
+    loc: Cell,
+    stops: &[Cell],
+    pair: [Cell; 2],
+) -> Both {
+    Both {
+        delivered: delivered_unled(alloc, grid, others, loc, stops),
+        parked: parked(alloc, grid, others, loc, &pair),
+    }
+}
+
+/// By the searches in kept memory.
+fn in_memory(
+    alloc: Global,
+    grid: &Grid,
+    others: &Reservations,
+    loc: Cell,
+    stops: &[Cell],
+    pair: [Cell; 2],
+) -> Both {
+    let mut memory = SearchMemory::empty(alloc);
+    let delivered = delivered_in(alloc, &mut memory, grid, others, loc, stops);
+    let parked = parked_in(alloc, &mut memory, grid, others, loc, &pair);
+    Both { delivered, parked }
+}
+
+/// By a timetable, from where its first agent is.
+fn by_timetable(
+    alloc: Global,
+    grid: &Grid,
+    all: &Timetable,
+    nofollow: bool,
+    stops: &[Cell],
+    pair: [Cell; 2],
+) -> Option<Both> {
+    if all.paths().is_empty() || stops.len() < 2 || stops.len() > 8 {
+        return None;
+    }
+    let others = Beside::of(all, 0, nofollow);
+    let loc = all.paths()[0].at(0);
+    if !grid.passable(loc) || !others.may_rest(loc, 0) {
+        return None;
+    }
+    let bare = [None; 8];
+    let fields = &bare[..stops.len()];
+    Some(Both {
+        delivered: outcome(deliver_guided(alloc, grid, &others, loc, stops, fields)),
+        parked: outcome(park(alloc, grid, &others, loc, &pair)),
+    })
+}
+
+/// Whether there is a timetable of the paths; they are added to it one by one.
+fn add_all(alloc: Global, all: &mut Timetable, paths: &[TimedPath]) -> Result<bool, AllocError> {
+    for path in paths {
+        let count = all.paths().len();
+        if count >= 1000 || !all.may_go(count as u32, path) {
+            return Ok(false);
+        }
+        all.add(alloc, path.copy(alloc)?)?;
+    }
+    Ok(true)
+}
+
+/// What can be said of a made scene.
+#[derive(Clone, Copy)]
+enum Scene {
+    /// The agent may not rest where it is.
+    NotAsked,
+    /// All searches agree, and there is no timetable of it.
+    Asked,
+    /// All searches agree, those by a timetable too.
+    InTimetable,
+    Differs,
+}
+
+/// What the timetable says, if there is one.
+fn told(
+    alloc: Global,
     grid: &Grid,
     paths: &[TimedPath],
     nofollow: bool,
     stops: &[Cell],
-    expected: (Option<u64>, Option<u64>),
-) -> Result<bool, Fail> {
+    pair: [Cell; 2],
+    expected: Both,
+) -> Result<Scene, AllocError> {
     let sides = Sides {
         width: 5,
         height: 4,
     };
-    let mut all = Timetable::empty(rt.alloc(), sides, 0)?;
-    for path in paths {
-        let count = all.paths().len();
-        assert!(rt; count < 1000);
-        if !all.may_go(count as u32, path) {
-            return Ok(false);
-        }
-        all.add(rt.alloc(), path.copy(rt.alloc())?)?;
+    let mut all = Timetable::empty(alloc, sides, 0)?;
+    if !add_all(alloc, &mut all, paths)? {
+        return Ok(Scene::Asked);
     }
-    assert!(rt; all.paths().len() > 0);
-    let others = Beside::of(&all, 0, nofollow);
-    let loc = all.paths()[0].at(0);
-    assert!(rt; grid.passable(loc));
-    assert!(rt; others.may_rest(loc, 0));
-    assert!(rt; stops.len() >= 2);
-    assert!(rt; stops.len() <= 8);
-    let bare = [None; 8];
-    let none = &bare[..stops.len()];
-    let found = deliver_guided(rt.alloc(), grid, &others, loc, stops, none);
-    assert_eq!(rt; last(rt, found)?, expected.0);
-    let pair = [stops[0], stops[1]];
-    let found = park(rt.alloc(), grid, &others, loc, &pair);
-    assert_eq!(rt; last(rt, found)?, expected.1);
-    Ok(true)
+    if by_timetable(alloc, grid, &all, nofollow, stops, pair) == Some(expected) {
+        Ok(Scene::InTimetable)
+    } else {
+        Ok(Scene::Differs)
+    }
 }
 
-/// One made scene: whether the agent may rest where it is, and whether there is a timetable of it.
-fn scene<R: Abort + AllocGlobal>(
-    rt: &R,
-    dice: &mut Dice,
+/// What the searches beside the others of an agent say, where it may rest where it is. None: it may not, or they differ.
+fn answered(
+    alloc: Global,
+    grid: &Grid,
+    others: &Reservations,
+    loc: Cell,
+    stops: &[Cell],
+    pair: [Cell; 2],
+) -> Option<Both> {
+    let both = by_layers(alloc, grid, others, loc, stops, pair);
+    let agree = by_intervals(alloc, grid, others, loc, stops, pair) == both
+        && in_memory(alloc, grid, others, loc, stops, pair) == both
+        && delivered_led(alloc, grid, others, loc, pair)
+            == delivered_by_layers(alloc, grid, others, loc, &pair)
+        && both.delivered != Found::NoAnswer
+        && both.parked != Found::NoAnswer;
+    if agree { Some(both) } else { None }
+}
+
+/// What can be said of a scene where the first of these agents has two errands.
+fn asked(
+    alloc: Global,
+    grid: &Grid,
+    paths: &[TimedPath],
+    loc: Cell,
     nofollow: bool,
-) -> Result<(bool, bool), Fail> {
-    let grid = floor(rt, dice)?;
-    let loc = dice.cell();
-    let mut paths = Vec::new(rt.alloc());
-    paths.push(TimedPath::one(rt.alloc(), loc)?)?;
-    for _ in 0..dice.roll(4) {
-        paths.push(wander(rt, &grid, dice)?)?;
+    stops: &[Cell],
+    pair: [Cell; 2],
+) -> Result<Scene, AllocError> {
+    if paths.is_empty() {
+        return Ok(Scene::NotAsked);
     }
-    let mut stops = Vec::new(rt.alloc());
-    for _ in 0..dice.roll(7).saturating_add(2) {
-        stops.push(dice.cell())?;
-    }
-    assert!(rt; paths.len() > 0);
-    let others = Reservations::build(rt.alloc(), &paths, 0, nofollow)?;
+    let others = Reservations::build(alloc, paths, 0, nofollow)?;
     if !grid.passable(loc) || !others.may_rest(loc, 0) {
-        return Ok((false, false));
+        return Ok(Scene::NotAsked);
     }
-    let expected = ends(rt, &grid, &others, loc, &stops)?;
-    let table = told(rt, &grid, &paths, nofollow, &stops, expected)?;
-    Ok((true, table))
+    match answered(alloc, grid, &others, loc, stops, pair) {
+        Some(both) => told(alloc, grid, paths, nofollow, stops, pair, both),
+        None => Ok(Scene::Differs),
+    }
 }
 
-/// Some made scenes; each count of those that could be asked is to be a good part of them.
-fn scenes<R: Abort + AllocGlobal>(rt: &R, nofollow: bool) -> Result<(), Fail> {
+/// One made scene.
+fn make_scene(alloc: Global, dice: &mut Dice, nofollow: bool) -> Result<Scene, AllocError> {
+    let grid = floor(alloc, dice)?;
+    let loc = dice.cell();
+    let mut paths = Vec::new(alloc);
+    paths.push(TimedPath::one(alloc, loc)?)?;
+    crowd(alloc, &mut paths, &grid, dice)?;
+    let count = usize::from(dice.roll(7).min(6)) + 2;
+    let mut stops = [loc; 8];
+    for i in 0..count {
+        stops[i] = dice.cell();
+    }
+    asked(
+        alloc,
+        &grid,
+        &paths,
+        loc,
+        nofollow,
+        &stops[..count],
+        [stops[0], stops[1]],
+    )
+}
+
+/// Whether the searches agree on some made scenes, of which a good part can be asked, and a good part has a timetable.
+fn agree_on_many(alloc: Global, nofollow: bool) -> Result<bool, AllocError> {
     let mut dice = Dice { state: 2011 };
-    let mut asked: u64 = 0;
-    let mut tables: u64 = 0;
-    for _ in 0..60 {
-        let found = scene(rt, &mut dice, nofollow)?;
-        if found.0 {
-            asked = asked.saturating_add(1);
-        }
-        if found.1 {
-            tables = tables.saturating_add(1);
+    let (mut asked, mut in_timetable) = (0u32, 0u32);
+    for _ in 0..60u8 {
+        match make_scene(alloc, &mut dice, nofollow)? {
+            Scene::NotAsked => {}
+            Scene::Asked => asked = asked.saturating_add(1),
+            Scene::InTimetable => {
+                asked = asked.saturating_add(1);
+                in_timetable = in_timetable.saturating_add(1);
+            }
+            Scene::Differs => return Ok(false),
         }
     }
-    assert!(rt; asked > 20);
-    assert!(rt; tables > 10);
-    Ok(())
+    Ok(asked > 20 && in_timetable > 10)
 }
 
 #[test]
 fn end_at_one_time(rt: HostRuntime) -> Result<(), Fail> {
-    scenes(&rt, false)
+    assert!(rt; agree_on_many(rt.alloc(), false)?);
+    Ok(())
 }
 
 #[test]
 fn end_at_one_time_under_the_rule(rt: HostRuntime) -> Result<(), Fail> {
-    scenes(&rt, true)
+    assert!(rt; agree_on_many(rt.alloc(), true)?);
+    Ok(())
 }

@@ -1,106 +1,98 @@
 //! Errands for which a search over single times would take up very many states.
 
-use std::process::Abort;
+use crate::errands::{Found, delivered_in, parked_in};
+use std::alloc::{AllocError, Global};
 use std::test::Fail;
-use wh_field::Sight;
 use wh_grid::{Cell, Grid};
-use wh_intervals::{deliver_sighted, park_in};
 use wh_path::TimedPath;
 use wh_resv::Reservations;
-use wh_search::{Fault, SearchMemory};
+use wh_search::SearchMemory;
+
+const CORNER: Cell = Cell { x: 0, y: 0 };
 
 /// An open floor of 48 cells a side.
-fn floor<R: Abort + AllocGlobal>(rt: &R) -> Result<Grid, Fail> {
-    let mut walkable = Vec::new(rt.alloc());
-    for _ in 0..2304 {
-        walkable.push(true)?;
+fn floor(alloc: Global) -> Result<Grid, AllocError> {
+    Ok(Grid::new(48, 48, vec![in alloc; true; 2304]?))
+}
+
+fn stay_and_leave(path: &mut TimedPath) -> Result<(), AllocError> {
+    for _ in 0..99 {
+        path.push(CORNER)?;
     }
-    assert_eq!(rt; walkable.len(), 2304);
-    Ok(Grid::new(48, 48, walkable))
+    path.push(Cell { x: 1, y: 0 })?;
+    path.push(Cell { x: 2, y: 0 })
 }
 
 /// A path that is in the corner up to 99, and then goes on along the wall.
-fn guest<R: Abort + AllocGlobal>(rt: &R) -> Result<TimedPath, Fail> {
-    let mut cells = Vec::new(rt.alloc());
-    for _ in 0..100 {
-        cells.push(Cell { x: 0, y: 0 })?;
-    }
-    cells.push(Cell { x: 1, y: 0 })?;
-    cells.push(Cell { x: 2, y: 0 })?;
-    assert!(rt; cells.len() > 0);
-    Ok(TimedPath::over(cells))
+fn guest(alloc: Global) -> Result<TimedPath, AllocError> {
+    let mut path = TimedPath::one(alloc, CORNER)?;
+    stay_and_leave(&mut path)?;
+    Ok(path)
 }
 
-/// A path up the other wall, that ends below the corner at 46.
-fn climber<R: Abort + AllocGlobal>(rt: &R) -> Result<TimedPath, Fail> {
-    let mut cells = Vec::new(rt.alloc());
-    for i in 0..47u16 {
-        cells.push(Cell {
+fn climb(path: &mut TimedPath) -> Result<(), AllocError> {
+    for i in 0..46u16 {
+        path.push(Cell {
             x: 0,
-            y: 47u16.saturating_sub(i),
+            y: 46u16.saturating_sub(i),
         })?;
     }
-    assert!(rt; cells.len() > 0);
-    Ok(TimedPath::over(cells))
-}
-
-/// The last index of what was found; none where there is no path.
-fn last<R: Abort + AllocGlobal>(
-    rt: &R,
-    found: Result<TimedPath, Fault>,
-) -> Result<Option<u64>, Fail> {
-    match found {
-        Ok(p) => Ok(Some(p.remaining())),
-        Err(fault) => {
-            assert_eq!(rt; fault, Fault::NoPath);
-            Ok(None)
-        }
-    }
-}
-
-/// Parks in the corner once the guest has left it: at once, or under the rule one step later.
-fn parks<R: Abort + AllocGlobal>(rt: &R, nofollow: bool) -> Result<Option<u64>, Fail> {
-    let grid = floor(rt)?;
-    let loc = Cell { x: 9, y: 9 };
-    let paths = [TimedPath::one(rt.alloc(), loc)?, guest(rt)?];
-    let others = Reservations::build(rt.alloc(), &paths, 0, nofollow)?;
-    assert!(rt; grid.passable(loc));
-    assert!(rt; others.may_rest(loc, 0));
-    let mut memory = SearchMemory::empty(rt.alloc());
-    let corner = [Cell { x: 0, y: 0 }];
-    let found = park_in(rt.alloc(), &mut memory, &grid, &others, loc, &corner);
-    last(rt, found)
-}
-
-#[test]
-fn waits_for_a_guest(rt: HostRuntime) -> Result<(), Fail> {
-    assert_eq!(&rt; parks(&rt, false)?, Some(100));
-    assert_eq!(&rt; parks(&rt, true)?, Some(101));
     Ok(())
 }
 
+/// A path up the other wall, that ends below the corner at 46.
+fn climber(alloc: Global) -> Result<TimedPath, AllocError> {
+    let mut path = TimedPath::one(alloc, Cell { x: 0, y: 47 })?;
+    climb(&mut path)?;
+    Ok(path)
+}
+
+/// Parks the first of these agents in the corner.
+fn parked_beside(
+    alloc: Global,
+    paths: &[TimedPath; 2],
+    loc: Cell,
+    nofollow: bool,
+) -> Result<Found, AllocError> {
+    let grid = floor(alloc)?;
+    let others = Reservations::build(alloc, paths, 0, nofollow)?;
+    let mut memory = SearchMemory::empty(alloc);
+    Ok(parked_in(alloc, &mut memory, &grid, &others, loc, &[CORNER]))
+}
+
+/// Parks in the corner once the guest has left it.
+fn parks(alloc: Global, nofollow: bool) -> Result<Found, AllocError> {
+    let loc = Cell { x: 9, y: 9 };
+    let paths = [TimedPath::one(alloc, loc)?, guest(alloc)?];
+    parked_beside(alloc, &paths, loc, nofollow)
+}
+
+/// At once, or under the rule one step later.
+#[test]
+fn waits_for_a_guest(rt: HostRuntime) -> Result<(), Fail> {
+    assert!(rt; parks(rt.alloc(), false)? == Found::Ends(100));
+    assert!(rt; parks(rt.alloc(), true)? == Found::Ends(101));
+    Ok(())
+}
+
+/// Delivers by the first of these agents, through a cell beside it to the corner.
+fn delivered_beside(alloc: Global, paths: &[TimedPath; 3], loc: Cell) -> Result<Found, AllocError> {
+    let grid = floor(alloc)?;
+    let others = Reservations::build(alloc, paths, 0, false)?;
+    let mut memory = SearchMemory::empty(alloc);
+    let stops = [Cell { x: 31, y: 30 }, CORNER];
+    Ok(delivered_in(alloc, &mut memory, &grid, &others, loc, &stops))
+}
+
+/// Both cells beside the corner are taken for good before anybody can come there.
 #[test]
 fn is_told_that_none_delivers(rt: HostRuntime) -> Result<(), Fail> {
-    // both cells beside the corner are taken for good before anybody can come there
-    let grid = floor(&rt)?;
     let loc = Cell { x: 30, y: 30 };
-    let beside = TimedPath::one(rt.alloc(), Cell { x: 1, y: 0 })?;
-    let paths = [TimedPath::one(rt.alloc(), loc)?, beside, climber(&rt)?];
-    let others = Reservations::build(rt.alloc(), &paths, 0, false)?;
-    assert!(&rt; grid.passable(loc));
-    assert!(&rt; others.may_rest(loc, 0));
-    let mut memory = SearchMemory::empty(rt.alloc());
-    let stops = [Cell { x: 31, y: 30 }, Cell { x: 0, y: 0 }];
-    let sights: [Option<Sight>; 2] = [None; 2];
-    let found = deliver_sighted(
-        rt.alloc(),
-        &mut memory,
-        &grid,
-        &others,
-        loc,
-        &stops,
-        &sights,
-    );
-    assert_eq!(&rt; last(&rt, found)?, None);
+    let paths = [
+        TimedPath::one(rt.alloc(), loc)?,
+        TimedPath::one(rt.alloc(), Cell { x: 1, y: 0 })?,
+        climber(rt.alloc())?,
+    ];
+    assert!(rt; delivered_beside(rt.alloc(), &paths, loc)? == Found::NoPath);
     Ok(())
 }

@@ -1,17 +1,19 @@
 //! Distances and routes on small maps, by tables that other programs and hands have made.
 #![tactic(auto)]
 
+use std::alloc::{AllocError, Global};
 use std::test::Fail;
 use wh_field::{Field, LazyField, NearestField, laws, route, route_to_nearest};
 use wh_grid::{Cell, Grid};
+use wh_path::TimedPath;
 
-// The map `@.@.@`, `.....`, `@.@.@`: a tree, so its least walks are unique.
-fn tree<R: AllocGlobal>(rt: &R) -> Result<Grid, Fail> {
-    let rows = vec![in rt.alloc();
-        false, true, false, true, false, true, true, true, true, true, false, true, false, true,
-        false,
-    ]?;
-    Ok(Grid::new(5, 3, rows))
+// Which cells of the map `@.@.@`, `.....`, `@.@.@` are passable: a tree, so its least walks are unique.
+const TREE: [bool; 15] = [
+    false, true, false, true, false, true, true, true, true, true, false, true, false, true, false,
+];
+
+fn tree(alloc: Global) -> Result<Grid, AllocError> {
+    Ok(Grid::new(5, 3, TREE.to_vec(alloc)?))
 }
 
 // Its passable cells, row by row.
@@ -41,150 +43,253 @@ const STEPS: [[u32; 9]; 9] = [
     [4, 2, 4, 3, 2, 1, 2, 4, 0],
 ];
 
+/// Whether three fields from one cell have these steps to each cell, and none to a wall or outside.
+fn have_steps(field: &Field, lazy: &mut LazyField, nearest: &NearestField, row: &[u32; 9]) -> bool {
+    for (to, steps) in CELLS.iter().zip(row.iter()) {
+        let steps = Some(*steps);
+        if field.dist(*to) != steps || lazy.dist(*to) != steps || nearest.dist(*to) != steps {
+            return false;
+        }
+    }
+    field.dist(Cell { x: 0, y: 0 }).is_none()
+        && lazy.dist(Cell { x: 5, y: 1 }).is_none()
+        && nearest.dist(Cell { x: 0, y: 3 }).is_none()
+}
+
+fn have_steps_from(
+    alloc: Global,
+    grid: &Grid,
+    lazy: &mut LazyField,
+    from: Cell,
+    row: &[u32; 9],
+) -> Result<bool, AllocError> {
+    let field = Field::from(alloc, grid, from)?;
+    let nearest = NearestField::from(alloc, grid, &[from])?;
+    lazy.again(from);
+    Ok(have_steps(&field, lazy, &nearest, row))
+}
+
 #[test]
 fn all_distances(rt: HostRuntime) -> Result<(), Fail> {
-    let grid = tree(&rt)?;
+    let grid = tree(rt.alloc())?;
     let mut lazy = LazyField::from(rt.alloc(), &grid, Cell { x: 0, y: 0 })?;
     for (from, row) in CELLS.iter().zip(STEPS.iter()) {
-        let field = Field::from(rt.alloc(), &grid, *from)?;
-        let nearest = NearestField::from(rt.alloc(), &grid, &[*from])?;
-        lazy.again(*from);
-        for (to, steps) in CELLS.iter().zip(row.iter()) {
-            assert_eq!(rt; field.dist(*to), Some(*steps));
-            assert_eq!(rt; lazy.dist(*to), Some(*steps));
-            assert_eq!(rt; nearest.dist(*to), Some(*steps));
-        }
-        assert_eq!(rt; field.dist(Cell { x: 0, y: 0 }), None);
-        assert_eq!(rt; lazy.dist(Cell { x: 5, y: 1 }), None);
-        assert_eq!(rt; nearest.dist(Cell { x: 0, y: 3 }), None);
+        assert!(rt; have_steps_from(rt.alloc(), &grid, &mut lazy, *from, row)?);
     }
     lazy.again(Cell { x: 2, y: 0 });
-    assert_eq!(rt; lazy.dist(Cell { x: 2, y: 0 }), None);
+    assert!(rt; lazy.dist(Cell { x: 2, y: 0 }).is_none());
     Ok(())
 }
 
-// A row of 12 cells, of which the one at 9 is blocked.
+/// A row of 12 cells, of which the one at 9 is blocked.
+fn row(alloc: Global) -> Result<Grid, AllocError> {
+    let mut cells = vec![in alloc; true; 12]?;
+    cells[9] = false;
+    Ok(Grid::new(12, 1, cells))
+}
+
+/// From the left end of the row.
+fn from_the_left(alloc: Global) -> Result<LazyField, AllocError> {
+    let grid = row(alloc)?;
+    LazyField::from(alloc, &grid, Cell { x: 0, y: 0 })
+}
+
+/// Places of the row, limits, and how far the place is within the limit.
+const WITHIN: [(u16, u32, Option<u32>); 9] = [
+    (5, 4, None),
+    (5, 5, Some(5)),
+    (3, 2, None),
+    (0, 0, Some(0)),
+    (8, 7, None),
+    (8, 100, Some(8)),
+    (9, 100, None),
+    (10, 100, None),
+    (12, 100, None),
+];
+
 #[test]
 fn no_further_than_the_limit(rt: HostRuntime) -> Result<(), Fail> {
-    let mut row = vec![in rt.alloc(); true; 12]?;
-    row[9] = false;
-    let grid = Grid::new(12, 1, row);
-    let mut lazy = LazyField::from(rt.alloc(), &grid, Cell { x: 0, y: 0 })?;
-    for (x, limit, steps) in [
-        (5, 4, None),
-        (5, 5, Some(5)),
-        (3, 2, None),
-        (0, 0, Some(0)),
-        (8, 7, None),
-        (8, 100, Some(8)),
-        (9, 100, None),
-        (10, 100, None),
-        (12, 100, None),
-    ] {
-        assert_eq!(rt; lazy.within(Cell { x, y: 0 }, limit), steps);
+    let mut lazy = from_the_left(rt.alloc())?;
+    for (x, limit, steps) in WITHIN {
+        assert!(rt; lazy.within(Cell { x, y: 0 }, limit) == steps);
     }
-    assert_eq!(rt; lazy.dist(Cell { x: 8, y: 0 }), Some(8));
+    assert!(rt; lazy.dist(Cell { x: 8, y: 0 }) == Some(8));
     Ok(())
 }
 
-// The same row.
+/// Places of the row that are sought one after the other, and how far the first of them is from the place at 1.
+const SOUGHT: [(u16, Option<u32>); 7] = [
+    (9, None),
+    (10, None),
+    (12, None),
+    (8, Some(7)),
+    (5, Some(4)),
+    (6, Some(4)),
+    (0, Some(1)),
+];
+
 #[test]
 fn first_of_those_sought(rt: HostRuntime) -> Result<(), Fail> {
-    let mut row = vec![in rt.alloc(); true; 12]?;
-    row[9] = false;
-    let grid = Grid::new(12, 1, row);
-    let mut lazy = LazyField::from(rt.alloc(), &grid, Cell { x: 0, y: 0 })?;
-    assert_eq!(rt; lazy.first_sought(), None);
+    let mut lazy = from_the_left(rt.alloc())?;
+    assert!(rt; lazy.first_sought().is_none());
     lazy.again(Cell { x: 1, y: 0 });
-    for (x, steps) in [
-        (9, None),
-        (10, None),
-        (12, None),
-        (8, Some(7)),
-        (5, Some(4)),
-        (6, Some(4)),
-        (0, Some(1)),
-    ] {
+    for (x, steps) in SOUGHT {
         lazy.seek(Cell { x, y: 0 });
-        assert_eq!(rt; lazy.first_sought(), steps);
+        assert!(rt; lazy.first_sought() == steps);
     }
     lazy.again(Cell { x: 7, y: 0 });
-    assert_eq!(rt; lazy.first_sought(), Some(1));
+    assert!(rt; lazy.first_sought() == Some(1));
     lazy.seek_none();
-    assert_eq!(rt; lazy.first_sought(), None);
+    assert!(rt; lazy.first_sought().is_none());
     lazy.seek(Cell { x: 7, y: 0 });
-    assert_eq!(rt; lazy.first_sought(), Some(0));
-    assert_eq!(rt; lazy.dist(Cell { x: 2, y: 0 }), Some(5));
+    assert!(rt; lazy.first_sought() == Some(0) && lazy.dist(Cell { x: 2, y: 0 }) == Some(5));
     Ok(())
+}
+
+/// All distances of the tree from its left.
+fn field(alloc: Global) -> Result<Field, AllocError> {
+    let grid = tree(alloc)?;
+    Field::from(alloc, &grid, Cell { x: 0, y: 1 })
 }
 
 #[test]
 fn around_a_cell(rt: HostRuntime) -> Result<(), Fail> {
-    let grid = tree(&rt)?;
-    let field = Field::from(rt.alloc(), &grid, Cell { x: 0, y: 1 })?;
+    let field = field(rt.alloc())?;
     let middle = field.around(Cell { x: 3, y: 1 });
-    assert_eq!(rt; middle.here, Some(3));
-    assert_eq!(rt; middle.left, Some(2));
-    assert_eq!(rt; middle.right, Some(4));
-    assert_eq!(rt; middle.above, Some(4));
-    assert_eq!(rt; middle.below, Some(4));
+    assert!(rt; middle.here == Some(3) && middle.left == Some(2) && middle.right == Some(4));
+    assert!(rt; middle.above == Some(4) && middle.below == Some(4));
     let border = field.around(Cell { x: 0, y: 1 });
-    assert_eq!(rt; border.left, Some(0));
-    assert_eq!(rt; border.above, None);
-    assert_eq!(rt; border.right, Some(1));
+    assert!(rt; border.left == Some(0) && border.above.is_none() && border.right == Some(1));
     Ok(())
 }
 
-// The map `..@..`.
+/// Whether a path goes over these cells, and no farther.
+fn is_over(path: &TimedPath, cells: &[Cell]) -> bool {
+    for (k, cell) in cells.iter().enumerate() {
+        if path.at(k as u64) != *cell {
+            return false;
+        }
+    }
+    path.remaining().saturating_add(1) == cells.len() as u64
+}
+
+/// Whether the route between two cells goes over these.
+fn is_route(
+    alloc: Global,
+    grid: &Grid,
+    from: Cell,
+    to: Cell,
+    cells: &[Cell],
+) -> Result<bool, AllocError> {
+    match route(alloc, grid, from, to, &[])? {
+        Some(path) => Ok(is_over(&path, cells)),
+        None => Ok(false),
+    }
+}
+
+fn has_no_route(
+    alloc: Global,
+    grid: &Grid,
+    from: Cell,
+    to: Cell,
+    avoid: &[Cell],
+) -> Result<bool, AllocError> {
+    Ok(route(alloc, grid, from, to, avoid)?.is_none())
+}
+
+/// Whether the route to the nearest target leads to the one of this number, over these cells.
+fn is_nearest(
+    alloc: Global,
+    grid: &Grid,
+    targets: &[Cell],
+    avoid: &[Cell],
+    number: usize,
+    cells: &[Cell],
+) -> Result<bool, AllocError> {
+    let Some(from) = cells.first() else {
+        return Ok(false);
+    };
+    match route_to_nearest(alloc, grid, *from, targets, avoid)? {
+        Some((found, path)) => Ok(found == number && is_over(&path, cells)),
+        None => Ok(false),
+    }
+}
+
+const LEFT: Cell = Cell { x: 0, y: 0 };
+
+const NEAR_LEFT: Cell = Cell { x: 1, y: 0 };
+
+const RIGHT: Cell = Cell { x: 4, y: 0 };
+
+/// The map `..@..`.
+fn parted(alloc: Global) -> Result<Grid, AllocError> {
+    Ok(Grid::new(5, 1, [true, true, false, true, true].to_vec(alloc)?))
+}
+
 #[test]
-fn two_components(rt: HostRuntime) -> Result<(), Fail> {
-    let rows = vec![in rt.alloc(); true, true, false, true, true]?;
-    let grid = Grid::new(5, 1, rows);
-    let left = Cell { x: 0, y: 0 };
-    let right = Cell { x: 4, y: 0 };
-    let field = Field::from(rt.alloc(), &grid, left)?;
-    assert_eq!(rt; field.dist(Cell { x: 1, y: 0 }), Some(1));
-    assert_eq!(rt; field.dist(right), None);
-    assert!(rt; route(rt.alloc(), &grid, left, right, &[])?.is_none());
-    let ends = NearestField::from(rt.alloc(), &grid, &[left, right])?;
-    assert_eq!(rt; ends.dist(Cell { x: 3, y: 0 }), Some(1));
-    let cells = [right, Cell { x: 1, y: 0 }];
-    let near = route_to_nearest(rt.alloc(), &grid, left, &cells, &[])?.ok_or("no route")?;
-    assert_eq!(rt; near.0, 1);
-    assert_eq!(rt; near.1.remaining(), 1);
-    assert!(rt; route_to_nearest(rt.alloc(), &grid, left, &[right], &[])?.is_none());
+fn distances_in_two_components(rt: HostRuntime) -> Result<(), Fail> {
+    let grid = parted(rt.alloc())?;
+    let field = Field::from(rt.alloc(), &grid, LEFT)?;
+    assert!(rt; field.dist(NEAR_LEFT) == Some(1) && field.dist(RIGHT).is_none());
+    let ends = NearestField::from(rt.alloc(), &grid, &[LEFT, RIGHT])?;
+    assert!(rt; ends.dist(Cell { x: 3, y: 0 }) == Some(1));
     Ok(())
 }
+
+fn has_no_nearest(
+    alloc: Global,
+    grid: &Grid,
+    from: Cell,
+    targets: &[Cell],
+) -> Result<bool, AllocError> {
+    Ok(route_to_nearest(alloc, grid, from, targets, &[])?.is_none())
+}
+
+#[test]
+fn routes_in_two_components(rt: HostRuntime) -> Result<(), Fail> {
+    let grid = parted(rt.alloc())?;
+    assert!(rt; has_no_route(rt.alloc(), &grid, LEFT, RIGHT, &[])?);
+    let way = [LEFT, NEAR_LEFT];
+    assert!(rt; is_nearest(rt.alloc(), &grid, &[RIGHT, NEAR_LEFT], &[], 1, &way)?);
+    assert!(rt; has_no_nearest(rt.alloc(), &grid, LEFT, &[RIGHT])?);
+    Ok(())
+}
+
+/// The only least walk of the tree between its upper left corner and its lower right one.
+const WAY: [Cell; 5] = [
+    Cell { x: 1, y: 0 },
+    Cell { x: 1, y: 1 },
+    Cell { x: 2, y: 1 },
+    Cell { x: 3, y: 1 },
+    Cell { x: 3, y: 2 },
+];
 
 #[test]
 fn routes(rt: HostRuntime) -> Result<(), Fail> {
-    let grid = tree(&rt)?;
-    let from = Cell { x: 1, y: 0 };
-    let to = Cell { x: 3, y: 2 };
-    let middle = Cell { x: 2, y: 1 };
-    let path = route(rt.alloc(), &grid, from, to, &[])?.ok_or("no route")?;
-    assert_eq!(rt; path.remaining(), 4);
-    assert_eq!(rt; path.start(), from);
-    assert_eq!(rt; path.at(2), middle);
-    assert_eq!(rt; path.end(), to);
-    assert!(rt; route(rt.alloc(), &grid, from, to, &[middle])?.is_none());
-    assert!(rt; route(rt.alloc(), &grid, from, to, &[from])?.is_none());
-    assert!(rt; route(rt.alloc(), &grid, from, to, &[to])?.is_none());
+    let grid = tree(rt.alloc())?;
+    let [from, _, middle, _, to] = WAY;
+    assert!(rt; is_route(rt.alloc(), &grid, from, to, &WAY)?);
+    for avoid in [middle, from, to] {
+        assert!(rt; has_no_route(rt.alloc(), &grid, from, to, &[avoid])?);
+    }
+    Ok(())
+}
+
+#[test]
+fn routes_to_the_nearest(rt: HostRuntime) -> Result<(), Fail> {
+    let grid = tree(rt.alloc())?;
+    let [_, wall, middle, beside, to] = WAY;
     let corners = [Cell { x: 1, y: 2 }, to];
-    let first = route_to_nearest(rt.alloc(), &grid, middle, &corners, &[])?.ok_or("no route")?;
-    assert_eq!(rt; first.0, 0);
-    assert_eq!(rt; first.1.start(), middle);
-    let wall = [Cell { x: 1, y: 1 }];
-    let other = route_to_nearest(rt.alloc(), &grid, middle, &corners, &wall)?.ok_or("no route")?;
-    assert_eq!(rt; other.0, 1);
-    assert_eq!(rt; other.1.at(1), Cell { x: 3, y: 1 });
-    assert_eq!(rt; other.1.end(), to);
+    let first = [middle, wall, corners[0]];
+    assert!(rt; is_nearest(rt.alloc(), &grid, &corners, &[], 0, &first)?);
+    let other = [middle, beside, to];
+    assert!(rt; is_nearest(rt.alloc(), &grid, &corners, &[wall], 1, &other)?);
     Ok(())
 }
 
 #[test]
 fn laws_hold(rt: HostRuntime) -> Result<(), Fail> {
-    let grid = tree(&rt)?;
+    let grid = tree(rt.alloc())?;
     laws::distance_is_least(&grid);
     laws::distance_of_itself(&grid);
     laws::distance_grows_by_one(&grid);

@@ -1,283 +1,206 @@
-//! Small errands on a floor of rows `.....` and `@.@@@`, and one on an open floor.
+//! Small errands on a floor of rows `.....` and `@.@@@`, one on an open floor, and what is asked of the others.
 
-use std::process::Abort;
+use crate::errands::{
+    Found, at, delivered, delivered_by_layers, delivered_in, delivered_led, expanded, outcome,
+    parked_in, path, small_floor,
+};
+use std::alloc::{AllocError, Global};
 use std::test::Fail;
-use wh_field::{Field, Sight};
+use wh_field::Field;
 use wh_grid::{Cell, Grid};
-use wh_intervals::{deliver, deliver_guided, deliver_sighted, guided_steps, park, park_in};
+use wh_intervals::deliver_guided;
 use wh_path::TimedPath;
 use wh_resv::Reservations;
-use wh_search::{Fault, SearchMemory, layers};
+use wh_search::SearchMemory;
 
-fn path<R: Abort + AllocGlobal>(rt: &R, cells: &[(u16, u16)]) -> Result<TimedPath, Fail> {
-    let mut all = Vec::new(rt.alloc());
-    for c in cells {
-        all.push(Cell { x: c.0, y: c.1 })?;
-    }
-    assert!(rt; all.len() > 0);
-    Ok(TimedPath::over(all))
-}
-
-fn small_floor<R: Abort + AllocGlobal>(rt: &R) -> Result<Grid, Fail> {
-    let walkable = [
-        true, true, true, true, true, false, true, false, false, false,
-    ]
-    .to_vec(rt.alloc())?;
-    assert_eq!(rt; walkable.len(), 10);
-    Ok(Grid::new(5, 2, walkable))
-}
-
-/// The last index of what was found; none where there is no path.
-fn last<R: Abort + AllocGlobal>(
-    rt: &R,
-    found: Result<TimedPath, Fault>,
-) -> Result<Option<u64>, Fail> {
-    match found {
-        Ok(p) => Ok(Some(p.remaining())),
-        Err(fault) => {
-            assert_eq!(rt; fault, Fault::NoPath);
-            Ok(None)
-        }
-    }
-}
-
-/// What `deliver` finds from the left of the upper row, beside one other path.
-fn delivered<R: Abort + AllocGlobal>(
-    rt: &R,
-    other: &[(u16, u16)],
-    stops: &[Cell],
-    nofollow: bool,
-) -> Result<Option<u64>, Fail> {
-    let grid = small_floor(rt)?;
-    let paths = [path(rt, &[(0, 0)])?, path(rt, other)?];
-    let others = Reservations::build(rt.alloc(), &paths, 0, nofollow)?;
-    let loc = at(0);
-    assert!(rt; grid.passable(loc));
-    assert!(rt; others.may_rest(loc, 0));
-    assert!(rt; stops.len() >= 2);
-    assert!(rt; stops.len() <= 8);
-    last(rt, deliver(rt.alloc(), &grid, &others, loc, stops))
-}
-
-/// A cell of the upper row.
-fn at(x: u16) -> Cell {
-    Cell { x, y: 0 }
-}
-
-#[test]
-fn waits_for_the_other(rt: HostRuntime) -> Result<(), Fail> {
-    let other = [(1, 1), (1, 1), (1, 0), (2, 0), (3, 0), (4, 0)];
-    assert_eq!(rt; delivered(&rt, &other, &[at(2), at(0)], false)?, Some(6));
-    let later = [(1, 1), (1, 1), (1, 1), (1, 0)];
-    assert_eq!(rt; delivered(&rt, &later, &[at(2), at(4)], false)?, Some(4));
-    Ok(())
-}
-
-#[test]
-fn keeps_behind_under_the_rule(rt: HostRuntime) -> Result<(), Fail> {
-    let other = [(1, 0), (2, 0), (3, 0), (4, 0)];
-    assert_eq!(rt; delivered(&rt, &other, &[at(1), at(3)], false)?, Some(3));
-    assert_eq!(rt; delivered(&rt, &other, &[at(1), at(3)], true)?, Some(4));
-    Ok(())
-}
-
-#[test]
-fn visits_several_stops(rt: HostRuntime) -> Result<(), Fail> {
-    let stops = [at(2), at(0), at(0), at(4)];
-    assert_eq!(rt; delivered(&rt, &[(1, 1)], &stops, false)?, Some(8));
-    assert_eq!(rt; delivered(&rt, &[(3, 0)], &[at(2), at(4)], false)?, None);
-    Ok(())
-}
-
-/// From the left cell: beyond the other nobody parks, at its own cell it does at once, and else at the nearest.
-fn parks_nearest<R: Abort + AllocGlobal>(
-    rt: &R,
-    grid: &Grid,
-    others: &Reservations,
-    allowed: &[Cell],
-) -> Result<(), Fail> {
-    let loc = at(0);
-    assert!(rt; grid.passable(loc));
-    assert!(rt; others.may_rest(loc, 0));
-    let beyond = park(rt.alloc(), grid, others, loc, &[at(4)]);
-    assert_eq!(rt; last(rt, beyond)?, None);
-    let here = park(rt.alloc(), grid, others, loc, &[at(0)]);
-    assert_eq!(rt; last(rt, here)?, Some(0));
-    let nearest = park(rt.alloc(), grid, others, loc, allowed);
-    assert_eq!(rt; last(rt, nearest)?, Some(2));
-    Ok(())
-}
-
-/// The plain search by layers says the same.
-fn parks_by_layers<R: Abort + AllocGlobal>(
-    rt: &R,
-    grid: &Grid,
-    others: &Reservations,
-    allowed: &[Cell],
-) -> Result<(), Fail> {
-    let loc = at(0);
-    assert!(rt; grid.passable(loc));
-    assert!(rt; others.may_rest(loc, 0));
-    let beyond = layers::park(rt.alloc(), grid, others, loc, &[at(4)]);
-    assert_eq!(rt; last(rt, beyond)?, None);
-    let nearest = layers::park(rt.alloc(), grid, others, loc, allowed);
-    assert_eq!(rt; last(rt, nearest)?, Some(2));
-    Ok(())
-}
-
-/// So does a second search in the memory of a first one, of which what so short a search took is kept.
-fn parks_in_memory<R: Abort + AllocGlobal>(
-    rt: &R,
+/// A second search in the memory of a first one, of which what so short a search took is kept.
+fn parks_again(
+    alloc: Global,
     memory: &mut SearchMemory,
     grid: &Grid,
     others: &Reservations,
-    allowed: &[Cell],
-) -> Result<(), Fail> {
-    let loc = at(0);
-    assert!(rt; grid.passable(loc));
-    assert!(rt; others.may_rest(loc, 0));
-    let beyond = park_in(rt.alloc(), memory, grid, others, loc, &[at(4)]);
-    assert_eq!(rt; last(rt, beyond)?, None);
-    assert!(rt; memory.room() >= 1024);
-    let nearest = park_in(rt.alloc(), memory, grid, others, loc, allowed);
-    assert_eq!(rt; last(rt, nearest)?, Some(2));
-    Ok(())
+) -> bool {
+    parked_in(alloc, memory, grid, others, at(0), &[at(4)]) == Found::NoPath
+        && memory.room() >= 1024
+        && parked_in(
+            alloc,
+            memory,
+            grid,
+            others,
+            at(0),
+            &[at(4), Cell { x: 1, y: 1 }],
+        ) == Found::Ends(2)
+}
+
+fn parks_beside(alloc: Global, paths: &[TimedPath; 2]) -> Result<bool, AllocError> {
+    let grid = small_floor(alloc)?;
+    let others = Reservations::build(alloc, paths, 0, false)?;
+    let mut memory = SearchMemory::empty(alloc);
+    Ok(parks_again(alloc, &mut memory, &grid, &others))
 }
 
 #[test]
-fn parks(rt: HostRuntime) -> Result<(), Fail> {
-    let grid = small_floor(&rt)?;
-    let paths = [path(&rt, &[(0, 0)])?, path(&rt, &[(2, 0)])?];
-    let others = Reservations::build(rt.alloc(), &paths, 0, false)?;
-    let allowed = [at(4), Cell { x: 1, y: 1 }];
-    parks_nearest(&rt, &grid, &others, &allowed)?;
-    parks_by_layers(&rt, &grid, &others, &allowed)?;
-    let mut memory = SearchMemory::empty(rt.alloc());
-    parks_in_memory(&rt, &mut memory, &grid, &others, &allowed)
+fn parks_in_kept_memory(rt: HostRuntime) -> Result<(), Fail> {
+    let paths = [path(rt.alloc(), &[(0, 0)])?, path(rt.alloc(), &[(2, 0)])?];
+    assert!(rt; parks_beside(rt.alloc(), &paths)?);
+    Ok(())
+}
+
+/// Stops along the upper row of an open floor of 100 cells a side.
+const FAR: [Cell; 2] = [Cell { x: 50, y: 0 }, Cell { x: 99, y: 0 }];
+
+/// What is found with the field of the second stop alone: all is guessed to be near until the first stop.
+fn delivered_half_led(alloc: Global, grid: &Grid, others: &Reservations) -> Found {
+    let loc = at(0);
+    if !grid.passable(loc) || !others.may_rest(loc, 0) {
+        return Found::NoAnswer;
+    }
+    let Ok(second) = Field::from(alloc, grid, FAR[1]) else {
+        return Found::NoAnswer;
+    };
+    let fields = [None, Some(&second)];
+    outcome(deliver_guided(alloc, grid, others, loc, &FAR, &fields))
+}
+
+/// Whether few arrivals are expanded where both fields lead.
+fn is_led(alloc: Global, grid: &Grid, others: &Reservations) -> bool {
+    let few = match expanded(alloc, grid, others, at(0), FAR) {
+        Some(count) => count <= 200,
+        None => false,
+    };
+    few && delivered_led(alloc, grid, others, at(0), FAR) == Found::Ends(99)
 }
 
 #[test]
 fn is_guided(rt: HostRuntime) -> Result<(), Fail> {
-    let walkable = vec![in rt.alloc(); true; 10000]?;
-    assert_eq!(&rt; walkable.len(), 10000);
-    let grid = Grid::new(100, 100, walkable);
-    let paths = [path(&rt, &[(0, 0)])?];
+    let grid = Grid::new(100, 100, vec![in rt.alloc(); true; 10000]?);
+    let paths = [path(rt.alloc(), &[(0, 0)])?];
     let others = Reservations::build(rt.alloc(), &paths, 0, false)?;
-    let loc = at(0);
-    assert!(&rt; grid.passable(loc));
-    assert!(&rt; others.may_rest(loc, 0));
-    let pickup = at(50);
-    let delivery = at(99);
-    let first = Field::from(rt.alloc(), &grid, pickup)?;
-    let second = Field::from(rt.alloc(), &grid, delivery)?;
-    let stops = [pickup, delivery];
-    let fields = [Some(&first), Some(&second)];
-    let guided = deliver_guided(rt.alloc(), &grid, &others, loc, &stops, &fields);
-    assert_eq!(&rt; last(&rt, guided)?, Some(99));
-    match guided_steps(rt.alloc(), &grid, &others, loc, &stops, &fields) {
-        Ok(n) => assert!(&rt; n <= 200),
-        Err(_) => assert!(&rt; false),
-    }
-    // without the first field all is guessed to be near until the first stop
-    let absent = [None, Some(&second)];
-    let led = deliver_guided(rt.alloc(), &grid, &others, loc, &stops, &absent);
-    assert_eq!(&rt; last(&rt, led)?, Some(99));
+    assert!(rt; is_led(rt.alloc(), &grid, &others));
+    assert!(rt; delivered_half_led(rt.alloc(), &grid, &others) == Found::Ends(99));
     Ok(())
 }
 
+/// Beside one that leaves (1, 0) in the first step, and comes by (2, 0) at time 1.
 #[test]
 fn asks_the_others(rt: HostRuntime) -> Result<(), Fail> {
-    let paths = [path(&rt, &[(0, 0)])?, path(&rt, &[(1, 0), (2, 0), (3, 0)])?];
+    let paths = [
+        path(rt.alloc(), &[(0, 0)])?,
+        path(rt.alloc(), &[(1, 0), (2, 0), (3, 0)])?,
+    ];
     let others = Reservations::build(rt.alloc(), &paths, 0, true)?;
-    assert_eq!(&rt; others.horizon(), 2);
-    // the other leaves (1,0) in the first step, and comes by (2,0) at time 1
-    assert!(&rt; !others.may_step(at(0), at(1), 0));
-    assert!(&rt; others.may_step(at(0), at(1), 1));
-    assert!(&rt; !others.vacant(at(2), 1));
-    assert!(&rt; !others.may_rest(at(2), 1));
-    assert!(&rt; others.may_rest(at(2), 2));
-    assert!(&rt; others.not_before(at(3)).is_none());
+    assert!(rt; others.horizon() == 2);
+    assert!(rt; !others.may_step(at(0), at(1), 0) && others.may_step(at(0), at(1), 1));
+    assert!(rt;
+        !others.vacant(at(2), 1) && !others.may_rest(at(2), 1) && others.may_rest(at(2), 2)
+    );
+    assert!(rt; others.not_before(at(3)).is_none());
     Ok(())
 }
 
 /// How often the searches were compared beside one other path, and how often there was no path.
-#[derive(Clone, Copy)]
+#[derive(Clone, Copy, PartialEq, Eq)]
 struct Compared {
     all: u32,
     none: u32,
 }
 
-/// Compares the searches beside one other path: from each cell of the small floor to which the other
-/// never comes, through each two cells.
-fn compare_all<R: Abort + AllocGlobal>(rt: &R, other: &[(u16, u16)]) -> Result<Compared, Fail> {
-    let grid = small_floor(rt)?;
-    let paths = [path(rt, &[(0, 0)])?, path(rt, other)?];
-    let others = Reservations::build(rt.alloc(), &paths, 0, false)?;
-    let cells = [at(0), at(1), at(2), at(3), at(4), Cell { x: 1, y: 1 }];
-    let mut count = Compared { all: 0, none: 0 };
-    let mut memory = SearchMemory::empty(rt.alloc());
-    for loc in cells {
-        if grid.passable(loc) && others.may_rest(loc, 0) {
-            for pickup in cells {
-                for delivery in cells {
-                    let plain = agreed(rt, &mut memory, &grid, &others, loc, pickup, delivery)?;
-                    count.all = count.all.saturating_add(1);
-                    if plain.is_none() {
-                        count.none = count.none.saturating_add(1);
-                    }
-                }
-            }
-        }
-    }
-    Ok(count)
-}
-
-/// The last index of what all the searches find, one of them in kept memory.
-fn agreed<R: Abort + AllocGlobal>(
-    rt: &R,
+/// What all the searches find, one of them in kept memory, where they find the same.
+fn agreed(
+    alloc: Global,
     memory: &mut SearchMemory,
     grid: &Grid,
     others: &Reservations,
     loc: Cell,
-    pickup: Cell,
-    delivery: Cell,
-) -> Result<Option<u64>, Fail> {
-    assert!(rt; grid.passable(loc));
-    assert!(rt; others.may_rest(loc, 0));
-    let stops = [pickup, delivery];
-    let plain = last(rt, layers::deliver(rt.alloc(), grid, others, loc, &stops))?;
-    let first = Field::from(rt.alloc(), grid, pickup)?;
-    let second = Field::from(rt.alloc(), grid, delivery)?;
-    let fields = [Some(&first), Some(&second)];
-    let guided = deliver_guided(rt.alloc(), grid, others, loc, &stops, &fields);
-    assert_eq!(rt; last(rt, guided)?, plain);
-    let blind: [Option<Sight>; 2] = [None; 2];
-    let kept = deliver_sighted(rt.alloc(), memory, grid, others, loc, &stops, &blind);
-    assert_eq!(rt; last(rt, kept)?, plain);
-    assert_eq!(rt;
-        last(rt, deliver(rt.alloc(), grid, others, loc, &stops))?,
+    stops: [Cell; 2],
+) -> Found {
+    let plain = delivered_by_layers(alloc, grid, others, loc, &stops);
+    if delivered_led(alloc, grid, others, loc, stops) == plain
+        && delivered_in(alloc, memory, grid, others, loc, &stops) == plain
+        && delivered(alloc, grid, others, loc, &stops) == plain
+    {
         plain
-    );
-    Ok(plain)
+    } else {
+        Found::NoAnswer
+    }
 }
 
-// six passable cells, so 36 pairs of pickup and delivery from each cell where the other never is
+/// The passable cells of the small floor.
+const CELLS: [Cell; 6] = [
+    Cell { x: 0, y: 0 },
+    Cell { x: 1, y: 0 },
+    Cell { x: 2, y: 0 },
+    Cell { x: 3, y: 0 },
+    Cell { x: 4, y: 0 },
+    Cell { x: 1, y: 1 },
+];
+
+/// Compares the searches from a cell, through each two cells. None: they differ.
+fn compare_from(
+    alloc: Global,
+    memory: &mut SearchMemory,
+    grid: &Grid,
+    others: &Reservations,
+    loc: Cell,
+) -> Option<Compared> {
+    let mut count = Compared { all: 0, none: 0 };
+    for pickup in CELLS {
+        for delivery in CELLS {
+            count.all = count.all.saturating_add(1);
+            match agreed(alloc, memory, grid, others, loc, [pickup, delivery]) {
+                Found::Ends(_) => {}
+                Found::NoPath => count.none = count.none.saturating_add(1),
+                Found::NoAnswer => return None,
+            }
+        }
+    }
+    Some(count)
+}
+
+/// The same from each cell to which the other never comes.
+fn compare_all(
+    alloc: Global,
+    memory: &mut SearchMemory,
+    grid: &Grid,
+    others: &Reservations,
+) -> Option<Compared> {
+    let mut sum = Compared { all: 0, none: 0 };
+    for loc in CELLS {
+        if others.may_rest(loc, 0) {
+            let count = compare_from(alloc, memory, grid, others, loc)?;
+            sum.all = sum.all.saturating_add(count.all);
+            sum.none = sum.none.saturating_add(count.none);
+        }
+    }
+    Some(sum)
+}
+
+fn compare_beside(alloc: Global, paths: &[TimedPath; 2]) -> Result<Option<Compared>, AllocError> {
+    let grid = small_floor(alloc)?;
+    let others = Reservations::build(alloc, paths, 0, false)?;
+    let mut memory = SearchMemory::empty(alloc);
+    Ok(compare_all(alloc, &mut memory, &grid, &others))
+}
+
+/// Whether the searches agree beside another path, over so many errands, and for so many there is no path.
+fn agree(alloc: Global, other: &[(u16, u16)], all: u32, none: u32) -> Result<bool, AllocError> {
+    let paths = [path(alloc, &[(0, 0)])?, path(alloc, other)?];
+    Ok(compare_beside(alloc, &paths)? == Some(Compared { all, none }))
+}
+
+// Six passable cells, so 36 pairs of pickup and delivery from each cell where the other never is.
 #[test]
 fn searches_agree(rt: HostRuntime) -> Result<(), Fail> {
-    // the other comes everywhere but to (0,0). It ends at (4,0), and who is there before cannot get
-    // out of its way: a path is there for the 25 pairs without that cell
-    let first = compare_all(&rt, &[(1, 1), (1, 1), (1, 0), (2, 0), (3, 0), (4, 0)])?;
-    assert_eq!(rt; first.all, 36);
-    assert_eq!(rt; first.none, 11);
-    // the other never comes to (0,0), (2,0), (3,0) and (4,0), and from 3 on it shuts (1,0), so that
-    // nobody gets to (1,1): from these cells a path is there for 17, 15, 16 and 9 pairs
-    let second = compare_all(&rt, &[(1, 1), (1, 1), (1, 1), (1, 0)])?;
-    assert_eq!(rt; second.all, 144);
-    assert_eq!(rt; second.none, 87);
-    // the other parts three cells from two: a path is there for 9 pairs from each of the three, and
-    // for 4 from each of the two
-    let third = compare_all(&rt, &[(2, 0)])?;
-    assert_eq!(rt; third.all, 180);
-    assert_eq!(rt; third.none, 145);
+    // The other comes everywhere but to (0,0). It ends at (4,0), and who is there before cannot get
+    // out of its way: a path is there for the 25 pairs without that cell.
+    let first = [(1, 1), (1, 1), (1, 0), (2, 0), (3, 0), (4, 0)];
+    assert!(rt; agree(rt.alloc(), &first, 36, 11)?);
+    // The other never comes to (0,0), (2,0), (3,0) and (4,0), and from 3 on it shuts (1,0), so that
+    // nobody gets to (1,1): from these cells a path is there for 17, 15, 16 and 9 pairs.
+    let second = [(1, 1), (1, 1), (1, 1), (1, 0)];
+    assert!(rt; agree(rt.alloc(), &second, 144, 87)?);
+    // The other parts three cells from two: a path is there for 9 pairs from each of the three, and
+    // for 4 from each of the two.
+    assert!(rt; agree(rt.alloc(), &[(2, 0)], 180, 145)?);
     Ok(())
 }
