@@ -6,6 +6,7 @@
 mod day;
 mod mind;
 mod shift;
+mod stop;
 
 use day::{Halt, Parts, day};
 use mind::Mind;

@@ -5,6 +5,7 @@ ghost use Rattle.std.specs.Prelude.{◌≡◌, ◌+◌, [], IfOk, length};
 ghost use Rattle.wh_core.specs.Steps.{Run};
 
 use crate::day::{CALLER, Halt, MAP, POINTS, Parts, planners};
+use crate::stop::bring;
 use std::alloc::{AllocError, Global};
 use std::sync::Arc;
 use wh_event::{Command, read_line, write_reply};
@@ -175,10 +176,11 @@ fn run_script<R: Print>(
     Ok(())
 }
 
-/// A whole shift, from the map to what is told of it.
+/// A whole shift, from the map to what is told of it, and of a stop after it.
 pub fn shift<R: Print>(rt: &R, alloc: Global) -> Result<(), Halt> {
     let grid = Arc::new(alloc, Grid::read(alloc, MAP)?)?;
     let mut warehouse = opened(alloc, &grid)?;
     let mut spares = standby(alloc, &grid)?;
-    run_script(rt, alloc, &mut warehouse, &mut spares)
+    run_script(rt, alloc, &mut warehouse, &mut spares)?;
+    bring(rt, alloc, &warehouse)
 }
