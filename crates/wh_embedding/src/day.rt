@@ -20,10 +20,10 @@ use wh_points::{PointFault, Points};
 use wh_token::{Committed, NoMemory, OpenFault, Warehouse};
 
 /// The map: a corridor with a pocket above and below each end.
-const MAP: &[u8] = b"type octile\nheight 3\nwidth 5\nmap\n@.@.@\n.....\n@.@.@\n";
+pub const MAP: &[u8] = b"type octile\nheight 3\nwidth 5\nmap\n@.@.@\n.....\n@.@.@\n";
 
 /// The points that stand on it, and where the two agents are.
-const POINTS: &[u8] =
+pub const POINTS: &[u8] =
     b"parking P0 0 1\nparking P1 4 1\nstation A 1 0\nstation B 3 0\nstation C 1 2\nstation D 3 2\nagent P0\nagent P1\n";
 
 /// What is asked of it.
@@ -42,7 +42,7 @@ const BANK: u32 = 16;
 const SLOTS: u32 = 4;
 
 /// Who asks: the history says it of each entry.
-const CALLER: u32 = 7;
+pub const CALLER: u32 = 7;
 
 /// What a planner is made of.
 #[derive(Drop)]
@@ -131,7 +131,7 @@ fn claim(bank: &Arc<Bank>, seat: &mut BankSeat) -> Result<Claim, Halt>
 }
 
 /// A planner for each agent, with slots of one bank.
-fn planners<P: Planner, F: Fn(Parts) -> Result<P, AllocError>>(
+pub fn planners<P: Planner, F: Fn(Parts) -> Result<P, AllocError>>(
     alloc: Global,
     grid: &Arc<Grid>,
     agents: usize,

@@ -5,9 +5,12 @@
 
 mod day;
 mod mind;
+mod shift;
+mod stop;
 
 use day::{Halt, Parts, day};
 use mind::Mind;
+use shift::shift;
 use std::alloc::AllocError;
 use std::process::ExitCode;
 use wh_planner::Planner;
@@ -45,13 +48,14 @@ fn with_minds<R: AllocGlobal + Print>(rt: &R) -> Result<(), Halt> {
     day(rt, alloc, &make)
 }
 
-fn both<R: AllocGlobal + Print>(rt: &R) -> Result<(), Halt> {
+fn all<R: AllocGlobal + Print>(rt: &R) -> Result<(), Halt> {
     with_boxes(rt)?;
-    with_minds(rt)
+    with_minds(rt)?;
+    shift(rt, rt.alloc())
 }
 
 fn main(rt: HostRuntime) -> ExitCode {
-    match both(&rt) {
+    match all(&rt) {
         Ok(()) => ExitCode::SUCCESS,
         Err(Halt::NoMemory) => ExitCode::from(4),
         Err(Halt::Unwritten) => ExitCode::from(3),
