@@ -3,3 +3,4 @@ mod Gathered
 mod Standing
 mod Kept
 mod Settled
+mod Found
