@@ -4,3 +4,4 @@ mod Standing
 mod Kept
 mod Settled
 mod Found
+mod Ridden

@@ -4,3 +4,4 @@ pub mod Convoys
 pub mod Laws
 pub mod Standing
 pub mod Beginning
+pub mod Riding

@@ -8,10 +8,12 @@ mod finding;
 mod gathering;
 mod keeping;
 pub mod laws;
+mod riding;
 mod rounds;
 mod settling;
 
 pub use beginning::begin_arrivals;
 pub use fault::ConvoyFault;
 pub use finding::{Stood, StoodFault, find_stand};
+pub use riding::{RideFault, ride_on};
 pub use rounds::convoy;
