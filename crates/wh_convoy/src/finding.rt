@@ -2,6 +2,7 @@
 #![tactic(auto)]
 
 ghost use Rattle.std.specs.Prelude.{◌≡◌, ◌-◌, ◌<◌, ◌≤◌, ℕ, IfErr, IfNone, IfOk, IfSome, length, slice_index};
+ghost use Rattle.wh_dispatch.specs.SettingOut.{SomeInStep};
 ghost use Rattle.wh_convoy.specs.Standing.{IsWhole, StandsBy, IsWhyNotStood};
 
 use std::alloc::Global;
@@ -68,6 +69,7 @@ fn steps_so_far(book: &Book) -> u64
 pub fn find_stand(alloc: Global, book: &Book, ahead: u64, text: &[u8]) -> Result<Stood, StoodFault>
     requires some { 1 ≤ ahead }
     ensures ok { IfOk result (StandsBy book.now ahead text.now) }
+    ensures stand { IfOk result (λ stood. SomeInStep book.now stood.order) }
     ensures fault { IfErr result (IsWhyNotStood book.now ahead text.now) }
 {
     let agents = book.paths().len();
