@@ -3,3 +3,5 @@ mod Gathered
 mod Standing
 mod Kept
 mod Settled
+mod Found
+mod Ridden
