@@ -2,5 +2,6 @@ pub mod Returns
 pub mod Placing
 pub mod Giving
 pub mod Serving
+pub mod Until
 -- handed on, for the crates above
 pub use Rattle.wh_lines.proofs.Written

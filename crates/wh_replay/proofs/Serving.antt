@@ -1,14 +1,14 @@
 -- A script that is served line by line.
-use Rattle.std.proofs.Common.{◌≡◌, ◌+◌, ◌≤◌, ℕ, List, [], ◌∷◌, ◌++◌, refl, sym, ap, ◌∙◌, arith, subst, Option, append_assoc, append-nil, Bool, Result, Ok, Err}
+use Rattle.std.proofs.Common.{◌≡◌, ◌+◌, ◌≤◌, ℕ, List, [], ◌∷◌, ◌++◌, length, refl, sym, ap, ◌∙◌, inl, inr, arith, subst, Option, append_assoc, append-nil, Bool, true, Result, Ok, Err}
 use Rattle.std.proofs.lemmas.List.{length-append}
 use Rattle.std.specs.Prelude.{IfSome, IfOk, OnErr}
 use Rattle.std.specs.Io.KnownBytes.{Appends, Keeps}
 use Rattle.std.proofs.KnownBytes.{Consumes-whole, Keeps-refl, Consumes-nil, Consumes-trans, Appends-nil, Appends-trans, Appends-kept}
 use Rattle.wh_text.specs.Lines.{lines_of, without_cr}
 use Rattle.wh_text.proofs.CutLemmas.{lines-feed, lines-last}
-use Rattle.wh_lines.specs.Text.{short_line}
+use Rattle.wh_lines.specs.Text.{IsPlain, short_line}
 use Rattle.wh_lines.proofs.Cuts.{whole_next}
-use Rattle.wh_lines.specs.Input.{Input, left, Takes, Gathered, Taken}
+use Rattle.wh_lines.specs.Input.{Input, left, Takes, Gathered, Taken, with_failed}
 use Rattle.wh_lines.specs.declared.lines.Next.{Next}
 use Rattle.wh_lines.specs.declared.lines.Next.TheVariants.{Whole, Last, End}
 use Rattle.wh_grid.specs.Grids.{Floor}
@@ -19,11 +19,12 @@ use Rattle.wh_event.specs.declared.fault.LineFault.{LineFault}
 use Rattle.wh_log.specs.Told.{Answered}
 use Rattle.wh_lines.specs.declared.output.WriteFault.{WriteFault}
 use Rattle.wh_replay.specs.declared.script.ReplayFault.{ReplayFault}
-use Rattle.wh_replay.specs.declared.script.ReplayFault.TheVariants.{Broken, Endless, Unwritten}
+use Rattle.wh_replay.specs.declared.script.ReplayFault.TheVariants.{Unwritten}
 use Rattle.wh_replay.specs.Answers.{asked, answers, reply_line, text_of, said}
-use Rattle.wh_replay.specs.Scripts.{Gives, IsOutputOf, Tells, WritesFront, Serves, ServesUnwritten, Follows, Replays, Outputs, Stops, WritesUntil}
+use Rattle.wh_replay.specs.Scripts.{Gives, IsOutputOf, Tells, WritesFront, Serves, ServesUnwritten, Follows, Replays, Outputs, Stops, HasCause}
 use Rattle.wh_replay.proofs.Returns.{said_is}
-use Rattle.wh_lines.proofs.Written.{front_after, front_all, both_parts, in_first, in_second}
+use Rattle.wh_replay.proofs.Until.{written_all, written_to_last, until_all, whole_until, whole_failed, cause_failed}
+use Rattle.wh_lines.proofs.Written.{both_parts, in_first, in_second}
 use Rattle.wh_replay.proofs.Giving.{gives_nothing, output_push}
 
 text_append : (xs ys : List (List ℕ)) → text_of (xs ++ ys) ≡ text_of xs ++ text_of ys
@@ -33,8 +34,11 @@ text_append (x ∷ xs) ys = ap (λ l. reply_line x ++ l) (text_append xs ys) ∙
 texts_more : (a b c d : Option (List ℕ)) (xs ys : List (List ℕ)) → Appends a b (text_of xs) → Keeps b c → Appends c d (text_of ys) → Appends a d (text_of (xs ++ ys))
 texts_more a b c d xs ys p k q = subst (Appends a d) (sym (text_append xs ys)) (Appends-trans a c d (text_of xs) (text_of ys) (Appends-kept a b c (text_of xs) p k) q)
 
-texts_front : (a b c d : Option (List ℕ)) (xs ys : List (List ℕ)) → Appends a b (text_of xs) → Keeps b c → WritesFront c d (text_of ys) → WritesFront a d (text_of (xs ++ ys))
-texts_front a b c d xs ys p k q = subst (WritesFront a d) (sym (text_append xs ys)) (front_after a c d (text_of xs) (text_of ys) (Appends-kept a b c (text_of xs) p k) q)
+-- Whole lines were read and served, no fewer than so many.
+pub record Following {X : Type 0} (fits : X → Floor → Bool) (count : X → ℕ) (text : Answered → List ℕ) (before after : Input) (old : Seen) (spares : List X) (new : Seen) (rest : List X)
+    (had has : Option (List ℕ)) (written turns : ℕ) : Type 0 where
+  pub follows : Follows fits count text before after old spares new rest had has written
+  pub many : turns ≤ length (lines_of follows.read)
 
 module _ {X : Type 0} (fits : X → Floor → Bool) (count : X → ℕ) (text : Answered → List ℕ) where
   pub follows_start : (i : Input) (old : Seen) (spares : List X) (had : Option (List ℕ)) → Follows fits count text i i old spares old spares had had 0
@@ -47,6 +51,9 @@ module _ {X : Type 0} (fits : X → Floor → Bool) (count : X → ℕ) (text : 
     appends = Appends-nil had;
     written_is = refl;
   }
+
+  pub following_start : (i : Input) (old : Seen) (spares : List X) (had : Option (List ℕ)) → Following fits count text i i old spares old spares had had 0 0
+  following_start i old spares had = record { follows = follows_start i old spares had; many = omega arith }
 
   -- what a line gives of which a front is kept
   gives_front : (raw kept : List ℕ) (old : Seen) (spares : List X) (new : Seen) (rest : List X) (replies : List (List ℕ)) → short_line kept ≡ short_line raw
@@ -65,18 +72,26 @@ module _ {X : Type 0} (fits : X → Floor → Bool) (count : X → ℕ) (text : 
         subst (λ ls. IsOutputOf fits count text ls old spares new rest (f.replies ++ replies)) (sym (f.whole bytes ∙ ap (λ l. lines_of f.read ++ l) one))
         (output_push fits count text (lines_of f.read) (without_cr raw) old spares mid held new rest f.replies replies f.output (gives_front raw kept mid held new rest replies says gives))
 
-    pub follows_line : (written m : ℕ) → Gathered Whole j k kept → Serves fits count text (said (short_line kept)) mid held new rest c d written → m ≡ n + written
-        → Follows fits count text i k old spares new rest a d m
-    follows_line written m g s e =
+    lines_more : (raw : List ℕ) → IsPlain raw → length (lines_of (f.read ++ (raw ++ 10 ∷ []))) ≡ length (lines_of f.read) + 1
+    lines_more raw plain =
+        ap (λ (ls : List (List ℕ)). length ls) (f.whole (raw ++ 10 ∷ []) ∙ ap (λ l. lines_of f.read ++ l) (lines-feed raw [] plain))
+        ∙ length-append (lines_of f.read) (without_cr raw ∷ [])
+
+    following_line : (written m turns : ℕ) → turns ≤ length (lines_of f.read) → Gathered Whole j k kept → Serves fits count text (said (short_line kept)) mid held new rest c d written → m ≡ n + written
+        → Following fits count text i k old spares new rest a d m (turns + 1)
+    following_line written m turns many g s e =
         let bytes = g.raw ++ 10 ∷ [] in
         record {
-          read = f.read ++ bytes;
-          takes = Consumes-trans (left i) (left j) (left k) f.read bytes f.takes g.ends;
-          whole = whole_next f.read g.raw f.whole g.plain;
-          replies = f.replies ++ s.replies;
-          output = output_line bytes g.raw s.replies (lines-feed g.raw [] g.plain) g.says s.gives;
-          appends = texts_more a b c d f.replies s.replies f.appends flushed s.appends;
-          written_is = omega (arith, e, f.written_is, s.written_is, length-append f.replies s.replies);
+          follows = record {
+            read = f.read ++ bytes;
+            takes = Consumes-trans (left i) (left j) (left k) f.read bytes f.takes g.ends;
+            whole = whole_next f.read g.raw f.whole g.plain;
+            replies = f.replies ++ s.replies;
+            output = output_line bytes g.raw s.replies (lines-feed g.raw [] g.plain) g.says s.gives;
+            appends = texts_more a b c d f.replies s.replies f.appends flushed s.appends;
+            written_is = omega (arith, e, f.written_is, s.written_is, length-append f.replies s.replies);
+          };
+          many = omega (arith, many, lines_more g.raw g.plain);
         }
 
     pub stops_line : Gathered Whole j k kept → ServesUnwritten fits count text (said (short_line kept)) mid held new rest c d → Stops fits count text Unwritten i k old spares new rest a d
@@ -86,9 +101,11 @@ module _ {X : Type 0} (fits : X → Floor → Bool) (count : X → ℕ) (text : 
           read = f.read ++ bytes;
           begun = [];
           takes = subst (λ l. Takes i k l) (sym (append-nil (f.read ++ bytes))) (Consumes-trans (left i) (left j) (left k) f.read bytes f.takes g.ends);
+          whole = inl (whole_next f.read g.raw f.whole g.plain);
           replies = f.replies ++ s.replies;
           output = output_line bytes g.raw s.replies (lines-feed g.raw [] g.plain) g.says s.gives;
-          writes = texts_front a b c d f.replies s.replies f.appends flushed s.writes;
+          writes = written_to_last a b c d f.replies s.replies f.appends flushed s.writes s.few;
+          cause = tt;
         }
 
     pub stops_last : Gathered Last j k kept → ServesUnwritten fits count text (said (short_line kept)) mid held new rest c d → Stops fits count text Unwritten i k old spares new rest a d
@@ -96,9 +113,11 @@ module _ {X : Type 0} (fits : X → Floor → Bool) (count : X → ℕ) (text : 
       read = f.read ++ g.raw;
       begun = [];
       takes = subst (λ l. Takes i k l) (sym (append-nil (f.read ++ g.raw))) (Consumes-trans (left i) (left j) (left k) f.read g.raw f.takes g.ends.0);
+      whole = inr g.ends.2;
       replies = f.replies ++ s.replies;
       output = output_line g.raw g.raw s.replies (lines-last g.raw g.plain g.ends.1) g.says s.gives;
-      writes = texts_front a b c d f.replies s.replies f.appends flushed s.writes;
+      writes = written_to_last a b c d f.replies s.replies f.appends flushed s.writes s.few;
+      cause = tt;
     }
 
     pub replays_last : (written m : ℕ) (e : Option (List ℕ)) → Gathered Last j k kept → Serves fits count text (said (short_line kept)) mid held new rest c d written → Keeps d e → m ≡ n + written
@@ -122,9 +141,11 @@ module _ {X : Type 0} (fits : X → Floor → Bool) (count : X → ℕ) (text : 
           read = r.read;
           begun = [];
           takes = subst (λ l. Takes i k l) (sym (append-nil r.read)) r.takes;
+          whole = inr r.ended;
           replies = r.replies;
           output = r.output;
-          writes = front_all a e (text_of r.replies) r.appends;
+          writes = written_all a e r.replies r.appends;
+          cause = tt;
         }
 
     -- a line whose reply was not written to the end, be it the last one or not
@@ -135,11 +156,11 @@ module _ {X : Type 0} (fits : X → Floor → Bool) (count : X → ℕ) (text : 
     stops_served End some g s = absurd (some refl)
 
     -- a line that was served, and is not the last one
-    pub follows_served : (next : Next) → ¬ (next ≡ End) → ¬ (next ≡ Last) → (written m : ℕ) → Gathered next j k kept
-        → Serves fits count text (said (short_line kept)) mid held new rest c d written → m ≡ n + written → Follows fits count text i k old spares new rest a d m
-    follows_served Whole some more written m g s e = follows_line written m g s e
-    follows_served Last some more written m g s e = absurd (more refl)
-    follows_served End some more written m g s e = absurd (some refl)
+    pub following_served : (next : Next) → ¬ (next ≡ End) → ¬ (next ≡ Last) → (written m turns : ℕ) → turns ≤ length (lines_of f.read) → Gathered next j k kept
+        → Serves fits count text (said (short_line kept)) mid held new rest c d written → m ≡ n + written → Following fits count text i k old spares new rest a d m (turns + 1)
+    following_served Whole some more written m turns many g s e = following_line written m turns many g s e
+    following_served Last some more written m turns many g s e = absurd (more refl)
+    following_served End some more written m turns many g s e = absurd (some refl)
 
   module _ (i j k : Input) (old : Seen) (spares : List X) (mid : Seen) (held : List X) (a b c : Option (List ℕ)) (n : ℕ)
       (f : Follows fits count text i j old spares mid held a b n) (flushed : Keeps b c) where
@@ -154,26 +175,39 @@ module _ {X : Type 0} (fits : X → Floor → Bool) (count : X → ℕ) (text : 
       written_is = f.written_is;
     }
 
-    writes_until : (fault : ReplayFault) → WritesUntil fault a c (text_of f.replies)
-    writes_until Unwritten = front_all a c (text_of f.replies) (Appends-kept a b c (text_of f.replies) f.appends flushed)
-    writes_until Broken = Appends-kept a b c (text_of f.replies) f.appends flushed
-    writes_until Endless = Appends-kept a b c (text_of f.replies) f.appends flushed
-
     -- no next line
-    pub stops_between : (fault : ReplayFault) → Taken j k → Stops fits count text fault i k old spares mid held a c
-    stops_between fault t = record {
+    pub stops_between : (fault : ReplayFault) → Taken j k → HasCause fault i k (length (lines_of f.read)) → Stops fits count text fault i k old spares mid held a c
+    stops_between fault t cause = record {
       read = f.read;
       begun = t.bytes;
       takes = Consumes-trans (left i) (left j) (left k) f.read t.bytes f.takes t.takes;
+      whole = whole_until fault k f.read f.whole;
       replies = f.replies;
       output = f.output;
-      writes = writes_until fault;
+      writes = until_all fault a c f.replies (Appends-kept a b c (text_of f.replies) f.appends flushed);
+      cause = cause;
     }
 
   -- nothing more was taken
   pub stops_now : (i j : Input) (old : Seen) (spares : List X) (mid : Seen) (held : List X) (a b : Option (List ℕ)) (n : ℕ) (fault : ReplayFault)
-      → Follows fits count text i j old spares mid held a b n → Stops fits count text fault i j old spares mid held a b
-  stops_now i j old spares mid held a b n fault f = stops_between i j j old spares mid held a b b n f (Keeps-refl b) fault (record { bytes = []; takes = Consumes-nil (left j) })
+      (f : Follows fits count text i j old spares mid held a b n) → HasCause fault i j (length (lines_of f.read)) → Stops fits count text fault i j old spares mid held a b
+  stops_now i j old spares mid held a b n fault f cause =
+      stops_between i j j old spares mid held a b b n f (Keeps-refl b) fault (record { bytes = []; takes = Consumes-nil (left j) }) cause
+
+  -- the reader is told to have failed
+  pub stops_failed : (i j k : Input) (old : Seen) (spares : List X) (new : Seen) (rest : List X) (had has : Option (List ℕ)) (fault : ReplayFault)
+      → k ≡ with_failed j true → Stops fits count text fault i j old spares new rest had has → Stops fits count text fault i k old spares new rest had has
+  stops_failed i j k old spares new rest had has fault failed s =
+      subst (λ (x : Input). Stops fits count text fault i x old spares new rest had has) (sym failed) (record {
+        read = s.read;
+        begun = s.begun;
+        takes = s.takes;
+        whole = whole_failed fault j s.read s.whole;
+        replies = s.replies;
+        output = s.output;
+        writes = s.writes;
+        cause = cause_failed fault i j (length (lines_of s.read)) s.cause;
+      })
 
   -- a reader that tells its bytes has given them all
   pub outputs_of : (i j : Input) (old : Seen) (spares : List X) (new : Seen) (rest : List X) (had has : Option (List ℕ)) (n : ℕ)
@@ -205,7 +239,7 @@ module _ {X : Type 0} (fits : X → Floor → Bool) (count : X → ℕ) (text : 
 
     pub serves_begun : (result : Result ℕ WriteFault) → Tells result had has (reply_line reply) → OnErr result (ServesUnwritten fits count text kind old spares new rest had has)
     serves_begun (Ok n) p = tt
-    serves_begun (Err f) p = record { replies = reply ∷ []; gives = gives; writes = subst (WritesFront had has) is_text p }
+    serves_begun (Err f) p = record { replies = reply ∷ []; gives = gives; few = omega arith; writes = subst (WritesFront had has) is_text p }
 
 pub tells_few : (result : Result ℕ WriteFault) (had has : Option (List ℕ)) (line : List ℕ) → Tells result had has line → IfOk result (λ n. n ≤ 1)
 tells_few (Ok n) had has line p = omega (arith, p.1)

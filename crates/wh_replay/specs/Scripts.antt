@@ -1,5 +1,5 @@
 -- what a script gives, and what a beginning of it gives
-use Rattle.std.specs.Prelude.{◌≡◌, ℕ, Bool, List, ◌++◌, length, Option, Result, Ok, Err}
+use Rattle.std.specs.Prelude.{◌≡◌, ◌⊎◌, ◌<◌, ◌≤◌, ◌^◌, ◌-◌, ℕ, Bool, true, List, ◌++◌, length, Option, Result, Ok, Err}
 use Rattle.std.specs.Io.KnownBytes.{Appends, IsAtEnd}
 use Rattle.wh_text.specs.Lines.{lines_of}
 use Rattle.wh_lines.specs.Text.{EndsLine}
@@ -61,6 +61,7 @@ pub record ServesUnwritten {X : Type 0} (fits : X → Floor → Bool) (count : X
     (had has : Option (List ℕ)) : Type 0 where
   pub replies : List (List ℕ)
   pub gives : Gives fits count (asked line) (answers text line) old spares new rest replies
+  pub few : length replies ≤ 1
   pub writes : WritesFront had has (text_of replies)
 
 -- whole lines were read and served
@@ -93,22 +94,47 @@ pub record Outputs {X : Type 0} (fits : X → Floor → Bool) (count : X → ℕ
   pub appends : Appends had has (text_of replies)
   pub written_is : written ≡ length replies
 
--- after a read fault all is written, after a write fault a front of it
-abbrev pub WritesUntil : ReplayFault → Option (List ℕ) → Option (List ℕ) → List ℕ → Type 0
-WritesUntil Unwritten had has bytes = WritesFront had has bytes
-WritesUntil Broken had has bytes = Appends had has bytes
-WritesUntil Endless had has bytes = Appends had has bytes
+-- all replies but the last were written whole, and of the last a front
+pub record WritesToLast (had has : Option (List ℕ)) (replies : List (List ℕ)) : Type 0 where
+  pub told : List (List ℕ)
+  pub last : List (List ℕ)
+  pub replies_are : replies ≡ told ++ last
+  pub few : length last ≤ 1
+  pub between : Option (List ℕ)
+  pub whole : Appends had between (text_of told)
+  pub front : WritesFront between has (text_of last)
 
--- A beginning of the script was served: the events of its commands stand, also one whose reply was not written to the
--- end. What follows it in the bytes that were taken is part of a line that was not served.
+-- after a read fault all replies are written, after a write fault all but the last, and a front of that
+abbrev pub WritesUntil : ReplayFault → Option (List ℕ) → Option (List ℕ) → List (List ℕ) → Type 0
+WritesUntil Unwritten had has replies = WritesToLast had has replies
+WritesUntil Broken had has replies = Appends had has (text_of replies)
+WritesUntil Endless had has replies = Appends had has (text_of replies)
+
+-- What was served are whole lines. Only where the writer failed may the last one be the input's last, with no line feed.
+abbrev pub IsWholeUntil : ReplayFault → Input → List ℕ → Type 0
+IsWholeUntil Unwritten after read = EndsLine read ⊎ IsAtEnd (left after)
+IsWholeUntil Broken after read = EndsLine read
+IsWholeUntil Endless after read = EndsLine read
+
+-- That reading failed is told only where the reader was asked, or a fault had come before; that it was asked too often, only
+-- where it was, or where more lines were served than can be counted.
+abbrev pub HasCause : ReplayFault → Input → Input → ℕ → Type 0
+HasCause Broken before after lines = (before.failed ≡ true) ⊎ (0 < after.reads)
+HasCause Endless before after lines = (after.reads ≡ 100000000) ⊎ (2 ^ 64 - 1 ≤ lines)
+HasCause Unwritten before after lines = Unit {0}
+
+-- A beginning of the script was served, and no line behind it: the events of its commands stand, also the last one, whose
+-- reply may not have been written to the end. What was taken behind it was not served.
 pub record Stops {X : Type 0} (fits : X → Floor → Bool) (count : X → ℕ) (text : Answered → List ℕ) (fault : ReplayFault) (before after : Input) (old : Seen) (spares : List X) (new : Seen) (rest : List X)
     (had has : Option (List ℕ)) : Type 0 where
   pub read : List ℕ
   pub begun : List ℕ
   pub takes : Takes before after (read ++ begun)
+  pub whole : IsWholeUntil fault after read
   pub replies : List (List ℕ)
   pub output : IsOutputOf fits count text (lines_of read) old spares new rest replies
-  pub writes : WritesUntil fault had has (text_of replies)
+  pub writes : WritesUntil fault had has replies
+  pub cause : HasCause fault before after (length (lines_of read))
 
 -- the fault of a script whose next line did not come
 abbrev pub fault_of : NoLine → ReplayFault

@@ -1,6 +1,6 @@
 //! A script that is served to its end, or until a fault.
 
-ghost use Rattle.std.specs.Prelude.{◌≡◌, ◌≤◌, IfOk, IfSome, IfErr, OnErr, true};
+ghost use Rattle.std.specs.Prelude.{◌≡◌, ◌≤◌, IfOk, IfSome, IfErr, OnErr, true, false};
 ghost use Rattle.std.specs.Io.KnownBytes.{Keeps};
 ghost use Rattle.wh_lines.specs.Text.{short_line};
 ghost use Rattle.wh_lines.specs.Input.{left};
@@ -73,6 +73,7 @@ fn serve_all<R: Read, W: Write, P: Planner>(
     warehouse: &mut Warehouse<P>,
     spares: &mut Vec<P>,
 ) -> Result<Replayed, ReplayFault>
+    requires { lines.old.failed ≡ false }
     ensures ok { IfOk result (λ r. Replays P.fits_map P.slot_count (told_text form) lines.old lines.new warehouse.old.book spares.old.items warehouse.new.book spares.new.items (W.contents writer.old) (W.contents writer.new) r.replies) }
     ensures fault { IfErr result (λ fault. Stops P.fits_map P.slot_count (told_text form) fault lines.old lines.new warehouse.old.book spares.old.items warehouse.new.book spares.new.items (W.contents writer.old) (W.contents writer.new)) }
 {
@@ -119,7 +120,8 @@ pub fn replay<R: Read, W: Write, P: Planner>(
     ensures ok { IfOk result (λ r. Replays P.fits_map P.slot_count (told_text form) lines.old lines.new warehouse.old.book spares.old.items warehouse.new.book spares.new.items (W.contents writer.old) (W.contents writer.new) r.replies) }
     // Where the reader tells its bytes, these are the script.
     ensures output { IfOk result (λ r. IfSome (left lines.old) (λ script. Outputs P.fits_map P.slot_count (told_text form) script warehouse.old.book spares.old.items warehouse.new.book spares.new.items (W.contents writer.old) (W.contents writer.new) r.replies)) }
-    // On a fault this holds of a beginning of the script, and of a front of what was to be written.
+    // On a fault this holds of a beginning of the script, of whole lines: all replies but the last were written, and the cause is
+    // a true one.
     ensures fault { IfErr result (λ fault. Stops P.fits_map P.slot_count (told_text form) fault lines.old lines.new warehouse.old.book spares.old.items warehouse.new.book spares.new.items (W.contents writer.old) (W.contents writer.new)) }
     // After a fault there is nothing more.
     ensures failed { OnErr result (lines.new.failed ≡ true) }

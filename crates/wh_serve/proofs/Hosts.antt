@@ -1,5 +1,5 @@
 -- What the reports of the threads say of the whole history.
-use Rattle.std.proofs.Common.{◌≡◌, ℕ, zero, suc, ◌<◌, List, [], ◌∷◌, length, take, map, Some, slice_get, refl, ap, sym, ◌∙◌, subst, arith, Result, Ok, Err, Option, Bool}
+use Rattle.std.proofs.Common.{◌≡◌, ℕ, zero, suc, ◌<◌, List, [], ◌∷◌, length, map, Some, slice_get, refl, ap, sym, ◌∙◌, subst, arith, Result, Ok, Err, Option, Bool}
 use Rattle.std.specs.List.{All}
 use Rattle.std.proofs.lemmas.List.{length-map}
 use Rattle.std.proofs.lemmas.List.Elements.{All-head, All-tail}
@@ -13,7 +13,7 @@ use Rattle.std.specs.Prelude.{IfOk, IfErr}
 use Rattle.std.specs.Io.KnownBytes.{Keeps}
 use Rattle.std.proofs.KnownBytes.{Appends-kept}
 use Rattle.wh_replay.specs.Answers.{text_of}
-use Rattle.wh_replay.specs.Scripts.{WritesFront, WritesUntil}
+use Rattle.wh_replay.proofs.Until.{until_left}
 use Rattle.wh_serve.specs.Sessions.{ServesAll, Stops}
 use Rattle.wh_serve.specs.Hosting.{IsDue, ReportAt, Fared, Session, AllServed}
 use Rattle.wh_serve.specs.declared.threads.Ended.{Ended}
@@ -108,14 +108,6 @@ session_caller fits count grid text remaining contents client had has writer end
 
 -- ---- a client that was left
 
-front_left : (a b c : Option (List ℕ)) (xs : List ℕ) → WritesFront a b xs → Keeps b c → WritesFront a c xs
-front_left a b c xs w kept = record { count = w.count; appends = Appends-kept a b c (take w.count xs) w.appends kept }
-
-until_left : (fault : ReplayFault) (a b c : Option (List ℕ)) (xs : List ℕ) → WritesUntil fault a b xs → Keeps b c → WritesUntil fault a c xs
-until_left ReplayFault.Unwritten a b c xs w kept = front_left a b c xs w kept
-until_left ReplayFault.Broken a b c xs w kept = Appends-kept a b c xs w kept
-until_left ReplayFault.Endless a b c xs w kept = Appends-kept a b c xs w kept
-
 pub fared_left : {X : Type 0} (fits : X → Floor → Bool) (count : X → ℕ) (grid : Floor) (text : ℕ × Entry → List ℕ) (ended : Result Replayed ReplayFault) (before after : Input) (old : Received) (spares : List X) (new : Received) (rest : List X) (had mid has : Option (List ℕ))
     → IfOk ended (λ r. ServesAll fits count grid text before after old spares new rest had mid r.replies)
     → IfErr ended (λ fault. Stops fits count grid text fault before after old spares new rest had mid)
@@ -133,7 +125,9 @@ fared_left fits count grid text (Err fault) before after old spares new rest had
   read = t.read;
   begun = t.begun;
   takes = t.takes;
+  whole = t.whole;
   replies = t.replies;
   output = t.output;
-  writes = until_left fault had mid has (text_of t.replies) t.writes kept;
+  writes = until_left fault had mid has t.replies t.writes kept;
+  cause = t.cause;
 }

@@ -1,5 +1,5 @@
 -- what a client is served, and what a beginning of it is
-use Rattle.std.specs.Prelude.{◌≡◌, ℕ, Bool, List, ◌++◌, length, Option, Result}
+use Rattle.std.specs.Prelude.{◌≡◌, ◌≤◌, ℕ, Bool, List, ◌++◌, length, Option, Result}
 use Rattle.std.specs.Io.KnownBytes.{Appends, IsAtEnd}
 use Rattle.wh_text.specs.Lines.{lines_of}
 use Rattle.wh_lines.specs.Text.{EndsLine}
@@ -10,7 +10,7 @@ use Rattle.wh_event.specs.declared.entry.Entry.{Entry}
 use Rattle.wh_event.specs.declared.fault.LineFault.{LineFault}
 use Rattle.wh_desk.specs.Lists.{Received}
 use Rattle.wh_replay.specs.Answers.{asked, text_of}
-use Rattle.wh_replay.specs.Scripts.{WritesFront, WritesUntil}
+use Rattle.wh_replay.specs.Scripts.{WritesFront, WritesUntil, IsWholeUntil, HasCause}
 use Rattle.wh_replay.specs.declared.script.ReplayFault.{ReplayFault}
 use Rattle.wh_serve.specs.Outcomes.{Gives, IsOutputOf, answers}
 
@@ -27,6 +27,7 @@ pub record ServesUnwritten {X : Type 0} (fits : X → Floor → Bool) (count : X
     (old : Received) (spares : List X) (new : Received) (rest : List X) (had has : Option (List ℕ)) : Type 0 where
   pub replies : List (List ℕ)
   pub gives : Gives fits count grid (asked line) (answers text line) old spares new rest replies
+  pub few : length replies ≤ 1
   pub writes : WritesFront had has (text_of replies)
 
 -- whole lines were read and served
@@ -59,13 +60,15 @@ pub record Outputs {X : Type 0} (fits : X → Floor → Bool) (count : X → ℕ
   pub appends : Appends had has (text_of replies)
   pub written_is : written ≡ length replies
 
--- A beginning of what came was served: the receipts of its commands stand, also one whose reply was not written to the
--- end. What follows it in the bytes that were taken is part of a line that was not served.
+-- A beginning of what came was served, and no line behind it: the receipts of its commands stand, also the last one, whose
+-- reply may not have been written to the end. What was taken behind it was not served.
 pub record Stops {X : Type 0} (fits : X → Floor → Bool) (count : X → ℕ) (grid : Floor) (text : ℕ × Entry → List ℕ) (fault : ReplayFault) (before after : Input)
     (old : Received) (spares : List X) (new : Received) (rest : List X) (had has : Option (List ℕ)) : Type 0 where
   pub read : List ℕ
   pub begun : List ℕ
   pub takes : Takes before after (read ++ begun)
+  pub whole : IsWholeUntil fault after read
   pub replies : List (List ℕ)
   pub output : IsOutputOf fits count grid text (lines_of read) old spares new rest replies
-  pub writes : WritesUntil fault had has (text_of replies)
+  pub writes : WritesUntil fault had has replies
+  pub cause : HasCause fault before after (length (lines_of read))

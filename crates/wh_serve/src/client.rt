@@ -1,6 +1,6 @@
 //! A client that is served to its input's end, or until a fault.
 
-ghost use Rattle.std.specs.Prelude.{◌≡◌, ◌≤◌, IfOk, IfSome, IfErr, OnErr, true, Err};
+ghost use Rattle.std.specs.Prelude.{◌≡◌, ◌≤◌, IfOk, IfSome, IfErr, OnErr, true, false, Err};
 ghost use Rattle.std.specs.Io.KnownBytes.{Keeps};
 ghost use Rattle.wh_lines.specs.Text.{short_line};
 ghost use Rattle.wh_lines.specs.Input.{left};
@@ -62,6 +62,7 @@ fn serve_all<N: DeskName, H: Wait + Drop, P: Planner, X: Wait, R: Read, W: Write
     pass: &mut Pass<N>,
     spares: &mut Vec<P>,
 ) -> Result<Replayed, ReplayFault>
+    requires { lines.old.failed ≡ false }
     ensures ok { IfOk result (λ r. ServesAll P.fits_map P.slot_count N.origin.site.grid (receipt_text form) lines.old lines.new pass.old spares.old.items pass.new spares.new.items (W.contents writer.old) (W.contents writer.new) r.replies) }
     ensures fault { IfErr result (λ fault. Stops P.fits_map P.slot_count N.origin.site.grid (receipt_text form) fault lines.old lines.new pass.old spares.old.items pass.new spares.new.items (W.contents writer.old) (W.contents writer.new)) }
 {
@@ -115,7 +116,8 @@ pub fn serve_client<N: DeskName, H: Wait + Drop, P: Planner, X: Wait, R: Read, W
     ensures ok { IfOk result (λ r. ServesAll P.fits_map P.slot_count N.origin.site.grid (receipt_text form) lines.old lines.new pass.old spares.old.items pass.new spares.new.items (W.contents writer.old) (W.contents writer.new) r.replies) }
     // Where the reader tells its bytes, these are what was read.
     ensures output { IfOk result (λ r. IfSome (left lines.old) (λ script. Outputs P.fits_map P.slot_count N.origin.site.grid (receipt_text form) script pass.old spares.old.items pass.new spares.new.items (W.contents writer.old) (W.contents writer.new) r.replies)) }
-    // On a fault this holds of a beginning of what came, and of a front of what was to be written.
+    // On a fault this holds of a beginning of what came, of whole lines: all replies but the last were written, and the cause is a
+    // true one.
     ensures fault { IfErr result (λ fault. Stops P.fits_map P.slot_count N.origin.site.grid (receipt_text form) fault lines.old lines.new pass.old spares.old.items pass.new spares.new.items (W.contents writer.old) (W.contents writer.new)) }
     // After a fault there is nothing more.
     ensures failed { OnErr result (lines.new.failed ≡ true) }

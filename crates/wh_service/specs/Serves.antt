@@ -27,7 +27,7 @@ use Rattle.wh_options.specs.declared.refused.Refusal.{Refusal}
 use Rattle.wh_options.specs.declared.refused.Refusal.TheVariants.{Asked, Mistake, NoMemory}
 use Rattle.wh_log.specs.Logs.{IsLogText}
 use Rattle.wh_replay.specs.Answers.{answered_from, commands_of, replies_to, text_of}
-use Rattle.wh_replay.specs.Scripts.{WritesUntil}
+use Rattle.wh_replay.specs.Scripts.{WritesUntil, IsWholeUntil, HasCause}
 use Rattle.wh_replay.specs.declared.script.ReplayFault.{ReplayFault}
 use Rattle.wh_service.specs.Fleets.{IsEquipped, IsWhyUnclaimed}
 use Rattle.wh_service.specs.Plays.{Plays, trouble_of}
@@ -98,7 +98,8 @@ pub record ServesWithoutTail (text : Answered → List ℕ) (fleet : Fleet) (tai
   pub appends : Appends had replied (text_of run.replies)
   pub why : IsWhyNoTail told replied has (follows tail run)
 
--- A site was read, and a beginning of what followed was served. After a write fault a front of the replies was written.
+-- A site was read, and a beginning of what followed was served, and no line behind it: whole lines, and all replies but the last
+-- were written whole. What was taken behind it was not served.
 pub record ServesUntil (text : Answered → List ℕ) (fleet : Fleet) (fault : ReplayFault) (old new : Input) (had has : Option (List ℕ)) : Type 0 where
   pub between : Input
   pub site : Site
@@ -107,9 +108,11 @@ pub record ServesUntil (text : Answered → List ℕ) (fleet : Fleet) (fault : R
   pub read : List ℕ
   pub begun : List ℕ
   pub takes : Takes between new (read ++ begun)
+  pub whole : IsWholeUntil fault new read
   pub replies : List (List ℕ)
   pub operates : Operates text fleet site (lines_of read) replies
-  pub writes : WritesUntil fault had has (text_of replies)
+  pub writes : WritesUntil fault had has replies
+  pub cause : HasCause fault between new (length (lines_of read))
 
 -- A site was read, planners were made for its agents and to stand by, all of the fleet's kind and with their claims on one
 -- bank, which has as many slots in all as the options name; and with these a warehouse served the script.
