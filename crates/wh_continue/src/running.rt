@@ -66,7 +66,7 @@ fn keep<J: Journal>(journal: &mut J, bytes: &[u8]) -> Result<(), KeepFault>
 }
 
 /// Cuts a file, and syncs it.
-pub(crate) fn cut_behind<L: LogFile>(file: &mut L, bytes: usize) -> Result<(), KeepFault>
+pub fn cut_behind<L: LogFile>(file: &mut L, bytes: usize) -> Result<(), KeepFault>
     ensures ok { OnOk result (L.contents file.new ≡ front_of bytes (L.contents file.old)) }
     ensures synced { OnOk result (L.synced file.new ≡ L.contents file.new) }
     ensures fault { IfErr result (λ fault. fault ≡ KeepFault.Unkept) }
@@ -80,7 +80,7 @@ pub(crate) fn cut_behind<L: LogFile>(file: &mut L, bytes: usize) -> Result<(), K
 }
 
 /// Writes a text into a file that is to hold nothing else, and syncs it.
-pub(crate) fn write_alone<L: LogFile>(file: &mut L, text: &[u8]) -> Result<(), KeepFault>
+pub fn write_alone<L: LogFile>(file: &mut L, text: &[u8]) -> Result<(), KeepFault>
     ensures ok { OnOk result (Opens (L.contents file.old) (L.contents file.new) text.now) }
     ensures synced { OnOk result (L.synced file.new ≡ L.contents file.new) }
     ensures fault { IfErr result (λ fault. fault ≡ KeepFault.Unkept) }
@@ -155,7 +155,7 @@ fn behind(history: &[Entry], first: u32) -> &[Entry]
 }
 
 /// The lines of the entries from this one on, where one is named.
-fn again_text(alloc: Global, history: &[Entry], again: Option<u32>) -> Result<Vec<u8>, NoMemory>
+pub fn again_text(alloc: Global, history: &[Entry], again: Option<u32>) -> Result<Vec<u8>, NoMemory>
     ensures { IfOk result (λ text. text.items ≡ told_again again history.now) }
 {
     match again {
@@ -185,7 +185,7 @@ fn write_first<W: Write>(writer: &mut W, line: &[u8], text: &[u8]) -> Result<(),
 }
 
 /// Tells how many entries the run has so far, and then these lines, and flushes.
-fn tell_first<W: Write>(writer: &mut W, entries: u64, text: &[u8]) -> Result<(), RunFault>
+pub fn tell_first<W: Write>(writer: &mut W, entries: u64, text: &[u8]) -> Result<(), RunFault>
     ensures ok { OnOk result (Appends (W.contents writer.old) (W.contents writer.new) (count_line entries ++ text.now)) }
     ensures fault { IfErr result (λ fault. fault ≡ RunFault.Uncounted) }
     ensures front { OnErr result (WritesFront (W.contents writer.old) (W.contents writer.new) (count_line entries ++ text.now)) }

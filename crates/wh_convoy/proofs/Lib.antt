@@ -1,0 +1,6 @@
+mod Joining
+mod Gathering
+mod Standing
+mod Laws
+mod Settling
+mod Riding

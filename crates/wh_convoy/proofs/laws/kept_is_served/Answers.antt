@@ -1,0 +1,6 @@
+use Rattle.wh_log.specs.Told.{told_text}
+use Rattle.wh_convoy.proofs.Laws.{kept_is_served}
+use Rattle.wh_convoy.proofs.laws.kept_is_served.Goals as goal
+
+pub returns : goal.returns
+returns g c = kept_is_served g.P.Planner.fits_map g.P.Planner.slot_count (told_text c.args.form)

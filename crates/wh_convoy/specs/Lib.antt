@@ -1,0 +1,7 @@
+pub mod Keeping
+pub mod Faults
+pub mod Convoys
+pub mod Laws
+pub mod Standing
+pub mod Beginning
+pub mod Riding

@@ -1,0 +1,133 @@
+-- a run with vehicles over its two files, from what these hold to the line that ends the log
+use Rattle.std.specs.Prelude.{◌≡◌, ◌⊎◌, ℕ, Bool, true, List, length, Option, IfSome}
+use Rattle.std.specs.Io.KnownBytes.{Appends}
+use Rattle.wh_lines.specs.Input.{Input}
+use Rattle.wh_lines.specs.Output.{WritesFront}
+use Rattle.wh_grid.specs.Grids.{Floor}
+use Rattle.wh_log.specs.Told.{Answered}
+use Rattle.wh_book.specs.Drafts.{Seen}
+use Rattle.wh_drive.specs.Drives.{Drive}
+use Rattle.wh_order.specs.Orders.{Order}
+use Rattle.wh_dispatch.specs.Crews.{Crew, IsInStep, IsManned, AreWatched}
+use Rattle.wh_dispatch.specs.Scripts.{TellsSome}
+use Rattle.wh_dispatch.specs.SettingOut.{SetsOut, NoneIsTold}
+use Rattle.wh_dispatch.specs.declared.script.DispatchFault.{DispatchFault}
+use Rattle.wh_dispatch.specs.declared.visits.Pending.{Pending}
+use Rattle.wh_journal.specs.Surviving.{StaysLog}
+use Rattle.wh_journal.specs.declared.rounds.Round.TheVariants.{Ended}
+use Rattle.wh_continue.specs.Running.{BeginsShort, Counts, EndsShort, IsWholeLog, first_text, last_line}
+use Rattle.wh_continue.specs.declared.starting.Start.{Start}
+use Rattle.wh_continue.specs.declared.running.KeepFault.{KeepFault}
+use Rattle.wh_convoy.specs.Beginning.{BeginsArrivals, LeavesArrivals}
+use Rattle.wh_convoy.specs.Convoys.{Held, ConvoysOn, ConvoysUntil, depot}
+use Rattle.wh_convoy.specs.declared.standing.Stood.{Stood}
+use Rattle.wh_convoy.specs.declared.riding.RideFault.{RideFault}
+use Rattle.wh_convoy.specs.declared.riding.RideFault.TheVariants.{Begin, Uncounted, NoMemory, SetOut, Script, End}
+
+-- The number of the entries so far was told, and those that were asked for again; the log was made the log of the run so far, and the
+-- file of arrivals its whole lines.
+pub record BeginsBoth (again : Option ℕ) (book : Seen) (bytes : ℕ) (had counted : Option (List ℕ)) (files begun : Held) : Type 0 where
+  pub counts : Counts again book had counted files.log begun.log
+  pub arrivals : BeginsArrivals bytes files.arrivals begun.arrivals
+
+-- why one of the files was not begun
+abbrev pub BeginsNot : KeepFault → Start → (bytes : ℕ) → (files holds : Held) → (log_failed arrivals_failed : Bool) → Type 0
+BeginsNot fault start bytes files holds log_failed arrivals_failed =
+    (BeginsShort fault start files.log holds.log log_failed × (holds.arrivals ≡ files.arrivals))
+    ⊎ (StaysLog files.log holds.log start.book × LeavesArrivals bytes files.arrivals holds.arrivals × (arrivals_failed ≡ true))
+
+-- Why nothing was served: a file was not begun; or both were, and not all was told.
+abbrev pub StopsBeginning : RideFault → (again : Option ℕ) → Start → (bytes : ℕ) → (had has : Option (List ℕ)) → (files holds : Held) → (log_failed arrivals_failed : Bool) → Type 0
+StopsBeginning (Begin fault) again start bytes had has files holds log_failed arrivals_failed = (has ≡ had) × BeginsNot fault start bytes files holds log_failed arrivals_failed
+StopsBeginning Uncounted again start bytes had has files holds log_failed arrivals_failed =
+    WritesFront had has (first_text again start.book.history) × StaysLog files.log holds.log start.book × BeginsArrivals bytes files.arrivals holds.arrivals
+StopsBeginning NoMemory again start bytes had has files holds log_failed arrivals_failed = ⊥
+StopsBeginning (SetOut fault) again start bytes had has files holds log_failed arrivals_failed = ⊥
+StopsBeginning (Script fault) again start bytes had has files holds log_failed arrivals_failed = ⊥
+StopsBeginning (End fault) again start bytes had has files holds log_failed arrivals_failed = ⊥
+
+-- The vehicles set out, and the script was served to its end.
+pub record Rides {X : Type 0} (fits : X → Floor → Bool) (count : X → ℕ) (text : Answered → List ℕ) (bound : ℕ) (before after : Input) (old : Seen) (spares : List X) (d : Drive)
+    (new : Seen) (rest : List X) (crew : Crew) (had has : Option (List ℕ)) (begun kept safe : Held) : Type 0 where
+  pub out : Option (List ℕ)
+  pub set : Drive
+  pub sets_out : SetsOut old d set had out
+  pub final : Drive
+  pub manned : IsManned new crew final
+  pub convoys : ConvoysOn fits count text bound Ended before after (depot old spares set) (depot new rest final) out has begun kept safe
+
+-- And the log was given the line that ends it.
+pub record RidesToEnd {X : Type 0} (fits : X → Floor → Bool) (count : X → ℕ) (text : Answered → List ℕ) (bound : ℕ) (before after : Input) (old : Seen) (spares : List X) (d : Drive)
+    (new : Seen) (rest : List X) (crew : Crew) (had has : Option (List ℕ)) (begun holds synced : Held) : Type 0 where
+  pub kept : Held
+  pub rides : Rides fits count text bound before after old spares d new rest crew had has begun kept kept
+  pub ends : Appends kept.log holds.log (last_line (length new.history))
+  pub arrivals : holds.arrivals ≡ kept.arrivals
+  pub synced_is : synced ≡ holds
+
+-- From each drive by which the run of the book is carried out, here and below.
+abbrev pub RidesFrom : {X : Type 0} → (X → Floor → Bool) → (X → ℕ) → (Answered → List ℕ) → ℕ → Input → Input → Seen → List X → Order → Seen → List X → Crew
+    → (had has : Option (List ℕ)) → (begun holds synced : Held) → Type 0
+RidesFrom fits count text bound before after old spares order new rest crew had has begun holds synced =
+    (d : Drive) → IsInStep old order d → RidesToEnd fits count text bound before after old spares d new rest crew had has begun holds synced
+
+-- what vehicles are told as they set out was not told to the end
+pub record SetsOutShort (fault : DispatchFault) (book : Seen) (d : Drive) (had has : Option (List ℕ)) : Type 0 where
+  pub pending : List Pending
+  pub untold : AreWatched book.state NoneIsTold pending
+  pub set : Drive
+  pub tells : TellsSome fault book pending d set had has
+
+-- the vehicles set out, and the script was served until a fault
+pub record RidesUntil {X : Type 0} (fits : X → Floor → Bool) (count : X → ℕ) (text : Answered → List ℕ) (bound : ℕ) (before after : Input) (old : Seen) (spares : List X) (d : Drive)
+    (had has : Option (List ℕ)) (begun holds synced : Held) : Type 0 where
+  pub out : Option (List ℕ)
+  pub set : Drive
+  pub sets_out : SetsOut old d set had out
+  pub until : ConvoysUntil fits count text bound before after (depot old spares set) out has begun holds synced
+
+-- all was served, and the log was not ended
+pub record RidesUnended {X : Type 0} (fits : X → Floor → Bool) (count : X → ℕ) (text : Answered → List ℕ) (bound : ℕ) (fault : KeepFault) (before after : Input) (old : Seen) (spares : List X) (d : Drive)
+    (had has : Option (List ℕ)) (begun holds synced : Held) (log_failed : Bool) : Type 0 where
+  pub new : Seen
+  pub rest : List X
+  pub crew : Crew
+  pub kept : Held
+  pub rides : Rides fits count text bound before after old spares d new rest crew had has begun kept kept
+  pub ends : EndsShort fault (length new.history) kept.log holds.log kept.log synced.log log_failed
+  pub arrivals : holds.arrivals ≡ kept.arrivals
+
+-- Why a run that was begun was not brought to its end.
+abbrev pub Stops : {X : Type 0} → (X → Floor → Bool) → (X → ℕ) → (Answered → List ℕ) → ℕ → RideFault → Input → Input → Seen → List X → Drive
+    → (had has : Option (List ℕ)) → (begun holds synced : Held) → (log_failed : Bool) → Type 0
+Stops fits count text bound (Begin fault) before after old spares d had has begun holds synced log_failed = ⊥
+Stops fits count text bound Uncounted before after old spares d had has begun holds synced log_failed = ⊥
+Stops fits count text bound NoMemory before after old spares d had has begun holds synced log_failed = ⊥
+Stops fits count text bound (SetOut fault) before after old spares d had has begun holds synced log_failed =
+    (after ≡ before) × SetsOutShort fault old d had has × (holds ≡ begun) × (synced ≡ begun)
+Stops fits count text bound (Script fault) before after old spares d had has begun holds synced log_failed = RidesUntil fits count text bound before after old spares d had has begun holds synced
+Stops fits count text bound (End fault) before after old spares d had has begun holds synced log_failed = RidesUnended fits count text bound fault before after old spares d had has begun holds synced log_failed
+
+abbrev pub StopsFrom : {X : Type 0} → (X → Floor → Bool) → (X → ℕ) → (Answered → List ℕ) → ℕ → RideFault → Input → Input → Seen → List X → Order
+    → (had has : Option (List ℕ)) → (begun holds synced : Held) → (log_failed : Bool) → Type 0
+StopsFrom fits count text bound fault before after old spares order had has begun holds synced log_failed =
+    (d : Drive) → IsInStep old order d → Stops fits count text bound fault before after old spares d had has begun holds synced log_failed
+
+-- Both files were begun, that was told, the vehicles set out, the script was served to its end, each line told when its entry and the reports
+-- that it rests on were synced, and the log was ended: it is the log of the whole run.
+pub record RidesOn {X : Type 0} (fits : X → Floor → Bool) (count : X → ℕ) (text : Answered → List ℕ) (again : Option ℕ) (bound : ℕ) (before after : Input) (book : Seen) (stood : Stood) (spares : List X)
+    (new : Seen) (rest : List X) (crew : Crew) (had has : Option (List ℕ)) (files holds synced : Held) : Type 0 where
+  pub counted : Option (List ℕ)
+  pub begun : Held
+  pub begins : BeginsBoth again book stood.bytes had counted files begun
+  pub rides : RidesFrom fits count text bound before after book spares stood.order new rest crew counted has begun holds synced
+  pub whole : IfSome files.log (λ _. IsWholeLog holds.log new)
+
+-- Why a run was not brought to its end.
+abbrev pub StopsRide : {X : Type 0} → (X → Floor → Bool) → (X → ℕ) → (Answered → List ℕ) → (again : Option ℕ) → (bound : ℕ) → RideFault → (before after : Input) → Start → Stood → (spares : List X)
+    → (had has : Option (List ℕ)) → (files holds synced : Held) → (log_failed arrivals_failed : Bool) → Type 0
+StopsRide fits count text again bound fault before after start stood spares had has files holds synced log_failed arrivals_failed =
+    ((after ≡ before) × StopsBeginning fault again start stood.bytes had has files holds log_failed arrivals_failed)
+    ⊎ ((fault ≡ NoMemory) × (after ≡ before) × BeginsBoth again start.book stood.bytes had has files holds)
+    ⊎ ((counted : Option (List ℕ)) × (begun : Held) × BeginsBoth again start.book stood.bytes had counted files begun
+    × StopsFrom fits count text bound fault before after start.book spares stood.order counted has begun holds synced log_failed)
