@@ -1,5 +1,5 @@
 -- lines that are served one after another are served together
-use Rattle.std.proofs.Common.{◌≡◌, ℕ, ◌∙◌, List, [], ◌∷◌, ◌++◌, length, drop, Option, Some, None, Bool, cond, inl, inr, sym, subst, refl, ap, append-nil, append_assoc}
+use Rattle.std.proofs.Common.{◌≡◌, ℕ, ◌∙◌, List, [], ◌∷◌, ◌++◌, length, Some, None, Bool, cond, inl, inr, sym, subst, refl, ap, append-nil, append_assoc}
 use Rattle.std.proofs.lemmas.Bool.{lt-ltb}
 use Rattle.std.proofs.lemmas.Bool.Decides.{leb_tells}
 use Rattle.wh_text.specs.Lines.{lines_of, without_cr}
@@ -14,7 +14,6 @@ use Rattle.wh_event.specs.declared.entry.Entry.{Entry}
 use Rattle.wh_log.specs.Told.{Answered}
 use Rattle.wh_drive.specs.Drives.{Drive}
 use Rattle.wh_vehicles.specs.Reports.{report_by}
-use Rattle.wh_vehicles.specs.declared.report.Report.{Report}
 use Rattle.wh_dispatch.specs.Lines.{Depot, Heard, heard, heard_in, ServesLine}
 use Rattle.wh_dispatch.proofs.Following.{heard_is}
 use Rattle.wh_dispatch.proofs.Serving.{taken_on}

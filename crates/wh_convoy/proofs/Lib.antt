@@ -1,6 +1,6 @@
 mod Joining
-mod Gathering
+mod Gathered
 mod Standing
-mod Laws
-mod Settling
-mod Riding
+mod Kept
+mod Settled
+mod Ridden

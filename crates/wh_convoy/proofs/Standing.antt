@@ -1,29 +1,28 @@
 -- what stands while rounds are served one after another
-use Rattle.std.proofs.Common.{◌≡◌, ℕ, ◌+◌, ◌≤◌, ◌∙◌, List, [], ◌∷◌, ◌++◌, length, drop, Option, Bool, inl, inr, sym, subst, refl, ap, arith, append-nil, append_assoc, length-append}
+use Rattle.std.proofs.Common.{◌≡◌, ℕ, ◌+◌, ◌≤◌, ◌∙◌, List, [], ◌∷◌, ◌++◌, length, drop, Option, Bool, inl, sym, subst, refl, ap, arith, append-nil, append_assoc, length-append}
 use Rattle.std.specs.Io.KnownBytes.{Appends, Keeps}
 use Rattle.std.proofs.KnownBytes.{Keeps-refl, Consumes-nil, Consumes-trans, Appends-nil, Appends-kept, Appends-trans}
 use Rattle.wh_words.specs.Lines.{text_of as lines_text}
 use Rattle.wh_lines.specs.Input.{Input, left, Takes, Taken}
 use Rattle.wh_lines.specs.Output.{WritesFront}
-use Rattle.wh_lines.proofs.Written.{front_kept, front_after, front_all}
+use Rattle.wh_lines.proofs.Written.{front_after}
 use Rattle.wh_grid.specs.Grids.{Floor}
 use Rattle.wh_event.specs.declared.entry.Entry.{Entry}
 use Rattle.wh_log.specs.Told.{Answered}
 use Rattle.wh_log.proofs.Fronts.{text-append}
 use Rattle.wh_book.specs.Drafts.{Seen}
 use Rattle.wh_replay.specs.Answers.{text_of}
-use Rattle.wh_drive.specs.Drives.{Drive}
-use Rattle.wh_dispatch.specs.Crews.{Crew, IsManned}
+use Rattle.wh_dispatch.specs.Crews.{Crew}
 use Rattle.wh_dispatch.specs.Lines.{Depot}
 use Rattle.wh_dispatch.specs.Scripts.{SomeManned}
 use Rattle.wh_journal.specs.Journals.{lines_for}
 use Rattle.wh_journal.specs.declared.rounds.Round.{Round}
-use Rattle.wh_journal.specs.declared.rounds.Round.TheVariants.{Served, Ended}
+use Rattle.wh_journal.specs.declared.rounds.Round.TheVariants.{Served}
 use Rattle.wh_journal.proofs.Joining.{replies_text}
 use Rattle.wh_journal.proofs.Rounded.{lines_append}
 use Rattle.wh_convoy.specs.declared.fault.ConvoyFault.{ConvoyFault}
 use Rattle.wh_convoy.specs.declared.fault.ConvoyFault.TheVariants.{Broken, Endless, Unwritten, Unkept, NoMemory}
-use Rattle.wh_convoy.specs.Convoys.{Held, ConvoysLines, Gathers, ConvoysOn, StandsBehind, Unsettles, UnsettlesFiles, ConvoysUntil, GathersFrom, ConvoysFrom, ConvoysUntilFrom}
+use Rattle.wh_convoy.specs.Convoys.{Held, Gathers, ConvoysOn, StandsBehind, Unsettles, UnsettlesFiles, ConvoysUntil, GathersFrom, ConvoysFrom, ConvoysUntilFrom}
 use Rattle.wh_convoy.proofs.Joining.{lines_nothing, lines_join}
 
 drop_past : {A : Type 0} (xs ys : List A) → drop (length xs) (xs ++ ys) ≡ ys

@@ -30,8 +30,3 @@ KeepsAll fits count text bound [] old new texts kept = (new ≡ old) × (texts �
 KeepsAll {X} fits count text bound (line ∷ lines) old new texts kept =
     (mid : Depot X) × (first : List (List ℕ)) × (rest : List (List ℕ)) × (later : List (List ℕ)) × ServesLine fits count text bound (heard line) old mid first
     × KeepsAll fits count text bound lines mid new rest later × (texts ≡ first ++ rest) × (kept ≡ kept_of old.drive line ++ later)
-
--- the line that there is, as a list
-abbrev pub lines_in : Option (List ℕ) → List (List ℕ)
-lines_in None = []
-lines_in (Some line) = line ∷ []

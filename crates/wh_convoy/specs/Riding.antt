@@ -20,7 +20,7 @@ use Rattle.wh_continue.specs.declared.starting.Start.{Start}
 use Rattle.wh_continue.specs.declared.running.KeepFault.{KeepFault}
 use Rattle.wh_convoy.specs.Beginning.{BeginsArrivals, LeavesArrivals}
 use Rattle.wh_convoy.specs.Convoys.{Held, ConvoysOn, ConvoysUntil, depot}
-use Rattle.wh_convoy.specs.declared.standing.Stood.{Stood}
+use Rattle.wh_convoy.specs.declared.finding.Stood.{Stood}
 use Rattle.wh_convoy.specs.declared.riding.RideFault.{RideFault}
 use Rattle.wh_convoy.specs.declared.riding.RideFault.TheVariants.{Begin, Uncounted, NoMemory, SetOut, Script, End}
 

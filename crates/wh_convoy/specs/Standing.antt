@@ -4,9 +4,9 @@ use Rattle.wh_words.specs.Lines.{IsLine}
 use Rattle.wh_book.specs.Drafts.{Seen}
 use Rattle.wh_arrivals.specs.Arrivals.{TellsSteps, IsFirstBad}
 use Rattle.wh_arrivals.specs.Standing.{Stand, ComesTooEarly}
-use Rattle.wh_convoy.specs.declared.standing.Stood.{Stood}
-use Rattle.wh_convoy.specs.declared.standing.StoodFault.{StoodFault}
-use Rattle.wh_convoy.specs.declared.standing.StoodFault.TheVariants.{BadLine, Astray, NoMemory}
+use Rattle.wh_convoy.specs.declared.finding.Stood.{Stood}
+use Rattle.wh_convoy.specs.declared.finding.StoodFault.{StoodFault}
+use Rattle.wh_convoy.specs.declared.finding.StoodFault.TheVariants.{BadLine, Astray, NoMemory}
 
 -- no bytes, or bytes of which the last is a line feed
 abbrev pub EndsFeed : List ℕ → Type 0

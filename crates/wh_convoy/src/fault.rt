@@ -1,12 +1,12 @@
 //! Why a script was not served to its end.
 #![tactic(auto)]
 
-use std::alloc::AllocError;
-use wh_lines::{LineFault, ReadFault};
-
 ghost use Rattle.std.specs.Prelude.{◌≡◌};
 ghost use Rattle.wh_convoy.specs.Faults.{fault_of};
 ghost use Rattle.wh_convoy.specs.declared.fault.ConvoyFault.TheVariants as fault;
+
+use std::alloc::AllocError;
+use wh_lines::{LineFault, ReadFault};
 
 /// Why a script was not served to its end.
 #[derive(Clone, Copy, Debug, PartialEq, Eq)]

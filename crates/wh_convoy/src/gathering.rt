@@ -79,7 +79,9 @@ fn serve_one<P: Planner>(
         Err(_) => return Err(ConvoyFault::NoMemory),
     }
     let said = &mut waiting.said;
-    match serve(line, command, alloc, form, said, warehouse, spares, vehicles) {
+    match serve(
+        line, command, alloc, form, said, warehouse, spares, vehicles,
+    ) {
         Ok(()) => Ok(()),
         Err(_) => Err(ConvoyFault::NoMemory),
     }

@@ -1,7 +1,7 @@
 //! Which reports are kept: those that move vehicles.
 #![tactic(auto)]
 
-ghost use Rattle.std.specs.Prelude.{◌≡◌, ◌++◌, OnOk, [], ◌∷◌};
+ghost use Rattle.std.specs.Prelude.{◌≡◌, ◌++◌, OnOk, MatchOption, [], ◌∷◌};
 ghost use Rattle.wh_words.specs.Lines.{text_of as lines_text};
 ghost use Rattle.wh_lines.specs.Text.{short_line};
 ghost use Rattle.wh_drive.specs.Drives.{Drive};
@@ -26,7 +26,7 @@ fn is_move(order: &VisitOrder, report: Report) -> bool
 
 /// What a line says, where it is a report that moves its vehicle.
 fn moving<'a>(order: &VisitOrder, line: &'a CommandLine) -> Option<&'a [u8]>
-    ensures { (d : Drive) → Represents order.now d → lines_in result ≡ kept_in d (short_line line.now) }
+    ensures { (d : Drive) → Represents order.now d → MatchOption result (kept_in d (short_line line.now) ≡ []) (λ text. kept_in d (short_line line.now) ≡ text.now ∷ []) }
 {
     let text = line.text()?;
     let report = read_report(text)?;

@@ -4,19 +4,19 @@
 
 mod beginning;
 mod fault;
+mod finding;
 mod gathering;
 mod keeping;
 pub mod laws;
 mod riding;
 mod rounds;
 mod settling;
-mod standing;
 
 pub use beginning::begin_arrivals;
 pub use fault::ConvoyFault;
+pub use finding::{Stood, StoodFault, find_stand};
 pub use riding::{RideFault, ride_on};
 pub use rounds::convoy;
-pub use standing::{Stood, StoodFault, find_stand};
 
 // handed on, for callers: what the items above take, return and speak of
 pub use wh_dispatch::Vehicles;

@@ -12,7 +12,7 @@ ghost use Rattle.wh_convoy.specs.Riding.{BeginsBoth, StopsBeginning, RidesFrom, 
 use crate::beginning::begin_arrivals;
 use crate::fault::ConvoyFault;
 use crate::rounds::convoy;
-use crate::standing::Stood;
+use crate::finding::Stood;
 use std::alloc::Global;
 use std::io::{Read, Write};
 use wh_book::Book;

@@ -30,8 +30,8 @@ use Rattle.wh_convoy.specs.declared.fault.ConvoyFault.{ConvoyFault}
 use Rattle.wh_convoy.specs.declared.fault.ConvoyFault.TheVariants as convoy
 use Rattle.wh_convoy.specs.declared.riding.RideFault.{RideFault}
 use Rattle.wh_convoy.specs.declared.riding.RideFault.TheVariants as ride
-use Rattle.wh_convoy.specs.declared.standing.Stood.{Stood}
-use Rattle.wh_convoy.specs.declared.standing.StoodFault.TheVariants as stood
+use Rattle.wh_convoy.specs.declared.finding.Stood.{Stood}
+use Rattle.wh_convoy.specs.declared.finding.StoodFault.TheVariants as stood
 use Rattle.wh_service.specs.Kept.{EndsAtStart, IsSet, IsUntouched, Siding, StartsFrom, StartsOver, keep_trouble}
 use Rattle.wh_service.specs.Late.{trouble_of}
 use Rattle.wh_service.specs.Tails.{IsWhyNoTail, tail_after}

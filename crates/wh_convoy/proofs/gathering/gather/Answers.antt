@@ -2,7 +2,7 @@ use Rattle.std.proofs.Common.{◌∙◌, refl, subst, sym}
 use Rattle.std.proofs.KnownBytes.{Keeps-refl, Keeps-trans}
 use Rattle.wh_lines.specs.Input.{Gathered}
 use Rattle.wh_lines.specs.declared.lines.Next.{Next}
-use Rattle.wh_convoy.proofs.Gathering.{from_start, manned_on, from_last, from_end, from_line, taken_none, taken_more, taken_line, not_unkept, memory_not}
+use Rattle.wh_convoy.proofs.Gathered.{from_start, manned_on, from_last, from_end, from_line, taken_none, taken_more, taken_line, not_unkept, memory_not}
 use Rattle.wh_convoy.proofs.gathering.gather.Goals as goal
 
 pub loop-init : goal.loop-init

@@ -1,5 +1,5 @@
 use Rattle.wh_log.specs.Told.{told_text}
-use Rattle.wh_convoy.proofs.Laws.{kept_is_served}
+use Rattle.wh_convoy.proofs.Kept.{kept_is_served}
 use Rattle.wh_convoy.proofs.laws.kept_is_served.Goals as goal
 
 pub returns : goal.returns

@@ -1,6 +1,5 @@
-use Rattle.std.proofs.Common.{◌∙◌, refl, sym}
+use Rattle.std.proofs.Common.{◌∙◌, refl}
 use Rattle.wh_journal.specs.declared.rounds.Round.TheVariants.{Ended, Served}
-use Rattle.wh_convoy.specs.Convoys.{Held}
 use Rattle.wh_convoy.proofs.Standing.{both_synced, start_from, manned_so_far, join_from, join_until, now_until}
 use Rattle.wh_convoy.proofs.rounds.convoy.Goals as goal
 

@@ -14,9 +14,13 @@ pub on_err_map : {T E W V : Type 0} (r : Result T E) → (W → V) → OnErr r W
 on_err_map (Ok x) f w = tt
 on_err_map (Err e) f w = f w
 
-pub both_err : {T E V W : Type 0} (r : Result T E) → OnErr r V → OnErr r W → OnErr r (V × W)
-both_err (Ok x) v w = tt
-both_err (Err e) v w = (v, w)
+pub on_err_two : {T E A B V : Type 0} (r : Result T E) → (A → B → V) → OnErr r A → OnErr r B → OnErr r V
+on_err_two (Ok x) f a b = tt
+on_err_two (Err e) f a b = f a b
+
+pub cause_from : {T : Type 0} (r : Result T ConvoyFault) (p q : Bool) → OnErr r (q ≡ true) → IfErr r (λ (fault : ConvoyFault). HasCause fault p q)
+cause_from (Ok x) p q failed = tt
+cause_from (Err e) p q failed = λ is. inr failed
 
 pub if_err_map : {T E W : Type 0} (r : Result T E) (P Q : E → Type 0) → ((e : E) → P e → W → Q e) → IfErr r P → OnErr r W → IfErr r Q
 if_err_map (Ok x) P Q f p w = tt

@@ -29,7 +29,7 @@ use Rattle.wh_continue.proofs.Begun.{whole_log}
 use Rattle.wh_convoy.specs.Keeping.{KeepsAll}
 use Rattle.wh_convoy.specs.Convoys.{Held, ConvoysLines, ConvoysOn, ConvoysFrom, ConvoysUntilFrom, depot}
 use Rattle.wh_convoy.specs.Riding.{Rides, RidesToEnd, RidesFrom, RidesUntil}
-use Rattle.wh_convoy.proofs.Laws.{kept_is_served}
+use Rattle.wh_convoy.proofs.Kept.{kept_is_served}
 
 appended : (holds : Option (List ℕ)) (text bs : List ℕ) → Appends (Some text) holds bs → holds ≡ Some (text ++ bs)
 appended None text bs p = absurd p

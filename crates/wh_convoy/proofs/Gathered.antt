@@ -1,5 +1,5 @@
 -- lines that are served while what they are told, and what is kept of them, waits
-use Rattle.std.proofs.Common.{◌≡◌, ◌≢◌, ℕ, ◌∙◌, List, [], ◌∷◌, ◌++◌, Option, Bool, sym, subst, refl, ap, append-nil}
+use Rattle.std.proofs.Common.{◌≡◌, ◌≢◌, ℕ, ◌∙◌, List, [], ◌∷◌, ◌++◌, Bool, sym, subst, refl, ap, append-nil}
 use Rattle.std.proofs.KnownBytes.{Consumes-nil, Consumes-trans}
 use Rattle.wh_words.specs.Lines.{text_of as lines_text}
 use Rattle.wh_lines.specs.Text.{short_line}
@@ -14,8 +14,7 @@ use Rattle.wh_log.specs.Told.{Answered}
 use Rattle.wh_log.proofs.Fronts.{text-append}
 use Rattle.wh_book.specs.Drafts.{Seen}
 use Rattle.wh_replay.specs.Answers.{text_of}
-use Rattle.wh_drive.specs.Drives.{Drive}
-use Rattle.wh_dispatch.specs.Crews.{Crew, IsManned}
+use Rattle.wh_dispatch.specs.Crews.{Crew}
 use Rattle.wh_dispatch.specs.Lines.{Depot, heard_in}
 use Rattle.wh_dispatch.specs.Scripts.{SomeManned}
 use Rattle.wh_journal.specs.declared.rounds.Round.TheVariants.{Served, Ended}

@@ -3,7 +3,7 @@
 
 ghost use Rattle.std.specs.Prelude.{◌≡◌, ◌-◌, ◌<◌, ◌≤◌, ℕ, IfErr, IfNone, IfOk, IfSome, length, slice_index};
 ghost use Rattle.wh_convoy.specs.Standing.{IsWhole, StandsBy, IsWhyNotStood};
-ghost use Rattle.wh_convoy.specs.declared.standing.StoodFault.TheVariants as fault;
+ghost use Rattle.wh_convoy.specs.declared.finding.StoodFault.TheVariants as fault;
 
 use std::alloc::{AllocError, Global};
 use wh_arrivals::{ReadFault, StandFault, read_arrivals, stand};

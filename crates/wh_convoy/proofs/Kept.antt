@@ -1,5 +1,5 @@
 -- lines that are kept, and reports that are not
-use Rattle.std.proofs.Common.{◌≡◌, ℕ, ◌+◌, ◌<◌, ◌≤◌, ◌∙◌, inl, inr, max, List, [], ◌∷◌, ◌++◌, length, Bool, true, false, sym, subst, refl, ap, arith}
+use Rattle.std.proofs.Common.{◌≡◌, ℕ, ◌+◌, ◌≤◌, inl, inr, List, [], ◌∷◌, length, Bool, true, false, subst, ap, arith}
 use Rattle.std.specs.Prelude.{◌&&◌, nat_lt, nat_le}
 use Rattle.std.proofs.lemmas.Bool.{cases_lt, lt-ltb}
 use Rattle.std.proofs.lemmas.Bool.Decides.{leb_tells}
@@ -9,12 +9,8 @@ use Rattle.wh_log.specs.Told.{Answered}
 use Rattle.wh_drive.specs.Drives.{Drive, reached, told}
 use Rattle.wh_drive.specs.Runs.{Event, Start, Arrive, Tick, Step, Run}
 use Rattle.wh_drive.proofs.Going.{reached-own}
-use Rattle.wh_vehicles.specs.Driving.{OnlyArrives, HasArrived, AnswersReport}
-use Rattle.wh_vehicles.specs.declared.report.Report.{Report}
-use Rattle.wh_vehicles.specs.declared.notice.Notice.{Notice}
+use Rattle.wh_vehicles.specs.Driving.{OnlyArrives, HasArrived}
 use Rattle.wh_vehicles.specs.declared.notice.Notice.TheVariants.{Arrived, Visited, Go, Behind, UnknownAgent, NotTold}
-use Rattle.wh_dispatch.specs.Lines.{Depot}
-use Rattle.wh_convoy.specs.Keeping.{KeepsAll, moves}
 use Rattle.wh_convoy.specs.Laws.{KeptIsServed, EachMoveIsKept}
 
 pub kept_is_served : {X : Type 0} (fits : X → Floor → Bool) (count : X → ℕ) (text : Answered → List ℕ) → KeptIsServed fits count text
@@ -35,9 +31,6 @@ nowhere : (d : Drive) (events : List Event) (e : Drive) → length events ≡ 0 
 nowhere d [] e none run = run
 nowhere d (event ∷ events) e none run = absurd (omega arith)
 
-
-
-
 stays : (d : Drive) (agent step : ℕ) (e : Drive) → step ≤ reached d agent → HasArrived d agent step e → e ≡ d
 stays d agent step e late a =
     let more = come agent d a.events e a.only a.run in
@@ -53,16 +46,16 @@ behind true true false p q h r = (let clash : false ≡ true = q in cc)
 behind false b c p q h r = (let clash : false ≡ true = p in cc)
 
 pub each_move_is_kept : EachMoveIsKept
-each_move_is_kept d report (UnknownAgent agent) e no a = a.2
-each_move_is_kept d report (NotTold agent step) e no a = a.4
-each_move_is_kept d report (Arrived agent step) e no a = elim (cases_lt (reached d report.agent) report.step) [
+each_move_is_kept d report (UnknownAgent agent) e none a = a.2
+each_move_is_kept d report (NotTold agent step) e none a = a.4
+each_move_is_kept d report (Arrived agent step) e none a = elim (cases_lt (reached d report.agent) report.step) [
   | inl goes ↦ absurd (elim (leb_tells report.step (told d report.agent)) [
     | inl was ↦ behind (nat_lt report.agent (length d.vehicles)) (nat_lt (reached d report.agent) report.step) (nat_le report.step (told d report.agent))
-        (lt-ltb report.agent (length d.vehicles) a.2) was.0 no (lt-ltb (reached d report.agent) report.step goes)
+        (lt-ltb report.agent (length d.vehicles) a.2) was.0 none (lt-ltb (reached d report.agent) report.step goes)
     | inr not ↦ (let was = a.3 in let more = not.1 in absurd (omega arith))
   ])
   | inr late ↦ stays d report.agent report.step e late a.4
 ]
-each_move_is_kept d report (Visited agent task visit) e no a = absurd a
-each_move_is_kept d report (Go agent step cell) e no a = absurd a
-each_move_is_kept d report (Behind agent steps) e no a = absurd a
+each_move_is_kept d report (Visited agent task visit) e none a = absurd a
+each_move_is_kept d report (Go agent step cell) e none a = absurd a
+each_move_is_kept d report (Behind agent steps) e none a = absurd a
