@@ -9,7 +9,8 @@ ghost use Rattle.wh_continue.specs.Starting.{StartsIn, IsWhyNoStart, IsUnbegun, 
 
 use crate::own::first_other;
 use std::alloc::{AllocError, Global};
-use wh_log::{NoMemory, Version, begun_text};
+use wh_journal::LogFile;
+use wh_log::{NoMemory, SourceFault, Version, begun_text};
 use wh_resume::{Book, Recovery, Resumed, Setting, recover};
 
 /// What a run starts from.
@@ -28,8 +29,19 @@ pub struct Start {
 pub enum StartFault {
     /// L1: no log of a run of this site goes on with this line, from 1; the text is none that could be gone on from.
     Bad { line: u64 },
+    /// X5: the file cannot be read, is no file of bytes, or another has it.
+    Unread,
     /// E90: memory was wanting.
     NoMemory,
+}
+
+impl From<SourceFault> for StartFault {
+    fn from(e: SourceFault) -> StartFault {
+        match e {
+            SourceFault::Unread => StartFault::Unread,
+            SourceFault::NoMemory => StartFault::NoMemory,
+        }
+    }
 }
 
 impl From<NoMemory> for StartFault {
@@ -90,21 +102,22 @@ fn go_on(resumed: Resumed) -> Result<Start, StartFault>
 ///
 /// Errors: `Bad` with the first line with which no log of a run of this site goes on, or with the line of an entry that tells
 /// of a planner with more slots or fewer; `NoMemory`.
-pub fn find_start(
+pub fn find_start<L: LogFile>(
     alloc: Global,
     setting: Setting,
     slots: Vec<u32>,
-    text: &[u8],
+    file: &mut L,
 ) -> Result<Start, StartFault>
     requires some { 1 ≤ length setting.layout.agents }
     requires seats { length slots.items ≡ length setting.layout.agents }
     requires range { All IsSlots slots.items }
-    ensures ok { IfOk result (StartsIn setting slots.items text.now) }
+    ensures ok { IfOk result (StartsFrom setting slots.items (L.contents file.old)) }
     ensures slots { IfOk result (λ start. All IsSlots start.book.state.slots) }
-    ensures fault { IfErr result (IsWhyNoStart setting slots.items text.now) }
+    ensures fault { IfErr result (IsWhyNoneStarts setting slots.items (L.contents file.old)) }
+    ensures same { L.contents file.new ≡ L.contents file.old }
 {
     let begun = begun_text(alloc, 0, slots.as_slice())?;
-    match recover(alloc, setting, begun.as_slice(), text)? {
+    match recover(alloc, setting, begun.as_slice(), file)? {
         Recovery::Unopened(setting) => Ok(begin(alloc, setting, slots)?),
         Recovery::Bad { line, .. } => Err(StartFault::Bad { line }),
         Recovery::Resumed(resumed) => go_on(resumed),

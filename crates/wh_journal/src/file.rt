@@ -2,6 +2,7 @@
 #![tactic(auto)]
 
 ghost use Rattle.std.specs.Prelude.{◌≡◌, false};
+ghost use Rattle.std.specs.Io.{ReadsAtMost};
 
 use crate::journal::{Journal, JournalFault};
 use crate::log_file::{LogFile, LogFileFault};
@@ -10,6 +11,7 @@ use std::fs::{File, Files, OpenOptions};
 use std::io;
 use std::io::{ErrorKind, Read, Seek, SeekFrom};
 use std::path::Path;
+use wh_log::{Source, SourceFault};
 use wh_replay::write_all;
 
 /// A file that is open and locked. What is appended goes behind its last byte.
@@ -69,6 +71,15 @@ fn open_standing<R: Files<File = File>>(files: &R, path: Path<'_>) -> io::Result
     }
 }
 
+/// Adds to a buffer a piece of what stands in a file behind the first so many bytes.
+fn read_piece(file: &mut File, place: u64, buffer: &mut Vec<u8>) -> io::Result<()> {
+    let mut room = [0; 65_536];
+    file.seek(SeekFrom::Start(place))?;
+    let count = read_again(file, &mut room)?;
+    buffer.extend_from_slice(&room[..count])?;
+    Ok(())
+}
+
 /// All bytes of a file.
 fn read_whole(alloc: Global, file: &mut File) -> io::Result<Vec<u8>> {
     let mut text: Vec<u8> = Vec::new(alloc);
@@ -81,6 +92,20 @@ fn read_whole(alloc: Global, file: &mut File) -> io::Result<Vec<u8>> {
 fn lock_and_read(alloc: Global, file: &mut File) -> io::Result<Vec<u8>> {
     lock(file)?;
     read_whole(alloc, file)
+}
+
+/// Reads once, and again where that was interrupted.
+fn read_again(file: &mut File, room: &mut [u8]) -> io::Result<usize>
+    ensures { ReadsAtMost result room.new }
+{
+    for _ in 0..1_000 {
+        match file.read(room) {
+            Ok(count) => return Ok(count),
+            Err(error) if error.kind() == ErrorKind::Interrupted => {}
+            Err(error) => return Err(error),
+        }
+    }
+    Err(io::Error::from(ErrorKind::Interrupted))
 }
 
 /// Makes a file where nothing stands, and locks it.
@@ -234,6 +259,33 @@ impl<'a, R: Files<File = File>> FileJournal<'a, R> {
         }
     }
 
+    /// Opens what stands at the path, where it was not yet.
+    fn open(&mut self) -> io::Result<()>
+        ensures { self.new.has_failed ≡ self.old.has_failed }
+    {
+        if let Standing::Unread = &self.standing {
+            let Some(file) = open_standing(self.files, self.path)? else {
+                self.standing = Standing::Missing;
+                return Ok(());
+            };
+            lock(&file)?;
+            let length = file.metadata()?.len();
+            self.standing = Standing::Found(OpenLog::new(file, length));
+        }
+        Ok(())
+    }
+
+    /// Adds a piece to a buffer, as the file was opened before, or now.
+    fn read_piece(&mut self, place: u64, buffer: &mut Vec<u8>) -> io::Result<()>
+        ensures { self.new.has_failed ≡ self.old.has_failed }
+    {
+        self.open()?;
+        match &mut self.standing {
+            Standing::Found(log) => read_piece(&mut log.file, place, buffer),
+            _ => Ok(()),
+        }
+    }
+
     /// Makes the file where nothing stood.
     fn make_missing(&mut self)
         ensures { self.new.has_failed ≡ self.old.has_failed }
@@ -276,7 +328,19 @@ impl<'a, R> Journal for FileJournal<'a, R> {
     }
 }
 
+impl<'a, R: Files<File = File>> Source for FileJournal<'a, R> {
+    fn add_piece(&mut self, place: usize, buffer: &mut Vec<u8>) -> Result<(), SourceFault> {
+        match self.read_piece(place as u64, buffer) {
+            Ok(()) => Ok(()),
+            Err(error) if error.kind() == ErrorKind::OutOfMemory => Err(SourceFault::NoMemory),
+            Err(_) => Err(SourceFault::Unread),
+        }
+    }
+}
+
 impl<'a, R: Files<File = File>> LogFile for FileJournal<'a, R> {
+    ghost one_text = { λ j. refl };
+
     fn text(&mut self, alloc: Global) -> Result<Vec<u8>, LogFileFault> {
         match self.read(alloc) {
             Ok(text) => Ok(text),

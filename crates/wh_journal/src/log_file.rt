@@ -5,6 +5,7 @@ ghost use Rattle.std.specs.Prelude.{◌≡◌, true, false, OnOk, OnErr, IfOk, I
 ghost use Rattle.wh_journal.specs.Cutting.{front_of, with_byte, MayCut, MayPut};
 
 use crate::journal::{Journal, JournalFault};
+use wh_log::Source;
 use std::alloc::Global;
 
 /// Why the bytes of a log are not told.
@@ -16,10 +17,14 @@ pub enum LogFileFault {
     NoMemory,
 }
 
-/// A journal whose bytes were kept before, by another life of the program. A start takes these steps in their order: `text`;
+/// A journal whose bytes were kept before, by another life of the program. A start takes these steps in their order: `text`, or the
+/// pieces of `Source`, each behind the one before;
 /// others judge the text, and where it is refused nothing has changed; `put`, where a byte of it is to be another; `cut`, also
 /// where nothing is cut off, since the life before may not have synced; and then the calls of `Journal`.
-pub trait LogFile: Journal {
+pub trait LogFile: Journal + Source {
+    // as a source it tells the same bytes
+    ghost one_text: { (l : Self) → held l ≡ contents l };
+
     /// All bytes that it holds. Nothing changes. One that was not made yet holds none.
     fn text(&mut self, alloc: Global) -> Result<Vec<u8>, LogFileFault>
         ensures ok { IfOk result (λ text. IfSome (Self.contents self.old) (λ held. text.items ≡ held)) }

@@ -6,6 +6,7 @@ ghost use Rattle.std.specs.Prelude.{◌≡◌, ◌≤◌, [], length, take, Some
 use crate::journal::{Journal, JournalFault};
 use crate::log_file::{LogFile, LogFileFault};
 use std::alloc::Global;
+use wh_log::{Source, SourceFault};
 use wh_replay::write_all;
 
 /// A journal in memory: what it holds, how many bytes of it were synced, and whether a call has failed.
@@ -60,7 +61,18 @@ impl Journal for MemoryJournal {
     }
 }
 
+impl Source for MemoryJournal {
+    ghost held = { λ j. Some j.held.items };
+
+    fn add_piece(&mut self, place: usize, buffer: &mut Vec<u8>) -> Result<(), SourceFault> {
+        let mut text = self.held.as_slice();
+        text.add_piece(place, buffer)
+    }
+}
+
 impl LogFile for MemoryJournal {
+    ghost one_text = { λ j. refl };
+
     fn text(&mut self, alloc: Global) -> Result<Vec<u8>, LogFileFault> {
         match Vec::from_slice(alloc, self.held.as_slice()) {
             Ok(text) => Ok(text),
