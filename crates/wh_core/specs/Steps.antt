@@ -72,7 +72,7 @@ IsParkingName layout name = (cell : Cell) × IsParking layout name cell
 abbrev pub IsUnknownName : Layout → List ℕ → Type 0
 IsUnknownName layout name = (cell : Cell) → ¬ IsPoint layout name cell
 
--- of the stops it is the first that is no station's name
+-- it stands among the stops, and each stop before it is a station's name
 abbrev pub IsFirstFault : Layout → List (List ℕ) → List ℕ → Type 0
 IsFirstFault layout stops name =
     (before : List (List ℕ)) × (after : List (List ℕ)) × (stops ≡ before ++ name ∷ after) × All (IsStationName layout) before

@@ -59,9 +59,10 @@ pub record Gathered (next : Next) (old new : Input) (kept : List ℕ) : Type 0 w
   pub says : short_line kept ≡ short_line raw
   pub ends : Ends next old new raw
 
--- some bytes were taken
+-- part of a line was taken
 pub record Taken (old new : Input) : Type 0 where
   pub bytes : List ℕ
+  pub plain : IsPlain bytes
   pub takes : Takes old new bytes
 
 -- the length of the first line with its line feed, and past the end where there is none

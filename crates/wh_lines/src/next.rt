@@ -73,6 +73,7 @@ fn gather<R: Read, W: Write>(
 ) -> Result<Next, LineFault>
     ensures ok { IfOk result (λ next. Gathered next lines.old lines.new line.new) }
     ensures err { OnErr result (Taken lines.old lines.new) }
+    ensures reads { OnOk result (lines.old.reads ≤ lines.new.reads) }
     ensures broken { result ≡ Err (LineFault.Read ReadFault.Broken) → lines.old.reads < lines.new.reads }
     ensures endless { result ≡ Err (LineFault.Read ReadFault.Endless) → lines.new.reads ≡ 100000000 }
     ensures failed { lines.new.failed ≡ lines.old.failed }
@@ -104,7 +105,9 @@ impl<R: Read> Lines<R> {
         line: &mut CommandLine,
     ) -> Result<Next, LineFault>
         ensures ok { IfOk result (λ next. Gathered next self.old self.new line.new) }
+        // What was taken of the line has no line feed.
         ensures err { OnErr result (Taken self.old self.new) }
+        ensures reads { OnOk result (self.old.reads ≤ self.new.reads) }
         // The reader failed when it was asked, or a fault came before.
         ensures broken { result ≡ Err (LineFault.Read ReadFault.Broken) → (self.old.failed ≡ true) ⊎ (self.old.reads < self.new.reads) }
         ensures endless { result ≡ Err (LineFault.Read ReadFault.Endless) → self.new.reads ≡ 100000000 }

@@ -39,6 +39,7 @@ pub record Following {X : Type 0} (fits : X → Floor → Bool) (count : X → �
     (had has : Option (List ℕ)) (written turns : ℕ) : Type 0 where
   pub follows : Follows fits count text before after old spares new rest had has written
   pub many : turns ≤ length (lines_of follows.read)
+  pub reads : before.reads ≤ after.reads
 
 module _ {X : Type 0} (fits : X → Floor → Bool) (count : X → ℕ) (text : Answered → List ℕ) where
   pub follows_start : (i : Input) (old : Seen) (spares : List X) (had : Option (List ℕ)) → Follows fits count text i i old spares old spares had had 0
@@ -53,7 +54,7 @@ module _ {X : Type 0} (fits : X → Floor → Bool) (count : X → ℕ) (text : 
   }
 
   pub following_start : (i : Input) (old : Seen) (spares : List X) (had : Option (List ℕ)) → Following fits count text i i old spares old spares had had 0 0
-  following_start i old spares had = record { follows = follows_start i old spares had; many = omega arith }
+  following_start i old spares had = record { follows = follows_start i old spares had; many = omega arith; reads = omega arith }
 
   -- what a line gives of which a front is kept
   gives_front : (raw kept : List ℕ) (old : Seen) (spares : List X) (new : Seen) (rest : List X) (replies : List (List ℕ)) → short_line kept ≡ short_line raw
@@ -77,9 +78,9 @@ module _ {X : Type 0} (fits : X → Floor → Bool) (count : X → ℕ) (text : 
         ap (λ (ls : List (List ℕ)). length ls) (f.whole (raw ++ 10 ∷ []) ∙ ap (λ l. lines_of f.read ++ l) (lines-feed raw [] plain))
         ∙ length-append (lines_of f.read) (without_cr raw ∷ [])
 
-    following_line : (written m turns : ℕ) → turns ≤ length (lines_of f.read) → Gathered Whole j k kept → Serves fits count text (said (short_line kept)) mid held new rest c d written → m ≡ n + written
+    following_line : (written m turns : ℕ) → turns ≤ length (lines_of f.read) → i.reads ≤ j.reads → j.reads ≤ k.reads → Gathered Whole j k kept → Serves fits count text (said (short_line kept)) mid held new rest c d written → m ≡ n + written
         → Following fits count text i k old spares new rest a d m (turns + 1)
-    following_line written m turns many g s e =
+    following_line written m turns many before now g s e =
         let bytes = g.raw ++ 10 ∷ [] in
         record {
           follows = record {
@@ -92,6 +93,7 @@ module _ {X : Type 0} (fits : X → Floor → Bool) (count : X → ℕ) (text : 
             written_is = omega (arith, e, f.written_is, s.written_is, length-append f.replies s.replies);
           };
           many = omega (arith, many, lines_more g.raw g.plain);
+          reads = omega (arith, before, now);
         }
 
     pub stops_line : Gathered Whole j k kept → ServesUnwritten fits count text (said (short_line kept)) mid held new rest c d → Stops fits count text Unwritten i k old spares new rest a d
@@ -101,6 +103,7 @@ module _ {X : Type 0} (fits : X → Floor → Bool) (count : X → ℕ) (text : 
           read = f.read ++ bytes;
           begun = [];
           takes = subst (λ l. Takes i k l) (sym (append-nil (f.read ++ bytes))) (Consumes-trans (left i) (left j) (left k) f.read bytes f.takes g.ends);
+          part = tt;
           whole = inl (whole_next f.read g.raw f.whole g.plain);
           replies = f.replies ++ s.replies;
           output = output_line bytes g.raw s.replies (lines-feed g.raw [] g.plain) g.says s.gives;
@@ -113,6 +116,7 @@ module _ {X : Type 0} (fits : X → Floor → Bool) (count : X → ℕ) (text : 
       read = f.read ++ g.raw;
       begun = [];
       takes = subst (λ l. Takes i k l) (sym (append-nil (f.read ++ g.raw))) (Consumes-trans (left i) (left j) (left k) f.read g.raw f.takes g.ends.0);
+      part = tt;
       whole = inr g.ends.2;
       replies = f.replies ++ s.replies;
       output = output_line g.raw g.raw s.replies (lines-last g.raw g.plain g.ends.1) g.says s.gives;
@@ -141,6 +145,7 @@ module _ {X : Type 0} (fits : X → Floor → Bool) (count : X → ℕ) (text : 
           read = r.read;
           begun = [];
           takes = subst (λ l. Takes i k l) (sym (append-nil r.read)) r.takes;
+          part = tt;
           whole = inr r.ended;
           replies = r.replies;
           output = r.output;
@@ -156,11 +161,11 @@ module _ {X : Type 0} (fits : X → Floor → Bool) (count : X → ℕ) (text : 
     stops_served End some g s = absurd (some refl)
 
     -- a line that was served, and is not the last one
-    pub following_served : (next : Next) → ¬ (next ≡ End) → ¬ (next ≡ Last) → (written m turns : ℕ) → turns ≤ length (lines_of f.read) → Gathered next j k kept
+    pub following_served : (next : Next) → ¬ (next ≡ End) → ¬ (next ≡ Last) → (written m turns : ℕ) → turns ≤ length (lines_of f.read) → i.reads ≤ j.reads → j.reads ≤ k.reads → Gathered next j k kept
         → Serves fits count text (said (short_line kept)) mid held new rest c d written → m ≡ n + written → Following fits count text i k old spares new rest a d m (turns + 1)
-    following_served Whole some more written m turns many g s e = following_line written m turns many g s e
-    following_served Last some more written m turns many g s e = absurd (more refl)
-    following_served End some more written m turns many g s e = absurd (some refl)
+    following_served Whole some more written m turns many before now g s e = following_line written m turns many before now g s e
+    following_served Last some more written m turns many before now g s e = absurd (more refl)
+    following_served End some more written m turns many before now g s e = absurd (some refl)
 
   module _ (i j k : Input) (old : Seen) (spares : List X) (mid : Seen) (held : List X) (a b c : Option (List ℕ)) (n : ℕ)
       (f : Follows fits count text i j old spares mid held a b n) (flushed : Keeps b c) where
@@ -181,6 +186,7 @@ module _ {X : Type 0} (fits : X → Floor → Bool) (count : X → ℕ) (text : 
       read = f.read;
       begun = t.bytes;
       takes = Consumes-trans (left i) (left j) (left k) f.read t.bytes f.takes t.takes;
+      part = t.plain;
       whole = whole_until fault k f.read f.whole;
       replies = f.replies;
       output = f.output;
@@ -192,7 +198,7 @@ module _ {X : Type 0} (fits : X → Floor → Bool) (count : X → ℕ) (text : 
   pub stops_now : (i j : Input) (old : Seen) (spares : List X) (mid : Seen) (held : List X) (a b : Option (List ℕ)) (n : ℕ) (fault : ReplayFault)
       (f : Follows fits count text i j old spares mid held a b n) → HasCause fault i j (length (lines_of f.read)) → Stops fits count text fault i j old spares mid held a b
   stops_now i j old spares mid held a b n fault f cause =
-      stops_between i j j old spares mid held a b b n f (Keeps-refl b) fault (record { bytes = []; takes = Consumes-nil (left j) }) cause
+      stops_between i j j old spares mid held a b b n f (Keeps-refl b) fault (record { bytes = []; plain = tt; takes = Consumes-nil (left j) }) cause
 
   -- the reader is told to have failed
   pub stops_failed : (i j k : Input) (old : Seen) (spares : List X) (new : Seen) (rest : List X) (had has : Option (List ℕ)) (fault : ReplayFault)
@@ -202,6 +208,7 @@ module _ {X : Type 0} (fits : X → Floor → Bool) (count : X → ℕ) (text : 
         read = s.read;
         begun = s.begun;
         takes = s.takes;
+        part = s.part;
         whole = whole_failed fault j s.read s.whole;
         replies = s.replies;
         output = s.output;

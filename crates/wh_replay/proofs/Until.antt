@@ -37,16 +37,16 @@ written_to_last a b c d xs ys p k q few = record {
   front = q;
 }
 
-was_asked : (j k : Input) → j.failed ≡ false → (j.failed ≡ true) ⊎ (j.reads < k.reads) → 0 < k.reads
-was_asked j k fine (inl failed) = absurd (cc (failed, fine))
-was_asked j k fine (inr more) = omega (arith, more)
+was_asked : (i j k : Input) → i.reads ≤ j.reads → j.failed ≡ false → (j.failed ≡ true) ⊎ (j.reads < k.reads) → i.reads < k.reads
+was_asked i j k before fine (inl failed) = absurd (cc (failed, fine))
+was_asked i j k before fine (inr more) = omega (arith, before, more)
 
 -- why a line did not come, from a reader that had not failed
-pub cause_of : (i j k : Input) (lines : ℕ) (fault : LineFault) → j.failed ≡ false
+pub cause_of : (i j k : Input) (lines : ℕ) (fault : LineFault) → i.reads ≤ j.reads → j.failed ≡ false
     → (fault ≡ Read reads.Broken → (j.failed ≡ true) ⊎ (j.reads < k.reads)) → (fault ≡ Read reads.Endless → k.reads ≡ 100000000) → HasCause (fault_of fault) i k lines
-cause_of i j k lines (Read reads.Broken) fine broken endless = inr (was_asked j k fine (broken refl))
-cause_of i j k lines (Read reads.Endless) fine broken endless = inl (endless refl)
-cause_of i j k lines Flush fine broken endless = tt
+cause_of i j k lines (Read reads.Broken) before fine broken endless = inr (was_asked i j k before fine (broken refl))
+cause_of i j k lines (Read reads.Endless) before fine broken endless = inl (endless refl)
+cause_of i j k lines Flush before fine broken endless = tt
 
 -- more lines were served than can be counted
 pub cause_endless : (i j : Input) (turns lines : ℕ) → 18446744073709551615 ≤ turns → turns ≤ lines → HasCause Endless i j lines

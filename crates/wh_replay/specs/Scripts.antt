@@ -2,7 +2,7 @@
 use Rattle.std.specs.Prelude.{◌≡◌, ◌⊎◌, ◌<◌, ◌≤◌, ◌^◌, ◌-◌, ℕ, Bool, true, List, ◌++◌, length, Option, Result, Ok, Err}
 use Rattle.std.specs.Io.KnownBytes.{Appends, IsAtEnd}
 use Rattle.wh_text.specs.Lines.{lines_of}
-use Rattle.wh_lines.specs.Text.{EndsLine}
+use Rattle.wh_lines.specs.Text.{EndsLine, IsPlain}
 use Rattle.wh_lines.specs.Input.{Input, left, Takes}
 use Rattle.wh_lines.specs.declared.output.WriteFault.{WriteFault}
 use Rattle.wh_grid.specs.Grids.{Floor}
@@ -116,20 +116,21 @@ IsWholeUntil Unwritten after read = EndsLine read ⊎ IsAtEnd (left after)
 IsWholeUntil Broken after read = EndsLine read
 IsWholeUntil Endless after read = EndsLine read
 
--- That reading failed is told only where the reader was asked, or a fault had come before; that it was asked too often, only
--- where it was, or where more lines were served than can be counted.
+-- That reading failed is told only where the reader was asked again, or a fault had come before; that it was asked too often,
+-- only where it was, or where more lines were served than can be counted.
 abbrev pub HasCause : ReplayFault → Input → Input → ℕ → Type 0
-HasCause Broken before after lines = (before.failed ≡ true) ⊎ (0 < after.reads)
+HasCause Broken before after lines = (before.failed ≡ true) ⊎ (before.reads < after.reads)
 HasCause Endless before after lines = (after.reads ≡ 100000000) ⊎ (2 ^ 64 - 1 ≤ lines)
 HasCause Unwritten before after lines = Unit {0}
 
 -- A beginning of the script was served, and no line behind it: the events of its commands stand, also the last one, whose
--- reply may not have been written to the end. What was taken behind it was not served.
+-- reply may not have been written to the end. What was taken behind it is part of one line, and was not served.
 pub record Stops {X : Type 0} (fits : X → Floor → Bool) (count : X → ℕ) (text : Answered → List ℕ) (fault : ReplayFault) (before after : Input) (old : Seen) (spares : List X) (new : Seen) (rest : List X)
     (had has : Option (List ℕ)) : Type 0 where
   pub read : List ℕ
   pub begun : List ℕ
   pub takes : Takes before after (read ++ begun)
+  pub part : IsPlain begun
   pub whole : IsWholeUntil fault after read
   pub replies : List (List ℕ)
   pub output : IsOutputOf fits count text (lines_of read) old spares new rest replies

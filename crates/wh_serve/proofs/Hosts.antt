@@ -125,6 +125,7 @@ fared_left fits count grid text (Err fault) before after old spares new rest had
   read = t.read;
   begun = t.begun;
   takes = t.takes;
+  part = t.part;
   whole = t.whole;
   replies = t.replies;
   output = t.output;

@@ -38,6 +38,7 @@ pub record Following {X : Type 0} (fits : X → Floor → Bool) (count : X → �
     (old : Received) (spares : List X) (new : Received) (rest : List X) (had has : Option (List ℕ)) (written turns : ℕ) : Type 0 where
   pub follows : Follows fits count grid text before after old spares new rest had has written
   pub many : turns ≤ length (lines_of follows.read)
+  pub reads : before.reads ≤ after.reads
 
 module _ {X : Type 0} (fits : X → Floor → Bool) (count : X → ℕ) (grid : Floor) (text : ℕ × Entry → List ℕ) where
   pub follows_start : (i : Input) (old : Received) (spares : List X) (had : Option (List ℕ)) → Follows fits count grid text i i old spares old spares had had 0
@@ -52,7 +53,7 @@ module _ {X : Type 0} (fits : X → Floor → Bool) (count : X → ℕ) (grid : 
   }
 
   pub following_start : (i : Input) (old : Received) (spares : List X) (had : Option (List ℕ)) → Following fits count grid text i i old spares old spares had had 0 0
-  following_start i old spares had = record { follows = follows_start i old spares had; many = omega arith }
+  following_start i old spares had = record { follows = follows_start i old spares had; many = omega arith; reads = omega arith }
 
   -- what a line gives of which a front is kept
   gives_front : (raw kept : List ℕ) (old : Received) (spares : List X) (new : Received) (rest : List X) (replies : List (List ℕ)) → short_line kept ≡ short_line raw
@@ -76,9 +77,9 @@ module _ {X : Type 0} (fits : X → Floor → Bool) (count : X → ℕ) (grid : 
         ap (λ (ls : List (List ℕ)). length ls) (f.whole (raw ++ 10 ∷ []) ∙ ap (λ l. lines_of f.read ++ l) (lines-feed raw [] plain))
         ∙ length-append (lines_of f.read) (without_cr raw ∷ [])
 
-    pub following_line : (written m turns : ℕ) → turns ≤ length (lines_of f.read) → Gathered Whole j k kept → Serves fits count grid text (said (short_line kept)) mid held new rest c d written → m ≡ n + written
+    pub following_line : (written m turns : ℕ) → turns ≤ length (lines_of f.read) → i.reads ≤ j.reads → j.reads ≤ k.reads → Gathered Whole j k kept → Serves fits count grid text (said (short_line kept)) mid held new rest c d written → m ≡ n + written
         → Following fits count grid text i k old spares new rest a d m (turns + 1)
-    following_line written m turns many g s e =
+    following_line written m turns many before now g s e =
         let bytes = g.raw ++ 10 ∷ [] in
         record {
           follows = record {
@@ -91,6 +92,7 @@ module _ {X : Type 0} (fits : X → Floor → Bool) (count : X → ℕ) (grid : 
             written_is = omega (arith, e, f.written_is, s.written_is, length-append f.replies s.replies);
           };
           many = omega (arith, many, lines_more g.raw g.plain);
+          reads = omega (arith, before, now);
         }
 
     pub stops_line : Gathered Whole j k kept → ServesUnwritten fits count grid text (said (short_line kept)) mid held new rest c d → Stops fits count grid text Unwritten i k old spares new rest a d
@@ -100,6 +102,7 @@ module _ {X : Type 0} (fits : X → Floor → Bool) (count : X → ℕ) (grid : 
           read = f.read ++ bytes;
           begun = [];
           takes = subst (λ l. Takes i k l) (sym (append-nil (f.read ++ bytes))) (Consumes-trans (left i) (left j) (left k) f.read bytes f.takes g.ends);
+          part = tt;
           whole = inl (whole_next f.read g.raw f.whole g.plain);
           replies = f.replies ++ s.replies;
           output = output_line bytes g.raw s.replies (lines-feed g.raw [] g.plain) g.says s.gives;
@@ -112,6 +115,7 @@ module _ {X : Type 0} (fits : X → Floor → Bool) (count : X → ℕ) (grid : 
       read = f.read ++ g.raw;
       begun = [];
       takes = subst (λ l. Takes i k l) (sym (append-nil (f.read ++ g.raw))) (Consumes-trans (left i) (left j) (left k) f.read g.raw f.takes g.ends.0);
+      part = tt;
       whole = inr g.ends.2;
       replies = f.replies ++ s.replies;
       output = output_line g.raw g.raw s.replies (lines-last g.raw g.plain g.ends.1) g.says s.gives;
@@ -140,6 +144,7 @@ module _ {X : Type 0} (fits : X → Floor → Bool) (count : X → ℕ) (grid : 
           read = r.read;
           begun = [];
           takes = subst (λ l. Takes i k l) (sym (append-nil r.read)) r.takes;
+          part = tt;
           whole = inr r.ended;
           replies = r.replies;
           output = r.output;
@@ -166,6 +171,7 @@ module _ {X : Type 0} (fits : X → Floor → Bool) (count : X → ℕ) (grid : 
       read = f.read;
       begun = t.bytes;
       takes = Consumes-trans (left i) (left j) (left k) f.read t.bytes f.takes t.takes;
+      part = t.plain;
       whole = whole_until fault k f.read f.whole;
       replies = f.replies;
       output = f.output;
@@ -177,7 +183,7 @@ module _ {X : Type 0} (fits : X → Floor → Bool) (count : X → ℕ) (grid : 
   pub stops_now : (i j : Input) (old : Received) (spares : List X) (mid : Received) (held : List X) (a b : Option (List ℕ)) (n : ℕ) (fault : ReplayFault)
       (f : Follows fits count grid text i j old spares mid held a b n) → HasCause fault i j (length (lines_of f.read)) → Stops fits count grid text fault i j old spares mid held a b
   stops_now i j old spares mid held a b n fault f cause =
-      stops_between i j j old spares mid held a b b n f (Keeps-refl b) fault (record { bytes = []; takes = Consumes-nil (left j) }) cause
+      stops_between i j j old spares mid held a b b n f (Keeps-refl b) fault (record { bytes = []; plain = tt; takes = Consumes-nil (left j) }) cause
 
   -- the reader is told to have failed
   pub stops_failed : (i j k : Input) (old : Received) (spares : List X) (new : Received) (rest : List X) (had has : Option (List ℕ)) (fault : ReplayFault)
@@ -187,6 +193,7 @@ module _ {X : Type 0} (fits : X → Floor → Bool) (count : X → ℕ) (grid : 
         read = s.read;
         begun = s.begun;
         takes = s.takes;
+        part = s.part;
         whole = whole_failed fault j s.read s.whole;
         replies = s.replies;
         output = s.output;

@@ -2,7 +2,7 @@
 use Rattle.std.specs.Prelude.{◌≡◌, ◌≤◌, ℕ, Bool, List, ◌++◌, length, Option, Result}
 use Rattle.std.specs.Io.KnownBytes.{Appends, IsAtEnd}
 use Rattle.wh_text.specs.Lines.{lines_of}
-use Rattle.wh_lines.specs.Text.{EndsLine}
+use Rattle.wh_lines.specs.Text.{EndsLine, IsPlain}
 use Rattle.wh_lines.specs.Input.{Input, left, Takes}
 use Rattle.wh_grid.specs.Grids.{Floor}
 use Rattle.wh_event.specs.declared.event.Command.{Command}
@@ -61,12 +61,13 @@ pub record Outputs {X : Type 0} (fits : X → Floor → Bool) (count : X → ℕ
   pub written_is : written ≡ length replies
 
 -- A beginning of what came was served, and no line behind it: the receipts of its commands stand, also the last one, whose
--- reply may not have been written to the end. What was taken behind it was not served.
+-- reply may not have been written to the end. What was taken behind it is part of one line, and was not served.
 pub record Stops {X : Type 0} (fits : X → Floor → Bool) (count : X → ℕ) (grid : Floor) (text : ℕ × Entry → List ℕ) (fault : ReplayFault) (before after : Input)
     (old : Received) (spares : List X) (new : Received) (rest : List X) (had has : Option (List ℕ)) : Type 0 where
   pub read : List ℕ
   pub begun : List ℕ
   pub takes : Takes before after (read ++ begun)
+  pub part : IsPlain begun
   pub whole : IsWholeUntil fault after read
   pub replies : List (List ℕ)
   pub output : IsOutputOf fits count grid text (lines_of read) old spares new rest replies

@@ -226,6 +226,7 @@ serves_until fits count text gives fleet site planners spares fault old between 
   read = p.stops.read;
   begun = p.stops.begun;
   takes = p.stops.takes;
+  part = p.stops.part;
   whole = p.stops.whole;
   replies = p.stops.replies;
   operates = operates fits count text gives fleet site planners spares (lines_of p.stops.read) p.book p.final p.rest p.stops.replies makes range e p.opened p.stops.output;

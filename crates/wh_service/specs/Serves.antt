@@ -3,6 +3,7 @@ use Rattle.std.specs.Prelude.{◌≡◌, ◌⊎◌, ◌<◌, ◌^◌, ℕ, Bool,
 use Rattle.std.specs.declared.alloc.AllocError.{AllocError}
 use Rattle.std.specs.Io.KnownBytes.{Appends, Keeps, IsAtEnd}
 use Rattle.wh_text.specs.Lines.{lines_of}
+use Rattle.wh_lines.specs.Text.{IsPlain}
 use Rattle.wh_lines.specs.Input.{Input, left, Takes}
 use Rattle.wh_grid.specs.Grids.{Floor}
 use Rattle.wh_points.specs.Points.{Site}
@@ -99,7 +100,7 @@ pub record ServesWithoutTail (text : Answered → List ℕ) (fleet : Fleet) (tai
   pub why : IsWhyNoTail told replied has (follows tail run)
 
 -- A site was read, and a beginning of what followed was served, and no line behind it: whole lines, and all replies but the last
--- were written whole. What was taken behind it was not served.
+-- were written whole. What was taken behind it is part of one line, and was not served.
 pub record ServesUntil (text : Answered → List ℕ) (fleet : Fleet) (fault : ReplayFault) (old new : Input) (had has : Option (List ℕ)) : Type 0 where
   pub between : Input
   pub site : Site
@@ -108,6 +109,7 @@ pub record ServesUntil (text : Answered → List ℕ) (fleet : Fleet) (fault : R
   pub read : List ℕ
   pub begun : List ℕ
   pub takes : Takes between new (read ++ begun)
+  pub part : IsPlain begun
   pub whole : IsWholeUntil fault new read
   pub replies : List (List ℕ)
   pub operates : Operates text fleet site (lines_of read) replies

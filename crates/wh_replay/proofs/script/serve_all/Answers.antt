@@ -22,7 +22,7 @@ returns-in-Err-clause-fault g c =
     let err : LineFault → Result Next LineFault = λ x. Err x in
     rw c.fault_of.ensures
     (stops_between _ _ _ c.args.lines.now c.loop.lines c.next_line.new.self _ _ _ _ _ _ _ _ c.loop.invariant.served.follows c.next_line.ensures.writer (fault_of c.in-Err.fault) c.in-Err.ensures.err
-    (cause_of c.args.lines.now c.loop.lines c.next_line.new.self _ c.in-Err.fault c.loop.invariant.open_still (λ e. c.in-Err.ensures.broken (ap err e)) (λ e. c.in-Err.ensures.endless (ap err e))))
+    (cause_of c.args.lines.now c.loop.lines c.next_line.new.self _ c.in-Err.fault c.loop.invariant.served.reads c.loop.invariant.open_still (λ e. c.in-Err.ensures.broken (ap err e)) (λ e. c.in-Err.ensures.endless (ap err e))))
 
 pub returns-in-Err-serve-clause-fault : goal.returns-in-Err-serve-clause-fault
 returns-in-Err-serve-clause-fault g c =
@@ -49,7 +49,7 @@ returns-in-Last-clause-ok g c =
 pub loop-preserved : goal.loop-preserved
 loop-preserved g c = record {
   served = following_served _ _ _ c.args.lines.now c.loop.lines c.next_line.new.self _ _ _ _ _ _ _ _ _ _ _ c.next_line.new.line c.loop.invariant.served.follows c.next_line.ensures.writer
-      c.in-Ok.next c.in_default.not-End c.in_default-next.not-Last c.in-Ok-serve.count (c.loop.replies + c.in-Ok-serve.count) c.loop.counter c.loop.invariant.served.many c.in-Ok.ensures.ok c.in-Ok-serve.ensures.ok refl;
+      c.in-Ok.next c.in_default.not-End c.in_default-next.not-Last c.in-Ok-serve.count (c.loop.replies + c.in-Ok-serve.count) c.loop.counter c.loop.invariant.served.many c.loop.invariant.served.reads c.in-Ok.ensures.reads c.in-Ok.ensures.ok c.in-Ok-serve.ensures.ok refl;
   few = omega (arith, c.in-Ok-serve.ensures.few, c.loop.invariant.few);
   open_still = c.in-Ok.ensures.open.1;
 }

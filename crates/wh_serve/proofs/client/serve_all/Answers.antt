@@ -23,7 +23,7 @@ returns-in-Err-clause-fault g c =
     let err : LineFault → Result Next LineFault = λ x. Err x in
     rw c.fault_of.ensures
     (stops_between _ _ _ _ c.args.lines.now c.loop.lines c.next_line.new.self _ _ _ _ _ _ _ _ c.loop.invariant.served.follows c.next_line.ensures.writer (fault_of c.in-Err.fault) c.in-Err.ensures.err
-    (cause_of c.args.lines.now c.loop.lines c.next_line.new.self _ c.in-Err.fault c.loop.invariant.open_still (λ e. c.in-Err.ensures.broken (ap err e)) (λ e. c.in-Err.ensures.endless (ap err e))))
+    (cause_of c.args.lines.now c.loop.lines c.next_line.new.self _ c.in-Err.fault c.loop.invariant.served.reads c.loop.invariant.open_still (λ e. c.in-Err.ensures.broken (ap err e)) (λ e. c.in-Err.ensures.endless (ap err e))))
 
 pub returns-in-End-clause-ok : goal.returns-in-End-clause-ok
 returns-in-End-clause-ok g c =
@@ -65,7 +65,7 @@ loop-preserved g c =
     let gathered = subst (λ (next : Next). Gathered next c.loop.lines c.next_line.new.self c.next_line.new.line) c.in-Whole.is c.in-Ok.ensures.ok in
     record {
       served = following_line _ _ _ _ c.args.lines.now c.loop.lines c.next_line.new.self _ _ _ _ _ _ _ _ _ _ _ c.next_line.new.line c.loop.invariant.served.follows c.next_line.ensures.writer
-          c.in-Ok-serve_line-2.count (c.loop.replies + c.in-Ok-serve_line-2.count) c.loop.counter c.loop.invariant.served.many gathered c.in-Ok-serve_line-2.ensures.ok refl;
+          c.in-Ok-serve_line-2.count (c.loop.replies + c.in-Ok-serve_line-2.count) c.loop.counter c.loop.invariant.served.many c.loop.invariant.served.reads c.in-Ok.ensures.reads gathered c.in-Ok-serve_line-2.ensures.ok refl;
       few = omega (arith, c.in-Ok-serve_line-2.ensures.few, c.loop.invariant.few);
       open_still = c.in-Ok.ensures.open.1;
     }
