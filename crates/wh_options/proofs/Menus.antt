@@ -8,9 +8,8 @@ use Rattle.clap.specs.Simple.{App, Shape, built, filled, help_rule, is_simple, l
 use Rattle.clap.specs.declared.builder.action.ArgAction.TheVariants.{Set, Help, Version}
 use Rattle.clap.specs.Walk.{Row, Rule, Text, action_of, answers_to, arg_by_long, first_of, nothing_held, rows_after, settled, texts, walk, has_long}
 use Rattle.wh_options.specs.Setting.{IsLine, IsSpelled, Setting, is_switch, value_of}
-use Rattle.wh_options.specs.Options.{Clashes, GivesFleet, HasOnly, LacksAny, Means, WordsGive, log_of, replay_names}
-use Rattle.wh_options.specs.Reads.{IsMistaken, Reads, ReadsFleet}
-use Rattle.wh_options.specs.declared.mistake.Mistake.{Mistake}
+use Rattle.wh_options.specs.Options.{GivesFleet, HasOnly, LacksAny, Means, WordsGive, log_of, replay_names}
+use Rattle.wh_options.specs.Reads.{Reads, ReadsFleet}
 use Rattle.wh_options.specs.Menu.{Choices, IsMenu, choice_rule, file_rule, menu, number_rule, planner_words, replies_words, switch_rule, tail_words}
 use Rattle.clap.specs.declared.builder.value_parser.ValueParser.TheVariants as vp
 use Rattle.wh_options.specs.declared.chosen.Options.{Options}
@@ -217,9 +216,6 @@ live_plain p t r q = (choice_plain (codes "planner") q refl, (number_plain (code
 pub lacks_as : (f g : Text → Option Text) → ((id : Text) → f id ≡ g id) → LacksAny f → LacksAny g
 lacks_as f g same lacks = subst LacksAny (λ i id. same id i) lacks
 
-pub clashes_as : (f g : Text → Option Text) → ((id : Text) → f id ≡ g id) → Clashes f → Clashes g
-clashes_as f g same clash = subst Clashes (λ i id. same id i) clash
-
 replay_means : (p t r q : Choices) (rest : List Text) (o : Options) (says : LeafSays (leaf_at 1 p t r q) rest) → texts p.now ≡ planner_words → texts t.now ≡ tail_words → texts r.now ≡ replies_words
     → Reads (codes "replay") (λ id. first_of id (rows_after (leaf_at 1 p t r q).rules [] rest)) o → Means (codes "replay") says.settings o
 replay_means p t r q rest Check says planners tails replies reads = absurd (reads.0 refl)
@@ -241,7 +237,6 @@ replay_means p t r q rest (Replay o) says planners tails replies reads = (
         (λ id. first_of id (rows_after (leaf_at 1 p t r q).rules [] rest)) says.first reads.1.vehicles;
   },
   λ lacks. reads.2 (lacks_as (λ id. value_of id says.settings) _ (λ id. sym (says.first id)) lacks),
-  λ clash. reads.3 (clashes_as (λ id. value_of id says.settings) _ (λ id. sym (says.first id)) clash),
 )
 replay_means p t r q rest Verify says planners tails replies reads = absurd (other_word (codes "replay") (codes "verify") refl reads)
 replay_means p t r q rest (Live o) says planners tails replies reads = absurd (other_word (codes "replay") (codes "live") refl reads.0)
@@ -349,21 +344,21 @@ words_give a words o m f reads =
     (subst (λ (x : App). ReadsWords x words o) m.is reads)
 
 -- words of `replay` in which a mistake is found
-pub record Mistaken (words : List Text) (mistake : Mistake) : Type 0 where
+pub record Mistaken (words : List Text) : Type 0 where
   pub given : Text → Option Text
   pub says : ReplaySays words given
-  pub is : IsMistaken given mistake
+  pub is : LacksAny given
 
 -- what is found of the words is mistaken so
-abbrev pub FindsMistake : App → List Text → Mistake → Type 0
-FindsMistake a words mistake = (name : Text) (rows : List Row) → subcommand_of a words ≡ Some (name, rows) → (name ≡ codes "replay") × IsMistaken (λ id. first_of id rows) mistake
+abbrev pub FindsMistake : App → List Text → Type 0
+FindsMistake a words = (name : Text) (rows : List Row) → subcommand_of a words ≡ Some (name, rows) → (name ≡ codes "replay") × LacksAny (λ id. first_of id rows)
 
-menu_mistaken : (p t r q : Choices) (words : List Text) (mistake : Mistake) → fault_of (menu p t r q) words ≡ [] → FindsMistake (menu p t r q) words mistake → Mistaken words mistake
-menu_mistaken p t r q [] mistake f finds =
+menu_mistaken : (p t r q : Choices) (words : List Text) → fault_of (menu p t r q) words ≡ [] → FindsMistake (menu p t r q) words → Mistaken words
+menu_mistaken p t r q [] f finds =
     let e = menu_entered (built (menu p t r q)) [] (the_menu p t r q) f in
     let bad : ◌≡◌ {A = List Text} [] (e.leaf.name ∷ e.rest) = e.words_are in
     cc
-menu_mistaken p t r q (program ∷ after) mistake f finds =
+menu_mistaken p t r q (program ∷ after) f finds =
     let e = menu_entered (built (menu p t r q)) after (the_menu p t r q) f in
     let which = which_leaf p t r q (λ s. answers_to e.leaf.name (label_of s)) e.leaf e.found e.not_help in
     let told = finds e.leaf.name (rows_after e.leaf.rules [] e.rest) e.enters in
@@ -374,6 +369,6 @@ menu_mistaken p t r q (program ∷ after) mistake f finds =
     }
 
 -- words that are not refused, and in which a mistake is found
-pub words_mistaken : (a : App) (words : List Text) (mistake : Mistake) → IsMenu a → fault_of a words ≡ [] → FindsMistake a words mistake → Mistaken words mistake
-words_mistaken a words mistake m f finds =
-    menu_mistaken m.planners m.tails m.replies m.others words mistake (subst (λ (x : App). fault_of x words ≡ []) m.is f) (subst (λ (x : App). FindsMistake x words mistake) m.is finds)
+pub words_mistaken : (a : App) (words : List Text) → IsMenu a → fault_of a words ≡ [] → FindsMistake a words → Mistaken words
+words_mistaken a words m f finds =
+    menu_mistaken m.planners m.tails m.replies m.others words (subst (λ (x : App). fault_of x words ≡ []) m.is f) (subst (λ (x : App). FindsMistake x words) m.is finds)

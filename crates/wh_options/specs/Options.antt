@@ -121,15 +121,11 @@ LacksAny given = Lacks given (codes "told") (codes "log")
     ⊎ (Lacks given (codes "behind") (codes "vehicles")
     ⊎ Lacks given (codes "ahead") (codes "vehicles"))
 
--- two options are given that do not go together: of vehicles no log is kept in a file
-abbrev pub Clashes : (Text → Option Text) → Type 0
-Clashes given = (given (codes "vehicles") ≢ None) × (given (codes "log") ≢ None)
-
 -- the subcommand and its settings mean these options
 abbrev pub Means : Text → List Setting → Options → Type 0
 Means name settings Check = (name ≡ codes "check") × (settings ≡ [])
 Means name settings (Replay o) = (name ≡ codes "replay") × GivesReplay settings o
-    × (¬ LacksAny (λ id. value_of id settings)) × (¬ Clashes (λ id. value_of id settings))
+    × (¬ LacksAny (λ id. value_of id settings))
 Means name settings Verify = (name ≡ codes "verify") × (settings ≡ [])
 Means name settings (Live o) = (name ≡ codes "live") × HasOnly live_names settings
     × GivesFleet settings o.fleet

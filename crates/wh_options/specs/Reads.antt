@@ -3,11 +3,8 @@ use Rattle.std.specs.Prelude.{◌≡◌, ◌≢◌, ◌<◌, ◌^◌, ℕ, Optio
 use Rattle.std.specs.Str.{bytes_eq}
 use Rattle.std.specs.Str.Parse.{IsNumeral, digits_value, without_leading_plus}
 use Rattle.clap.specs.Words.{Text}
-use Rattle.wh_options.specs.Options.{Clashes, LacksAny, log_of}
-use Rattle.clap.specs.declared.error.kind.ErrorKind.{ErrorKind}
-use Rattle.clap.specs.declared.error.kind.ErrorKind.TheVariants.{ArgumentConflict, MissingRequiredArgument}
+use Rattle.wh_options.specs.Options.{LacksAny, log_of}
 use Rattle.wh_options.specs.declared.mistake.Mistake.{Mistake}
-use Rattle.wh_options.specs.declared.mistake.Mistake.TheVariants as mistake
 use Rattle.wh_options.specs.declared.chosen.PlannerKind.{PlannerKind}
 use Rattle.wh_options.specs.declared.chosen.PlannerKind.TheVariants.{Near, Patient}
 use Rattle.wh_options.specs.declared.chosen.Tail.{Tail}
@@ -77,20 +74,10 @@ pub record ReadsLive (given : Text → Option Text) (o : LiveOptions) : Type 0 w
 -- the subcommand and what was found for its arguments, as options
 abbrev pub Reads : Text → (Text → Option Text) → Options → Type 0
 Reads name given Check = (name ≢ codes "replay") × (name ≢ codes "live") × (name ≢ codes "verify")
-Reads name given (Replay o) = (name ≡ codes "replay") × ReadsReplay given o
-    × (¬ LacksAny given) × (¬ Clashes given)
+Reads name given (Replay o) = (name ≡ codes "replay") × ReadsReplay given o × (¬ LacksAny given)
 Reads name given Verify = name ≡ codes "verify"
 Reads name given (Live o) = (name ≡ codes "live") × ReadsLive given o
 
--- what was found is mistaken in this way
-abbrev pub IsMistaken : (Text → Option Text) → Mistake → Type 0
-IsMistaken given mistake.VehiclesWithLog = Clashes given
-IsMistaken given _ = LacksAny given
-
-abbrev pub kind_for : Mistake → ErrorKind
-kind_for mistake.VehiclesWithLog = ArgumentConflict
-kind_for _ = MissingRequiredArgument
-
--- what was found for the options of `replay` goes together, or is mistaken so
+-- no option of `replay` was found without the one that it belongs to, or that is the mistake
 abbrev pub Judges : (Text → Option Text) → Option Mistake → Type 0
-Judges given found = MatchOption found ((¬ LacksAny given) × (¬ Clashes given)) (IsMistaken given)
+Judges given found = MatchOption found (¬ LacksAny given) (λ mistake. LacksAny given)

@@ -1,9 +1,9 @@
 //! From the words of a command line to the options that they give.
 ghost use Rattle.std.specs.Prelude.{◌≡◌, IfErr, IfOk, IsErrAnd, List, Some, codes, map, option_map, ℕ};
 ghost use Rattle.clap.specs.Words.{Row, Text, first_of, first_value, found_of, kind_of, rows_of, subcommand_rows_of};
-ghost use Rattle.wh_options.specs.Options.{AreSame, Clashes, IsAmiss, LacksAny, WordsGive};
+ghost use Rattle.wh_options.specs.Options.{AreSame, IsAmiss, LacksAny, WordsGive};
 ghost use Rattle.wh_options.specs.Requests.{AsksBy, IsKind, help_flags, version_flags};
-ghost use Rattle.wh_options.specs.Reads.{IsMistaken, Reads, ReadsFleet, ReadsLive, ReadsNumber, ReadsReplay, ReadsTold, ReadsVehicles, planner_of, replies_of, tail_of};
+ghost use Rattle.wh_options.specs.Reads.{Reads, ReadsFleet, ReadsLive, ReadsNumber, ReadsReplay, ReadsTold, ReadsVehicles, planner_of, replies_of, tail_of};
 
 use crate::chosen::{
     Fleet, LiveOptions, Options, PlannerKind, ReplayOptions, Replies, Tail, VehicleOptions,
@@ -141,9 +141,9 @@ fn read_options<'a>(matches: &ArgMatches<'a>) -> Result<Options<'a>, Mistake>
     ensures read { IfOk result (λ o. (name : Text) (rows : List Row)
         → subcommand_rows_of matches.now ≡ Some (name, rows)
         → Reads name (λ id. first_of id rows) o) }
-    ensures mistaken { IfErr result (λ m. (name : Text) (rows : List Row)
+    ensures mistaken { IfErr result (λ _. (name : Text) (rows : List Row)
         → subcommand_rows_of matches.now ≡ Some (name, rows)
-        → (name ≡ codes "replay") × IsMistaken (λ id. first_of id rows) m) }
+        → (name ≡ codes "replay") × LacksAny (λ id. first_of id rows)) }
 {
     if let Some(replay) = matches.subcommand_matches("replay") {
         return match mistake_of(replay) {
@@ -178,9 +178,6 @@ pub fn options<'a, W: AsStr>(alloc: Global, words: &'a [W]) -> Result<Options<'a
     // Where an option is given without the one that it belongs to, that is told.
     ensures lacking { IsAmiss LacksAny (map W.text words.now)
         → IsErrAnd result (IsKind ErrorKind.MissingRequiredArgument) }
-    // Where two options are given that do not go together, that is told.
-    ensures clashing { IsAmiss Clashes (map W.text words.now)
-        → IsErrAnd result (IsKind ErrorKind.ArgumentConflict) }
     // Words that ask for help by a flag are answered with help, whatever follows.
     ensures help { AsksBy help_flags (map W.text words.now)
         → IsErrAnd result (IsKind ErrorKind.DisplayHelp) }

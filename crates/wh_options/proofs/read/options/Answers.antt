@@ -8,7 +8,7 @@ use Rattle.clap.specs.declared.error.kind.ErrorKind.{ErrorKind}
 use Rattle.clap.specs.declared.error.kind.ErrorKind.TheVariants.{ArgumentConflict, DisplayHelp, DisplayVersion, MissingRequiredArgument, OutOfMemory}
 use Rattle.wh_options.specs.Requests.{IsKind}
 use Rattle.wh_options.proofs.Asks.{help_is_given, version_is_given}
-use Rattle.wh_options.proofs.Amiss.{clashing_never, kind_clashing, kind_lacking, lacking_never, mistaken_never}
+use Rattle.wh_options.proofs.Amiss.{lacking_never, mistaken_never}
 use Rattle.wh_options.proofs.Exact.{each_is_taken, given_is_taken}
 use Rattle.wh_options.proofs.Once.{given_once}
 use Rattle.wh_options.proofs.Menus.{menu_is_simple, words_give, words_mistaken}
@@ -57,15 +57,6 @@ returns-in-Ok-clause-lacking g c =
     (λ name rows e. c.in-Ok.ensures.read name rows ((found.matches simple.1).1 ∙ e)) in
     λ amiss. lacking_never (map g.W.AsStr.text c.args.words.now) amiss c.in-Ok.options gives
 
-pub returns-in-Ok-clause-clashing : goal.returns-in-Ok-clause-clashing
-returns-in-Ok-clause-clashing g c =
-    let menu = c.in_ok-warehouse_command.ensures in
-    let simple = menu_is_simple _ menu in
-    let found = c.in_ok-matches.ensures in
-    let gives = words_give _ (map g.W.AsStr.text c.args.words.now) c.in-Ok.options menu (found.kinds simple.0)
-    (λ name rows e. c.in-Ok.ensures.read name rows ((found.matches simple.1).1 ∙ e)) in
-    λ amiss. clashing_never (map g.W.AsStr.text c.args.words.now) amiss c.in-Ok.options gives
-
 pub returns-in-Ok-clause-help : goal.returns-in-Ok-clause-help
 returns-in-Ok-clause-help g c =
     let menu = c.in_ok-warehouse_command.ensures in
@@ -85,27 +76,18 @@ returns-clause-refused g c =
     let menu = c.in_ok-warehouse_command.ensures in
     let simple = menu_is_simple _ menu in
     let found = c.in_ok-matches.ensures in
-    let wrong = words_mistaken _ (map g.W.AsStr.text c.args.words.now) c.in-Err.mistake menu (found.kinds simple.0)
+    let wrong = words_mistaken _ (map g.W.AsStr.text c.args.words.now) menu (found.kinds simple.0)
     (λ name rows e. c.in-Err.ensures.mistaken name rows ((found.matches simple.1).1 ∙ e)) in
-    λ o gives. absurd (mistaken_never (map g.W.AsStr.text c.args.words.now) wrong.given c.in-Err.mistake wrong.says wrong.is o gives)
+    λ o gives. absurd (mistaken_never (map g.W.AsStr.text c.args.words.now) wrong.given wrong.says wrong.is o gives)
 
 pub returns-clause-lacking : goal.returns-clause-lacking
 returns-clause-lacking g c =
     let menu = c.in_ok-warehouse_command.ensures in
     let simple = menu_is_simple _ menu in
     let found = c.in_ok-matches.ensures in
-    let wrong = words_mistaken _ (map g.W.AsStr.text c.args.words.now) c.in-Err.mistake menu (found.kinds simple.0)
+    let wrong = words_mistaken _ (map g.W.AsStr.text c.args.words.now) menu (found.kinds simple.0)
     (λ name rows e. c.in-Err.ensures.mistaken name rows ((found.matches simple.1).1 ∙ e)) in
-    λ amiss. inl (c.in_ok-error-in-Err.ensures ∙ kind_lacking (map g.W.AsStr.text c.args.words.now) wrong.given c.in-Err.mistake wrong.says wrong.is amiss)
-
-pub returns-clause-clashing : goal.returns-clause-clashing
-returns-clause-clashing g c =
-    let menu = c.in_ok-warehouse_command.ensures in
-    let simple = menu_is_simple _ menu in
-    let found = c.in_ok-matches.ensures in
-    let wrong = words_mistaken _ (map g.W.AsStr.text c.args.words.now) c.in-Err.mistake menu (found.kinds simple.0)
-    (λ name rows e. c.in-Err.ensures.mistaken name rows ((found.matches simple.1).1 ∙ e)) in
-    λ amiss. inl (c.in_ok-error-in-Err.ensures ∙ kind_clashing (map g.W.AsStr.text c.args.words.now) wrong.given c.in-Err.mistake wrong.says wrong.is amiss)
+    λ amiss. inl c.in_ok-error-in-Err.ensures
 
 pub returns-clause-help : goal.returns-clause-help
 returns-clause-help g c =
@@ -160,14 +142,4 @@ returns-in_err-matches-clause-lacking g c =
     rw came.1 (λ amiss.
     let fine = each_is_taken _ (map g.W.AsStr.text c.args.words.now) amiss.settings amiss.options menu amiss.line amiss.each in
     same_kind MissingRequiredArgument c.in_err-matches.field-0.0 came.0 came.2
-    (inr (only_memory _ c.in_err-matches.field-0.0 (c.in_err-matches.ensures.kinds simple.0) fine)))
-
-pub returns-in_err-matches-clause-clashing : goal.returns-in_err-matches-clause-clashing
-returns-in_err-matches-clause-clashing g c =
-    let menu = c.in_ok-warehouse_command.ensures in
-    let simple = menu_is_simple _ menu in
-    let came = err_from_is_err_and c.from_residual-in_err-matches.result c.from_residual-in_err-matches.ensures.1 in
-    rw came.1 (λ amiss.
-    let fine = each_is_taken _ (map g.W.AsStr.text c.args.words.now) amiss.settings amiss.options menu amiss.line amiss.each in
-    same_kind ArgumentConflict c.in_err-matches.field-0.0 came.0 came.2
     (inr (only_memory _ c.in_err-matches.field-0.0 (c.in_err-matches.ensures.kinds simple.0) fine)))

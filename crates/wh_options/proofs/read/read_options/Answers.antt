@@ -7,8 +7,8 @@ use Rattle.clap.specs.Words.{Row, Text, first_of, first_value, found_of, rows_of
 use Rattle.clap.specs.declared.parser.matches.ArgMatches.{ArgMatches}
 use Rattle.clap.specs.declared.parser.matches.SubCommand.{SubCommand}
 use Rattle.clap.specs.declared.parser.matches.ArgMatches.TheViews.{out-ArgMatches, out-SubCommand}
-use Rattle.wh_options.specs.Options.{Clashes, LacksAny}
-use Rattle.wh_options.specs.Reads.{IsMistaken, ReadsLive, ReadsReplay}
+use Rattle.wh_options.specs.Options.{LacksAny}
+use Rattle.wh_options.specs.Reads.{ReadsLive, ReadsReplay}
 use Rattle.wh_options.proofs.Values.{some_same}
 use Rattle.wh_options.proofs.read.read_options.Goals as goal
 
@@ -33,15 +33,14 @@ is_replay m inner name rows e found = some_same _ _ (sym (name_is m name rows e)
 pub returns-in-Some-mistake_of-clause-mistaken : goal.returns-in-Some-mistake_of-clause-mistaken
 returns-in-Some-mistake_of-clause-mistaken c = λ name rows e.
     let same = given_are c.args.matches.now c.in-Some.replay.now name rows e c.in-Some.ensures.rows in
-    (is_replay c.args.matches.now c.in-Some.replay.now name rows e (c.in-Some.ensures.found.0 refl), subst (λ (f : Text → Option Text). IsMistaken f c.in-Some-mistake_of.mistake) (λ i id. same id i) c.in-Some-mistake_of.ensures)
+    (is_replay c.args.matches.now c.in-Some.replay.now name rows e (c.in-Some.ensures.found.0 refl), subst (λ (f : Text → Option Text). LacksAny f) (λ i id. same id i) c.in-Some-mistake_of.ensures)
 
 pub returns-in-None-clause-read : goal.returns-in-None-clause-read
 returns-in-None-clause-read c = λ name rows e.
     let same = given_are c.args.matches.now c.in-Some.replay.now name rows e c.in-Some.ensures.rows in (
       is_replay c.args.matches.now c.in-Some.replay.now name rows e (c.in-Some.ensures.found.0 refl),
       subst (λ (f : Text → Option Text). ReadsReplay f c.replay_options.result) (λ i id. same id i) c.replay_options.ensures,
-      subst (λ (f : Text → Option Text). LacksAny f → ⊥) (λ i id. same id i) c.in-None.ensures.0,
-      subst (λ (f : Text → Option Text). Clashes f → ⊥) (λ i id. same id i) c.in-None.ensures.1,
+      subst (λ (f : Text → Option Text). LacksAny f → ⊥) (λ i id. same id i) c.in-None.ensures,
     )
 
 pub returns-in-Some-subcommand_matches-clause-read : goal.returns-in-Some-subcommand_matches-clause-read
