@@ -119,7 +119,7 @@ module _ {X : Type 0} (fits : X → Floor → Bool) (count : X → ℕ) (text : 
 -- ---- bytes that were taken, and what was at fault
 
 pub taken_none : (i : Input) → Taken i i
-taken_none i = record { bytes = []; takes = Consumes-nil (left i) }
+taken_none i = record { bytes = []; plain = tt; takes = Consumes-nil (left i) }
 
 pub taken_more : (i j k : Input) → Taken i j → Taken j k → Taken i k
 taken_more i j k p q = record { bytes = p.bytes ++ q.bytes; takes = Consumes-trans (left i) (left j) (left k) p.bytes q.bytes p.takes q.takes }

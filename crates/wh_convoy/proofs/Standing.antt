@@ -224,7 +224,7 @@ module _ {X : Type 0} (fits : X → Floor → Bool) (count : X → ℕ) (text : 
 
     until_now : ConvoysUntil fits count text bound i j old had has stood stands synced
     until_now = until_join j has stands synced
-        (until_taken j j mid has has stands synced (record { bytes = []; takes = Consumes-nil (left j) }) (Keeps-refl has) f.synced_is)
+        (until_taken j j mid has has stands synced (record { bytes = []; plain = tt; takes = Consumes-nil (left j) }) (Keeps-refl has) f.synced_is)
 
   -- ---- from each drive of the vehicles
 
