@@ -19,7 +19,7 @@ use Rattle.wh_dispatch.specs.Lines.{Depot, heard_in}
 use Rattle.wh_dispatch.specs.Scripts.{SomeManned}
 use Rattle.wh_journal.specs.declared.rounds.Round.TheVariants.{Served, Ended}
 use Rattle.wh_journal.proofs.Joining.{replies_text}
-use Rattle.wh_convoy.specs.Faults.{fault_of}
+use Rattle.wh_convoy.specs.Faults.{fault_of, TakesSome}
 use Rattle.wh_convoy.specs.declared.fault.ConvoyFault.{ConvoyFault}
 use Rattle.wh_convoy.specs.declared.fault.ConvoyFault.TheVariants.{Unkept, NoMemory}
 use Rattle.wh_convoy.specs.Keeping.{kept_in}
@@ -118,14 +118,18 @@ module _ {X : Type 0} (fits : X → Floor → Bool) (count : X → ℕ) (text : 
 
 -- ---- bytes that were taken, and what was at fault
 
-pub taken_none : (i : Input) → Taken i i
-taken_none i = record { bytes = []; plain = tt; takes = Consumes-nil (left i) }
+pub taken_none : (i : Input) → TakesSome i i
+taken_none i = record { bytes = []; takes = Consumes-nil (left i) }
 
-pub taken_more : (i j k : Input) → Taken i j → Taken j k → Taken i k
+pub taken_more : (i j k : Input) → TakesSome i j → TakesSome j k → TakesSome i k
 taken_more i j k p q = record { bytes = p.bytes ++ q.bytes; takes = Consumes-trans (left i) (left j) (left k) p.bytes q.bytes p.takes q.takes }
 
--- a line is taken too
-pub taken_line : (next : Next) (i j : Input) (line : List ℕ) → Gathered next i j line → Taken i j
+-- part of a line is taken too
+pub taken_part : (i j : Input) → Taken i j → TakesSome i j
+taken_part i j t = record { bytes = t.bytes; takes = t.takes }
+
+-- and a line
+pub taken_line : (next : Next) (i j : Input) (line : List ℕ) → Gathered next i j line → TakesSome i j
 taken_line Whole i j line g = record { bytes = g.raw ++ 10 ∷ []; takes = g.ends }
 taken_line Last i j line g = record { bytes = g.raw; takes = g.ends.0 }
 taken_line End i j line g = record { bytes = g.raw; takes = g.ends.0 }

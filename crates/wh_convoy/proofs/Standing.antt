@@ -3,7 +3,8 @@ use Rattle.std.proofs.Common.{◌≡◌, ℕ, ◌+◌, ◌≤◌, ◌∙◌, Lis
 use Rattle.std.specs.Io.KnownBytes.{Appends, Keeps}
 use Rattle.std.proofs.KnownBytes.{Keeps-refl, Consumes-nil, Consumes-trans, Appends-nil, Appends-kept, Appends-trans}
 use Rattle.wh_words.specs.Lines.{text_of as lines_text}
-use Rattle.wh_lines.specs.Input.{Input, left, Takes, Taken}
+use Rattle.wh_lines.specs.Input.{Input, left, Takes}
+use Rattle.wh_convoy.specs.Faults.{TakesSome}
 use Rattle.wh_lines.specs.Output.{WritesFront}
 use Rattle.wh_lines.proofs.Written.{front_after}
 use Rattle.wh_grid.specs.Grids.{Floor}
@@ -129,7 +130,7 @@ module _ {X : Type 0} (fits : X → Floor → Bool) (count : X → ℕ) (text : 
     unsettled Endless u = absurd u
 
   -- the lines were not all gathered, and nothing is told
-  until_taken : (i j : Input) (old : Depot X) (had has : Option (List ℕ)) (stood synced : Held) → Taken i j → Keeps had has → synced ≡ stood →
+  until_taken : (i j : Input) (old : Depot X) (had has : Option (List ℕ)) (stood synced : Held) → TakesSome i j → Keeps had has → synced ≡ stood →
       ConvoysUntil fits count text bound i j old had has stood stood synced
   until_taken i j old had has stood synced t flushed same = record {
     read = [];
@@ -224,7 +225,7 @@ module _ {X : Type 0} (fits : X → Floor → Bool) (count : X → ℕ) (text : 
 
     until_now : ConvoysUntil fits count text bound i j old had has stood stands synced
     until_now = until_join j has stands synced
-        (until_taken j j mid has has stands synced (record { bytes = []; plain = tt; takes = Consumes-nil (left j) }) (Keeps-refl has) f.synced_is)
+        (until_taken j j mid has has stands synced (record { bytes = []; takes = Consumes-nil (left j) }) (Keeps-refl has) f.synced_is)
 
   -- ---- from each drive of the vehicles
 
@@ -243,7 +244,7 @@ module _ {X : Type 0} (fits : X → Floor → Bool) (count : X → ℕ) (text : 
       let r = g d m in
       unsettled i j _ _ had mid has stood stands synced round said came first history r.2 flushed here are fault u
 
-  pub taken_from : (i j : Input) (old : Seen) (spares : List X) (o : Crew) (had has : Option (List ℕ)) (stood synced : Held) → Taken i j → Keeps had has → synced ≡ stood →
+  pub taken_from : (i j : Input) (old : Seen) (spares : List X) (o : Crew) (had has : Option (List ℕ)) (stood synced : Held) → TakesSome i j → Keeps had has → synced ≡ stood →
       ConvoysUntilFrom fits count text bound i j old spares o had has stood stood synced
   taken_from i j old spares o had has stood synced t flushed same d m = until_taken i j _ had has stood synced t flushed same
 
