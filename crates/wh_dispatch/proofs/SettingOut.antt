@@ -1,8 +1,7 @@
 -- vehicles that go on from where they stand, of which nothing was told
-use Rattle.std.proofs.Common.{◌≡◌, ◌≢◌, ◌⊎◌, ◌↔◌, ℕ, ◌+◌, ◌<◌, ◌≤◌, ◌∙◌, inl, inr, List, [], ◌∷◌, ◌++◌, length, Option, Some, None, sym, subst, refl, ap, arith, append-nil}
+use Rattle.std.proofs.Common.{◌≡◌, ◌≢◌, ℕ, ◌+◌, ◌<◌, ◌≤◌, ◌∙◌, inl, inr, List, [], ◌∷◌, ◌++◌, length, Option, Some, None, sym, subst, refl, ap, arith, append-nil}
 use Rattle.std.specs.Prelude.{Contains, option_map}
 use Rattle.std.specs.List.{AllPairs}
-use Rattle.std.specs.Io.KnownBytes.{Appends}
 use Rattle.std.proofs.lemmas.Bool.{cases_lt}
 use Rattle.std.proofs.lemmas.Option.{same_Some, slice_get_within}
 use Rattle.std.proofs.lemmas.List.Elements.{Contains-append_left, Contains-append_right, Contains-append_cases}
@@ -14,11 +13,10 @@ use Rattle.wh_core.proofs.Work.{sound-reached}
 use Rattle.wh_book.specs.Drafts.{Seen}
 use Rattle.wh_drive.specs.Drives.{Drive}
 use Rattle.wh_order.specs.Orders.{Represents}
-use Rattle.wh_vehicles.specs.Plans.{IsCarriedOut}
-use Rattle.wh_vehicles.specs.Visits.{Visit, HasMade}
+use Rattle.wh_vehicles.specs.Visits.{HasMade}
 use Rattle.wh_dispatch.specs.declared.visits.Pending.{Pending}
 use Rattle.wh_dispatch.specs.Crews.{Crew, IsInStep, IsManned, IsWatched, IsKept, AreWatched}
-use Rattle.wh_dispatch.specs.Visiting.{due_visits, left_after, SomeStanding, listed}
+use Rattle.wh_dispatch.specs.Visiting.{due_visits, SomeStanding, listed}
 use Rattle.wh_dispatch.specs.Scripts.{TellsAll}
 use Rattle.wh_dispatch.specs.SettingOut.{NoneIsTold, untold_of, SomeInStep, SetsOut}
 use Rattle.wh_dispatch.proofs.Members.{in_cons, none_in, first_in, pairs_nil, pairs_join}

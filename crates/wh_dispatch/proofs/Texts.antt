@@ -7,7 +7,7 @@ use Rattle.std.proofs.lemmas.List.{take_more, map-append, take-append-drop, flat
 use Rattle.std.specs.Io.KnownBytes.{Appends}
 use Rattle.std.proofs.KnownBytes.{Appends-trans}
 use Rattle.wh_lines.specs.Output.{WritesFront}
-use Rattle.wh_lines.proofs.Written.{front_after, front_all, front_first}
+use Rattle.wh_lines.proofs.Written.{front_after, front_first}
 use Rattle.wh_replay.specs.Answers.{reply_line, text_of}
 use Rattle.wh_order.specs.declared.visit.Told.{Told}
 use Rattle.wh_dispatch.specs.Lines.{go_line, go_lines}
@@ -35,16 +35,9 @@ front_before a b xs ys w = subst (WritesFront a b) (sym (text_append xs ys)) (fr
 pub until_then : (fault : DispatchFault) (a b c : Option (List ℕ)) (xs ys : List (List ℕ)) → Appends a b (text_of xs) → WritesUntil fault b c (text_of ys) →
     WritesUntil fault a c (text_of (xs ++ ys))
 until_then Unwritten a b c xs ys p q = front_then a b c xs ys p q
-until_then Broken a b c xs ys p q = all_then a b c xs ys p q
-until_then Endless a b c xs ys p q = all_then a b c xs ys p q
+until_then Broken a b c xs ys p q = absurd q
+until_then Endless a b c xs ys p q = absurd q
 until_then NoMemory a b c xs ys p q = all_then a b c xs ys p q
-
--- all that was to be written is written
-pub until_all : (fault : DispatchFault) (a b : Option (List ℕ)) (xs : List (List ℕ)) → Appends a b (text_of xs) → WritesUntil fault a b (text_of xs)
-until_all Unwritten a b xs p = front_all a b (text_of xs) p
-until_all Broken a b xs p = p
-until_all Endless a b xs p = p
-until_all NoMemory a b xs p = p
 
 pub unwritten : (fault : DispatchFault) (a b : Option (List ℕ)) (bytes : List ℕ) → fault ≡ Unwritten → WritesFront a b bytes → WritesUntil fault a b bytes
 unwritten fault a b bytes e w = subst (λ (f : DispatchFault). WritesUntil f a b bytes) (sym e) w

@@ -162,16 +162,3 @@ ServesAll fits count text bound [] old new texts = (new ≡ old) × (texts ≡ [
 ServesAll {X} fits count text bound (line ∷ lines) old new texts =
     (mid : Depot X) × (first : List (List ℕ)) × (rest : List (List ℕ)) × ServesLine fits count text bound (heard line) old mid first
     × ServesAll fits count text bound lines mid new rest × (texts ≡ first ++ rest)
-
--- Lines were served, and the last of them may have been left before its vehicles had all gone on.
-pub record LeavesOff {X : Type 0} (fits : X → Floor → Bool) (count : X → ℕ) (text : Answered → List ℕ) (bound : ℕ) (lines : List (List ℕ)) (old new : Depot X)
-    (texts : List (List ℕ)) : Type 0 where
-  pub before : List (List ℕ)
-  pub line : List ℕ
-  pub lines_are : lines ≡ before ++ line ∷ []
-  pub mid : Depot X
-  pub first : List (List ℕ)
-  pub all : ServesAll fits count text bound before old mid first
-  pub last : List (List ℕ)
-  pub takes : TakesLine fits count text bound (heard line) mid new last
-  pub texts_are : texts ≡ first ++ last

@@ -1,8 +1,8 @@
 -- what a script with vehicles gives, and what a beginning of it gives
-use Rattle.std.specs.Prelude.{◌≡◌, ◌⊎◌, ℕ, Bool, List, [], ◌++◌, Option}
+use Rattle.std.specs.Prelude.{◌≡◌, ◌⊎◌, ℕ, Bool, List, [], ◌∷◌, ◌++◌, length, Option}
 use Rattle.std.specs.Io.KnownBytes.{Appends, IsAtEnd}
 use Rattle.wh_text.specs.Lines.{lines_of}
-use Rattle.wh_lines.specs.Text.{EndsLine}
+use Rattle.wh_lines.specs.Text.{EndsLine, IsPlain}
 use Rattle.wh_lines.specs.Input.{Input, left, Takes}
 use Rattle.wh_lines.specs.Output.{WritesFront}
 use Rattle.wh_lines.specs.declared.next.LineFault.{LineFault as NoLine}
@@ -12,6 +12,9 @@ use Rattle.wh_grid.specs.Grids.{Floor}
 use Rattle.wh_log.specs.Told.{Answered}
 use Rattle.wh_book.specs.Drafts.{Seen}
 use Rattle.wh_replay.specs.Answers.{reply_line, text_of}
+use Rattle.wh_replay.specs.Scripts.{IsWholeUntil, HasCause}
+use Rattle.wh_replay.specs.declared.script.ReplayFault.{ReplayFault}
+use Rattle.wh_replay.specs.declared.script.ReplayFault.TheVariants as replay
 use Rattle.wh_drive.specs.Drives.{Drive}
 use Rattle.wh_drive.specs.Runs.{Event, Run}
 use Rattle.wh_order.specs.Settling.{IsQuiet, OnlySettle, told_by}
@@ -22,17 +25,18 @@ use Rattle.wh_vehicles.specs.declared.report.Report.{Report}
 use Rattle.wh_vehicles.specs.declared.notice.Notice.{Notice}
 use Rattle.wh_dispatch.specs.Crews.{Crew, IsManned}
 use Rattle.wh_dispatch.specs.Visiting.{due_visits, left_after}
-use Rattle.wh_dispatch.specs.Lines.{Depot, Heard, TakesLine, ServesLine, ServesAll, LeavesOff, go_lines, visit_lines}
+use Rattle.wh_dispatch.specs.Lines.{Depot, Heard, heard, TakesLine, ServesLine, ServesAll, go_lines, visit_lines}
 use Rattle.wh_dispatch.specs.declared.visits.Pending.{Pending}
 use Rattle.wh_dispatch.specs.declared.script.DispatchFault.{DispatchFault}
 use Rattle.wh_dispatch.specs.declared.script.DispatchFault.TheVariants.{Broken, Endless, Unwritten, NoMemory}
 
--- after a fault of the writer a front is written, after any other all
+-- A line that was begun is left for the writer, and then a front is written, or for want of memory, and then all that was found;
+-- it is not left for the reader.
 abbrev pub WritesUntil : DispatchFault → Option (List ℕ) → Option (List ℕ) → List ℕ → Type 0
 WritesUntil Unwritten had has bytes = WritesFront had has bytes
-WritesUntil Broken had has bytes = Appends had has bytes
-WritesUntil Endless had has bytes = Appends had has bytes
 WritesUntil NoMemory had has bytes = Appends had has bytes
+WritesUntil Broken had has bytes = ⊥
+WritesUntil Endless had has bytes = ⊥
 
 -- Vehicles go on as far as they may. The visits that they have made by then and that were not told, and then their steps,
 -- stand behind what was written; of the tasks those are kept of which not all visits were told.
@@ -87,15 +91,54 @@ pub record Dispatches {X : Type 0} (fits : X → Floor → Bool) (count : X → 
   pub serves : ServesAll fits count text bound (lines_of read) old new texts
   pub appends : Appends had has (text_of texts)
 
--- A beginning of the script was served. What follows it in the bytes that were taken is part of a line that was not served.
+-- all lines were served, and what they are told is written, all of it
+pub record ServesThrough {X : Type 0} (fits : X → Floor → Bool) (count : X → ℕ) (text : Answered → List ℕ) (bound : ℕ) (lines : List (List ℕ)) (old new : Depot X)
+    (had has : Option (List ℕ)) : Type 0 where
+  pub texts : List (List ℕ)
+  pub serves : ServesAll fits count text bound lines old new texts
+  pub appends : Appends had has (text_of texts)
+
+-- All lines but the last were served, and what they are told is written, all of it. The last was begun, and left before its
+-- vehicles had all gone on, or before all that it is told was written.
+pub record LeavesOff {X : Type 0} (fits : X → Floor → Bool) (count : X → ℕ) (text : Answered → List ℕ) (bound : ℕ) (fault : DispatchFault) (lines : List (List ℕ)) (old new : Depot X)
+    (had has : Option (List ℕ)) : Type 0 where
+  pub before : List (List ℕ)
+  pub line : List ℕ
+  pub lines_are : lines ≡ before ++ line ∷ []
+  pub mid : Depot X
+  pub between : Option (List ℕ)
+  pub through : ServesThrough fits count text bound before old mid had between
+  pub texts : List (List ℕ)
+  pub takes : TakesLine fits count text bound (heard line) mid new texts
+  pub writes : WritesUntil fault between has (text_of texts)
+
+-- A reader's fault comes between lines, want of memory within one, a writer's fault in either place.
+abbrev pub ServesUntil : {X : Type 0} → (X → Floor → Bool) → (X → ℕ) → (Answered → List ℕ) → ℕ → DispatchFault → List (List ℕ) → Depot X → Depot X → Option (List ℕ) → Option (List ℕ) → Type 0
+ServesUntil fits count text bound Broken lines old new had has = ServesThrough fits count text bound lines old new had has
+ServesUntil fits count text bound Endless lines old new had has = ServesThrough fits count text bound lines old new had has
+ServesUntil fits count text bound NoMemory lines old new had has = LeavesOff fits count text bound NoMemory lines old new had has
+ServesUntil fits count text bound Unwritten lines old new had has =
+    ServesThrough fits count text bound lines old new had has ⊎ LeavesOff fits count text bound Unwritten lines old new had has
+
+-- What a fault says of the script's bytes and of its cause is what it says without vehicles; for want of memory, too, a line is
+-- left that may be the input's last.
+abbrev pub plain_fault : DispatchFault → ReplayFault
+plain_fault Broken = replay.Broken
+plain_fault Endless = replay.Endless
+plain_fault Unwritten = replay.Unwritten
+plain_fault NoMemory = replay.Unwritten
+
+-- A beginning of the script was served, whole lines, and no line behind it. What was taken behind it is part of one line, and
+-- was not served.
 pub record Stops {X : Type 0} (fits : X → Floor → Bool) (count : X → ℕ) (text : Answered → List ℕ) (bound : ℕ) (fault : DispatchFault) (before after : Input) (old new : Depot X)
     (had has : Option (List ℕ)) : Type 0 where
   pub read : List ℕ
   pub begun : List ℕ
   pub takes : Takes before after (read ++ begun)
-  pub texts : List (List ℕ)
-  pub serves : ServesAll fits count text bound (lines_of read) old new texts ⊎ LeavesOff fits count text bound (lines_of read) old new texts
-  pub writes : WritesUntil fault had has (text_of texts)
+  pub part : IsPlain begun
+  pub whole : IsWholeUntil (plain_fault fault) after read
+  pub serves : ServesUntil fits count text bound fault (lines_of read) old new had has
+  pub cause : HasCause (plain_fault fault) before after (length (lines_of read))
 
 -- the fault of a script whose next line did not come
 abbrev pub fault_of : NoLine → DispatchFault

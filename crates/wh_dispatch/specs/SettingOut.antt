@@ -1,5 +1,5 @@
 -- vehicles that go on from where they stand, as after a stop
-use Rattle.std.specs.Prelude.{◌↔◌, ℕ, List, ◌++◌, Contains, length, Option, Some, None, option_map}
+use Rattle.std.specs.Prelude.{◌↔◌, ℕ, List, ◌++◌, Contains, length, Option, option_map}
 use Rattle.std.specs.List.{AllPairs}
 use Rattle.std.specs.Io.KnownBytes.{Appends}
 use Rattle.wh_tasks.specs.declared.task.Task.{Task}

@@ -1,6 +1,6 @@
 //! A script that is served to its end, or until a fault.
 
-ghost use Rattle.std.specs.Prelude.{◌≡◌, IfErr, OnErr, OnOk, true};
+ghost use Rattle.std.specs.Prelude.{◌≡◌, IfErr, OnErr, OnOk, true, false};
 ghost use Rattle.std.specs.Io.KnownBytes.{Keeps};
 ghost use Rattle.wh_log.specs.Told.{told_text};
 ghost use Rattle.wh_dispatch.specs.Scripts.{fault_of, DispatchesFrom, StopsFrom, SomeManned};
@@ -47,6 +47,7 @@ fn serve_all<R: Read, W: Write, P: Planner>(
     spares: &mut Vec<P>,
     vehicles: &mut Vehicles,
 ) -> Result<(), DispatchFault>
+    requires unfailed { lines.old.failed ≡ false }
     requires manned { SomeManned warehouse.old.book vehicles.old }
     ensures ok { OnOk result (DispatchesFrom P.fits_map P.slot_count (told_text form) vehicles.old.bound lines.old lines.new warehouse.old.book spares.old.items vehicles.old warehouse.new.book spares.new.items vehicles.new (W.contents writer.old) (W.contents writer.new)) }
     ensures fault { IfErr result (λ fault. StopsFrom P.fits_map P.slot_count (told_text form) vehicles.old.bound fault lines.old lines.new warehouse.old.book spares.old.items vehicles.old warehouse.new.book spares.new.items (W.contents writer.old) (W.contents writer.new)) }
@@ -100,7 +101,8 @@ pub fn dispatch<R: Read, W: Write, P: Planner>(
     requires manned { SomeManned warehouse.old.book vehicles.old }
     // What was written is what the lines are told; the run is carried out by the vehicles, and nobody who may start is left untold.
     ensures ok { OnOk result (DispatchesFrom P.fits_map P.slot_count (told_text form) vehicles.old.bound lines.old lines.new warehouse.old.book spares.old.items vehicles.old warehouse.new.book spares.new.items vehicles.new (W.contents writer.old) (W.contents writer.new)) }
-    // On a fault this holds of a beginning of the script, and of a front of what was to be written.
+    // On a fault this holds of a beginning of the script, of whole lines: what all but the last are told was written whole, and of
+    // the last a front; and the cause is a true one.
     ensures fault { IfErr result (λ fault. StopsFrom P.fits_map P.slot_count (told_text form) vehicles.old.bound fault lines.old lines.new warehouse.old.book spares.old.items vehicles.old warehouse.new.book spares.new.items (W.contents writer.old) (W.contents writer.new)) }
     // After a fault there is nothing more.
     ensures failed { OnErr result (lines.new.failed ≡ true) }

@@ -1,4 +1,4 @@
-use Rattle.std.proofs.Common.{rules, ◌≡◌, ◌<◌, ◌≤◌, length, arith, []}
+use Rattle.std.proofs.Common.{rules, ◌≡◌, ◌≤◌, length, arith, []}
 use Rattle.wh_dispatch.proofs.SettingOut.{listed_start, listed_step, listed_all}
 use Rattle.wh_dispatch.proofs.fleet.all_untold.Goals as goal
 
