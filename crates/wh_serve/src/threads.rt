@@ -8,7 +8,8 @@ ghost use Rattle.wh_desk.specs.Calls.{InOrder};
 ghost use Rattle.wh_serve.specs.Texts.{receipt_text};
 ghost use Rattle.wh_serve.specs.Hosting.{Session, IsDue, ReportAt, AllServed};
 
-use crate::client::serve_client;
+use crate::allowance::Allowance;
+use crate::client::{Served, serve_client};
 use crate::form::Form;
 use crate::leave::Leave;
 use std::alloc::{AllocError, Global};
@@ -21,21 +22,23 @@ use wh_crew::CrewFault;
 use wh_desk::{Desk, DeskName, History, Pass};
 use wh_lines::Lines;
 use wh_planner::Planner;
-use wh_replay::{ReplayFault, Replayed};
+use wh_replay::ReplayFault;
 
-/// A client: what it sends, where it is told its replies, and the planners that its Replaces may lend, the last first.
+/// A client: what it sends, where it is told its replies, the planners that its Replaces may lend, the last first, and what it
+/// may do.
 #[derive(Drop)]
 pub struct Client<R, W, P = Box<dyn Planner>> {
     pub reader: R,
     pub writer: W,
     pub spares: Vec<P>,
+    pub allowance: Allowance,
 }
 
 /// How a client ended: its writer, and how many replies it was told, or why it was not served to its end.
 #[derive(Drop)]
 pub struct Ended<W> {
     pub writer: W,
-    pub outcome: Result<Replayed, ReplayFault>,
+    pub outcome: Result<Served, ReplayFault>,
 }
 
 /// What a client's thread leaves.
@@ -85,12 +88,14 @@ fn serve_whole<
         reader,
         mut writer,
         mut spares,
+        allowance,
     } = client;
     let mut lines = Lines::new(reader);
     let outcome = serve_client(
         rt,
         alloc,
         form,
+        allowance,
         &mut lines,
         &mut writer,
         desk,
