@@ -6,7 +6,8 @@ use Rattle.std.proofs.lemmas.List.Elements.{All-head, All-tail}
 use Rattle.std.proofs.lemmas.Option.{same_Some, slice_get_within}
 use Rattle.wh_event.specs.declared.entry.Entry.{Entry}
 use Rattle.wh_desk.specs.Lists.{AllAt, entries_of, Received}
-use Rattle.wh_desk.specs.Calls.{InOrder}
+use mathlib.Core.List.{IsPrefix}
+use Rattle.wh_desk.specs.Calls.{InOrder, AllBegin}
 use Rattle.wh_replay.specs.declared.script.ReplayFault.{ReplayFault}
 use Rattle.std.specs.Prelude.{IfOk, IfErr}
 use Rattle.std.specs.Io.KnownBytes.{Keeps}
@@ -77,9 +78,9 @@ pub all_served : {C W Y : Type 0} (serves : C → Received → Received → W �
     (clients : List C) (passes : List Received) (rs : List Y) (callers : ℕ) (history : List Entry)
     → InOrder callers passes → length clients ≡ length passes → length rs ≡ length passes
     → AllAt (λ i r. ReportAt serves clients passes i (pass r) (ended r).writer (ended r).outcome) rs
-    → All (λ p. p.list ≡ entries_of history p.caller) (map pass rs)
+    → All (λ p. p.list ≡ entries_of history p.caller) (map pass rs) → AllBegin history (map pass rs)
     → AllServed serves clients passes history (map ended rs)
-all_served {C} {W} serves keeps pass ended clients passes rs callers history order same count reports lists = record {
+all_served {C} {W} serves keeps pass ended clients passes rs callers history order same count reports lists begins = record {
   one_each = length-map rs ended ∙ count ∙ sym same;
   each = λ i client had end client_at pass_at end_at.
       let r = map_at ended rs i end end_at in
@@ -92,28 +93,29 @@ all_served {C} {W} serves keeps pass ended clients passes rs callers history ord
         has = pass r.0;
         caller_is = kept ∙ mine;
         list_is = whole ∙ ap (entries_of history) (kept ∙ mine);
+        knows = all_at (λ (p : Received). IsPrefix p.known history) (map pass rs) begins i (pass r.0) place;
         served = subst (λ (e : Ended W). serves client had (pass r.0) e.writer e.outcome) r.2 s;
       };
 }
 
 -- a session keeps the caller
-fared_caller : {X : Type 0} (may : Allowance) (fits : X → Floor → Bool) (count : X → ℕ) (grid : Floor) (text : ℕ × Entry → List ℕ) (ended : Result Served ReplayFault) (before after : Input) (old : Received) (spares : List X) (new : Received) (rest : List X) (had has : Option (List ℕ))
-    → Fared may fits count grid text ended before after old spares new rest had has → new.caller ≡ old.caller
-fared_caller may fits count grid text (Ok served) before after old spares new rest had has f = f.output.caller_is
-fared_caller may fits count grid text (Err fault) before after old spares new rest had has f = f.output.caller_is
+fared_caller : {X : Type 0} (may : Allowance) (cells : ℕ) (fits : X → Floor → Bool) (count : X → ℕ) (grid : Floor) (text : ℕ × Entry → List ℕ) (ended : Result Served ReplayFault) (before after : Input) (old : Received) (spares : List X) (new : Received) (rest : List X) (had has : Option (List ℕ))
+    → Fared may cells fits count grid text ended before after old spares new rest had has → new.caller ≡ old.caller
+fared_caller may cells fits count grid text (Ok served) before after old spares new rest had has f = f.output.caller_is
+fared_caller may cells fits count grid text (Err fault) before after old spares new rest had has f = f.output.caller_is
 
-pub session_caller : {R W X : Type 0} (fits : X → Floor → Bool) (count : X → ℕ) (grid : Floor) (text : ℕ × Entry → List ℕ) (remaining : R → Option (List ℕ)) (contents : W → Option (List ℕ))
-    → KeepsCaller (λ (d : Client R W X) had has w e. Session fits count grid text remaining contents d had has w e)
-session_caller fits count grid text remaining contents client had has writer ended s =
-    fared_caller client.allowance fits count grid text ended s.before s.after had client.spares.items has s.rest (contents client.writer) (contents writer) s.fared
+pub session_caller : {R W X : Type 0} (cells : ℕ) (fits : X → Floor → Bool) (count : X → ℕ) (grid : Floor) (text : ℕ × Entry → List ℕ) (remaining : R → Option (List ℕ)) (contents : W → Option (List ℕ))
+    → KeepsCaller (λ (d : Client R W X) had has w e. Session cells fits count grid text remaining contents d had has w e)
+session_caller cells fits count grid text remaining contents client had has writer ended s =
+    fared_caller client.allowance cells fits count grid text ended s.before s.after had client.spares.items has s.rest (contents client.writer) (contents writer) s.fared
 
 -- ---- a client that was left
 
-pub fared_left : {X : Type 0} (may : Allowance) (fits : X → Floor → Bool) (count : X → ℕ) (grid : Floor) (text : ℕ × Entry → List ℕ) (ended : Result Served ReplayFault) (before after : Input) (old : Received) (spares : List X) (new : Received) (rest : List X) (had mid has : Option (List ℕ))
-    → IfOk ended (λ r. ServesAll may fits count grid text before after old spares new rest had mid r.replies r.is_torn)
-    → IfErr ended (λ fault. Stops may fits count grid text fault before after old spares new rest had mid)
-    → Keeps mid has → Fared may fits count grid text ended before after old spares new rest had has
-fared_left may fits count grid text (Ok served) before after old spares new rest had mid has s t kept = record {
+pub fared_left : {X : Type 0} (may : Allowance) (cells : ℕ) (fits : X → Floor → Bool) (count : X → ℕ) (grid : Floor) (text : ℕ × Entry → List ℕ) (ended : Result Served ReplayFault) (before after : Input) (old : Received) (spares : List X) (new : Received) (rest : List X) (had mid has : Option (List ℕ))
+    → IfOk ended (λ r. ServesAll may cells fits count grid text before after old spares new rest had mid r.replies r.is_torn)
+    → IfErr ended (λ fault. Stops may cells fits count grid text fault before after old spares new rest had mid)
+    → Keeps mid has → Fared may cells fits count grid text ended before after old spares new rest had has
+fared_left may cells fits count grid text (Ok served) before after old spares new rest had mid has s t kept = record {
   read = s.read;
   begun = s.begun;
   takes = s.takes;
@@ -126,7 +128,7 @@ fared_left may fits count grid text (Ok served) before after old spares new rest
   appends = Appends-kept had mid has (text_of s.replies) s.appends kept;
   written_is = s.written_is;
 }
-fared_left may fits count grid text (Err fault) before after old spares new rest had mid has s t kept = record {
+fared_left may cells fits count grid text (Err fault) before after old spares new rest had mid has s t kept = record {
   read = t.read;
   begun = t.begun;
   takes = t.takes;

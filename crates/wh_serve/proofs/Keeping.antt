@@ -45,9 +45,9 @@ made_few may fits count grid held [] (o ∷ os) spares rest p few = absurd p
 made_few may fits count grid held (c ∷ cs) [] spares rest p few = absurd p
 
 -- a client that had nothing keeps to it
-gives_keeps : {X : Type 0} (may : Allowance) (fits : X → Floor → Bool) (count : X → ℕ) (grid : Floor) (commands : List Command) (told : List Outcome → List (List ℕ))
-    (old : Received) (spares : List X) (new : Received) (rest : List X) (replies : List (List ℕ)) → old.list ≡ [] → Gives may fits count grid commands told old spares new rest replies → KeepsTo may new.list
-gives_keeps may fits count grid commands told old spares new rest replies none g =
+gives_keeps : {X : Type 0} (may : Allowance) (cells : ℕ) (fits : X → Floor → Bool) (count : X → ℕ) (grid : Floor) (commands : List Command) (told : List Outcome → List (List ℕ))
+    (old : Received) (spares : List X) (new : Received) (rest : List X) (replies : List (List ℕ)) → old.list ≡ [] → Gives may cells fits count grid commands told old spares new rest replies → KeepsTo may new.list
+gives_keeps may cells fits count grid commands told old spares new rest replies none g =
     let gained : new.list ≡ receipts_of g.outcomes = g.gained ∙ ap (λ (l : List (ℕ × Entry)). l ++ receipts_of g.outcomes) none in
     record {
       allowed = subst (λ (l : List (ℕ × Entry)). All (Allowed may) l) (sym gained) (made_allowed may fits count grid (length old.list) commands g.outcomes spares rest g.made);
@@ -56,17 +56,17 @@ gives_keeps may fits count grid commands told old spares new rest replies none g
           omega (arith, few, ap length none, ap length gained);
     }
 
-fared_keeps : {X : Type 0} (may : Allowance) (fits : X → Floor → Bool) (count : X → ℕ) (grid : Floor) (text : ℕ × Entry → List ℕ) (ended : Result Served ReplayFault) (before after : Input)
-    (old : Received) (spares : List X) (new : Received) (rest : List X) (had has : Option (List ℕ)) → old.list ≡ [] → Fared may fits count grid text ended before after old spares new rest had has → KeepsTo may new.list
-fared_keeps may fits count grid text (Ok served) before after old spares new rest had has none f = gives_keeps may fits count grid _ _ old spares new rest _ none f.output
-fared_keeps may fits count grid text (Err fault) before after old spares new rest had has none f = gives_keeps may fits count grid _ _ old spares new rest _ none f.output
+fared_keeps : {X : Type 0} (may : Allowance) (cells : ℕ) (fits : X → Floor → Bool) (count : X → ℕ) (grid : Floor) (text : ℕ × Entry → List ℕ) (ended : Result Served ReplayFault) (before after : Input)
+    (old : Received) (spares : List X) (new : Received) (rest : List X) (had has : Option (List ℕ)) → old.list ≡ [] → Fared may cells fits count grid text ended before after old spares new rest had has → KeepsTo may new.list
+fared_keeps may cells fits count grid text (Ok served) before after old spares new rest had has none f = gives_keeps may cells fits count grid _ _ old spares new rest _ none f.output
+fared_keeps may cells fits count grid text (Err fault) before after old spares new rest had has none f = gives_keeps may cells fits count grid _ _ old spares new rest _ none f.output
 
 -- what is each client's in the history, where each had nothing before
-pub all_keep : {R W X : Type 0} (fits : X → Floor → Bool) (count : X → ℕ) (grid : Floor) (text : ℕ × Entry → List ℕ) (remaining : R → Option (List ℕ)) (contents : W → Option (List ℕ))
+pub all_keep : {R W X : Type 0} (cells : ℕ) (fits : X → Floor → Bool) (count : X → ℕ) (grid : Floor) (text : ℕ × Entry → List ℕ) (remaining : R → Option (List ℕ)) (contents : W → Option (List ℕ))
     (clients : List (Client R W X)) (passes : List Received) (history : List Entry) (ends : List (Ended W)) → length clients ≡ length passes → AllEmpty passes
-    → AllServed (λ d had has w e. Session fits count grid text remaining contents d had has w e) clients passes history ends
+    → AllServed (λ d had has w e. Session cells fits count grid text remaining contents d had has w e) clients passes history ends
     → (i : ℕ) (client : Client R W X) → slice_get clients i ≡ Some client → KeepsTo client.allowance (entries_of history i)
-all_keep fits count grid text remaining contents clients passes history ends same empty served i client client_at =
+all_keep cells fits count grid text remaining contents clients passes history ends same empty served i client client_at =
     let within = slice_get_within clients i client client_at in
     let had = get_some passes i (omega (arith, same, within)) in
     let end = get_some ends i (omega (arith, served.one_each, within)) in
@@ -74,4 +74,4 @@ all_keep fits count grid text remaining contents clients passes history ends sam
     let s = by.served in
     let none = all_at (λ (p : Received). p.list ≡ []) passes empty i had.0 had.1 in
     subst (KeepsTo client.allowance) by.list_is
-    (fared_keeps client.allowance fits count grid text end.0.outcome s.before s.after had.0 client.spares.items by.has s.rest (contents client.writer) (contents end.0.writer) none s.fared)
+    (fared_keeps client.allowance cells fits count grid text end.0.outcome s.before s.after had.0 client.spares.items by.has s.rest (contents client.writer) (contents end.0.writer) none s.fared)

@@ -39,51 +39,51 @@ texts_more : (a b c d : Option (List ℕ)) (xs ys : List (List ℕ)) → Appends
 texts_more a b c d xs ys p k q = subst (Appends a d) (sym (text_append xs ys)) (Appends-trans a c d (text_of xs) (text_of ys) (Appends-kept a b c (text_of xs) p k) q)
 
 -- Whole lines were read and served, no fewer than so many.
-pub record Following {X : Type 0} (may : Allowance) (fits : X → Floor → Bool) (count : X → ℕ) (grid : Floor) (text : ℕ × Entry → List ℕ) (before after : Input)
+pub record Following {X : Type 0} (may : Allowance) (cells : ℕ) (fits : X → Floor → Bool) (count : X → ℕ) (grid : Floor) (text : ℕ × Entry → List ℕ) (before after : Input)
     (old : Received) (spares : List X) (new : Received) (rest : List X) (had has : Option (List ℕ)) (written turns : ℕ) : Type 0 where
-  pub follows : Follows may fits count grid text before after old spares new rest had has written
+  pub follows : Follows may cells fits count grid text before after old spares new rest had has written
   pub many : turns ≤ length (lines_of follows.read)
   pub reads : before.reads ≤ after.reads
 
-module _ {X : Type 0} (may : Allowance) (fits : X → Floor → Bool) (count : X → ℕ) (grid : Floor) (text : ℕ × Entry → List ℕ) where
-  pub follows_start : (i : Input) (old : Received) (spares : List X) (had : Option (List ℕ)) → Follows may fits count grid text i i old spares old spares had had 0
+module _ {X : Type 0} (may : Allowance) (cells : ℕ) (fits : X → Floor → Bool) (count : X → ℕ) (grid : Floor) (text : ℕ × Entry → List ℕ) where
+  pub follows_start : (i : Input) (old : Received) (spares : List X) (had : Option (List ℕ)) → Follows may cells fits count grid text i i old spares old spares had had 0
   follows_start i old spares had = record {
     read = [];
     takes = Consumes-nil (left i);
     whole = λ more. refl;
     replies = [];
-    output = gives_nothing may fits count grid (λ outcomes. []) old spares;
+    output = gives_nothing may cells fits count grid (λ outcomes. []) old spares;
     appends = Appends-nil had;
     written_is = refl;
   }
 
-  pub following_start : (i : Input) (old : Received) (spares : List X) (had : Option (List ℕ)) → Following may fits count grid text i i old spares old spares had had 0 0
+  pub following_start : (i : Input) (old : Received) (spares : List X) (had : Option (List ℕ)) → Following may cells fits count grid text i i old spares old spares had had 0 0
   following_start i old spares had = record { follows = follows_start i old spares had; many = omega arith; reads = omega arith }
 
   -- what a line gives of which a front is kept
   gives_front : (raw kept : List ℕ) (old : Received) (spares : List X) (new : Received) (rest : List X) (replies : List (List ℕ)) → short_line kept ≡ short_line raw
-      → Gives may fits count grid (asked (said (short_line kept))) (answers text (said (short_line kept))) old spares new rest replies
-      → Gives may fits count grid (asked (command_of (without_cr raw))) (answers text (command_of (without_cr raw))) old spares new rest replies
+      → Gives may cells fits count grid (asked (said (short_line kept))) (answers text (said (short_line kept))) old spares new rest replies
+      → Gives may cells fits count grid (asked (command_of (without_cr raw))) (answers text (command_of (without_cr raw))) old spares new rest replies
   gives_front raw kept old spares new rest replies e h =
-      subst (λ (k : Result (Option Command) LineFault). Gives may fits count grid (asked k) (answers text k) old spares new rest replies) (ap said e ∙ said_is raw) h
+      subst (λ (k : Result (Option Command) LineFault). Gives may cells fits count grid (asked k) (answers text k) old spares new rest replies) (ap said e ∙ said_is raw) h
 
   module _ (i j k : Input) (old : Received) (spares : List X) (mid : Received) (held : List X) (new : Received) (rest : List X) (a b c d : Option (List ℕ)) (n : ℕ) (kept : List ℕ)
-      (f : Follows may fits count grid text i j old spares mid held a b n) (flushed : Keeps b c) where
+      (f : Follows may cells fits count grid text i j old spares mid held a b n) (flushed : Keeps b c) where
     -- the output of the lines with one more, a whole one or the last one
     output_line : (bytes raw : List ℕ) (replies : List (List ℕ)) → lines_of bytes ≡ without_cr raw ∷ [] → short_line kept ≡ short_line raw
-        → Gives may fits count grid (asked (said (short_line kept))) (answers text (said (short_line kept))) mid held new rest replies
-        → IsOutputOf may fits count grid text (lines_of (f.read ++ bytes)) old spares new rest (f.replies ++ replies)
+        → Gives may cells fits count grid (asked (said (short_line kept))) (answers text (said (short_line kept))) mid held new rest replies
+        → IsOutputOf may cells fits count grid text (lines_of (f.read ++ bytes)) old spares new rest (f.replies ++ replies)
     output_line bytes raw replies one says gives =
-        subst (λ ls. IsOutputOf may fits count grid text ls old spares new rest (f.replies ++ replies)) (sym (f.whole bytes ∙ ap (λ l. lines_of f.read ++ l) one))
-        (output_push may fits count grid text (lines_of f.read) (without_cr raw) old spares mid held new rest f.replies replies f.output (gives_front raw kept mid held new rest replies says gives))
+        subst (λ ls. IsOutputOf may cells fits count grid text ls old spares new rest (f.replies ++ replies)) (sym (f.whole bytes ∙ ap (λ l. lines_of f.read ++ l) one))
+        (output_push may cells fits count grid text (lines_of f.read) (without_cr raw) old spares mid held new rest f.replies replies f.output (gives_front raw kept mid held new rest replies says gives))
 
     lines_more : (raw : List ℕ) → IsPlain raw → length (lines_of (f.read ++ (raw ++ 10 ∷ []))) ≡ length (lines_of f.read) + 1
     lines_more raw plain =
         ap (λ (ls : List (List ℕ)). length ls) (f.whole (raw ++ 10 ∷ []) ∙ ap (λ l. lines_of f.read ++ l) (lines-feed raw [] plain))
         ∙ length-append (lines_of f.read) (without_cr raw ∷ [])
 
-    pub following_line : (written m turns : ℕ) → turns ≤ length (lines_of f.read) → i.reads ≤ j.reads → j.reads ≤ k.reads → Gathered Whole j k kept → Serves may fits count grid text (said (short_line kept)) mid held new rest c d written → m ≡ n + written
-        → Following may fits count grid text i k old spares new rest a d m (turns + 1)
+    pub following_line : (written m turns : ℕ) → turns ≤ length (lines_of f.read) → i.reads ≤ j.reads → j.reads ≤ k.reads → Gathered Whole j k kept → Serves may cells fits count grid text (said (short_line kept)) mid held new rest c d written → m ≡ n + written
+        → Following may cells fits count grid text i k old spares new rest a d m (turns + 1)
     following_line written m turns many before now g s e =
         let bytes = g.raw ++ 10 ∷ [] in
         record {
@@ -100,7 +100,7 @@ module _ {X : Type 0} (may : Allowance) (fits : X → Floor → Bool) (count : X
           reads = omega (arith, before, now);
         }
 
-    pub stops_line : Gathered Whole j k kept → ServesUnwritten may fits count grid text (said (short_line kept)) mid held new rest c d → Stops may fits count grid text Unwritten i k old spares new rest a d
+    pub stops_line : Gathered Whole j k kept → ServesUnwritten may cells fits count grid text (said (short_line kept)) mid held new rest c d → Stops may cells fits count grid text Unwritten i k old spares new rest a d
     stops_line g s =
         let bytes = g.raw ++ 10 ∷ [] in
         record {
@@ -116,9 +116,9 @@ module _ {X : Type 0} (may : Allowance) (fits : X → Floor → Bool) (count : X
         }
 
   module _ (i j k : Input) (old : Received) (spares : List X) (mid : Received) (held : List X) (a b c : Option (List ℕ)) (n : ℕ)
-      (f : Follows may fits count grid text i j old spares mid held a b n) (flushed : Keeps b c) where
+      (f : Follows may cells fits count grid text i j old spares mid held a b n) (flushed : Keeps b c) where
     -- the input ended with what was served, or within a line more
-    served_to : (raw : List ℕ) (is_torn : Bool) → IsPlain raw → (IsTrue is_torn ↔ (0 < length raw)) → Takes j k raw → IsAtEnd (left k) → ServesAll may fits count grid text i k old spares mid held a c n is_torn
+    served_to : (raw : List ℕ) (is_torn : Bool) → IsPlain raw → (IsTrue is_torn ↔ (0 < length raw)) → Takes j k raw → IsAtEnd (left k) → ServesAll may cells fits count grid text i k old spares mid held a c n is_torn
     served_to raw is_torn plain torn takes ended = record {
       read = f.read;
       begun = raw;
@@ -133,14 +133,14 @@ module _ {X : Type 0} (may : Allowance) (fits : X → Floor → Bool) (count : X
       written_is = f.written_is;
     }
 
-    pub served_end : (kept : List ℕ) → Gathered End j k kept → ServesAll may fits count grid text i k old spares mid held a c n false
+    pub served_end : (kept : List ℕ) → Gathered End j k kept → ServesAll may cells fits count grid text i k old spares mid held a c n false
     served_end kept g = served_to g.raw false g.plain ((λ is. absurd (cc (is))), (λ some. absurd (omega (arith, some, ap length g.ends.1)))) g.ends.0 g.ends.2
 
-    pub served_last : (kept : List ℕ) → Gathered Last j k kept → ServesAll may fits count grid text i k old spares mid held a c n true
+    pub served_last : (kept : List ℕ) → Gathered Last j k kept → ServesAll may cells fits count grid text i k old spares mid held a c n true
     served_last kept g = served_to g.raw true g.plain ((λ is. g.ends.1), (λ some. refl)) g.ends.0 g.ends.2
 
     -- no next line
-    pub stops_between : (fault : ReplayFault) → Taken j k → HasCause fault i k (length (lines_of f.read)) → Stops may fits count grid text fault i k old spares mid held a c
+    pub stops_between : (fault : ReplayFault) → Taken j k → HasCause fault i k (length (lines_of f.read)) → Stops may cells fits count grid text fault i k old spares mid held a c
     stops_between fault t cause = record {
       read = f.read;
       begun = t.bytes;
@@ -155,15 +155,15 @@ module _ {X : Type 0} (may : Allowance) (fits : X → Floor → Bool) (count : X
 
   -- nothing more was taken
   pub stops_now : (i j : Input) (old : Received) (spares : List X) (mid : Received) (held : List X) (a b : Option (List ℕ)) (n : ℕ) (fault : ReplayFault)
-      (f : Follows may fits count grid text i j old spares mid held a b n) → HasCause fault i j (length (lines_of f.read)) → Stops may fits count grid text fault i j old spares mid held a b
+      (f : Follows may cells fits count grid text i j old spares mid held a b n) → HasCause fault i j (length (lines_of f.read)) → Stops may cells fits count grid text fault i j old spares mid held a b
   stops_now i j old spares mid held a b n fault f cause =
       stops_between i j j old spares mid held a b b n f (Keeps-refl b) fault (record { bytes = []; plain = tt; takes = Consumes-nil (left j) }) cause
 
   -- the reader is told to have failed
   pub stops_failed : (i j k : Input) (old : Received) (spares : List X) (new : Received) (rest : List X) (had has : Option (List ℕ)) (fault : ReplayFault)
-      → k ≡ with_failed j true → Stops may fits count grid text fault i j old spares new rest had has → Stops may fits count grid text fault i k old spares new rest had has
+      → k ≡ with_failed j true → Stops may cells fits count grid text fault i j old spares new rest had has → Stops may cells fits count grid text fault i k old spares new rest had has
   stops_failed i j k old spares new rest had has fault failed s =
-      subst (λ (x : Input). Stops may fits count grid text fault i x old spares new rest had has) (sym failed) (record {
+      subst (λ (x : Input). Stops may cells fits count grid text fault i x old spares new rest had has) (sym failed) (record {
         read = s.read;
         begun = s.begun;
         takes = s.takes;
@@ -177,7 +177,7 @@ module _ {X : Type 0} (may : Allowance) (fits : X → Floor → Bool) (count : X
 
   -- a reader that tells its bytes has given them all
   pub outputs_of : (i j : Input) (old : Received) (spares : List X) (new : Received) (rest : List X) (had has : Option (List ℕ)) (n : ℕ) (is_torn : Bool)
-      → ServesAll may fits count grid text i j old spares new rest had has n is_torn → IfSome (left i) (λ script. Outputs may fits count grid text script old spares new rest had has n)
+      → ServesAll may cells fits count grid text i j old spares new rest had has n is_torn → IfSome (left i) (λ script. Outputs may cells fits count grid text script old spares new rest had has n)
   outputs_of i j old spares new rest had has n is_torn r =
-      Consumes-is (left i) (left j) (r.read ++ r.begun) r.takes r.ended (λ script. Outputs may fits count grid text script old spares new rest had has n)
+      Consumes-is (left i) (left j) (r.read ++ r.begun) r.takes r.ended (λ script. Outputs may cells fits count grid text script old spares new rest had has n)
       (λ script is. record { read = r.read; begun = r.begun; parts = is; whole = r.whole; part = r.part; replies = r.replies; output = r.output; appends = r.appends; written_is = r.written_is })

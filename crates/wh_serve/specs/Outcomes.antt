@@ -1,5 +1,6 @@
 -- what came of the commands of lines, and how the lines are answered
-use Rattle.std.specs.Prelude.{◌≡◌, ◌+◌, ℕ, Bool, List, [], ◌∷◌, ◌++◌, length, drop, codes, Option, Some, None, Result, Ok, Err}
+use Rattle.std.specs.Prelude.{◌≡◌, ◌+◌, ◌≤◌, ◌⊎◌, ℕ, Bool, List, [], ◌∷◌, ◌++◌, length, drop, codes, Option, Some, None, Result, Ok, Err}
+use mathlib.Core.List.{IsPrefix}
 use Rattle.wh_grid.specs.Grids.{Floor}
 use Rattle.wh_event.specs.CommandLines.{command_of}
 use Rattle.wh_event.specs.declared.event.Command.{Command}
@@ -13,6 +14,8 @@ use Rattle.wh_replay.specs.Answers.{asked, commands_of}
 use Rattle.wh_serve.specs.Allowances.{MayCall, IsWhyNone}
 use Rattle.wh_serve.specs.declared.allowance.Allowance.{Allowance}
 use Rattle.wh_serve.specs.declared.call.NoReceipt.{NoReceipt}
+use Rattle.wh_serve.specs.declared.call.NoReceipt.TheVariants as without
+use Rattle.wh_desk.specs.declared.answer.DeskFault.TheVariants as fault
 use Rattle.wh_serve.specs.Texts as texts
 
 -- what came of a command: the receipt's position and entry, or why there is none
@@ -64,17 +67,26 @@ Made {X} may fits count grid held (command ∷ commands) (outcome ∷ outcomes) 
 Made may fits count grid held [] (outcome ∷ outcomes) spares rest = ⊥
 Made may fits count grid held (command ∷ commands) [] spares rest = ⊥
 
+-- a call was refused since the journal is full
+abbrev pub HasFull : List Outcome → Type 0
+HasFull [] = ⊥
+HasFull (outcome ∷ outcomes) = (outcome ≡ Err (without.Refused fault.Full)) ⊎ HasFull outcomes
+
 -- The commands had these outcomes, one after another, by calls of the desk where the client may make them, and these tell the
--- replies. What the pass gained are the receipts, in order, and nothing else. Fits and count say what a planner answers.
-pub record Gives {X : Type 0} (may : Allowance) (fits : X → Floor → Bool) (count : X → ℕ) (grid : Floor) (commands : List Command) (told : List Outcome → List (List ℕ))
+-- replies. What the pass gained are the receipts, in order, and nothing else. What it knows of goes on, and where a call was
+-- refused since the journal is full, it knows of a history with an entry for each of so many cells. Fits and count say what a
+-- planner answers.
+pub record Gives {X : Type 0} (may : Allowance) (cells : ℕ) (fits : X → Floor → Bool) (count : X → ℕ) (grid : Floor) (commands : List Command) (told : List Outcome → List (List ℕ))
     (old : Received) (spares : List X) (new : Received) (rest : List X) (replies : List (List ℕ)) : Type 0 where
   pub outcomes : List Outcome
   pub replies_are : replies ≡ told outcomes
   pub made : Made may fits count grid (length old.list) commands outcomes spares rest
   pub caller_is : new.caller ≡ old.caller
   pub gained : new.list ≡ old.list ++ receipts_of outcomes
+  pub known : IsPrefix old.known new.known
+  pub filled : HasFull outcomes → cells ≤ length new.known
 
 -- the output of lines: line by line nothing for one that is skipped, its fault for one that is no command, and for a
 -- command what its call was answered
-abbrev pub IsOutputOf : {X : Type 0} → Allowance → (X → Floor → Bool) → (X → ℕ) → Floor → (ℕ × Entry → List ℕ) → List (List ℕ) → Received → List X → Received → List X → List (List ℕ) → Type 0
-IsOutputOf may fits count grid text lines old spares new rest replies = Gives may fits count grid (commands_of lines) (replies_to text lines) old spares new rest replies
+abbrev pub IsOutputOf : {X : Type 0} → Allowance → ℕ → (X → Floor → Bool) → (X → ℕ) → Floor → (ℕ × Entry → List ℕ) → List (List ℕ) → Received → List X → Received → List X → List (List ℕ) → Type 0
+IsOutputOf may cells fits count grid text lines old spares new rest replies = Gives may cells fits count grid (commands_of lines) (replies_to text lines) old spares new rest replies

@@ -16,35 +16,35 @@ use Rattle.wh_serve.specs.declared.allowance.Allowance.{Allowance}
 use Rattle.wh_serve.specs.Outcomes.{Gives, IsOutputOf, answers}
 
 -- one line was served: what it is answered was written
-pub record Serves {X : Type 0} (may : Allowance) (fits : X → Floor → Bool) (count : X → ℕ) (grid : Floor) (text : ℕ × Entry → List ℕ) (line : Result (Option Command) LineFault)
+pub record Serves {X : Type 0} (may : Allowance) (cells : ℕ) (fits : X → Floor → Bool) (count : X → ℕ) (grid : Floor) (text : ℕ × Entry → List ℕ) (line : Result (Option Command) LineFault)
     (old : Received) (spares : List X) (new : Received) (rest : List X) (had has : Option (List ℕ)) (written : ℕ) : Type 0 where
   pub replies : List (List ℕ)
-  pub gives : Gives may fits count grid (asked line) (answers text line) old spares new rest replies
+  pub gives : Gives may cells fits count grid (asked line) (answers text line) old spares new rest replies
   pub appends : Appends had has (text_of replies)
   pub written_is : written ≡ length replies
 
 -- one line was served, and its reply was not written to the end
-pub record ServesUnwritten {X : Type 0} (may : Allowance) (fits : X → Floor → Bool) (count : X → ℕ) (grid : Floor) (text : ℕ × Entry → List ℕ) (line : Result (Option Command) LineFault)
+pub record ServesUnwritten {X : Type 0} (may : Allowance) (cells : ℕ) (fits : X → Floor → Bool) (count : X → ℕ) (grid : Floor) (text : ℕ × Entry → List ℕ) (line : Result (Option Command) LineFault)
     (old : Received) (spares : List X) (new : Received) (rest : List X) (had has : Option (List ℕ)) : Type 0 where
   pub replies : List (List ℕ)
-  pub gives : Gives may fits count grid (asked line) (answers text line) old spares new rest replies
+  pub gives : Gives may cells fits count grid (asked line) (answers text line) old spares new rest replies
   pub few : length replies ≤ 1
   pub writes : WritesFront had has (text_of replies)
 
 -- whole lines were read and served
-pub record Follows {X : Type 0} (may : Allowance) (fits : X → Floor → Bool) (count : X → ℕ) (grid : Floor) (text : ℕ × Entry → List ℕ) (before after : Input)
+pub record Follows {X : Type 0} (may : Allowance) (cells : ℕ) (fits : X → Floor → Bool) (count : X → ℕ) (grid : Floor) (text : ℕ × Entry → List ℕ) (before after : Input)
     (old : Received) (spares : List X) (new : Received) (rest : List X) (had has : Option (List ℕ)) (written : ℕ) : Type 0 where
   pub read : List ℕ
   pub takes : Takes before after read
   pub whole : EndsLine read
   pub replies : List (List ℕ)
-  pub output : IsOutputOf may fits count grid text (lines_of read) old spares new rest replies
+  pub output : IsOutputOf may cells fits count grid text (lines_of read) old spares new rest replies
   pub appends : Appends had has (text_of replies)
   pub written_is : written ≡ length replies
 
 -- All was read to the end, and what was written is the output of the whole lines, in so many lines. What stands behind them,
 -- where the input is torn, is part of a line that nobody ended, and was not served.
-pub record ServesAll {X : Type 0} (may : Allowance) (fits : X → Floor → Bool) (count : X → ℕ) (grid : Floor) (text : ℕ × Entry → List ℕ) (before after : Input)
+pub record ServesAll {X : Type 0} (may : Allowance) (cells : ℕ) (fits : X → Floor → Bool) (count : X → ℕ) (grid : Floor) (text : ℕ × Entry → List ℕ) (before after : Input)
     (old : Received) (spares : List X) (new : Received) (rest : List X) (had has : Option (List ℕ)) (written : ℕ) (is_torn : Bool) : Type 0 where
   pub read : List ℕ
   pub begun : List ℕ
@@ -54,12 +54,12 @@ pub record ServesAll {X : Type 0} (may : Allowance) (fits : X → Floor → Bool
   pub torn : IsTrue is_torn ↔ (0 < length begun)
   pub ended : IsAtEnd (left after)
   pub replies : List (List ℕ)
-  pub output : IsOutputOf may fits count grid text (lines_of read) old spares new rest replies
+  pub output : IsOutputOf may cells fits count grid text (lines_of read) old spares new rest replies
   pub appends : Appends had has (text_of replies)
   pub written_is : written ≡ length replies
 
 -- of these bytes the whole lines were served, all of them
-pub record Outputs {X : Type 0} (may : Allowance) (fits : X → Floor → Bool) (count : X → ℕ) (grid : Floor) (text : ℕ × Entry → List ℕ) (script : List ℕ)
+pub record Outputs {X : Type 0} (may : Allowance) (cells : ℕ) (fits : X → Floor → Bool) (count : X → ℕ) (grid : Floor) (text : ℕ × Entry → List ℕ) (script : List ℕ)
     (old : Received) (spares : List X) (new : Received) (rest : List X) (had has : Option (List ℕ)) (written : ℕ) : Type 0 where
   pub read : List ℕ
   pub begun : List ℕ
@@ -67,13 +67,13 @@ pub record Outputs {X : Type 0} (may : Allowance) (fits : X → Floor → Bool) 
   pub whole : EndsLine read
   pub part : IsPlain begun
   pub replies : List (List ℕ)
-  pub output : IsOutputOf may fits count grid text (lines_of read) old spares new rest replies
+  pub output : IsOutputOf may cells fits count grid text (lines_of read) old spares new rest replies
   pub appends : Appends had has (text_of replies)
   pub written_is : written ≡ length replies
 
 -- A beginning of what came was served, and no line behind it: the receipts of its commands stand, also the last one, whose
 -- reply may not have been written to the end. What was taken behind it is part of one line, and was not served.
-pub record Stops {X : Type 0} (may : Allowance) (fits : X → Floor → Bool) (count : X → ℕ) (grid : Floor) (text : ℕ × Entry → List ℕ) (fault : ReplayFault) (before after : Input)
+pub record Stops {X : Type 0} (may : Allowance) (cells : ℕ) (fits : X → Floor → Bool) (count : X → ℕ) (grid : Floor) (text : ℕ × Entry → List ℕ) (fault : ReplayFault) (before after : Input)
     (old : Received) (spares : List X) (new : Received) (rest : List X) (had has : Option (List ℕ)) : Type 0 where
   pub read : List ℕ
   pub begun : List ℕ
@@ -81,6 +81,6 @@ pub record Stops {X : Type 0} (may : Allowance) (fits : X → Floor → Bool) (c
   pub part : IsPlain begun
   pub whole : EndsLine read
   pub replies : List (List ℕ)
-  pub output : IsOutputOf may fits count grid text (lines_of read) old spares new rest replies
+  pub output : IsOutputOf may cells fits count grid text (lines_of read) old spares new rest replies
   pub writes : WritesUntil fault had has replies
   pub cause : HasCause fault before after (length (lines_of read))

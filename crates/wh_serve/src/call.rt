@@ -3,7 +3,8 @@
 ghost use Rattle.std.specs.Prelude.{◌≡◌, IfOk, IfErr, OnErr, Ok, length};
 ghost use Rattle.wh_event.specs.declared.event.Command.{Command as Asked};
 ghost use Rattle.wh_serve.specs.Allowances.{MayCall, IsWhyNone};
-ghost use Rattle.wh_serve.specs.Calls.{Receives};
+ghost use Rattle.wh_desk.specs.Calls.{Refuses};
+ghost use Rattle.wh_serve.specs.Calls.{Receives, Leaves};
 
 use crate::allowance::Allowance;
 use std::alloc::Global;
@@ -36,7 +37,8 @@ pub(crate) fn call_allowed<N: DeskName, H: Wait + Drop, P: Planner, X: Wait>(
     ensures may { IfOk result (λ r. MayCall may (length pass.old.list) command) }
     ensures ok { IfOk result (λ r. Receives P.fits_map P.slot_count N.origin.site.grid command pass.old spares.old.items (r.position, r.entry) pass.new spares.new.items) }
     ensures why { IfErr result (λ why. IsWhyNone may (length pass.old.list) command why) }
-    ensures same { OnErr result ((pass.new.caller ≡ pass.old.caller) × (pass.new.list ≡ pass.old.list) × (spares.new.items ≡ spares.old.items)) }
+    ensures left { IfErr result (λ why. Leaves (length N.cells) pass.old why pass.new) }
+    ensures spares { OnErr result (spares.new.items ≡ spares.old.items) }
 {
     if !may.rights.allow(&command) {
         return Err(NoReceipt::Barred);
@@ -51,7 +53,6 @@ pub(crate) fn call_allowed<N: DeskName, H: Wait + Drop, P: Planner, X: Wait>(
 }
 
 /// One call of the desk for the command. Where it is refused, the pass has what it had, and the spares stay as they were.
-#[tactic(auto, using(crate::proofs::Giving::refused_call))]
 fn call_desk<N: DeskName, H: Wait + Drop, P: Planner, X: Wait>(
     rt: &X,
     alloc: Global,
@@ -61,7 +62,8 @@ fn call_desk<N: DeskName, H: Wait + Drop, P: Planner, X: Wait>(
     spares: &mut Vec<P>,
 ) -> Result<Receipt, DeskFault>
     ensures ok { IfOk result (λ r. Receives P.fits_map P.slot_count N.origin.site.grid command pass.old spares.old.items (r.position, r.entry) pass.new spares.new.items) }
-    ensures err { OnErr result ((pass.new.caller ≡ pass.old.caller) × (pass.new.list ≡ pass.old.list) × (spares.new.items ≡ spares.old.items)) }
+    ensures left { IfErr result (λ fault. Refuses (length N.cells) pass.old fault pass.new) }
+    ensures spares { OnErr result (spares.new.items ≡ spares.old.items) }
 {
     match command {
         Command::Submit { client, stops } => desk.submit(rt, alloc, pass, client, stops),
@@ -73,7 +75,6 @@ fn call_desk<N: DeskName, H: Wait + Drop, P: Planner, X: Wait>(
 }
 
 /// Lends the last spare. What comes back after an answer is dropped; after a refusal the spare goes back to its place.
-#[tactic(auto, using(crate::proofs::Giving::refused_pass))]
 fn lend<N: DeskName, H: Wait + Drop, P: Planner, X: Wait>(
     rt: &X,
     alloc: Global,
@@ -83,7 +84,8 @@ fn lend<N: DeskName, H: Wait + Drop, P: Planner, X: Wait>(
     spares: &mut Vec<P>,
 ) -> Result<Receipt, DeskFault>
     ensures ok { IfOk result (λ r. Receives P.fits_map P.slot_count N.origin.site.grid (Asked.Replace agent) pass.old spares.old.items (r.position, r.entry) pass.new spares.new.items) }
-    ensures err { OnErr result ((pass.new.caller ≡ pass.old.caller) × (pass.new.list ≡ pass.old.list) × (spares.new.items ≡ spares.old.items)) }
+    ensures left { IfErr result (λ fault. Refuses (length N.cells) pass.old fault pass.new) }
+    ensures spares { OnErr result (spares.new.items ≡ spares.old.items) }
 {
     let Answer { outcome, back } = desk.replace(rt, alloc, pass, agent, spares.pop());
     match outcome {

@@ -1,6 +1,6 @@
 //! A client that is served to its input's end, or until a fault.
 
-ghost use Rattle.std.specs.Prelude.{◌≡◌, ◌≤◌, IfOk, IfSome, IfErr, OnErr, true, false, Err};
+ghost use Rattle.std.specs.Prelude.{◌≡◌, ◌≤◌, IfOk, IfSome, IfErr, OnErr, true, false, Err, length};
 ghost use Rattle.std.specs.Io.KnownBytes.{Keeps};
 ghost use Rattle.wh_lines.specs.Text.{short_line};
 ghost use Rattle.wh_lines.specs.Input.{left};
@@ -50,9 +50,9 @@ fn serve_line<N: DeskName, H: Wait + Drop, P: Planner, X: Wait, W: Write>(
     pass: &mut Pass<N>,
     spares: &mut Vec<P>,
 ) -> Result<u64, ReplayFault>
-    ensures ok { IfOk result (λ count. Serves may P.fits_map P.slot_count N.origin.site.grid (receipt_text form) (said (short_line line.now)) pass.old spares.old.items pass.new spares.new.items (W.contents writer.old) (W.contents writer.new) count) }
+    ensures ok { IfOk result (λ count. Serves may (length N.cells) P.fits_map P.slot_count N.origin.site.grid (receipt_text form) (said (short_line line.now)) pass.old spares.old.items pass.new spares.new.items (W.contents writer.old) (W.contents writer.new) count) }
     ensures few { IfOk result (λ count. count ≤ 1) }
-    ensures err { OnErr result (ServesUnwritten may P.fits_map P.slot_count N.origin.site.grid (receipt_text form) (said (short_line line.now)) pass.old spares.old.items pass.new spares.new.items (W.contents writer.old) (W.contents writer.new)) }
+    ensures err { OnErr result (ServesUnwritten may (length N.cells) P.fits_map P.slot_count N.origin.site.grid (receipt_text form) (said (short_line line.now)) pass.old spares.old.items pass.new spares.new.items (W.contents writer.old) (W.contents writer.new)) }
     ensures fault { IfErr result (λ fault. fault ≡ ReplayFault.Unwritten) }
 {
     let told = answer(rt, alloc, form, may, line, desk, pass, spares);
@@ -74,8 +74,8 @@ fn serve_all<N: DeskName, H: Wait + Drop, P: Planner, X: Wait, R: Read, W: Write
     spares: &mut Vec<P>,
 ) -> Result<Served, ReplayFault>
     requires { lines.old.failed ≡ false }
-    ensures ok { IfOk result (λ r. ServesAll may P.fits_map P.slot_count N.origin.site.grid (receipt_text form) lines.old lines.new pass.old spares.old.items pass.new spares.new.items (W.contents writer.old) (W.contents writer.new) r.replies r.is_torn) }
-    ensures fault { IfErr result (λ fault. Stops may P.fits_map P.slot_count N.origin.site.grid (receipt_text form) fault lines.old lines.new pass.old spares.old.items pass.new spares.new.items (W.contents writer.old) (W.contents writer.new)) }
+    ensures ok { IfOk result (λ r. ServesAll may (length N.cells) P.fits_map P.slot_count N.origin.site.grid (receipt_text form) lines.old lines.new pass.old spares.old.items pass.new spares.new.items (W.contents writer.old) (W.contents writer.new) r.replies r.is_torn) }
+    ensures fault { IfErr result (λ fault. Stops may (length N.cells) P.fits_map P.slot_count N.origin.site.grid (receipt_text form) fault lines.old lines.new pass.old spares.old.items pass.new spares.new.items (W.contents writer.old) (W.contents writer.new)) }
 {
     let mut line = CommandLine::new();
     let mut replies = 0;
@@ -128,12 +128,12 @@ pub fn serve_client<N: DeskName, H: Wait + Drop, P: Planner, X: Wait, R: Read, W
     spares: &mut Vec<P>,
 ) -> Result<Served, ReplayFault>
     // What was written is the output of the whole lines that were read, told by the receipts that the pass gained, in order.
-    ensures ok { IfOk result (λ r. ServesAll may P.fits_map P.slot_count N.origin.site.grid (receipt_text form) lines.old lines.new pass.old spares.old.items pass.new spares.new.items (W.contents writer.old) (W.contents writer.new) r.replies r.is_torn) }
+    ensures ok { IfOk result (λ r. ServesAll may (length N.cells) P.fits_map P.slot_count N.origin.site.grid (receipt_text form) lines.old lines.new pass.old spares.old.items pass.new spares.new.items (W.contents writer.old) (W.contents writer.new) r.replies r.is_torn) }
     // Where the reader tells its bytes, these are what was read, to the last line feed.
-    ensures output { IfOk result (λ r. IfSome (left lines.old) (λ script. Outputs may P.fits_map P.slot_count N.origin.site.grid (receipt_text form) script pass.old spares.old.items pass.new spares.new.items (W.contents writer.old) (W.contents writer.new) r.replies)) }
+    ensures output { IfOk result (λ r. IfSome (left lines.old) (λ script. Outputs may (length N.cells) P.fits_map P.slot_count N.origin.site.grid (receipt_text form) script pass.old spares.old.items pass.new spares.new.items (W.contents writer.old) (W.contents writer.new) r.replies)) }
     // On a fault this holds of a beginning of what came, of whole lines: all replies but the last were written, and the cause is a
     // true one.
-    ensures fault { IfErr result (λ fault. Stops may P.fits_map P.slot_count N.origin.site.grid (receipt_text form) fault lines.old lines.new pass.old spares.old.items pass.new spares.new.items (W.contents writer.old) (W.contents writer.new)) }
+    ensures fault { IfErr result (λ fault. Stops may (length N.cells) P.fits_map P.slot_count N.origin.site.grid (receipt_text form) fault lines.old lines.new pass.old spares.old.items pass.new spares.new.items (W.contents writer.old) (W.contents writer.new)) }
     // After a fault there is nothing more.
     ensures failed { OnErr result (lines.new.failed ≡ true) }
     ensures again { lines.old.failed ≡ true → (result ≡ Err ReplayFault.Broken) × (lines.new ≡ lines.old) × (pass.new ≡ pass.old) × (spares.new.items ≡ spares.old.items) × Keeps (W.contents writer.old) (W.contents writer.new) }

@@ -55,7 +55,7 @@ pub(crate) fn answer<N: DeskName, H: Wait + Drop, P: Planner, X: Wait>(
     pass: &mut Pass<N>,
     spares: &mut Vec<P>,
 ) -> Told
-    ensures { Gives may P.fits_map P.slot_count N.origin.site.grid (asked (said (short_line line.now))) (answers (receipt_text form) (said (short_line line.now))) pass.old spares.old.items pass.new spares.new.items (texts form result) }
+    ensures { Gives may (length N.cells) P.fits_map P.slot_count N.origin.site.grid (asked (said (short_line line.now))) (answers (receipt_text form) (said (short_line line.now))) pass.old spares.old.items pass.new spares.new.items (texts form result) }
 {
     match read_kept(line) {
         Ok(None) => Told::Nothing,
