@@ -1,50 +1,84 @@
 -- What calls give, one after another.
-use Rattle.std.proofs.Common.{◌≡◌, ℕ, List, [], ◌∷◌, ◌++◌, length, drop, refl, sym, ap, ◌∙◌, arith, subst, Option, None, Some, Result, Ok, Err, append_assoc, append-nil, Bool, suc}
+use Rattle.std.proofs.Common.{◌≡◌, ◌+◌, ◌≤◌, ◌⊎◌, ℕ, inl, inr, true, false, List, [], ◌∷◌, ◌++◌, length, drop, refl, sym, ap, ◌∙◌, arith, subst, Option, None, Some, Result, Ok, Err, append_assoc, append-nil, Bool, suc}
 use Rattle.wh_grid.specs.Grids.{Floor}
 use Rattle.wh_event.specs.CommandLines.{command_of}
 use Rattle.wh_event.specs.declared.event.Command.{Command}
 use Rattle.wh_event.specs.declared.entry.Entry.{Entry}
 use Rattle.wh_event.specs.declared.fault.LineFault.{LineFault}
-use Rattle.wh_desk.specs.declared.answer.DeskFault.{DeskFault}
-use Rattle.std.specs.Prelude.{IfErr, OnErr}
-use Rattle.wh_desk.specs.declared.answer.Receipt.{Receipt}
+use mathlib.Core.List.{IsPrefix}
+use Rattle.wh_desk.specs.declared.answer.DeskFault.TheVariants as faults
 use Rattle.wh_desk.specs.Lists.{Received}
-use Rattle.wh_desk.specs.Calls.{Refuses}
+use Rattle.wh_board.proofs.Fronts.{prefix_self, prefix_trans, prefix_length}
 use Rattle.wh_desk.proofs.Telling.{refused_keeps}
 use Rattle.wh_replay.specs.Answers.{asked, commands_of}
-use Rattle.wh_serve.specs.Texts.{fault_text}
-use Rattle.wh_serve.specs.Outcomes.{Outcome, receipts_of, line_text, answers, replies_to, Made, Gives, IsOutputOf}
-use Rattle.wh_serve.specs.Calls.{Receives}
+use Rattle.std.proofs.lemmas.List.{length-append}
+use Rattle.wh_serve.specs.Allowances.{MayCall, IsWhyNone}
+use Rattle.wh_serve.specs.declared.allowance.Allowance.{Allowance}
+use Rattle.wh_serve.specs.declared.call.NoReceipt.{NoReceipt}
+use Rattle.wh_serve.specs.declared.call.NoReceipt.TheVariants as without
+use Rattle.wh_serve.specs.Texts.{without_text}
+use Rattle.wh_serve.specs.Outcomes.{Outcome, receipts_of, line_text, answers, replies_to, Made, Gives, IsOutputOf, HasFull}
+use Rattle.wh_serve.specs.Calls.{Receives, Leaves}
 
 -- ---- calls
 
--- what a refused call leaves of a pass
-pub refused_pass : (cells : ℕ) (had : Received) (fault : DeskFault) (has : Received) → Refuses cells had fault has → (has.caller ≡ had.caller) × (has.list ≡ had.list)
-refused_pass cells had fault has r = (let keeps = refused_keeps cells had fault has r in (keeps.0, keeps.1))
+-- whether a command has no receipt since the journal is full
+abbrev says_full : NoReceipt → Bool
+says_full (without.Refused faults.Full) = true
+says_full (without.Refused faults.Stale) = false
+says_full (without.Refused faults.NoMemory) = false
+says_full (without.Refused faults.CellTaken) = false
+says_full without.Barred = false
+says_full without.ShareUsed = false
 
-pub refused_call : {X : Type 0} (cells : ℕ) (had has : Received) (answer : Result Receipt DeskFault) (spares left : List X) → IfErr answer (λ fault. Refuses cells had fault has) → left ≡ spares
-    → OnErr answer ((has.caller ≡ had.caller) × (has.list ≡ had.list) × (left ≡ spares))
-refused_call cells had has (Ok r) spares left refused kept = tt
-refused_call cells had has (Err fault) spares left refused kept = (let keeps = refused_keeps cells had fault has refused in (keeps.0, keeps.1, kept))
+abbrev outcome_full : Outcome → Bool
+outcome_full (Ok receipt) = false
+outcome_full (Err why) = says_full why
 
-made_append : {X : Type 0} (fits : X → Floor → Bool) (count : X → ℕ) (grid : Floor) (cs : List Command) (os : List Outcome) (ds : List Command) (ps : List Outcome) (spares left rest : List X)
-    → Made fits count grid cs os spares left → Made fits count grid ds ps left rest → Made fits count grid (cs ++ ds) (os ++ ps) spares rest
-made_append {X} fits count grid [] [] ds ps spares left rest p q = subst (λ (xs : List X). Made fits count grid ds ps xs rest) p q
-made_append fits count grid (c ∷ cs) (o ∷ os) ds ps spares left rest p q = (p.0, p.1, made_append fits count grid cs os ds ps p.0 left rest p.2 q)
-made_append fits count grid [] (o ∷ os) ds ps spares left rest p q = absurd p
-made_append fits count grid (c ∷ cs) [] ds ps spares left rest p q = absurd p
+not_full : (why : NoReceipt) → HasFull (Err why ∷ []) → says_full why ≡ true
+not_full why (inl is) = ap outcome_full is
+not_full why (inr none) = absurd none
 
--- each command has its outcome
-made_length : {X : Type 0} (fits : X → Floor → Bool) (count : X → ℕ) (grid : Floor) (cs : List Command) (os : List Outcome) (spares rest : List X) → Made fits count grid cs os spares rest → length os ≡ length cs
-made_length fits count grid [] [] spares rest p = refl
-made_length fits count grid (c ∷ cs) (o ∷ os) spares rest p = ap suc (made_length fits count grid cs os p.0 rest p.2)
-made_length fits count grid [] (o ∷ os) spares rest p = absurd p
-made_length fits count grid (c ∷ cs) [] spares rest p = absurd p
+-- what is left of a pass where a command has no receipt
+left_caller : (cells : ℕ) (had : Received) (why : NoReceipt) (has : Received) → Leaves cells had why has → (has.caller ≡ had.caller) × (has.list ≡ had.list) × IsPrefix had.known has.known
+left_caller cells had (without.Refused fault) has r = refused_keeps cells had fault has r
+left_caller cells had without.Barred has r = (ap (λ (p : Received). p.caller) r, ap (λ (p : Received). p.list) r, subst (λ (p : Received). IsPrefix had.known p.known) (sym r) (prefix_self had.known))
+left_caller cells had without.ShareUsed has r = (ap (λ (p : Received). p.caller) r, ap (λ (p : Received). p.list) r, subst (λ (p : Received). IsPrefix had.known p.known) (sym r) (prefix_self had.known))
+
+-- who is refused since the journal is full knows of a full one
+left_filled : (cells : ℕ) (had : Received) (why : NoReceipt) (has : Received) → Leaves cells had why has → HasFull (Err why ∷ []) → cells ≤ length has.known
+left_filled cells had (without.Refused faults.Full) has r full = omega (arith, r.is_full)
+left_filled cells had (without.Refused faults.Stale) has r full = absurd (cc (not_full (without.Refused faults.Stale) full))
+left_filled cells had (without.Refused faults.NoMemory) has r full = absurd (cc (not_full (without.Refused faults.NoMemory) full))
+left_filled cells had (without.Refused faults.CellTaken) has r full = absurd (cc (not_full (without.Refused faults.CellTaken) full))
+left_filled cells had without.Barred has r full = absurd (cc (not_full without.Barred full))
+left_filled cells had without.ShareUsed has r full = absurd (cc (not_full without.ShareUsed full))
 
 receipts_append : (os ps : List Outcome) → receipts_of (os ++ ps) ≡ receipts_of os ++ receipts_of ps
 receipts_append [] ps = refl
 receipts_append (Ok r ∷ os) ps = ap (λ rs. r ∷ rs) (receipts_append os ps)
 receipts_append (Err f ∷ os) ps = receipts_append os ps
+
+-- how many entries there are behind one outcome and more
+held_more : (held : ℕ) (o : Outcome) (os : List Outcome) → held + length (receipts_of (o ∷ os)) ≡ (held + length (receipts_of (o ∷ []))) + length (receipts_of os)
+held_more held (Ok r) os = omega arith
+held_more held (Err why) os = omega arith
+
+made_append : {X : Type 0} (may : Allowance) (fits : X → Floor → Bool) (count : X → ℕ) (grid : Floor) (held : ℕ) (cs : List Command) (os : List Outcome) (ds : List Command) (ps : List Outcome) (spares left rest : List X)
+    → Made may fits count grid held cs os spares left → Made may fits count grid (held + length (receipts_of os)) ds ps left rest → Made may fits count grid held (cs ++ ds) (os ++ ps) spares rest
+made_append {X} may fits count grid held [] [] ds ps spares left rest p q =
+    subst (λ (xs : List X). Made may fits count grid held ds ps xs rest) p (subst (λ n. Made may fits count grid n ds ps left rest) (omega arith) q)
+made_append may fits count grid held (c ∷ cs) (o ∷ os) ds ps spares left rest p q =
+    (p.0, p.1, made_append may fits count grid (held + length (receipts_of (o ∷ []))) cs os ds ps p.0 left rest p.2 (subst (λ n. Made may fits count grid n ds ps left rest) (held_more held o os) q))
+made_append may fits count grid held [] (o ∷ os) ds ps spares left rest p q = absurd p
+made_append may fits count grid held (c ∷ cs) [] ds ps spares left rest p q = absurd p
+
+-- each command has its outcome
+made_length : {X : Type 0} (may : Allowance) (fits : X → Floor → Bool) (count : X → ℕ) (grid : Floor) (held : ℕ) (cs : List Command) (os : List Outcome) (spares rest : List X) → Made may fits count grid held cs os spares rest → length os ≡ length cs
+made_length may fits count grid held [] [] spares rest p = refl
+made_length may fits count grid held (c ∷ cs) (o ∷ os) spares rest p = ap suc (made_length may fits count grid (held + length (receipts_of (o ∷ []))) cs os p.0 rest p.2)
+made_length may fits count grid held [] (o ∷ os) spares rest p = absurd p
+made_length may fits count grid held (c ∷ cs) [] spares rest p = absurd p
 
 -- ---- lines
 
@@ -70,58 +104,88 @@ replies_push text (l ∷ lines) line os ps e = replies_by text (command_of l) li
 
 -- ---- what is given
 
-pub gives_nothing : {X : Type 0} (fits : X → Floor → Bool) (count : X → ℕ) (grid : Floor) (told : List Outcome → List (List ℕ)) (old : Received) (spares : List X)
-    → Gives fits count grid [] told old spares old spares (told [])
-gives_nothing fits count grid told old spares = record {
+pub gives_nothing : {X : Type 0} (may : Allowance) (cells : ℕ) (fits : X → Floor → Bool) (count : X → ℕ) (grid : Floor) (told : List Outcome → List (List ℕ)) (old : Received) (spares : List X)
+    → Gives may cells fits count grid [] told old spares old spares (told [])
+gives_nothing may cells fits count grid told old spares = record {
   outcomes = [];
   replies_are = refl;
   made = refl;
   caller_is = refl;
   gained = sym (append-nil old.list);
+  known = prefix_self old.known;
+  filled = λ full. absurd full;
 }
 
+-- a receipt says no such thing
+no_full : (receipt : ℕ × Entry) → HasFull (Ok receipt ∷ []) → ⊥
+no_full receipt (inl is) = cc (ap outcome_full is)
+no_full receipt (inr none) = none
+
+-- where one of two rows of outcomes says that the journal is full
+full_later : (o : Outcome) (os ps : List Outcome) → HasFull os ⊎ HasFull ps → HasFull (o ∷ os) ⊎ HasFull ps
+full_later o os ps (inl full) = inl (inr full)
+full_later o os ps (inr full) = inr full
+
+full_in : (os ps : List Outcome) → HasFull (os ++ ps) → HasFull os ⊎ HasFull ps
+full_in [] ps full = inr full
+full_in (o ∷ os) ps (inl is) = inl (inl is)
+full_in (o ∷ os) ps (inr more) = full_later o os ps (full_in os ps more)
+
+full_of : (cells : ℕ) (os ps : List Outcome) (mid new : List Entry) → IsPrefix mid new → (HasFull os → cells ≤ length mid) → (HasFull ps → cells ≤ length new) → HasFull os ⊎ HasFull ps → cells ≤ length new
+full_of cells os ps mid new more p q (inl full) = omega (arith, p full, prefix_length mid new more)
+full_of cells os ps mid new more p q (inr full) = q full
+
+full_then : (cells : ℕ) (os ps : List Outcome) (mid new : List Entry) → IsPrefix mid new → (HasFull os → cells ≤ length mid) → (HasFull ps → cells ≤ length new) → HasFull (os ++ ps) → cells ≤ length new
+full_then cells os ps mid new more p q full = full_of cells os ps mid new more p q (full_in os ps full)
+
 -- the output of one line more
-pub output_push : {X : Type 0} (fits : X → Floor → Bool) (count : X → ℕ) (grid : Floor) (text : ℕ × Entry → List ℕ) (lines : List (List ℕ)) (line : List ℕ) (old : Received) (spares : List X) (mid : Received) (left : List X) (new : Received) (rest : List X)
-    (had more : List (List ℕ)) → IsOutputOf fits count grid text lines old spares mid left had → Gives fits count grid (asked (command_of line)) (answers text (command_of line)) mid left new rest more
-    → IsOutputOf fits count grid text (lines ++ line ∷ []) old spares new rest (had ++ more)
-output_push fits count grid text lines line old spares mid left new rest had more p q =
-    let long = made_length fits count grid (commands_of lines) p.outcomes spares left p.made in
+pub output_push : {X : Type 0} (may : Allowance) (cells : ℕ) (fits : X → Floor → Bool) (count : X → ℕ) (grid : Floor) (text : ℕ × Entry → List ℕ) (lines : List (List ℕ)) (line : List ℕ) (old : Received) (spares : List X) (mid : Received) (left : List X) (new : Received) (rest : List X)
+    (had more : List (List ℕ)) → IsOutputOf may cells fits count grid text lines old spares mid left had → Gives may cells fits count grid (asked (command_of line)) (answers text (command_of line)) mid left new rest more
+    → IsOutputOf may cells fits count grid text (lines ++ line ∷ []) old spares new rest (had ++ more)
+output_push may cells fits count grid text lines line old spares mid left new rest had more p q =
+    let long = made_length may fits count grid (length old.list) (commands_of lines) p.outcomes spares left p.made in
     record {
       outcomes = p.outcomes ++ q.outcomes;
       replies_are = ap (λ rs. rs ++ more) p.replies_are ∙ ap (λ rs. replies_to text lines p.outcomes ++ rs) q.replies_are ∙ sym (replies_push text lines line p.outcomes q.outcomes long);
-      made = subst (λ cs. Made fits count grid cs (p.outcomes ++ q.outcomes) spares rest) (sym (commands_push lines line))
-          (made_append fits count grid (commands_of lines) p.outcomes (asked (command_of line)) q.outcomes spares left rest p.made q.made);
+      made = subst (λ cs. Made may fits count grid (length old.list) cs (p.outcomes ++ q.outcomes) spares rest) (sym (commands_push lines line))
+          (made_append may fits count grid (length old.list) (commands_of lines) p.outcomes (asked (command_of line)) q.outcomes spares left rest p.made
+          (subst (λ n. Made may fits count grid n (asked (command_of line)) q.outcomes left rest) (ap length p.gained ∙ length-append old.list (receipts_of p.outcomes)) q.made));
       caller_is = q.caller_is ∙ p.caller_is;
       gained = q.gained ∙ ap (λ rs. rs ++ receipts_of q.outcomes) p.gained ∙ append_assoc old.list (receipts_of p.outcomes) (receipts_of q.outcomes) ∙ ap (λ rs. old.list ++ rs) (sym (receipts_append p.outcomes q.outcomes));
+      known = prefix_trans old.known mid.known new.known p.known q.known;
+      filled = λ full. full_then cells p.outcomes q.outcomes mid.known new.known q.known p.filled q.filled full;
     }
 
 -- ---- one line
 
-module _ {X : Type 0} (fits : X → Floor → Bool) (count : X → ℕ) (grid : Floor) (text : ℕ × Entry → List ℕ) (line : Result (Option Command) LineFault) where
-  pub answered_nothing : (old : Received) (spares : List X) → Ok None ≡ line → Gives fits count grid (asked line) (answers text line) old spares old spares []
+module _ {X : Type 0} (may : Allowance) (cells : ℕ) (fits : X → Floor → Bool) (count : X → ℕ) (grid : Floor) (text : ℕ × Entry → List ℕ) (line : Result (Option Command) LineFault) where
+  pub answered_nothing : (old : Received) (spares : List X) → Ok None ≡ line → Gives may cells fits count grid (asked line) (answers text line) old spares old spares []
   answered_nothing old spares e =
-      subst (λ (k : Result (Option Command) LineFault). Gives fits count grid (asked k) (answers text k) old spares old spares []) e
-      (gives_nothing fits count grid (answers text (Ok None)) old spares)
+      subst (λ (k : Result (Option Command) LineFault). Gives may cells fits count grid (asked k) (answers text k) old spares old spares []) e
+      (gives_nothing may cells fits count grid (answers text (Ok None)) old spares)
 
-  pub answered_fault : (old : Received) (spares : List X) (fault : LineFault) → Err fault ≡ line → Gives fits count grid (asked line) (answers text line) old spares old spares (line_text fault ∷ [])
+  pub answered_fault : (old : Received) (spares : List X) (fault : LineFault) → Err fault ≡ line → Gives may cells fits count grid (asked line) (answers text line) old spares old spares (line_text fault ∷ [])
   answered_fault old spares fault e =
-      subst (λ (k : Result (Option Command) LineFault). Gives fits count grid (asked k) (answers text k) old spares old spares (line_text fault ∷ [])) e
-      (gives_nothing fits count grid (answers text (Err fault)) old spares)
+      subst (λ (k : Result (Option Command) LineFault). Gives may cells fits count grid (asked k) (answers text k) old spares old spares (line_text fault ∷ [])) e
+      (gives_nothing may cells fits count grid (answers text (Err fault)) old spares)
 
   pub answered_receipt : (old : Received) (spares : List X) (command : Command) (receipt : ℕ × Entry) (new : Received) (rest : List X)
-      → Ok (Some command) ≡ line → Receives fits count grid command old spares receipt new rest → Gives fits count grid (asked line) (answers text line) old spares new rest (text receipt ∷ [])
-  answered_receipt old spares command receipt new rest e r =
-      subst (λ (k : Result (Option Command) LineFault). Gives fits count grid (asked k) (answers text k) old spares new rest (text receipt ∷ [])) e
-      (record { outcomes = Ok receipt ∷ []; replies_are = refl; made = (rest, (r.answers, r.takes), refl); caller_is = r.caller_is; gained = r.gained })
+      → Ok (Some command) ≡ line → MayCall may (length old.list) command → Receives fits count grid command old spares receipt new rest → Gives may cells fits count grid (asked line) (answers text line) old spares new rest (text receipt ∷ [])
+  answered_receipt old spares command receipt new rest e fine r =
+      subst (λ (k : Result (Option Command) LineFault). Gives may cells fits count grid (asked k) (answers text k) old spares new rest (text receipt ∷ [])) e
+      (record { outcomes = Ok receipt ∷ []; replies_are = refl; made = (rest, (fine, r.answers, r.takes), refl); caller_is = r.caller_is; gained = r.gained; known = r.known; filled = λ full. absurd (no_full receipt full) })
 
-  pub answered_refusal : (old : Received) (spares : List X) (command : Command) (fault : DeskFault) (new : Received) (rest : List X)
-      → Ok (Some command) ≡ line → new.caller ≡ old.caller → new.list ≡ old.list → rest ≡ spares → Gives fits count grid (asked line) (answers text line) old spares new rest (fault_text fault ∷ [])
-  answered_refusal old spares command fault new rest e mine same kept =
-      subst (λ (k : Result (Option Command) LineFault). Gives fits count grid (asked k) (answers text k) old spares new rest (fault_text fault ∷ [])) e
+  pub answered_without : (old : Received) (spares : List X) (command : Command) (why : NoReceipt) (new : Received) (rest : List X)
+      → Ok (Some command) ≡ line → IsWhyNone may (length old.list) command why → Leaves cells old why new → rest ≡ spares → Gives may cells fits count grid (asked line) (answers text line) old spares new rest (without_text why ∷ [])
+  answered_without old spares command why new rest e is_why left kept =
+      let keeps = left_caller cells old why new left in
+      subst (λ (k : Result (Option Command) LineFault). Gives may cells fits count grid (asked k) (answers text k) old spares new rest (without_text why ∷ [])) e
       (record {
-        outcomes = Err fault ∷ [];
+        outcomes = Err why ∷ [];
         replies_are = refl;
-        made = (rest, kept, refl);
-        caller_is = mine;
-        gained = same ∙ sym (append-nil old.list);
+        made = (rest, (is_why, kept), refl);
+        caller_is = keeps.0;
+        gained = keeps.1 ∙ sym (append-nil old.list);
+        known = keeps.2;
+        filled = left_filled cells old why new left;
       })

@@ -6,8 +6,8 @@ use Rattle.std.proofs.lemmas.List.Elements.{All-head, All-tail}
 use Rattle.std.proofs.lemmas.Option.{same_Some, slice_get_within}
 use Rattle.wh_event.specs.declared.entry.Entry.{Entry}
 use Rattle.wh_desk.specs.Lists.{AllAt, entries_of, Received}
-use Rattle.wh_desk.specs.Calls.{InOrder}
-use Rattle.wh_replay.specs.declared.script.Replayed.{Replayed}
+use mathlib.Core.List.{IsPrefix}
+use Rattle.wh_desk.specs.Calls.{InOrder, AllBegin}
 use Rattle.wh_replay.specs.declared.script.ReplayFault.{ReplayFault}
 use Rattle.std.specs.Prelude.{IfOk, IfErr}
 use Rattle.std.specs.Io.KnownBytes.{Keeps}
@@ -16,13 +16,15 @@ use Rattle.wh_replay.specs.Answers.{text_of}
 use Rattle.wh_replay.proofs.Until.{until_left}
 use Rattle.wh_serve.specs.Sessions.{ServesAll, Stops}
 use Rattle.wh_serve.specs.Hosting.{IsDue, ReportAt, Fared, Session, AllServed}
+use Rattle.wh_serve.specs.declared.allowance.Allowance.{Allowance}
+use Rattle.wh_serve.specs.declared.client.Served.{Served}
 use Rattle.wh_serve.specs.declared.threads.Ended.{Ended}
 use Rattle.wh_serve.specs.declared.threads.Client.{Client}
 use Rattle.wh_lines.specs.Input.{Input}
 use Rattle.wh_grid.specs.Grids.{Floor}
 
 -- below the length there is an element
-get_some : {A : Type 0} (xs : List A) (k : ℕ) → k < length xs → (x : A) × (slice_get xs k ≡ Some x)
+pub get_some : {A : Type 0} (xs : List A) (k : ℕ) → k < length xs → (x : A) × (slice_get xs k ≡ Some x)
 get_some [] k less = absurd (omega arith)
 get_some (x ∷ xs) zero less = (x, refl)
 get_some (x ∷ xs) (suc k) less = get_some xs k (omega arith)
@@ -37,13 +39,13 @@ map_get f [] k x at = absurd (cc)
 map_get f (y ∷ xs) zero x at = ap (λ z. Some (f z)) (same_Some _ _ at)
 map_get f (y ∷ xs) (suc k) x at = map_get f xs k x at
 
-all_at : {A : Type 0} (P : A → Type 0) (xs : List A) → All P xs → (k : ℕ) (x : A) → slice_get xs k ≡ Some x → P x
+pub all_at : {A : Type 0} (P : A → Type 0) (xs : List A) → All P xs → (k : ℕ) (x : A) → slice_get xs k ≡ Some x → P x
 all_at P [] all k x at = absurd (cc)
 all_at P (y ∷ xs) all zero x at = subst P (same_Some _ _ at) (All-head P y xs all)
 all_at P (y ∷ xs) all (suc k) x at = all_at P xs (All-tail P y xs all) k x at
 
 -- each report keeps the promise at its place, so its client was served with the pass there
-pub reported : {C W H Y : Type 0} (serves : C → Received → Received → W → Result Replayed ReplayFault → Type 0) (asked : H → C) (had : H → Received) (pass : Y → Received) (writer : Y → W) (ended : Y → Result Replayed ReplayFault)
+pub reported : {C W H Y : Type 0} (serves : C → Received → Received → W → Result Served ReplayFault → Type 0) (asked : H → C) (had : H → Received) (pass : Y → Received) (writer : Y → W) (ended : Y → Result Served ReplayFault)
     (clients : List C) (passes : List Received) (hs : List H) (rs : List Y)
     → length rs ≡ length hs → AllAt (λ i h. IsDue clients passes i (asked h) (had h)) hs
     → AllAt (λ i r. (h : H) → slice_get hs i ≡ Some h → serves (asked h) (had h) (pass r) (writer r) (ended r)) rs
@@ -55,10 +57,10 @@ reported {C} serves asked had pass writer ended clients passes hs rs count due k
     (subst (λ (p : Received). serves (asked h.0) p (pass r) (writer r) (ended r)) (same_Some _ _ (sym is.had_is ∙ pass_at)) (kept i r at h.0 h.1))
 
 -- what is served keeps the caller
-abbrev pub KeepsCaller : {C W : Type 0} → (C → Received → Received → W → Result Replayed ReplayFault → Type 0) → Type 0
-KeepsCaller {C} {W} serves = (client : C) (had has : Received) (writer : W) (ended : Result Replayed ReplayFault) → serves client had has writer ended → has.caller ≡ had.caller
+abbrev pub KeepsCaller : {C W : Type 0} → (C → Received → Received → W → Result Served ReplayFault → Type 0) → Type 0
+KeepsCaller {C} {W} serves = (client : C) (had has : Received) (writer : W) (ended : Result Served ReplayFault) → serves client had has writer ended → has.caller ≡ had.caller
 
-pub ended_order : {C W Y : Type 0} (serves : C → Received → Received → W → Result Replayed ReplayFault → Type 0) (keeps : KeepsCaller serves) (pass : Y → Received) (writer : Y → W) (ended : Y → Result Replayed ReplayFault)
+pub ended_order : {C W Y : Type 0} (serves : C → Received → Received → W → Result Served ReplayFault → Type 0) (keeps : KeepsCaller serves) (pass : Y → Received) (writer : Y → W) (ended : Y → Result Served ReplayFault)
     (clients : List C) (passes : List Received) (rs : List Y) (callers : ℕ)
     → InOrder callers passes → length clients ≡ length passes → length rs ≡ length passes
     → AllAt (λ i r. ReportAt serves clients passes i (pass r) (writer r) (ended r)) rs → InOrder callers (map pass rs)
@@ -72,13 +74,13 @@ ended_order serves keeps pass writer ended clients passes rs callers order same 
       ap (λ (q : Received). q.caller) (sym r.2) ∙ keeps client.0 before.0 (pass r.0) (writer r.0) (ended r.0) (reports k r.0 r.1 client.0 before.0 client.1 before.1) ∙ order.each k before.0 before.1;
 }
 
-pub all_served : {C W Y : Type 0} (serves : C → Received → Received → W → Result Replayed ReplayFault → Type 0) (keeps : KeepsCaller serves) (pass : Y → Received) (ended : Y → Ended W)
+pub all_served : {C W Y : Type 0} (serves : C → Received → Received → W → Result Served ReplayFault → Type 0) (keeps : KeepsCaller serves) (pass : Y → Received) (ended : Y → Ended W)
     (clients : List C) (passes : List Received) (rs : List Y) (callers : ℕ) (history : List Entry)
     → InOrder callers passes → length clients ≡ length passes → length rs ≡ length passes
     → AllAt (λ i r. ReportAt serves clients passes i (pass r) (ended r).writer (ended r).outcome) rs
-    → All (λ p. p.list ≡ entries_of history p.caller) (map pass rs)
+    → All (λ p. p.list ≡ entries_of history p.caller) (map pass rs) → AllBegin history (map pass rs)
     → AllServed serves clients passes history (map ended rs)
-all_served {C} {W} serves keeps pass ended clients passes rs callers history order same count reports lists = record {
+all_served {C} {W} serves keeps pass ended clients passes rs callers history order same count reports lists begins = record {
   one_each = length-map rs ended ∙ count ∙ sym same;
   each = λ i client had end client_at pass_at end_at.
       let r = map_at ended rs i end end_at in
@@ -91,37 +93,42 @@ all_served {C} {W} serves keeps pass ended clients passes rs callers history ord
         has = pass r.0;
         caller_is = kept ∙ mine;
         list_is = whole ∙ ap (entries_of history) (kept ∙ mine);
+        knows = all_at (λ (p : Received). IsPrefix p.known history) (map pass rs) begins i (pass r.0) place;
         served = subst (λ (e : Ended W). serves client had (pass r.0) e.writer e.outcome) r.2 s;
       };
 }
 
 -- a session keeps the caller
-fared_caller : {X : Type 0} (fits : X → Floor → Bool) (count : X → ℕ) (grid : Floor) (text : ℕ × Entry → List ℕ) (ended : Result Replayed ReplayFault) (before after : Input) (old : Received) (spares : List X) (new : Received) (rest : List X) (had has : Option (List ℕ))
-    → Fared fits count grid text ended before after old spares new rest had has → new.caller ≡ old.caller
-fared_caller fits count grid text (Ok replayed) before after old spares new rest had has f = f.output.caller_is
-fared_caller fits count grid text (Err fault) before after old spares new rest had has f = f.output.caller_is
+fared_caller : {X : Type 0} (may : Allowance) (cells : ℕ) (fits : X → Floor → Bool) (count : X → ℕ) (grid : Floor) (text : ℕ × Entry → List ℕ) (ended : Result Served ReplayFault) (before after : Input) (old : Received) (spares : List X) (new : Received) (rest : List X) (had has : Option (List ℕ))
+    → Fared may cells fits count grid text ended before after old spares new rest had has → new.caller ≡ old.caller
+fared_caller may cells fits count grid text (Ok served) before after old spares new rest had has f = f.output.caller_is
+fared_caller may cells fits count grid text (Err fault) before after old spares new rest had has f = f.output.caller_is
 
-pub session_caller : {R W X : Type 0} (fits : X → Floor → Bool) (count : X → ℕ) (grid : Floor) (text : ℕ × Entry → List ℕ) (remaining : R → Option (List ℕ)) (contents : W → Option (List ℕ))
-    → KeepsCaller (λ (d : Client R W X) had has w e. Session fits count grid text remaining contents d had has w e)
-session_caller fits count grid text remaining contents client had has writer ended s =
-    fared_caller fits count grid text ended s.before s.after had client.spares.items has s.rest (contents client.writer) (contents writer) s.fared
+pub session_caller : {R W X : Type 0} (cells : ℕ) (fits : X → Floor → Bool) (count : X → ℕ) (grid : Floor) (text : ℕ × Entry → List ℕ) (remaining : R → Option (List ℕ)) (contents : W → Option (List ℕ))
+    → KeepsCaller (λ (d : Client R W X) had has w e. Session cells fits count grid text remaining contents d had has w e)
+session_caller cells fits count grid text remaining contents client had has writer ended s =
+    fared_caller client.allowance cells fits count grid text ended s.before s.after had client.spares.items has s.rest (contents client.writer) (contents writer) s.fared
 
 -- ---- a client that was left
 
-pub fared_left : {X : Type 0} (fits : X → Floor → Bool) (count : X → ℕ) (grid : Floor) (text : ℕ × Entry → List ℕ) (ended : Result Replayed ReplayFault) (before after : Input) (old : Received) (spares : List X) (new : Received) (rest : List X) (had mid has : Option (List ℕ))
-    → IfOk ended (λ r. ServesAll fits count grid text before after old spares new rest had mid r.replies)
-    → IfErr ended (λ fault. Stops fits count grid text fault before after old spares new rest had mid)
-    → Keeps mid has → Fared fits count grid text ended before after old spares new rest had has
-fared_left fits count grid text (Ok replayed) before after old spares new rest had mid has s t kept = record {
+pub fared_left : {X : Type 0} (may : Allowance) (cells : ℕ) (fits : X → Floor → Bool) (count : X → ℕ) (grid : Floor) (text : ℕ × Entry → List ℕ) (ended : Result Served ReplayFault) (before after : Input) (old : Received) (spares : List X) (new : Received) (rest : List X) (had mid has : Option (List ℕ))
+    → IfOk ended (λ r. ServesAll may cells fits count grid text before after old spares new rest had mid r.replies r.is_torn)
+    → IfErr ended (λ fault. Stops may cells fits count grid text fault before after old spares new rest had mid)
+    → Keeps mid has → Fared may cells fits count grid text ended before after old spares new rest had has
+fared_left may cells fits count grid text (Ok served) before after old spares new rest had mid has s t kept = record {
   read = s.read;
+  begun = s.begun;
   takes = s.takes;
+  whole = s.whole;
+  part = s.part;
+  torn = s.torn;
   ended = s.ended;
   replies = s.replies;
   output = s.output;
   appends = Appends-kept had mid has (text_of s.replies) s.appends kept;
   written_is = s.written_is;
 }
-fared_left fits count grid text (Err fault) before after old spares new rest had mid has s t kept = record {
+fared_left may cells fits count grid text (Err fault) before after old spares new rest had mid has s t kept = record {
   read = t.read;
   begun = t.begun;
   takes = t.takes;

@@ -1,32 +1,38 @@
 -- What clients did from the opening of a warehouse, and the log of it.
-use Rattle.std.specs.Prelude.{◌≡◌, ℕ, ◌<◌, ◌≤◌, Bool, List, length, All, Option}
+use Rattle.std.specs.Prelude.{◌≡◌, ℕ, ◌<◌, ◌≤◌, Bool, List, length, All, Option, Some, slice_get}
 use Rattle.wh_words.specs.Lines.{text_of}
 use Rattle.wh_grid.specs.Grids.{Floor}
 use Rattle.wh_points.specs.Points.{Site}
 use Rattle.wh_event.specs.declared.entry.Entry.{Entry}
 use Rattle.wh_core.specs.States.{State, opened}
+use Rattle.wh_core.specs.Laws.{IsOpening}
 use Rattle.wh_core.specs.Steps.{Run}
 use Rattle.wh_desk.specs.Fleet.{IsTied}
 use Rattle.wh_log.specs.Logs.{log_lines}
 use Rattle.wh_log.specs.declared.version.Version.TheVariants.{Two}
 use Rattle.wh_desk.specs.Pasts.{Origin}
-use Rattle.wh_desk.specs.Lists.{Received}
-use Rattle.wh_desk.specs.Calls.{AllEmpty, InOrder}
+use Rattle.wh_desk.specs.Lists.{Received, entries_of}
+use Rattle.wh_desk.specs.Calls.{AllEmpty, InOrder, NoneWantsPath}
+use Rattle.wh_serve.specs.Allowances.{KeepsTo}
 use Rattle.wh_serve.specs.Hosting.{Session, AllServed}
 use Rattle.wh_serve.specs.declared.threads.Client.{Client}
 use Rattle.wh_serve.specs.declared.threads.Ended.{Ended}
 
--- The history is one run from there, by these clients alone, and has no more entries than the journal has positions. Each
--- client had nothing before, and what was written to it is told by what is its caller's in the history.
+-- The history is one run from an opening, by these clients alone, and has no more entries than the journal has positions. On a
+-- well-formed instance no request in it is refused for want of a path. What is each client's in it keeps to what the client may
+-- do. Each client had nothing before, and what was written to it is told by what is its caller's in the history.
 pub record ServedFrom {R W X : Type 0} (fits : X → Floor → Bool) (count : X → ℕ) (text : ℕ × Entry → List ℕ) (remaining : R → Option (List ℕ)) (contents : W → Option (List ℕ))
     (origin : Origin) (clients : List (Client R W X)) (journal : ℕ) (history : List Entry) (state : State) (ends : List (Ended W)) : Type 0 where
+  pub opens : IsOpening origin.site origin.opening
   pub run : Run origin.site origin.opening history state
+  pub granted : NoneWantsPath origin history
   pub within : length history ≤ journal
   pub callers : All (λ entry. entry.caller < length clients) history
+  pub allowed : (i : ℕ) (client : Client R W X) → slice_get clients i ≡ Some client → KeepsTo client.allowance (entries_of history i)
   pub passes : List Received
   pub in_order : InOrder (length clients) passes
   pub empty : AllEmpty passes
-  pub served : AllServed (λ d had has w e. Session fits count origin.site.grid text remaining contents d had has w e) clients passes history ends
+  pub served : AllServed (λ d had has w e. Session journal fits count origin.site.grid text remaining contents d had has w e) clients passes history ends
 
 -- The warehouse was opened at clock 0 with these planners, the clients were served over a journal of so many positions, and
 -- the log is of what they did.

@@ -1,14 +1,16 @@
 //! Clients that are served at once: a thread for each, all over one desk.
 
 ghost use Rattle.std.specs.Prelude.{◌≡◌, ◌<◌, ◌≤◌, [], ℕ, All, IfOk, length, map, vec_len, vec_capacity, Some, slice_get};
+ghost use Rattle.wh_core.specs.Laws.{IsOpening};
 ghost use Rattle.wh_core.specs.Steps.{Run};
 ghost use Rattle.wh_desk.specs.Pasts.{origin_of};
 ghost use Rattle.wh_desk.specs.Lists.{AllAt};
-ghost use Rattle.wh_desk.specs.Calls.{InOrder};
+ghost use Rattle.wh_desk.specs.Calls.{InOrder, NoneWantsPath};
 ghost use Rattle.wh_serve.specs.Texts.{receipt_text};
 ghost use Rattle.wh_serve.specs.Hosting.{Session, IsDue, ReportAt, AllServed};
 
-use crate::client::serve_client;
+use crate::allowance::Allowance;
+use crate::client::{Served, serve_client};
 use crate::form::Form;
 use crate::leave::Leave;
 use std::alloc::{AllocError, Global};
@@ -21,21 +23,23 @@ use wh_crew::CrewFault;
 use wh_desk::{Desk, DeskName, History, Pass};
 use wh_lines::Lines;
 use wh_planner::Planner;
-use wh_replay::{ReplayFault, Replayed};
+use wh_replay::ReplayFault;
 
-/// A client: what it sends, where it is told its replies, and the planners that its Replaces may lend, the last first.
+/// A client: what it sends, where it is told its replies, the planners that its Replaces may lend, the last first, and what it
+/// may do.
 #[derive(Drop)]
 pub struct Client<R, W, P = Box<dyn Planner>> {
     pub reader: R,
     pub writer: W,
     pub spares: Vec<P>,
+    pub allowance: Allowance,
 }
 
 /// How a client ended: its writer, and how many replies it was told, or why it was not served to its end.
 #[derive(Drop)]
 pub struct Ended<W> {
     pub writer: W,
-    pub outcome: Result<Replayed, ReplayFault>,
+    pub outcome: Result<Served, ReplayFault>,
 }
 
 /// What a client's thread leaves.
@@ -57,7 +61,7 @@ impl<N: DeskName, R: Read, W: Write, P: Planner> Promise<Report<N, W>> for Due<N
     ghost use Rattle.wh_serve.specs.Texts.{receipt_text};
     ghost use Rattle.wh_serve.specs.Hosting.{Session};
 
-    ghost kept_by = { λ due r. Session P.fits_map P.slot_count N.origin.site.grid (receipt_text due.form) (λ x. R.remaining x) (λ x. W.contents x) due.client.value due.had.value r.pass r.ended.writer r.ended.outcome };
+    ghost kept_by = { λ due r. Session (length N.cells) P.fits_map P.slot_count N.origin.site.grid (receipt_text due.form) (λ x. R.remaining x) (λ x. W.contents x) due.client.value due.had.value r.pass r.ended.writer r.ended.outcome };
 }
 
 /// One client from its reader's start to its end, with its pass moved in and out.
@@ -79,18 +83,20 @@ fn serve_whole<
     leave: &G,
     number: u32,
 ) -> Report<N, W>
-    ensures { Session P.fits_map P.slot_count N.origin.site.grid (receipt_text form) (λ x. R.remaining x) (λ x. W.contents x) client pass result.pass result.ended.writer result.ended.outcome }
+    ensures { Session (length N.cells) P.fits_map P.slot_count N.origin.site.grid (receipt_text form) (λ x. R.remaining x) (λ x. W.contents x) client pass result.pass result.ended.writer result.ended.outcome }
 {
     let Client {
         reader,
         mut writer,
         mut spares,
+        allowance,
     } = client;
     let mut lines = Lines::new(reader);
     let outcome = serve_client(
         rt,
         alloc,
         form,
+        allowance,
         &mut lines,
         &mut writer,
         desk,
@@ -137,7 +143,7 @@ fn start_one<
     let started = scope.spawn_with(
         due,
         move || -> Report<N, W>
-            ensures { Session P.fits_map P.slot_count N.origin.site.grid (receipt_text form) (λ x. R.remaining x) (λ x. W.contents x) client pass result.pass result.ended.writer result.ended.outcome }
+            ensures { Session (length N.cells) P.fits_map P.slot_count N.origin.site.grid (receipt_text form) (λ x. R.remaining x) (λ x. W.contents x) client pass result.pass result.ended.writer result.ended.outcome }
         { serve_whole(rt, alloc, form, desk, pass, client, leave, number) },
     );
     match started {
@@ -214,7 +220,7 @@ fn join_all<N: DeskName, P: Planner, X: Threads, R: Read + Send + Drop, W: Write
     requires empty { reports.items ≡ [] }
     requires room { length handles.items ≤ vec_capacity reports }
     ensures count { length result.items ≡ length handles.items }
-    ensures kept { AllAt (λ i r. (h : _) → slice_get handles.items i ≡ Some h → Session P.fits_map P.slot_count N.origin.site.grid (receipt_text h.promise.form) (λ x. R.remaining x) (λ x. W.contents x) h.promise.client.value h.promise.had.value r.pass r.ended.writer r.ended.outcome) result.items }
+    ensures kept { AllAt (λ i r. (h : _) → slice_get handles.items i ≡ Some h → Session (length N.cells) P.fits_map P.slot_count N.origin.site.grid (receipt_text h.promise.form) (λ x. R.remaining x) (λ x. W.contents x) h.promise.client.value h.promise.had.value r.pass r.ended.writer r.ended.outcome) result.items }
 {
     for handle in handles {
         reports.push_reserved(handle.join(rt));
@@ -264,14 +270,14 @@ fn run_all<
     requires empty { reports.items ≡ [] }
     requires room { length passes.items ≤ vec_capacity reports }
     ensures count { IfOk result (λ rs. length rs.items ≡ length passes.items) }
-    ensures reported { IfOk result (λ rs. AllAt (λ i r. ReportAt (λ c had has w e. Session P.fits_map P.slot_count N.origin.site.grid (receipt_text form) (λ x. R.remaining x) (λ x. W.contents x) c had has w e) clients.items passes.items i r.pass r.ended.writer r.ended.outcome) rs.items) }
+    ensures reported { IfOk result (λ rs. AllAt (λ i r. ReportAt (λ c had has w e. Session (length N.cells) P.fits_map P.slot_count N.origin.site.grid (receipt_text form) (λ x. R.remaining x) (λ x. W.contents x) c had has w e) clients.items passes.items i r.pass r.ended.writer r.ended.outcome) rs.items) }
 {
     thread::scope(
         thread::scope_env(),
         rt,
         move |scope| -> Result<Vec<Report<N, W>>, CrewFault>
             requires { (length clients.items ≡ length passes.items) × (reports.items ≡ []) × (length passes.items ≤ vec_capacity reports) }
-            ensures { IfOk result (λ rs. (length rs.items ≡ length passes.items) × AllAt (λ i r. ReportAt (λ c had has w e. Session P.fits_map P.slot_count N.origin.site.grid (receipt_text form) (λ x. R.remaining x) (λ x. W.contents x) c had has w e) clients.items passes.items i r.pass r.ended.writer r.ended.outcome) rs.items) }
+            ensures { IfOk result (λ rs. (length rs.items ≡ length passes.items) × AllAt (λ i r. ReportAt (λ c had has w e. Session (length N.cells) P.fits_map P.slot_count N.origin.site.grid (receipt_text form) (λ x. R.remaining x) (λ x. W.contents x) c had has w e) clients.items passes.items i r.pass r.ended.writer r.ended.outcome) rs.items) }
         {
             let handles = start_all(scope, rt, alloc, form, desk, passes, clients, leave)?;
             Ok(join_all(rt, handles, reports))
@@ -311,10 +317,12 @@ pub fn serve_clients<
     requires passes { InOrder N.callers passes.items }
     requires clients { length clients.items ≡ length passes.items }
     ensures origin { IfOk result (λ c. origin_of c.history.warehouse.book ≡ N.origin) }
+    ensures opening { IfOk result (λ _. IsOpening N.origin.site N.origin.opening) }
     ensures run { IfOk result (λ c. Run N.origin.site N.origin.opening c.history.warehouse.book.history c.history.warehouse.book.state) }
     ensures callers { IfOk result (λ c. All (λ entry. entry.caller < N.callers) c.history.warehouse.book.history) }
+    ensures granted { IfOk result (λ c. NoneWantsPath N.origin c.history.warehouse.book.history) }
     ensures within { IfOk result (λ c. length c.history.warehouse.book.history ≤ length N.cells) }
-    ensures served { IfOk result (λ c. AllServed (λ d had has w e. Session P.fits_map P.slot_count N.origin.site.grid (receipt_text form) (λ x. R.remaining x) (λ x. W.contents x) d had has w e) clients.items passes.items c.history.warehouse.book.history c.ends.items) }
+    ensures served { IfOk result (λ c. AllServed (λ d had has w e. Session (length N.cells) P.fits_map P.slot_count N.origin.site.grid (receipt_text form) (λ x. R.remaining x) (λ x. W.contents x) d had has w e) clients.items passes.items c.history.warehouse.book.history c.ends.items) }
 {
     let Ok(room) = make_room(alloc, passes.len()) else {
         return Err(CrewFault::NoMemory);

@@ -5,11 +5,12 @@ ghost use Rattle.std.specs.Io.KnownBytes.{Appends};
 ghost use Rattle.wh_lines.specs.Text.{short_line};
 ghost use Rattle.wh_replay.specs.Answers.{asked, said, text_of};
 ghost use Rattle.wh_replay.specs.Scripts.{WritesFront};
-ghost use Rattle.wh_serve.specs.Texts.{fault_text, receipt_text};
+ghost use Rattle.wh_serve.specs.Texts.{fault_text, receipt_text, without_text};
 ghost use Rattle.wh_serve.specs.Outcomes.{Gives, answers, line_text};
 ghost use Rattle.wh_serve.specs.Tellings.{texts};
 
-use crate::call::call_desk;
+use crate::allowance::Allowance;
+use crate::call::{NoReceipt, call_allowed};
 use crate::form::{Form, tell};
 use std::alloc::Global;
 use std::io::Write;
@@ -27,8 +28,8 @@ pub(crate) enum Told {
     Nothing,
     /// It is no command.
     NoCommand(LineFault),
-    /// The desk refused the call.
-    Refused(DeskFault),
+    /// The command has no receipt.
+    Without(NoReceipt),
     /// The receipt of the call.
     Received(Receipt),
 }
@@ -43,23 +44,24 @@ fn read_kept(line: &CommandLine) -> Result<Option<Command>, LineFault>
     }
 }
 
-/// Answers a line: one that is a command is one call of the desk.
+/// Answers a line: one that is a command is one call of the desk, if the client may make it.
 pub(crate) fn answer<N: DeskName, H: Wait + Drop, P: Planner, X: Wait>(
     rt: &X,
     alloc: Global,
     form: Form,
+    may: Allowance,
     line: &CommandLine,
     desk: &Desk<N, H, P>,
     pass: &mut Pass<N>,
     spares: &mut Vec<P>,
 ) -> Told
-    ensures { Gives P.fits_map P.slot_count N.origin.site.grid (asked (said (short_line line.now))) (answers (receipt_text form) (said (short_line line.now))) pass.old spares.old.items pass.new spares.new.items (texts form result) }
+    ensures { Gives may (length N.cells) P.fits_map P.slot_count N.origin.site.grid (asked (said (short_line line.now))) (answers (receipt_text form) (said (short_line line.now))) pass.old spares.old.items pass.new spares.new.items (texts form result) }
 {
     match read_kept(line) {
         Ok(None) => Told::Nothing,
-        Ok(Some(command)) => match call_desk(rt, alloc, desk, pass, command, spares) {
+        Ok(Some(command)) => match call_allowed(rt, alloc, may, desk, pass, command, spares) {
             Ok(receipt) => Told::Received(receipt),
-            Err(fault) => Told::Refused(fault),
+            Err(why) => Told::Without(why),
         },
         Err(fault) => Told::NoCommand(fault),
     }
@@ -84,6 +86,17 @@ fn desk_fault(fault: DeskFault) -> &'static [u8]
         DeskFault::Full => b"refused E11",
         DeskFault::NoMemory => b"refused E90",
         DeskFault::CellTaken => b"refused E91",
+    }
+}
+
+/// What a command is told as that has no receipt.
+fn without_receipt(why: NoReceipt) -> &'static [u8]
+    ensures { result.now ≡ without_text why }
+{
+    match why {
+        NoReceipt::Barred => b"refused C3",
+        NoReceipt::ShareUsed => b"refused E11",
+        NoReceipt::Refused(fault) => desk_fault(fault),
     }
 }
 
@@ -144,7 +157,7 @@ pub(crate) fn write_told<W: Write>(
             Ok(count) => Ok(count),
             Err(fault) => Err(fault),
         },
-        Told::Refused(fault) => match write_line(writer, desk_fault(*fault)) {
+        Told::Without(why) => match write_line(writer, without_receipt(*why)) {
             Ok(count) => Ok(count),
             Err(fault) => Err(fault),
         },

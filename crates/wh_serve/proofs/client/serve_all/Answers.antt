@@ -1,4 +1,4 @@
-use Rattle.std.proofs.Common.{◌+◌, ap, refl, sym, subst, arith, Result, Err}
+use Rattle.std.proofs.Common.{◌+◌, ap, refl, sym, subst, arith, Result, Err, length}
 use Rattle.wh_lines.specs.Input.{Gathered}
 use Rattle.wh_lines.specs.declared.lines.Next.{Next}
 use Rattle.wh_lines.specs.declared.next.LineFault.{LineFault}
@@ -8,12 +8,12 @@ use Rattle.wh_serve.specs.Texts.{receipt_text}
 use Rattle.wh_serve.specs.Sessions.{Stops}
 use Rattle.wh_replay.specs.declared.script.ReplayFault.{ReplayFault}
 use Rattle.wh_replay.specs.declared.script.ReplayFault.TheVariants.{Endless}
-use Rattle.wh_serve.proofs.Serving.{following_start, following_line, stops_line, stops_last, stops_flush, replays_last, replays_end, stops_between, stops_now}
+use Rattle.wh_serve.proofs.Serving.{following_start, following_line, stops_line, served_end, served_last, stops_between, stops_now}
 use Rattle.wh_serve.proofs.client.serve_all.Goals as goal
 
 pub loop-init : goal.loop-init
 loop-init g c = record {
-  served = following_start g.P.Planner.fits_map g.P.Planner.slot_count g.N.DeskName.origin.site.grid (receipt_text c.args.form) c.args.lines.now c.args.pass.now c.args.spares.now.items (g.W.Write.contents c.args.writer.now);
+  served = following_start c.args.may (length g.N.DeskName.cells) g.P.Planner.fits_map g.P.Planner.slot_count g.N.DeskName.origin.site.grid (receipt_text c.args.form) c.args.lines.now c.args.pass.now c.args.spares.now.items (g.W.Write.contents c.args.writer.now);
   few = omega arith;
   open_still = c.requires;
 }
@@ -22,55 +22,38 @@ pub returns-in-Err-clause-fault : goal.returns-in-Err-clause-fault
 returns-in-Err-clause-fault g c =
     let err : LineFault → Result Next LineFault = λ x. Err x in
     rw c.fault_of.ensures
-    (stops_between _ _ _ _ c.args.lines.now c.loop.lines c.next_line.new.self _ _ _ _ _ _ _ _ c.loop.invariant.served.follows c.next_line.ensures.writer (fault_of c.in-Err.fault) c.in-Err.ensures.err
+    (stops_between _ _ _ _ _ _ c.args.lines.now c.loop.lines c.next_line.new.self _ _ _ _ _ _ _ _ c.loop.invariant.served.follows c.next_line.ensures.writer (fault_of c.in-Err.fault) c.in-Err.ensures.err
     (cause_of c.args.lines.now c.loop.lines c.next_line.new.self _ c.in-Err.fault c.loop.invariant.served.reads c.loop.invariant.open_still (λ e. c.in-Err.ensures.broken (ap err e)) (λ e. c.in-Err.ensures.endless (ap err e))))
 
 pub returns-in-End-clause-ok : goal.returns-in-End-clause-ok
 returns-in-End-clause-ok g c =
-    replays_end _ _ _ _ c.args.lines.now c.loop.lines c.next_line.new.self _ _ _ _ _ _ _ _ c.loop.invariant.served.follows c.next_line.ensures.writer c.next_line.new.line
+    served_end _ _ _ _ _ _ c.args.lines.now c.loop.lines c.next_line.new.self _ _ _ _ _ _ _ _ c.loop.invariant.served.follows c.next_line.ensures.writer c.next_line.new.line
     (subst (λ (next : Next). Gathered next c.loop.lines c.next_line.new.self c.next_line.new.line) c.in-End.is c.in-Ok.ensures.ok)
+
+pub returns-in-Last-clause-ok : goal.returns-in-Last-clause-ok
+returns-in-Last-clause-ok g c =
+    served_last _ _ _ _ _ _ c.args.lines.now c.loop.lines c.next_line.new.self _ _ _ _ _ _ _ _ c.loop.invariant.served.follows c.next_line.ensures.writer c.next_line.new.line
+    (subst (λ (next : Next). Gathered next c.loop.lines c.next_line.new.self c.next_line.new.line) c.in-Last.is c.in-Ok.ensures.ok)
 
 pub returns-in-Err-serve_line-clause-fault : goal.returns-in-Err-serve_line-clause-fault
 returns-in-Err-serve_line-clause-fault g c =
     let told = g.W.Write.contents in
-    let gathered = subst (λ (next : Next). Gathered next c.loop.lines c.next_line.new.self c.next_line.new.line) c.in-Last.is c.in-Ok.ensures.ok in
-    subst (λ (fault : ReplayFault). Stops g.P.Planner.fits_map g.P.Planner.slot_count g.N.DeskName.origin.site.grid (receipt_text c.args.form) fault c.args.lines.now c.next_line.new.self
-    c.args.pass.now c.args.spares.now.items c.serve_line.new.pass c.serve_line.new.spares.items (told c.args.writer.now) (told c.serve_line.new.writer)) (sym c.in-Err-serve_line.ensures.fault)
-    (stops_last _ _ _ _ c.args.lines.now c.loop.lines c.next_line.new.self _ _ _ _ _ _ _ _ _ _ _ c.next_line.new.line c.loop.invariant.served.follows c.next_line.ensures.writer gathered c.in-Err-serve_line.ensures.err)
-
-pub returns-then-is_err-clause-fault : goal.returns-then-is_err-clause-fault
-returns-then-is_err-clause-fault g c =
-    let told = g.W.Write.contents in
-    let gathered = subst (λ (next : Next). Gathered next c.loop.lines c.next_line.new.self c.next_line.new.line) c.in-Last.is c.in-Ok.ensures.ok in
-    stops_flush _ _ _ _ c.args.lines.now c.loop.lines c.next_line.new.self _ _ _ _ _ _ _ _ _ _ _ c.next_line.new.line c.loop.invariant.served.follows c.next_line.ensures.writer
-    c.in-Ok-serve_line.count (told c.flush.new.self) gathered c.in-Ok-serve_line.ensures.ok c.flush.ensures.bytes
-
-pub returns-in-Last-clause-ok : goal.returns-in-Last-clause-ok
-returns-in-Last-clause-ok g c =
-    let told = g.W.Write.contents in
-    let gathered = subst (λ (next : Next). Gathered next c.loop.lines c.next_line.new.self c.next_line.new.line) c.in-Last.is c.in-Ok.ensures.ok in
-    replays_last _ _ _ _ c.args.lines.now c.loop.lines c.next_line.new.self _ _ _ _ _ _ _ _ _ _ _ c.next_line.new.line c.loop.invariant.served.follows c.next_line.ensures.writer
-    c.in-Ok-serve_line.count (c.loop.replies + c.in-Ok-serve_line.count) (told c.flush.new.self) gathered c.in-Ok-serve_line.ensures.ok c.flush.ensures.bytes refl
-
-pub returns-in-Err-serve_line-2-clause-fault : goal.returns-in-Err-serve_line-2-clause-fault
-returns-in-Err-serve_line-2-clause-fault g c =
-    let told = g.W.Write.contents in
     let gathered = subst (λ (next : Next). Gathered next c.loop.lines c.next_line.new.self c.next_line.new.line) c.in-Whole.is c.in-Ok.ensures.ok in
-    subst (λ (fault : ReplayFault). Stops g.P.Planner.fits_map g.P.Planner.slot_count g.N.DeskName.origin.site.grid (receipt_text c.args.form) fault c.args.lines.now c.next_line.new.self
-    c.args.pass.now c.args.spares.now.items c.serve_line-in-Whole.new.pass c.serve_line-in-Whole.new.spares.items (told c.args.writer.now) (told c.serve_line-in-Whole.new.writer)) (sym c.in-Err-serve_line-2.ensures.fault)
-    (stops_line _ _ _ _ c.args.lines.now c.loop.lines c.next_line.new.self _ _ _ _ _ _ _ _ _ _ _ c.next_line.new.line c.loop.invariant.served.follows c.next_line.ensures.writer gathered c.in-Err-serve_line-2.ensures.err)
+    subst (λ (fault : ReplayFault). Stops c.args.may (length g.N.DeskName.cells) g.P.Planner.fits_map g.P.Planner.slot_count g.N.DeskName.origin.site.grid (receipt_text c.args.form) fault c.args.lines.now c.next_line.new.self
+    c.args.pass.now c.args.spares.now.items c.serve_line.new.pass c.serve_line.new.spares.items (told c.args.writer.now) (told c.serve_line.new.writer)) (sym c.in-Err-serve_line.ensures.fault)
+    (stops_line _ _ _ _ _ _ c.args.lines.now c.loop.lines c.next_line.new.self _ _ _ _ _ _ _ _ _ _ _ c.next_line.new.line c.loop.invariant.served.follows c.next_line.ensures.writer gathered c.in-Err-serve_line.ensures.err)
 
 pub loop-preserved : goal.loop-preserved
 loop-preserved g c =
     let gathered = subst (λ (next : Next). Gathered next c.loop.lines c.next_line.new.self c.next_line.new.line) c.in-Whole.is c.in-Ok.ensures.ok in
     record {
-      served = following_line _ _ _ _ c.args.lines.now c.loop.lines c.next_line.new.self _ _ _ _ _ _ _ _ _ _ _ c.next_line.new.line c.loop.invariant.served.follows c.next_line.ensures.writer
-          c.in-Ok-serve_line-2.count (c.loop.replies + c.in-Ok-serve_line-2.count) c.loop.counter c.loop.invariant.served.many c.loop.invariant.served.reads c.in-Ok.ensures.reads gathered c.in-Ok-serve_line-2.ensures.ok refl;
-      few = omega (arith, c.in-Ok-serve_line-2.ensures.few, c.loop.invariant.few);
+      served = following_line _ _ _ _ _ _ c.args.lines.now c.loop.lines c.next_line.new.self _ _ _ _ _ _ _ _ _ _ _ c.next_line.new.line c.loop.invariant.served.follows c.next_line.ensures.writer
+          c.in-Ok-serve_line.count (c.loop.replies + c.in-Ok-serve_line.count) c.loop.counter c.loop.invariant.served.many c.loop.invariant.served.reads c.in-Ok.ensures.reads gathered c.in-Ok-serve_line.ensures.ok refl;
+      few = omega (arith, c.in-Ok-serve_line.ensures.few, c.loop.invariant.few);
       open_still = c.in-Ok.ensures.open.1;
     }
 
 pub returns-clause-fault : goal.returns-clause-fault
 returns-clause-fault g c =
-    stops_now _ _ _ _ c.args.lines.now c.loop.lines _ _ _ _ _ _ c.loop.replies Endless c.loop.invariant.served.follows
+    stops_now _ _ _ _ _ _ c.args.lines.now c.loop.lines _ _ _ _ _ _ c.loop.replies Endless c.loop.invariant.served.follows
     (cause_endless c.args.lines.now c.loop.lines c.loop.counter _ c.loop-test.false c.loop.invariant.served.many)

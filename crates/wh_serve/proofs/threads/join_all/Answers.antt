@@ -22,7 +22,7 @@ loop-handle-preserved g c =
       omega (arith, more, inv.0, c.in-Some.ensures.steps.1),
       next.1 ∙ ap (λ n. drop n handles) (sym more),
       omega (arith, c.push_reserved.ensures.capacity, inv.2),
-      subst (λ l. AllAt (λ i y. (h : _) → slice_get handles i ≡ Some h → Session g.P.Planner.fits_map g.P.Planner.slot_count g.N.DeskName.origin.site.grid (receipt_text h.promise.form) (λ x. g.R.Read.remaining x) (λ x. g.W.Write.contents x) h.promise.client.value h.promise.had.value y.pass y.ended.writer y.ended.outcome) l) (sym pushed)
-          (AllAt_push (λ i y. (h : _) → slice_get handles i ≡ Some h → Session g.P.Planner.fits_map g.P.Planner.slot_count g.N.DeskName.origin.site.grid (receipt_text h.promise.form) (λ x. g.R.Read.remaining x) (λ x. g.W.Write.contents x) h.promise.client.value h.promise.had.value y.pass y.ended.writer y.ended.outcome) rs r inv.3
-          (λ h at. subst (λ z. Session g.P.Planner.fits_map g.P.Planner.slot_count g.N.DeskName.origin.site.grid (receipt_text z.promise.form) (λ x. g.R.Read.remaining x) (λ x. g.W.Write.contents x) z.promise.client.value z.promise.had.value r.pass r.ended.writer r.ended.outcome) (same_Some _ _ (sym next.0 ∙ at)) c.join.ensures)),
+      subst (λ l. AllAt (λ i y. (h : _) → slice_get handles i ≡ Some h → Session (length g.N.DeskName.cells) g.P.Planner.fits_map g.P.Planner.slot_count g.N.DeskName.origin.site.grid (receipt_text h.promise.form) (λ x. g.R.Read.remaining x) (λ x. g.W.Write.contents x) h.promise.client.value h.promise.had.value y.pass y.ended.writer y.ended.outcome) l) (sym pushed)
+          (AllAt_push (λ i y. (h : _) → slice_get handles i ≡ Some h → Session (length g.N.DeskName.cells) g.P.Planner.fits_map g.P.Planner.slot_count g.N.DeskName.origin.site.grid (receipt_text h.promise.form) (λ x. g.R.Read.remaining x) (λ x. g.W.Write.contents x) h.promise.client.value h.promise.had.value y.pass y.ended.writer y.ended.outcome) rs r inv.3
+          (λ h at. subst (λ z. Session (length g.N.DeskName.cells) g.P.Planner.fits_map g.P.Planner.slot_count g.N.DeskName.origin.site.grid (receipt_text z.promise.form) (λ x. g.R.Read.remaining x) (λ x. g.W.Write.contents x) z.promise.client.value z.promise.had.value r.pass r.ended.writer r.ended.outcome) (same_Some _ _ (sym next.0 ∙ at)) c.join.ensures)),
     )

@@ -1,4 +1,4 @@
-use Rattle.std.proofs.Common.{sym, subst}
+use Rattle.std.proofs.Common.{sym, subst, length}
 use Rattle.std.proofs.Crossing.{crosses}
 use denote.Param.Send.{sendable, given_send}
 use Rattle.wh_desk.specs.Lists.{Received}
@@ -23,5 +23,5 @@ spawn_with-started-requires-send-F g c κs within =
 
 pub spawn_with-started-requires-clause-keeps : goal.spawn_with-started-requires-clause-keeps
 spawn_with-started-requires-clause-keeps g c κs within = λ r s.
-    subst (λ d. Session g.P.Planner.fits_map g.P.Planner.slot_count g.N.DeskName.origin.site.grid (receipt_text c.args.form) (λ x. g.R.Read.remaining x) (λ x. g.W.Write.contents x) d c.of.result.value r.pass r.ended.writer r.ended.outcome) (sym c.of-2.ensures)
-    (subst (λ (p : Received). Session g.P.Planner.fits_map g.P.Planner.slot_count g.N.DeskName.origin.site.grid (receipt_text c.args.form) (λ x. g.R.Read.remaining x) (λ x. g.W.Write.contents x) c.args.client p r.pass r.ended.writer r.ended.outcome) (sym c.of.ensures) s)
+    subst (λ d. Session (length g.N.DeskName.cells) g.P.Planner.fits_map g.P.Planner.slot_count g.N.DeskName.origin.site.grid (receipt_text c.args.form) (λ x. g.R.Read.remaining x) (λ x. g.W.Write.contents x) d c.of.result.value r.pass r.ended.writer r.ended.outcome) (sym c.of-2.ensures)
+    (subst (λ (p : Received). Session (length g.N.DeskName.cells) g.P.Planner.fits_map g.P.Planner.slot_count g.N.DeskName.origin.site.grid (receipt_text c.args.form) (λ x. g.R.Read.remaining x) (λ x. g.W.Write.contents x) c.args.client p r.pass r.ended.writer r.ended.outcome) (sym c.of.ensures) s)
