@@ -5,8 +5,9 @@ ghost use Rattle.std.specs.Prelude.{◌≡◌, [], length};
 ghost use Rattle.wh_board.specs.Pasts.{origin_of, past_of};
 ghost use Rattle.wh_desk.specs.Calls.{InOrder};
 
-use super::gates::{Open, Together, Turns};
+use super::gates::{Open, Together, Turns, Watched, hold};
 use super::parts::{Parts, staffed};
+use arrayvec::ArrayVec;
 use std::alloc::{AllocError, Global};
 use std::marker::Brand;
 use std::process::Abort;
@@ -39,14 +40,15 @@ enum Chore {
 struct Left {
     entries: Vec<Entry>,
     missed: Vec<Missed>,
-    seen: Seen,
+    seen: ArrayVec<Glimpse, 16>,
 }
 
-/// The entries that the last look had, and how often a look had fewer than the one before.
-#[derive(Clone, Copy, PartialEq, Eq, Debug)]
-struct Seen {
-    last: u64,
-    falls: u64,
+/// A board in short.
+#[derive(Clone, Copy, PartialEq, Eq, Debug, Default)]
+struct Glimpse {
+    entries: u64,
+    clock: u32,
+    open_tasks: u32,
 }
 
 fn work<P: Planner>(alloc: Global, chore: Chore) -> Result<Work<P>, Fail> {
@@ -77,28 +79,33 @@ fn copies(alloc: Global, entries: &[Entry]) -> Result<Vec<Entry>, Fail> {
     Ok(copies)
 }
 
-/// Looks once more.
-fn look(viewer: &mut Viewer, seen: Seen) -> Seen {
-    let last = viewer.look().entries;
-    let fell = u64::from(last < seen.last);
-    Seen {
-        last,
-        falls: seen.falls.saturating_add(fell),
+/// Looks once more, and keeps what is seen where it is not what was seen before. How many entries it has.
+fn look(viewer: &mut Viewer, seen: &mut ArrayVec<Glimpse, 16>) -> u64 {
+    let board = viewer.look();
+    let glimpse = Glimpse {
+        entries: board.entries,
+        clock: board.clock,
+        open_tasks: board.open_tasks,
+    };
+    if seen.as_slice().last() != Some(&glimpse) && !seen.is_full() {
+        seen.push(glimpse);
     }
+    glimpse.entries
 }
 
-/// Looks so often.
-fn looks(mut viewer: Viewer, count: u32) -> (Viewer, Seen) {
-    let mut seen = Seen { last: 0, falls: 0 };
-    for _ in 0..count {
-        seen = look(&mut viewer, seen);
-        yield_now();
+/// Looks at once, and whenever one more call was answered, so often, and tells how many entries are seen.
+fn looks(mut viewer: Viewer, watch: &Watched, often: u64) -> (Viewer, ArrayVec<Glimpse, 16>) {
+    let mut seen = ArrayVec::new();
+    for answered in 0..=often {
+        hold(&watch.answered, answered, &watch.limits);
+        let entries = look(&mut viewer, &mut seen);
+        watch.seen.store(entries, SeqCst);
     }
     (viewer, seen)
 }
 
-/// Opens a desk with as many callers as works, and has the crew work, while another thread looks so often. It looks once
-/// more when the desk is gone.
+/// Opens a desk with as many callers as works, and has the crew work, while another thread looks. It looks once more when the desk
+/// is gone.
 fn run<
     N: DeskName + Send + Sync,
     H: Wait + Send + Sync + Drop,
@@ -113,7 +120,8 @@ fn run<
     publisher: Publisher<H>,
     works: Vec<Work<P>>,
     gate: &G,
-    count: u32,
+    watch: &Watched,
+    often: u64,
 ) -> Result<Left, Fail>
     requires origin { origin_of warehouse.book ≡ N.origin }
     requires history { warehouse.book.history ≡ [] }
@@ -132,17 +140,18 @@ fn run<
     };
     let (looked, done) = join(
         rt,
-        || looks(viewer, count),
+        || looks(viewer, watch, often),
         || -> Result<Crewed<P>, CrewFault>
             requires { InOrder N.callers passes.items × (length works.items ≡ length passes.items) }
         { crew(rt, alloc, desk, passes, works, gate) },
     );
-    let (mut viewer, seen) = looked;
+    let (mut viewer, mut seen) = looked;
+    look(&mut viewer, &mut seen);
     match done {
         Ok(done) => Ok(Left {
             entries: copies(alloc, done.history.warehouse.history())?,
             missed: done.missed,
-            seen: look(&mut viewer, seen),
+            seen,
         }),
         Err(CrewFault::NoThread) => Err("a thread for each worker".into()),
         Err(CrewFault::NoMemory) => Err("memory".into()),
@@ -157,7 +166,8 @@ fn run_made<P: Planner, F: Fn(Parts) -> Result<P, AllocError>, R: Threads + Wait
     capacity: u64,
     chores: &[Chore],
     gate: &G,
-    count: u32,
+    watch: &Watched,
+    often: u64,
     make: &F,
 ) -> Result<Left, Fail>
     requires { F.IsAlwaysCallable make.now }
@@ -166,24 +176,38 @@ fn run_made<P: Planner, F: Fn(Parts) -> Result<P, AllocError>, R: Threads + Wait
     let cells = Cells::new(alloc, capacity)?;
     let publisher = Publisher::new(alloc, rt, warehouse.book())?;
     let works = works(alloc, chores)?;
-    run::<Brand, _, _, _, _>(rt, alloc, warehouse, cells, publisher, works, gate, count)
+    run::<Brand, _, _, _, _>(
+        rt, alloc, warehouse, cells, publisher, works, gate, watch, often,
+    )
 }
 
 /// The same with boxed planners.
-fn crewed<R: Threads + Wait + Sync, G: Gate>(
+fn watched<R: Threads + Wait + Sync, G: Gate>(
     rt: &R,
     alloc: Global,
     capacity: u64,
     chores: &[Chore],
     gate: &G,
-    count: u32,
+    watch: &Watched,
+    often: u64,
 ) -> Result<Left, Fail> {
     let make = |parts: Parts| -> Result<Box<dyn Planner>, AllocError> {
         let patient = Patient::new(parts.grid, parts.claim);
         let planner: Box<dyn Planner> = Box::new(alloc, patient)?;
         Ok(planner)
     };
-    run_made(rt, alloc, capacity, chores, gate, count, &make)
+    run_made(rt, alloc, capacity, chores, gate, watch, often, &make)
+}
+
+/// The same, and the other thread looks once.
+fn crewed<R: Threads + Wait + Sync, G: Gate>(
+    rt: &R,
+    alloc: Global,
+    capacity: u64,
+    chores: &[Chore],
+    gate: &G,
+) -> Result<Left, Fail> {
+    watched(rt, alloc, capacity, chores, gate, &Watched::new(), 0)
 }
 
 /// No call was refused.
@@ -206,7 +230,7 @@ fn gate_orders_workers(rt: HostRuntime) -> Result<(), Fail> {
         one: AtomicU64::new(0),
         limits: AtomicU64::new(0),
     };
-    let left = crewed(&rt, rt.alloc(), 10, &TWO, &gate, 0)?;
+    let left = crewed(&rt, rt.alloc(), 10, &TWO, &gate)?;
     assert_eq!(rt; gate.limits.load(SeqCst), 0);
     assert_eq!(rt; left.missed.as_slice(), [NONE, NONE].as_slice());
     in_turn(&rt, left.entries.as_slice());
@@ -235,7 +259,7 @@ fn together(workers: u64) -> Together {
 #[test]
 fn both_begin(rt: HostRuntime) -> Result<(), Fail> {
     let gate = together(2);
-    let left = crewed(&rt, rt.alloc(), 10, &TWO, &gate, 0)?;
+    let left = crewed(&rt, rt.alloc(), 10, &TWO, &gate)?;
     assert_eq!(rt; gate.limits.load(SeqCst), 0);
     assert_eq!(rt; left.missed.as_slice(), [NONE, NONE].as_slice());
     assert_eq!(rt; left.entries.len(), 4);
@@ -245,7 +269,7 @@ fn both_begin(rt: HostRuntime) -> Result<(), Fail> {
 #[test]
 fn eight_begin(rt: HostRuntime) -> Result<(), Fail> {
     let gate = together(8);
-    let left = crewed(&rt, rt.alloc(), 10, &[Chore::Clock(1); 8], &gate, 0)?;
+    let left = crewed(&rt, rt.alloc(), 10, &[Chore::Clock(1); 8], &gate)?;
     assert_eq!(rt; gate.limits.load(SeqCst), 0);
     assert_eq!(rt; left.missed.as_slice(), [NONE; 8].as_slice());
     assert_eq!(rt; left.entries.len(), 8);
@@ -269,7 +293,7 @@ fn journal_of_ten(rt: HostRuntime) -> Result<(), Fail> {
         Chore::Agent(1, 8),
         Chore::Clock(8),
     ];
-    let left = crewed(&rt, rt.alloc(), 10, &chores, &gate, 0)?;
+    let left = crewed(&rt, rt.alloc(), 10, &chores, &gate)?;
     let missed = (left.missed.iter()).fold(0u64, |sum, n| sum.saturating_add(n.full));
     assert_eq!(rt; (left.entries.len(), missed), (10, 17));
     assert_eq!(rt;
@@ -279,10 +303,38 @@ fn journal_of_ten(rt: HostRuntime) -> Result<(), Fail> {
     Ok(())
 }
 
+/// The board of the first entries, so many, of two clients who submit and tick.
+fn front(entries: &[Entry], count: u64) -> Glimpse {
+    let mut board = Glimpse::default();
+    for entry in entries {
+        if board.entries == count {
+            break;
+        }
+        board.entries = board.entries.saturating_add(1);
+        match &entry.reply {
+            Reply::Clock { now, .. } => board.clock = *now,
+            Reply::Accepted { .. } => board.open_tasks = board.open_tasks.saturating_add(1),
+            _ => {}
+        }
+    }
+    board
+}
+
 #[test]
-fn board_never_back(rt: HostRuntime) -> Result<(), Fail> {
-    let left = crewed(&rt, rt.alloc(), 10, &TWO, &open(), 1000)?;
-    assert_eq!(rt; left.seen.falls, 0);
-    assert!(rt; left.seen.last <= 4);
+fn looks_see_fronts_of_the_history(rt: HostRuntime) -> Result<(), Fail> {
+    let gate = Watched::new();
+    let left = watched(&rt, rt.alloc(), 10, &TWO, &gate, &gate, 4)?;
+    assert_eq!(rt; gate.limits.load(SeqCst), 0);
+    assert_eq!(rt; left.entries.len(), 4);
+    let mut before = None;
+    for glimpse in left.seen.as_slice() {
+        assert_eq!(rt; *glimpse, front(left.entries.as_slice(), glimpse.entries));
+        assert!(rt; before < Some(glimpse.entries));
+        before = Some(glimpse.entries);
+    }
+    assert_eq!(rt; before, Some(4));
+    // The two calls that came second were held until the display had seen one that came first.
+    let between = |glimpse: &Glimpse| glimpse.entries == 1 || glimpse.entries == 2;
+    assert!(rt; left.seen.as_slice().iter().any(between));
     Ok(())
 }

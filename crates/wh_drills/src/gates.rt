@@ -87,3 +87,31 @@ impl Gate for Open {
         self.ended.fetch_add(1, SeqCst);
     }
 }
+
+/// Holds each call until a display has seen as many entries as calls were answered before.
+#[derive(Drop)]
+pub struct Watched {
+    pub answered: AtomicU64,
+    pub seen: AtomicU64,
+    pub limits: AtomicU64,
+}
+
+impl Watched {
+    pub fn new() -> Watched {
+        Watched {
+            answered: AtomicU64::new(0),
+            seen: AtomicU64::new(0),
+            limits: AtomicU64::new(0),
+        }
+    }
+}
+
+impl Gate for Watched {
+    fn before(&self, _worker: u32, _call: u32) {
+        hold(&self.seen, self.answered.load(SeqCst), &self.limits);
+    }
+
+    fn after(&self, _worker: u32, _call: u32) {
+        self.answered.fetch_add(1, SeqCst);
+    }
+}
