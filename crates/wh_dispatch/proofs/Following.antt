@@ -174,7 +174,7 @@ module _ {X : Type 0} (fits : X → Floor → Bool) (count : X → ℕ) (text : 
   -- nothing more was taken
   pub stops_now : (i j : Input) (old mid : Depot X) (a b : Option (List ℕ)) (fault : DispatchFault) → Follows fits count text bound i j old mid a b →
       Stops fits count text bound fault i j old mid a b
-  stops_now i j old mid a b fault f = stops_between i j j old mid a b b f (Keeps-refl b) fault (record { bytes = []; takes = Consumes-nil (left j) })
+  stops_now i j old mid a b fault f = stops_between i j j old mid a b b f (Keeps-refl b) fault (record { bytes = []; plain = tt; takes = Consumes-nil (left j) })
 
   -- from each drive of the vehicles so far
   abbrev pub FollowsFrom : Input → Input → Seen → List X → Crew → Seen → List X → Crew → Option (List ℕ) → Option (List ℕ) → Type 0
