@@ -23,7 +23,7 @@ use Rattle.wh_convoy.specs.Faults.{fault_of}
 use Rattle.wh_convoy.specs.declared.fault.ConvoyFault.{ConvoyFault}
 use Rattle.wh_convoy.specs.declared.fault.ConvoyFault.TheVariants.{Unkept, NoMemory}
 use Rattle.wh_convoy.specs.Keeping.{kept_in}
-use Rattle.wh_convoy.specs.Convoys.{ServesOne, Gathers, ServesOneFrom, GathersFrom}
+use Rattle.wh_convoy.specs.Convoys.{ServesOne, Gathers, ServesOneFrom, GathersFrom, Took}
 use Rattle.wh_convoy.proofs.Joining.{lines_nothing, lines_join, line_one}
 
 module _ {X : Type 0} (fits : X → Floor → Bool) (count : X → ℕ) (text : Answered → List ℕ) (bound : ℕ) where
@@ -118,14 +118,18 @@ module _ {X : Type 0} (fits : X → Floor → Bool) (count : X → ℕ) (text : 
 
 -- ---- bytes that were taken, and what was at fault
 
-pub taken_none : (i : Input) → Taken i i
+pub taken_none : (i : Input) → Took i i
 taken_none i = record { bytes = []; takes = Consumes-nil (left i) }
 
-pub taken_more : (i j k : Input) → Taken i j → Taken j k → Taken i k
+pub taken_more : (i j k : Input) → Took i j → Took j k → Took i k
 taken_more i j k p q = record { bytes = p.bytes ++ q.bytes; takes = Consumes-trans (left i) (left j) (left k) p.bytes q.bytes p.takes q.takes }
 
+-- part of a line is
+pub taken_part : {i j : Input} → Taken i j → Took i j
+taken_part p = record { bytes = p.bytes; takes = p.takes }
+
 -- a line is taken too
-pub taken_line : (next : Next) (i j : Input) (line : List ℕ) → Gathered next i j line → Taken i j
+pub taken_line : (next : Next) (i j : Input) (line : List ℕ) → Gathered next i j line → Took i j
 taken_line Whole i j line g = record { bytes = g.raw ++ 10 ∷ []; takes = g.ends }
 taken_line Last i j line g = record { bytes = g.raw; takes = g.ends.0 }
 taken_line End i j line g = record { bytes = g.raw; takes = g.ends.0 }

@@ -3,7 +3,7 @@ use Rattle.std.proofs.Common.{◌≡◌, ℕ, ◌+◌, ◌≤◌, ◌∙◌, Lis
 use Rattle.std.specs.Io.KnownBytes.{Appends, Keeps}
 use Rattle.std.proofs.KnownBytes.{Keeps-refl, Consumes-nil, Consumes-trans, Appends-nil, Appends-kept, Appends-trans}
 use Rattle.wh_words.specs.Lines.{text_of as lines_text}
-use Rattle.wh_lines.specs.Input.{Input, left, Takes, Taken}
+use Rattle.wh_lines.specs.Input.{Input, left, Takes}
 use Rattle.wh_lines.specs.Output.{WritesFront}
 use Rattle.wh_lines.proofs.Written.{front_after}
 use Rattle.wh_grid.specs.Grids.{Floor}
@@ -22,7 +22,7 @@ use Rattle.wh_journal.proofs.Joining.{replies_text}
 use Rattle.wh_journal.proofs.Rounded.{lines_append}
 use Rattle.wh_convoy.specs.declared.fault.ConvoyFault.{ConvoyFault}
 use Rattle.wh_convoy.specs.declared.fault.ConvoyFault.TheVariants.{Broken, Endless, Unwritten, Unkept, NoMemory}
-use Rattle.wh_convoy.specs.Convoys.{Held, Gathers, ConvoysOn, StandsBehind, Unsettles, UnsettlesFiles, ConvoysUntil, GathersFrom, ConvoysFrom, ConvoysUntilFrom}
+use Rattle.wh_convoy.specs.Convoys.{Held, Gathers, ConvoysOn, StandsBehind, Unsettles, UnsettlesFiles, ConvoysUntil, GathersFrom, ConvoysFrom, ConvoysUntilFrom, Took}
 use Rattle.wh_convoy.proofs.Joining.{lines_nothing, lines_join}
 
 drop_past : {A : Type 0} (xs ys : List A) → drop (length xs) (xs ++ ys) ≡ ys
@@ -129,7 +129,7 @@ module _ {X : Type 0} (fits : X → Floor → Bool) (count : X → ℕ) (text : 
     unsettled Endless u = absurd u
 
   -- the lines were not all gathered, and nothing is told
-  until_taken : (i j : Input) (old : Depot X) (had has : Option (List ℕ)) (stood synced : Held) → Taken i j → Keeps had has → synced ≡ stood →
+  until_taken : (i j : Input) (old : Depot X) (had has : Option (List ℕ)) (stood synced : Held) → Took i j → Keeps had has → synced ≡ stood →
       ConvoysUntil fits count text bound i j old had has stood stood synced
   until_taken i j old had has stood synced t flushed same = record {
     read = [];
@@ -243,7 +243,7 @@ module _ {X : Type 0} (fits : X → Floor → Bool) (count : X → ℕ) (text : 
       let r = g d m in
       unsettled i j _ _ had mid has stood stands synced round said came first history r.2 flushed here are fault u
 
-  pub taken_from : (i j : Input) (old : Seen) (spares : List X) (o : Crew) (had has : Option (List ℕ)) (stood synced : Held) → Taken i j → Keeps had has → synced ≡ stood →
+  pub taken_from : (i j : Input) (old : Seen) (spares : List X) (o : Crew) (had has : Option (List ℕ)) (stood synced : Held) → Took i j → Keeps had has → synced ≡ stood →
       ConvoysUntilFrom fits count text bound i j old spares o had has stood stood synced
   taken_from i j old spares o had has stood synced t flushed same d m = until_taken i j _ had has stood synced t flushed same
 

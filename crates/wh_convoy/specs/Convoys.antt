@@ -47,6 +47,11 @@ abbrev pub EndsBy : Round → Input → List ℕ → Type 0
 EndsBy Served after begun = begun ≡ []
 EndsBy Ended after begun = IsPlain begun × IsAtEnd (left after)
 
+-- these bytes were taken, of however many lines
+pub record Took (before after : Input) : Type 0 where
+  pub bytes : List ℕ
+  pub takes : Takes before after bytes
+
 -- Whole lines were served, and what they are told and what is kept of them waits.
 pub record Gathers {X : Type 0} (fits : X → Floor → Bool) (count : X → ℕ) (text : Answered → List ℕ) (bound : ℕ) (round : Round) (before after : Input) (old new : Depot X)
     (said came : List ℕ) : Type 0 where

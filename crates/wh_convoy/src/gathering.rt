@@ -3,12 +3,11 @@
 
 ghost use Rattle.std.specs.Prelude.{◌≡◌, ◌≢◌, [], IfErr, IfOk, OnErr, OnOk};
 ghost use Rattle.std.specs.Io.KnownBytes.{Keeps};
-ghost use Rattle.wh_lines.specs.Input.{Taken};
 ghost use Rattle.wh_lines.specs.Text.{short_line};
 ghost use Rattle.wh_log.specs.Told.{told_text};
 ghost use Rattle.wh_dispatch.specs.Lines.{heard_in};
 ghost use Rattle.wh_dispatch.specs.Scripts.{SomeManned};
-ghost use Rattle.wh_convoy.specs.Convoys.{ServesOneFrom, GathersFrom};
+ghost use Rattle.wh_convoy.specs.Convoys.{ServesOneFrom, GathersFrom, Took};
 
 use crate::fault::{ConvoyFault, read_fault};
 use crate::keeping::note_report;
@@ -110,7 +109,7 @@ pub(crate) fn gather<R: Read, W: Write, P: Planner>(
     ensures ok { IfOk result (λ round. GathersFrom P.fits_map P.slot_count (told_text form) vehicles.old.bound round lines.old lines.new warehouse.old.book spares.old.items vehicles.old warehouse.new.book spares.new.items vehicles.new waiting.new.said.items waiting.new.came.items) }
     ensures bound { OnOk result (vehicles.new.bound ≡ vehicles.old.bound) }
     ensures writer { Keeps (W.contents writer.old) (W.contents writer.new) }
-    ensures err { OnErr result (Taken lines.old lines.new) }
+    ensures err { OnErr result (Took lines.old lines.new) }
     ensures fault { IfErr result (λ fault. fault ≢ ConvoyFault.Unkept) }
 {
     let mut line = CommandLine::new();

@@ -2,7 +2,7 @@ use Rattle.std.proofs.Common.{◌∙◌, refl, subst, sym}
 use Rattle.std.proofs.KnownBytes.{Keeps-refl, Keeps-trans}
 use Rattle.wh_lines.specs.Input.{Gathered}
 use Rattle.wh_lines.specs.declared.lines.Next.{Next}
-use Rattle.wh_convoy.proofs.Gathered.{from_start, manned_on, from_last, from_end, from_line, taken_none, taken_more, taken_line, not_unkept, memory_not}
+use Rattle.wh_convoy.proofs.Gathered.{from_start, manned_on, from_last, from_end, from_line, taken_none, taken_more, taken_part, taken_line, not_unkept, memory_not}
 use Rattle.wh_convoy.proofs.gathering.gather.Goals as goal
 
 pub loop-init : goal.loop-init
@@ -17,7 +17,7 @@ pub serve_one-requires-clause-manned : goal.serve_one-requires-clause-manned
 serve_one-requires-clause-manned g c κs within = manned_on _ _ _ _ c.args.lines.now c.loop.lines c.next_line.new.self _ _ _ _ _ _ _ _ c.loop.invariant.follows c.requires.manned
 
 pub returns-in-Err-clause-err : goal.returns-in-Err-clause-err
-returns-in-Err-clause-err g c = taken_more c.args.lines.now c.loop.lines c.next_line.new.self c.loop.invariant.taken c.in-Err.ensures.err
+returns-in-Err-clause-err g c = taken_more c.args.lines.now c.loop.lines c.next_line.new.self c.loop.invariant.taken (taken_part c.in-Err.ensures.err)
 
 pub returns-in-Err-clause-writer : goal.returns-in-Err-clause-writer
 returns-in-Err-clause-writer g c =

@@ -1,9 +1,8 @@
 use Rattle.std.proofs.Common.{◌≡◌}
 use Rattle.std.specs.Io.KnownBytes.{Keeps}
-use Rattle.wh_lines.specs.Input.{Taken}
 use Rattle.wh_log.specs.Told.{told_text}
 use Rattle.wh_journal.specs.declared.rounds.Round.TheVariants.{Served}
-use Rattle.wh_convoy.specs.Convoys.{GathersFrom}
+use Rattle.wh_convoy.specs.Convoys.{GathersFrom, Took}
 use Rattle.wh_convoy.proofs.gathering.gather.Given as goal
 
 abbrev pub invariant-loop : goal.invariant-loop
@@ -12,5 +11,5 @@ invariant-loop g l = record {
       l.warehouse.book l.spares.items l.vehicles l.waiting.said.items l.waiting.came.items;
   bound : l.vehicles.bound ≡ l.fn.vehicles.bound;
   flushed : Keeps (g.W.Write.contents l.fn.writer) (g.W.Write.contents l.writer);
-  taken : Taken l.fn.lines l.lines;
+  taken : Took l.fn.lines l.lines;
 }
