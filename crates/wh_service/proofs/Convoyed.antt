@@ -60,8 +60,8 @@ module _ {X : Type 0} (fits : X → Floor → Bool) (count : X → ℕ) (text : 
       let new_depot = depot new rest r.rides.final in
       (each_script_happens fits count text bound _ old_depot new_depot c.texts (kept_is_served fits count text bound _ old_depot new_depot c.texts c.kept c.lines.all)).site
 
-module _ {X : Type 0} (fits : X → Floor → Bool) (count : X → ℕ) (text : Answered → List ℕ) (tail : Tail) (again : Option ℕ) (bound : ℕ) (before after : Input) (start : Start) (stands : Stood) (planners spares rest : List X)
-    (some : SomeInStep start.book stands.order) (final : Seen) (crew : Crew) (had replied has : Option (List ℕ)) (files holds synced : Held)
+module _ {X : Type 0} (fits : X → Floor → Bool) (count : X → ℕ) (text : Answered → List ℕ) (again : Option ℕ) (bound : ℕ) (before after : Input) (start : Start) (stands : Stood) (spares rest : List X)
+    (some : SomeInStep start.book stands.order) (final : Seen) (crew : Crew) (had replied : Option (List ℕ)) (files holds synced : Held)
     (runs : RidesOn fits count text again bound before after start.book stands spares final rest crew had replied files holds synced)
     (opening : IsOpening final.site final.opening) (run : Run final.site final.opening final.history final.state) (served : IsFormed final.site → AllServed final.history) where
   pub goes_to_end : GoesToEnd fits count text again bound before after start stands spares final crew had replied files holds synced
