@@ -33,7 +33,7 @@ use Rattle.wh_convoy.specs.Convoys.{Held, depot}
 use Rattle.wh_convoy.specs.Riding.{RidesOn, RidesToEnd}
 use Rattle.wh_convoy.specs.declared.finding.Stood.{Stood}
 use Rattle.wh_convoy.proofs.Kept.{kept_is_served}
-use Rattle.wh_service.specs.Convoys.{GoesOn, GoesToEnd, GoesWithoutTail, IsWhyNotOn, IsWhyUnconvoyed, ServesConvoy, StandsOver, StartsConvoy}
+use Rattle.wh_service.specs.Convoys.{GoesOn, GoesToEnd, GoesWithoutTail, IsWhyNoConvoy, IsWhyNotOn, IsWhyUnconvoyed, ServesConvoy, StandsOver, StartsConvoy}
 use Rattle.wh_service.specs.Kept.{IsSeated, IsSet, Siding, StartsFrom, StartsOver, first_slots}
 use Rattle.wh_service.specs.Plays.{text_by}
 use Rattle.wh_service.specs.Programs.{Drove, LateFiles}
@@ -153,6 +153,16 @@ module _ {X : Type 0} (fits : X → Floor → Bool) (count : X → ℕ) (text : 
             (subst (λ (t : Answered → List ℕ). IsWhyNotOn fits count t tail again n told between new start stands planners spares had has held holds synced log_failed arrivals_failed) same why));
       },
     ))))
+
+-- as many cells ahead as the options say
+pub at_ahead : (fleet : Fleet) (again : Option ℕ) (n ahead : ℕ) (site : Site) (files : Held) (beside : Option (List ℕ)) (text : List ℕ) (told : DriveTrouble) → n ≡ ahead →
+    IsWhyNoConvoy fleet again n site files beside text told → IsWhyNoConvoy fleet again ahead site files beside text told
+at_ahead fleet again n ahead site files beside text told same why = subst (λ (k : ℕ). IsWhyNoConvoy fleet again k site files beside text told) same why
+
+-- planners for the slots of a state
+pub seated_at : {X : Type 0} (gives : PlannerParts → Result X AllocError → Type 0) (fleet : Fleet) (grid : Floor) (slots at : List ℕ) (planners spares : List X) → slots ≡ at →
+    IsSeated gives fleet grid slots planners spares → IsSeated gives fleet grid at planners spares
+seated_at gives fleet grid slots at planners spares same seated = subst (λ (ns : List ℕ). IsSeated gives fleet grid ns planners spares) same seated
 
 -- over files that were named it came to this
 pub drove_over : {X : Type 0} (fits : X → Floor → Bool) (count : X → ℕ) (gives : PlannerParts → Result X AllocError → Type 0) (o : ReplayOptions) (pace : VehicleOptions) (files : LateFiles) (came : Result ℕ DriveTrouble)

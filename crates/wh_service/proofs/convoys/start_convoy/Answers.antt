@@ -1,7 +1,6 @@
 use Rattle.std.proofs.Common.{◌⊎◌, ℕ, List, inl, inr, refl, subst}
-use Rattle.std.specs.Arc.{arc_value}
 use Rattle.wh_service.specs.Fleets.{IsWhyUnclaimed, IsWhyUnseated}
-use Rattle.wh_service.specs.Kept.{IsSeated}
+use Rattle.wh_service.proofs.Convoyed.{seated_at}
 use Rattle.wh_service.proofs.convoys.start_convoy.Goals as goal
 
 pub returns-in-Err-clause-fault : goal.returns-in-Err-clause-fault
@@ -10,8 +9,8 @@ returns-in-Err-clause-fault g c = inl (c.in-Err.trouble, refl, inl c.in-Err.ensu
 pub returns-in-Err-stand_over-clause-fault : goal.returns-in-Err-stand_over-clause-fault
 returns-in-Err-stand_over-clause-fault g c = inr (c.in-Ok.started.0, c.in-Ok.ensures.ok, c.in-Err-stand_over.ensures.fault)
 
-pub returns-clause-fault : goal.returns-clause-fault
-returns-clause-fault g c =
+pub returns-in-Err-equip_for-clause-fault : goal.returns-in-Err-equip_for-clause-fault
+returns-in-Err-equip_for-clause-fault g c =
     let fleet = c.args.options.now.fleet in
     inl (c.in-Err-equip_for.trouble, refl, inr (record {
       start = c.in-Ok.started.0;
@@ -20,5 +19,4 @@ returns-clause-fault g c =
     }))
 
 pub returns-in-Ok-equip_for-clause-seated : goal.returns-in-Ok-equip_for-clause-seated
-returns-in-Ok-equip_for-clause-seated g c =
-    subst (λ (ns : List ℕ). IsSeated (g.F.Fn.post c.args.make.now) c.args.options.now.fleet (arc_value c.args.grid.now) ns c.in-Ok-equip_for.equipped.0.items c.in-Ok-equip_for.equipped.1.items) c.slots.ensures.value c.in-Ok-equip_for.ensures.ok
+returns-in-Ok-equip_for-clause-seated g c = seated_at _ _ _ _ _ _ _ c.slots.ensures.value c.in-Ok-equip_for.ensures.ok
