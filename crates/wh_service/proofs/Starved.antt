@@ -41,7 +41,7 @@ module _ {X : Type 0} (fits : X → Floor → Bool) (count : X → ℕ) (gives :
       let aside : Siding = record { before = None; after = None; synced = None; failed = false } in (
         Some (record { log = None; site = None; arrivals = None }),
         refl,
-        (none, none, false, false, aside, refl, inl (trouble.NoMemory, refl, tt, Keeps-refl had, refl, refl)),
+        (none, none, false, false, aside, refl, inl (trouble.NoMemory, refl, tt, (Keeps-refl had, refl, refl))),
       )
 
   pub starved_late : (o : ReplayOptions) (pace : VehicleOptions) →

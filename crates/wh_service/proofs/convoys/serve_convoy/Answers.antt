@@ -19,9 +19,7 @@ returns-in-Err-start_convoy-clause-fault g c =
         site_read = (kept_at _ _ _ _ c.in-Ok-new.ensures.ok c.as_slice-bytes.ensures.value c.in-Ok.ensures.ok);
         why = at_ahead _ _ _ _ site _ _ c.as_slice-bytes.result.now c.in-Err-start_convoy.trouble n c.in-Err-start_convoy.ensures.fault;
       },
-      Keeps-refl _,
-      (both (g.L.Journal.contents c.args.file.now) (g.L.Journal.contents c.start_convoy.new.file) (g.L.Journal.contents c.args.arrivals.now) (g.L.Journal.contents c.start_convoy.new.arrivals) c.in-Err-start_convoy.ensures.same c.in-Err-start_convoy.ensures.same_arrivals),
-      c.in-Err-start_convoy.ensures.same_beside,
+      (Keeps-refl _, (both (g.L.Journal.contents c.args.file.now) (g.L.Journal.contents c.start_convoy.new.file) (g.L.Journal.contents c.args.arrivals.now) (g.L.Journal.contents c.start_convoy.new.arrivals) c.in-Err-start_convoy.ensures.same c.in-Err-start_convoy.ensures.same_arrivals), c.in-Err-start_convoy.ensures.same_beside),
     )))
 
 pub returns-in-Err-keep_beside-clause-fault : goal.returns-in-Err-keep_beside-clause-fault
@@ -64,7 +62,5 @@ returns-then-not-nofollow-clause-fault g c = inr (inl (
     site_read = c.in-Ok.ensures.ok;
     rule = search rules;
   },
-  Keeps-refl _,
-  refl,
-  refl,
+  (Keeps-refl _, refl, refl),
 ))
