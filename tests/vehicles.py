@@ -8,8 +8,10 @@ The last line is `N passed, M failed`; status 1 where one failed.
 import os
 import subprocess
 import sys
+import tempfile
 
 import counting
+from lives import read_file, write_file
 from tools_drive import ENVIRONMENT, MAP, POINTS, PROGRAM, ROOT, has, same
 
 RULE = 'rule nofollow\n'
@@ -62,8 +64,7 @@ def test_without_the_rule() -> None:
 
 
 def test_mistaken_words() -> None:
-    for words in (['--behind', '2'], ['--ahead', '2'], ['--vehicles', '--behind', '0'], ['--vehicles', '--ahead', '1001'],
-                  ['--vehicles', '--log', '/nowhere/run']):
+    for words in (['--behind', '2'], ['--ahead', '2'], ['--vehicles', '--behind', '0'], ['--vehicles', '--ahead', '1001']):
         same(replay(TWO, *words)[::2], ('', 2))
 
 
@@ -73,9 +74,93 @@ def test_the_history_has_no_reports() -> None:
     same(log, replay(TWO + SCRIPT, '--tail', 'log')[0].split('%%\n')[1])
 
 
-def late(seed: int, *words: str) -> dict[str, str]:
+# ------------------------------------------------------------------------------------------------ arrivals in a file
+
+SCRATCH = tempfile.TemporaryDirectory()
+REPORTS = 'at 0 1\nat 0 1\nat 1 1\nat 2 5\n'    # the second changes nothing, and there is no agent 2
+KEPT = b'at 0 0\nat 0 1\nat 1 1\n'
+
+
+def files(log: bytes | None = None, arrivals: bytes | None = None) -> str:
+    """A log file with these bytes, and the file of arrivals beside it; None: there is none."""
+    file = os.path.join(SCRATCH.name, 'log')
+    for name, text in ((file, log), (file + '.site', None), (file + '.at', arrivals)):
+        if os.path.isdir(name):
+            os.rmdir(name)
+        elif os.path.lexists(name):
+            os.remove(name)
+        if text is not None:
+            write_file(name, text)
+    return file
+
+
+def kept(text: str, file: str, *words: str) -> tuple[str, str, int]:
+    return replay(text, '--vehicles', '--log', file, *words)
+
+
+def begun() -> str:
+    """The files of a run in which both vehicles have made their first step."""
+    file = files()
+    same(kept(TWO + SCRIPT + REPORTS, file), ('entries 0\n' + BEGUN + 'arrived 0 1\ngo 0 2 1,0\narrived 0 1\narrived 1 1\ngo 1 2 3,2\nrefused V2 2\n',
+                                              'vehicles on their way: 2\n', 0))
+    same(read_file(file + '.at'), KEPT)
+    return file
+
+
+def test_a_run_goes_on_with_its_vehicles() -> None:
+    file = begun()
+    # each step that was told and not reported is told again; a report that came before is answered again
+    same(kept(TWO + 'at 0 1\nat 0 2\n', file), ('entries 6\ngo 0 2 1,0\ngo 1 2 3,2\narrived 0 1\narrived 0 2\nvisited 0 0 0\n', 'vehicles on their way: 1\n', 0))
+    same(read_file(file + '.at'), KEPT + b'at 0 2\n')
+    # visits that were made are told again
+    same(kept(TWO + 'at 1 2\n', file), ('entries 6\nvisited 0 0 0\ngo 1 2 3,2\narrived 1 2\nvisited 1 1 0\n', '', 0))
+    # the log has no report
+    same(read_file(file).decode().split('\n')[2:-2], replay(TWO + SCRIPT, '--tail', 'log')[0].split('%%\n')[1].split('\n')[2:-2])
+
+
+def test_a_report_that_was_cut() -> None:
+    file = begun()
+    log = read_file(file)
+    told = {1: 'go 0 1 1,1\ngo 1 1 3,1\n', 2: 'go 0 2 1,0\ngo 1 1 3,1\n', 3: 'go 0 2 1,0\ngo 1 2 3,2\n'}
+    for length in range(len(KEPT) + 1):
+        text = KEPT[:length]
+        file, lines = files(log, text), text.count(b'\n')
+        if lines:
+            same(kept(TWO, file)[::2], ('entries 6\n' + told[lines], 0))
+            same(read_file(file + '.at'), text[:text.rindex(b'\n') + 1])
+        else:
+            # the clock has gone on, so that one line at least was kept
+            same(kept(TWO, file), ('', 'refused L1 at line 1\n', 1))
+            same((read_file(file), read_file(file + '.at')), (log, text))
+
+
+def test_arrivals_of_another_run() -> None:
+    log = read_file(begun())
+    for text, told in ((b'at 0 0\nat 2 1\n', 'line 2'), (b'at 0 0\nat 0 1\ntick\nat 0 2\n', 'line 3'), (b'\n', 'line 1'), (b'at 0 0\nat 1 3\n', 'agent 1')):
+        file = files(log, text)
+        same(kept(TWO, file), ('', f'refused L1 at {told}\n', 1))
+        same((read_file(file), read_file(file + '.at'), read_file(file + '.site')), (log, text, None))
+    # a run that begins has no arrivals
+    file = files(None, b'at 0 0\nat 0 1\n')
+    same(kept(TWO, file), ('', 'refused L1 at agent 0\n', 1))
+    same(read_file(file), None)
+    # agent 1 comes through the corridor behind agent 0, which has not left its start
+    file = files()
+    kept(TWO + SCRIPT + 'tick\n' * 8, file, '--behind', '1000')
+    write_file(file + '.at', b'at 0 0\nat 1 10\n')
+    same(kept(TWO, file), ('', 'refused L1 at agent 1\n', 1))
+
+
+def test_arrivals_that_cannot_be_kept() -> None:
+    file = files()
+    os.mkdir(file + '.at')
+    same(kept(TWO, file), ('', 'refused X5\n', 3))
+    same((read_file(file), read_file(file + '.site')), (None, None))
+
+
+def late(seed: int, *words: str, script: tuple[str, ...] = ()) -> dict[str, str]:
     done = subprocess.run([sys.executable, os.path.join(ROOT, 'tools', 'drive.py'), os.path.join(ROOT, 'examples', 'shelves'),
-                           '--late', str(seed), *words], capture_output=True, env=ENVIRONMENT, timeout=120)
+                           *script, '--late', str(seed), *words], capture_output=True, env=ENVIRONMENT, timeout=120)
     assert done.returncode == 0, done.stderr.decode()
     return dict(line.split(' ') for line in done.stdout.decode().splitlines())
 
@@ -84,6 +169,20 @@ def test_no_two_vehicles_meet_and_all_is_delivered() -> None:
     found = late(1, '--spread', '0.5', '--stop', '60', '--ahead', '3')
     same((found['orders'], found['done']), ('200', '200'))
     assert int(found['held']) > 0 and int(found['repeated']) > 0, found
+
+
+def test_the_program_is_killed_and_goes_on() -> None:
+    text = read_file(os.path.join(ROOT, 'examples', 'shelves')).split(b'%%\n')
+    orders = [line for line in text[2].splitlines(True) if line.startswith(b'submit ')][:10]
+    script = os.path.join(SCRATCH.name, 'script')
+    write_file(script, b''.join(orders))
+    for seed in (2, 3):
+        file = files()
+        found = late(seed, '--spread', '0.5', '--ahead', '3', '--log', file, '--kills', '6', script=(script,))
+        same((found['orders'], found['done'], found['killed']), ('10', '10', '6'))
+        log = read_file(file)
+        done = subprocess.run([PROGRAM, 'verify'], input=text[0] + b'%%\n' + text[1] + RULE.encode() + b'%%\n' + log, capture_output=True)
+        has(done.stdout.decode(), 'run ')
 
 
 if __name__ == '__main__':

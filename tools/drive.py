@@ -488,6 +488,7 @@ def words_of_options() -> argparse.Namespace:
     parser.add_argument('--behind', type=int, default=8, metavar='N', help='with --late: the clock waits for a vehicle so far behind (%(default)s)')
     parser.add_argument('--ahead', type=int, default=1, metavar='N', help='with --late: cells ahead that a vehicle is told (%(default)s)')
     parser.add_argument('--spread', type=float, default=0.3, metavar='X', help='with --late: how far speeds differ, 0 to 0.9 (%(default)s)')
+    parser.add_argument('--kills', type=int, default=0, metavar='N', help='with --late and --log: end the program so often by signal 9, and go on')
     parser.add_argument('--stop', type=float, default=0.0, metavar='SECONDS', help='with --late: so long vehicle 0 stands once, from second 100 on')
     parser.add_argument('--transcript', metavar='FILE', help='with --late: write there what the program tells, each line behind its second')
     parser.add_argument('--wait', type=float, metavar='SECONDS', help='stop where nothing comes for so long (never)')
@@ -502,6 +503,8 @@ def words_of_options() -> argparse.Namespace:
         fail('--transcript: it is for --late')
     if options.late is not None and not 0 <= options.spread <= 0.9:
         fail(f'--spread {options.spread:g}: 0 to 0.9 is wanted')
+    if options.kills and (options.late is None or options.log is None):
+        fail('--kills: goes with --late and --log')
     if options.wait is not None and not 0 < options.wait < 1e6:
         fail(f'--wait {options.wait:g}: a time above 0 is wanted')
     return options
@@ -569,7 +572,8 @@ def run_late(options: argparse.Namespace, site: runs.Site, orders: list[tuple[in
     words += ['--tail', 'log'] if options.save else []
     try:
         with open(options.transcript or os.devnull, 'w') as transcript:
-            late = drive_late(words, site, orders, options.late, options.spread, options.stop, transcript if options.transcript else None)
+            late = drive_late(words, site, orders, options.late, options.spread, options.stop,
+                              transcript if options.transcript else None, options.log, options.kills)
     except LateStop as stop:
         fail(str(stop))
     if options.save:

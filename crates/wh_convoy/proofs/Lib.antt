@@ -1,7 +1,7 @@
 mod Joining
 mod Gathered
 mod Standing
-mod Kept
+pub mod Kept
 mod Settled
 mod Found
 mod Ridden

@@ -13,3 +13,4 @@ pub mod Openings
 pub mod Replayed
 pub mod Whole
 pub mod Drove
+mod Convoyed

@@ -9,7 +9,11 @@ use Rattle.wh_edge.specs.declared.trouble.Trouble.TheVariants as trouble
 use Rattle.wh_options.specs.declared.chosen.Options.{Options}
 use Rattle.wh_options.specs.declared.chosen.Options.TheVariants.{Check, Replay, Verify, Live}
 use Rattle.wh_options.specs.declared.chosen.ReplayOptions.{ReplayOptions}
-use Rattle.wh_service.specs.Programs.{Did, Files, ReplayedOver, names_file}
+use Rattle.wh_options.specs.declared.chosen.VehicleOptions.{VehicleOptions}
+use Rattle.wh_convoy.specs.Convoys.{Held}
+use Rattle.wh_service.specs.Kept.{Siding}
+use Rattle.wh_service.specs.Programs.{Did, Drove, Files, LateFiles, ReplayedOver, names_file}
+use Rattle.wh_service.specs.declared.convoys.DriveTrouble.TheVariants.{Plain}
 use Rattle.wh_service.specs.declared.parts.PlannerParts.{PlannerParts}
 
 module _ {X : Type 0} (fits : X → Floor → Bool) (count : X → ℕ) (gives : PlannerParts → Result X AllocError → Type 0) (input : Input) (had : Option (List ℕ)) where
@@ -27,3 +31,19 @@ module _ {X : Type 0} (fits : X → Floor → Bool) (count : X → ℕ) (gives :
   starved Verify = (None, refl, Keeps-refl had)
   starved (Live o) = (None, refl, inl (tt, Keeps-refl had))
   starved (Replay o) = over o o.log
+
+  -- the same with vehicles
+  late_over : {N : Type 0} (o : ReplayOptions) (pace : VehicleOptions) (log : Option N) →
+      (files : Option LateFiles) × (is_some files ≡ is_some log) × Drove fits count gives o pace files (Err (Plain trouble.NoMemory)) input input had had
+  late_over o pace None = (None, refl, inl (tt, Keeps-refl had))
+  late_over o pace (Some name) =
+      let none : Held = record { log = None; arrivals = None } in
+      let aside : Siding = record { before = None; after = None; synced = None; failed = false } in (
+        Some (record { log = None; site = None; arrivals = None }),
+        refl,
+        (none, none, false, false, aside, refl, inl (trouble.NoMemory, refl, tt, (Keeps-refl had, refl, refl))),
+      )
+
+  pub starved_late : (o : ReplayOptions) (pace : VehicleOptions) →
+      (files : Option LateFiles) × (is_some files ≡ is_some o.log) × Drove fits count gives o pace files (Err (Plain trouble.NoMemory)) input input had had
+  starved_late o pace = late_over o pace o.log

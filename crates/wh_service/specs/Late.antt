@@ -134,28 +134,6 @@ abbrev pub pace_of : Options → Option VehicleOptions
 pace_of (Replay o) = o.vehicles
 pace_of _ = None
 
--- `replay --vehicles` came to this: to so many vehicles that are on their way at the end, or to a trouble
-abbrev pub Drove : {X : Type 0} → (X → Floor → Bool) → (X → ℕ) → (PlannerParts → Result X AllocError → Type 0) → ReplayOptions → VehicleOptions → Result ℕ Trouble
-    → Input → Input → Option (List ℕ) → Option (List ℕ) → Type 0
-Drove fits count gives o pace (Ok left) old new had has = ServesLate fits count (text_by o.replies) gives o.fleet o.tail pace old new had has left
-Drove fits count gives o pace (Err told) old new had has = IsWhyUnservedLate fits count (text_by o.replies) gives o.fleet o.tail pace told old new had has
-
 -- the line that tells how many vehicles are on their way, if some are
 abbrev pub way_text : ℕ → List ℕ
 way_text left = cond (left == 0) [] (codes "vehicles on their way: " ++ (decimal left ++ 10 ∷ []))
-
--- A line on standard error tells how many vehicles are on their way, or a trouble, as far as that takes it.
-abbrev pub EndsDrive : Result ℕ Trouble → Status → Option (List ℕ) → Option (List ℕ) → Type 0
-EndsDrive (Ok left) ended had has = (ended ≡ Done) × WritesFront had has (way_text left)
-EndsDrive (Err told) ended had has = (ended ≡ status_of told) × WritesFront had has (trouble_text told)
-
--- The words give options of a replay with vehicles, and that was done.
-pub record ObeysLate {X : Type 0} (fits : X → Floor → Bool) (count : X → ℕ) (gives : PlannerParts → Result X AllocError → Type 0)
-    (words : List Text) (ended : Status) (old new : Input) (had has blamed blames : Option (List ℕ)) : Type 0 where
-  pub options : ReplayOptions
-  pub given : WordsGive words (Replay options)
-  pub pace : VehicleOptions
-  pub late : options.vehicles ≡ Some pace
-  pub came : Result ℕ Trouble
-  pub did : Drove fits count gives options pace came old new had has
-  pub ends : EndsDrive came ended blamed blames

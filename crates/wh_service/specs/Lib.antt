@@ -4,6 +4,7 @@ pub mod Plays
 pub mod Serves
 pub mod Late
 pub mod Kept
+pub mod Convoys
 pub mod Checks
 pub mod Verifies
 pub mod Hosts

@@ -18,7 +18,12 @@ use Rattle.wh_options.specs.declared.chosen.Options.TheVariants.{Check, Replay, 
 use Rattle.wh_options.specs.declared.chosen.ReplayOptions.{ReplayOptions}
 use Rattle.wh_service.specs.Checks.{IsWhyUnjudged, Judges}
 use Rattle.wh_service.specs.Hosts.{HostsTo, IsWhyUnhosted}
-use Rattle.wh_service.specs.Late.{ObeysLate, pace_of}
+use Rattle.wh_options.specs.declared.chosen.VehicleOptions.{VehicleOptions}
+use Rattle.wh_convoy.specs.Convoys.{Held}
+use Rattle.wh_service.specs.Convoys.{IsWhyUnconvoyed, ServesConvoy, drive_status, drive_text}
+use Rattle.wh_service.specs.Late.{IsWhyUnservedLate, ServesLate, pace_of, way_text}
+use Rattle.wh_service.specs.declared.convoys.DriveTrouble.{DriveTrouble}
+use Rattle.wh_service.specs.declared.convoys.DriveTrouble.TheVariants.{Plain}
 use Rattle.wh_service.specs.Kept.{IsWhyUnkept, ServesKept, Siding}
 use Rattle.wh_service.specs.Plays.{text_by}
 use Rattle.wh_service.specs.Serves.{IsWhyUnserved, ServesByFleet}
@@ -98,6 +103,44 @@ pub record Obeys {X : Type 0} (fits : X → Floor → Bool) (count : X → ℕ) 
   pub came : Result Status Trouble
   pub did : Did fits count gives options files came old new had has
   pub ends : Ends came ended blamed blames
+
+-- what the log, the file beside it and the file of arrivals told before anything was done
+pub record LateFiles : Type 0 where
+  pub log : Option (List ℕ)
+  pub site : Option (List ℕ)
+  pub arrivals : Option (List ℕ)
+
+-- `replay --vehicles` over these files, or over none, came to this: to so many vehicles that are on their way at the end, or to a trouble.
+-- Then the files tell others, and so many of their bytes outlive a kill.
+abbrev pub Drove : {X : Type 0} → (X → Floor → Bool) → (X → ℕ) → (PlannerParts → Result X AllocError → Type 0) → ReplayOptions → VehicleOptions → Option LateFiles → Result ℕ DriveTrouble
+    → Input → Input → Option (List ℕ) → Option (List ℕ) → Type 0
+Drove fits count gives o pace None (Ok left) old new had has = ServesLate fits count (text_by o.replies) gives o.fleet o.tail pace old new had has left
+Drove fits count gives o pace None (Err (Plain told)) old new had has = IsWhyUnservedLate fits count (text_by o.replies) gives o.fleet o.tail pace told old new had has
+Drove fits count gives o pace None (Err _) old new had has = ⊥
+Drove fits count gives o pace (Some files) (Ok left) old new had has =
+    (holds : Held) × (synced : Held) × (beside : Siding) × (beside.before ≡ files.site)
+    × ServesConvoy fits count (text_by o.replies) gives o.fleet o.tail o.told pace old new had has (record { log = files.log; arrivals = files.arrivals }) holds synced beside left
+Drove fits count gives o pace (Some files) (Err told) old new had has =
+    (holds : Held) × (synced : Held) × (log_failed : Bool) × (arrivals_failed : Bool) × (beside : Siding) × (beside.before ≡ files.site)
+    × IsWhyUnconvoyed fits count (text_by o.replies) gives o.fleet o.tail o.told pace told old new had has (record { log = files.log; arrivals = files.arrivals }) holds synced log_failed arrivals_failed beside
+
+-- A line on standard error tells how many vehicles are on their way, or a trouble, as far as that takes it.
+abbrev pub EndsDrive : Result ℕ DriveTrouble → Status → Option (List ℕ) → Option (List ℕ) → Type 0
+EndsDrive (Ok left) ended had has = (ended ≡ Done) × WritesFront had has (way_text left)
+EndsDrive (Err told) ended had has = (ended ≡ drive_status told) × WritesFront had has (drive_text told)
+
+-- The words give options of a replay with vehicles, and that was done, over the files that they name, or over none.
+pub record ObeysLate {X : Type 0} (fits : X → Floor → Bool) (count : X → ℕ) (gives : PlannerParts → Result X AllocError → Type 0)
+    (words : List Text) (ended : Status) (old new : Input) (had has blamed blames : Option (List ℕ)) : Type 0 where
+  pub options : ReplayOptions
+  pub given : WordsGive words (Replay options)
+  pub pace : VehicleOptions
+  pub late : options.vehicles ≡ Some pace
+  pub files : Option LateFiles
+  pub named : is_some files ≡ is_some options.log
+  pub came : Result ℕ DriveTrouble
+  pub did : Drove fits count gives options pace files came old new had has
+  pub ends : EndsDrive came ended blamed blames
 
 -- The words give no options, or memory was wanting to read them; no input was read. Who asks for help or the version by a flag
 -- is told of no mistake.

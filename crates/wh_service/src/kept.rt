@@ -29,7 +29,7 @@ use wh_planner::Planner;
 use wh_points::Points;
 
 /// What is told of a log file that was not begun or not ended.
-fn keep_trouble(fault: KeepFault) -> Trouble
+pub(crate) fn keep_trouble(fault: KeepFault) -> Trouble
     ensures { result ≡ keep_trouble fault }
 {
     match fault {
@@ -67,7 +67,7 @@ fn run_trouble(fault: RunFault) -> Trouble
 /// One planner for each of these numbers of slots, and then the spare ones, with the fleet's slots, all of the fleet's kind and
 /// on the grid, each with a claim of its own on one bank. The error tells why one of them got no slots, or that memory is
 /// wanting.
-fn equip_for<P: Planner, F: Fn(PlannerParts) -> Result<P, AllocError>>(
+pub(crate) fn equip_for<P: Planner, F: Fn(PlannerParts) -> Result<P, AllocError>>(
     alloc: Global,
     fleet: &Fleet,
     grid: &Arc<Grid>,
@@ -151,7 +151,7 @@ fn wanting_line(again: Option<u32>, entries: u64) -> Option<u64>
 
 /// What a run of the site starts from by both files, and how much of the site's text stands beside the log. The file beside
 /// it comes first.
-fn start_aside<L: LogFile>(
+pub(crate) fn start_aside<L: LogFile>(
     alloc: Global,
     file: &mut L,
     beside: &mut L,

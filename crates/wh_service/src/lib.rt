@@ -4,6 +4,7 @@
 //! `serve` is handed how one planner is made, so that it works with planners of any type, and makes none itself.
 #![tactic(auto)]
 
+mod convoys;
 mod fleet;
 mod kept;
 mod live;
@@ -16,6 +17,7 @@ mod verdict;
 mod verified;
 mod writing;
 
+pub use convoys::{DriveTrouble, serve_convoy};
 pub use fleet::{claim, equip};
 pub use kept::serve_kept;
 pub use live::host;

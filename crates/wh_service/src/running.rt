@@ -1,15 +1,16 @@
 //! The whole program: from its words and its input to its output and its status.
 
-ghost use Rattle.std.specs.Prelude.{◌≡◌, Bool, Option, is_some, map, option_map};
+ghost use Rattle.std.specs.Prelude.{◌≡◌, ◌≤◌, Bool, Option, is_some, map, option_map};
 ghost use Rattle.wh_service.specs.Fleets.{HasRange, IsOfFleet, MakesPlanners};
-ghost use Rattle.wh_service.specs.Programs.{Comes, Did, Ends, Files, ReplayedOver, names_file};
+ghost use Rattle.wh_service.specs.Programs.{Comes, Did, Drove, Ends, Files, LateFiles, ReplayedOver, names_file};
 ghost use Rattle.wh_service.specs.Serves.{ended_by};
 
+use crate::convoys::DriveTrouble;
 use crate::kept::serve_kept;
 use crate::live::host;
 use crate::parts::PlannerParts;
 use crate::program::{ended, serve};
-use crate::vehicles::{drive, late};
+use crate::vehicles::{drive_over, end_drive, late};
 use crate::verdict::judge;
 use crate::verified::judge_log;
 use crate::writing::write_text;
@@ -24,14 +25,15 @@ use std::thread::Threads;
 use wh_continue::{FileJournal, LogFile};
 use wh_edge::{Status, Trouble};
 use wh_lines::Lines;
-use wh_options::{Options, Refusal, ReplayOptions, options, refusal_of};
+use wh_options::{Options, Refusal, ReplayOptions, VehicleOptions, options, refusal_of};
 use wh_planner::Planner;
 
-/// The files that keep a run: its log, and the file beside it that holds the site.
+/// The files that keep a run: its log, the file beside it that holds the site, and the file of arrivals.
 #[derive(Drop)]
-struct KeptFiles<L> {
-    log: L,
-    site: L,
+pub(crate) struct KeptFiles<L> {
+    pub log: L,
+    pub site: L,
+    pub arrivals: L,
 }
 
 /// The name of the log file that the options name, if they name one.
@@ -44,12 +46,20 @@ fn log_name<'a>(options: &Options<'a>) -> Option<&'a str>
     }
 }
 
-/// The name of the file beside this log.
-fn site_name(alloc: Global, log: &str) -> Result<String, AllocError> {
+/// The name of a file beside this log.
+fn name_beside(alloc: Global, log: &str, end: &str) -> Result<String, AllocError> {
     let mut name = String::new(alloc);
     name.push_str(log)?;
-    name.push_str(".site")?;
+    name.push_str(end)?;
     Ok(name)
+}
+
+/// The names of the files beside this log, of its site and of arrivals.
+fn names_beside(alloc: Global, log: &str) -> Result<(String, String), AllocError> {
+    Ok((
+        name_beside(alloc, log, ".site")?,
+        name_beside(alloc, log, ".at")?,
+    ))
 }
 
 /// The files of these names. They are not opened yet.
@@ -57,10 +67,12 @@ fn kept_files<'a, T: Files<File = File>>(
     rt: &'a T,
     log: &'a str,
     site: &'a str,
+    arrivals: &'a str,
 ) -> KeptFiles<FileJournal<'a, T>> {
     KeptFiles {
         log: FileJournal::new(rt, Path::new(log)),
         site: FileJournal::new(rt, Path::new(site)),
+        arrivals: FileJournal::new(rt, Path::new(arrivals)),
     }
 }
 
@@ -152,12 +164,49 @@ fn obey_by_name<
         let mut none: Option<KeptFiles<FileJournal<'a, T>>> = None;
         return obey(rt, alloc, lines, output, options, &mut none, make);
     };
-    match site_name(alloc, log) {
-        Ok(site) => {
-            let mut files = Some(kept_files(rt, log, site.as_str()));
+    match names_beside(alloc, log) {
+        Ok((site, arrivals)) => {
+            let mut files = Some(kept_files(rt, log, site.as_str(), arrivals.as_str()));
             obey(rt, alloc, lines, output, options, &mut files, make)
         }
         Err(_) => Err(Trouble::NoMemory),
+    }
+}
+
+/// Replays with vehicles over the files that the options name, or over none. How many of them are on their way at the end.
+#[tactic(auto, using(crate::proofs::Starved::starved_late))]
+fn drive_by_name<
+    'a,
+    T: Files<File = File>,
+    R: Read,
+    W: Write,
+    P: Planner,
+    F: Fn(PlannerParts) -> Result<P, AllocError>,
+>(
+    rt: &'a T,
+    alloc: Global,
+    lines: &mut Lines<R>,
+    output: &mut W,
+    options: &ReplayOptions<'a>,
+    pace: VehicleOptions,
+    make: F,
+) -> Result<u32, DriveTrouble>
+    requires range { IsOfFleet options.now.fleet }
+    requires ahead { 1 ≤ pace.ahead }
+    requires callable { F.IsAlwaysCallable make }
+    requires makes { MakesPlanners P.fits_map P.slot_count (F.post make) }
+    ensures { (files : Option LateFiles) × (is_some files ≡ is_some options.now.log) × Drove P.fits_map P.slot_count (F.post make) options.now pace files result lines.old lines.new (W.contents output.old) (W.contents output.new) }
+{
+    let Some(log) = options.log else {
+        let mut none: Option<KeptFiles<FileJournal<'a, T>>> = None;
+        return drive_over(alloc, lines, output, options, pace, &mut none, make);
+    };
+    match names_beside(alloc, log) {
+        Ok((site, arrivals)) => {
+            let mut files = Some(kept_files(rt, log, site.as_str(), arrivals.as_str()));
+            drive_over(alloc, lines, output, options, pace, &mut files, make)
+        }
+        Err(_) => Err(DriveTrouble::Plain(Trouble::NoMemory)),
     }
 }
 
@@ -224,7 +273,10 @@ pub fn run<
 {
     match options(alloc, words) {
         Ok(options) => match late(&options) {
-            Some((replay, pace)) => drive(alloc, lines, output, errors, &replay, pace, make),
+            Some((replay, pace)) => {
+                let came = drive_by_name(rt, alloc, lines, output, &replay, pace, make);
+                end_drive(errors, came)
+            }
             None => {
                 let came = obey_by_name(rt, alloc, lines, output, &options, make);
                 end(errors, came)

@@ -12,9 +12,11 @@ returns-in-Some g c =
       given = subst (λ (o : Options). WordsGive (map g.S.AsStr.text c.args.words.now) o) c.in-Some.ensures.0 c.in-Ok.ensures.ok;
       pace = c.in-Some.pace;
       late = c.in-Some.ensures.1;
-      came = c.drive.ensures.0;
-      did = c.drive.ensures.1;
-      ends = c.drive.ensures.2;
+      files = c.drive_by_name-came.ensures.0;
+      named = c.drive_by_name-came.ensures.1;
+      came = c.drive_by_name-came.result;
+      did = c.drive_by_name-came.ensures.2;
+      ends = c.end_drive.ensures;
     }))
 
 pub returns-in-Err : goal.returns-in-Err
