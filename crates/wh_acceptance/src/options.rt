@@ -126,8 +126,9 @@ const REPLAYS: [(&[&str], ReplayOptions<'static>); 17] = [
         },
     ),
     (
-        &["--vehicles", "--ahead=1000", "--behind=1000"],
+        &["--vehicles", "--ahead=1000", "--log=a.log", "--behind=1000"],
         ReplayOptions {
+            log: Some("a.log"),
             vehicles: Some(VehicleOptions {
                 behind: 1000,
                 ahead: 1000,
@@ -139,7 +140,7 @@ const REPLAYS: [(&[&str], ReplayOptions<'static>); 17] = [
 ];
 
 /// Words that are refused, and the kind of the error.
-const MISTAKES: [(&[&str], ErrorKind); 25] = [
+const MISTAKES: [(&[&str], ErrorKind); 24] = [
     (&["replay", "--log"], ErrorKind::InvalidValue),
     (&["replay", "--log="], ErrorKind::InvalidValue),
     (&["replay", "--log", ""], ErrorKind::InvalidValue),
@@ -165,10 +166,6 @@ const MISTAKES: [(&[&str], ErrorKind); 25] = [
     (
         &["replay", "--ahead", "1", "--log", "a"],
         ErrorKind::MissingRequiredArgument,
-    ),
-    (
-        &["replay", "--vehicles", "--log", "a"],
-        ErrorKind::ArgumentConflict,
     ),
     (&["replay", "--vehicles=true"], ErrorKind::TooManyValues),
     (

@@ -7,7 +7,10 @@ use Rattle.wh_lines.specs.Input.{Input}
 use Rattle.wh_lines.specs.Output.{WritesFront}
 use Rattle.wh_grid.specs.Grids.{Floor}
 use Rattle.wh_points.specs.Points.{Site}
-use Rattle.wh_verify.specs.Drafts.{Seen}
+use Rattle.wh_points.specs.Formed.{IsFormed}
+use Rattle.wh_core.specs.Laws.{IsOpening}
+use Rattle.wh_core.specs.Steps.{Run}
+use Rattle.wh_verify.specs.Drafts.{AllServed, Seen}
 use Rattle.wh_edge.specs.Site.{SiteRead, SiteFault}
 use Rattle.wh_edge.specs.Trouble.{status_of, trouble_text}
 use Rattle.wh_edge.specs.declared.trouble.Status.{Status}
@@ -48,12 +51,16 @@ abbrev pub setting_out : {X : Type 0} → ℕ → Seen → List X → Depot X
 setting_out ahead book spares =
     record { book = book; spares = spares; drive = drives.opened book.site.layout.nofollow ahead (places book.state) }
 
--- A warehouse was opened with its vehicles, and served the script to its end.
+-- A warehouse was opened with its vehicles, and served the script to its end. Its run is one of the abstract warehouse, from an
+-- opening state; on a well-formed site no request was refused for want of a path.
 pub record DrivesThrough {X : Type 0} (fits : X → Floor → Bool) (count : X → ℕ) (text : Answered → List ℕ) (site : Site) (planners spares : List X) (pace : VehicleOptions)
     (before after : Input) (had has : Option (List ℕ)) (final : Depot X) : Type 0 where
   pub book : Seen
   pub opened : IsOpened fits count site planners book
   pub dispatches : Dispatches fits count text pace.behind before after (setting_out pace.ahead book spares) final had has
+  pub is_opening : IsOpening final.book.site final.book.opening
+  pub run : Run final.book.site final.book.opening final.book.history final.book.state
+  pub served : IsFormed final.book.site → AllServed final.book.history
 
 -- and what is to follow the replies follows them; so many vehicles are on their way then
 pub record Drives {X : Type 0} (fits : X → Floor → Bool) (count : X → ℕ) (text : Answered → List ℕ) (site : Site) (planners spares : List X) (tail : Tail) (pace : VehicleOptions)

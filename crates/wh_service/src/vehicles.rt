@@ -92,6 +92,7 @@ fn play_late<R: Read, W: Write, P: Planner>(
         Ok(()) => {}
         Err(fault) => return Err(trouble_of(fault)),
     }
+    let _history = warehouse.history();
     match write_tail(alloc, output, &warehouse, tail) {
         Ok(()) => Ok(vehicles.on_their_way()),
         Err(trouble) => Err(trouble),

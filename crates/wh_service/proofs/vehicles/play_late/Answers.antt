@@ -1,7 +1,10 @@
 use Rattle.std.proofs.Common.{◌∙◌, inl, inr, refl, subst, sym}
 use Rattle.std.specs.Io.KnownBytes.{Appends}
 use Rattle.std.proofs.KnownBytes.{Keeps-refl}
-use Rattle.wh_verify.specs.Drafts.{Seen}
+use Rattle.wh_points.specs.Formed.{IsFormed}
+use Rattle.wh_core.specs.Laws.{IsOpening}
+use Rattle.wh_core.specs.Steps.{Run}
+use Rattle.wh_verify.specs.Drafts.{AllServed, Seen}
 use Rattle.wh_log.specs.Told.{told_text}
 use Rattle.wh_drive.specs.Drives as drives
 use Rattle.wh_vehicles.specs.Plans.{places}
@@ -48,6 +51,9 @@ returns-in-Ok-write_tail-clause-ok g c =
         book = book;
         opened = opened_with _ _ _ _ c.in-Ok.warehouse.planners _ c.in-Ok.ensures.site c.in-Ok.ensures.opening c.in-Ok.ensures.history c.in-Ok.ensures.planners c.in-Ok.ensures.tied;
         dispatches = r.dispatches;
+        is_opening = subst (λ (b : Seen). IsOpening b.site b.opening) (sym r.book_is) c.history-history.ensures.opening;
+        run = subst (λ (b : Seen). Run b.site b.opening b.history b.state) (sym r.book_is) c.history-history.ensures.run;
+        served = subst (λ (b : Seen). IsFormed b.site → AllServed b.history) (sym r.book_is) c.history-history.ensures.served;
       };
       follows = subst (λ (b : Seen). Appends (g.W.Write.contents c.dispatch.new.writer) (g.W.Write.contents c.write_tail.new.output) (tail_after c.args.tail b.opening b.history b.state)) (sym r.book_is)
           c.in-Ok-write_tail.ensures.ok;
@@ -69,6 +75,9 @@ returns-clause-fault g c =
         book = book;
         opened = opened_with _ _ _ _ c.in-Ok.warehouse.planners _ c.in-Ok.ensures.site c.in-Ok.ensures.opening c.in-Ok.ensures.history c.in-Ok.ensures.planners c.in-Ok.ensures.tied;
         dispatches = r.dispatches;
+        is_opening = subst (λ (b : Seen). IsOpening b.site b.opening) (sym r.book_is) c.history-history.ensures.opening;
+        run = subst (λ (b : Seen). Run b.site b.opening b.history b.state) (sym r.book_is) c.history-history.ensures.run;
+        served = subst (λ (b : Seen). IsFormed b.site → AllServed b.history) (sym r.book_is) c.history-history.ensures.served;
       };
       why = subst (λ (b : Seen). IsWhyNoTail c.in-Err-write_tail.trouble (g.W.Write.contents c.dispatch.new.writer) (g.W.Write.contents c.write_tail.new.output) (tail_after c.args.tail b.opening b.history b.state)) (sym r.book_is)
           c.in-Err-write_tail.ensures.fault;
