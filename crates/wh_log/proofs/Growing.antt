@@ -35,7 +35,7 @@ first_of_two : (text : List ℕ) → HasLines text 2 → HasLines text 1
 first_of_two text (lines, more, all, parts, count) = cut lines all parts count
   where
     cut : (lines : List (List ℕ)) → AllByRecursion IsLine lines → text ≡ text_of lines ++ more → length lines ≡ 2 → HasLines text 1
-    cut [] all parts count = omega (arith, count)
+    cut [] all parts count = absurd (omega (arith, count))
     cut (first ∷ lines) all parts count = one_stands text first (text_of lines ++ more) all.0 (parts ∙ one_text first lines more)
 
 module _ {S : Type 0} (opens : S → ℕ → List ℕ → S → Type 0) (steps : S → Entry → S → Type 0) (held : Option (List ℕ)) (old : S) where

@@ -1,21 +1,17 @@
 -- Bytes that are read piece by piece.
-use Rattle.std.proofs.Common.{◌≡◌, ℕ, ◌+◌, Bool, true, false, List, [], ◌∷◌, ◌++◌, length, drop, refl, sym, ap, ◌∙◌, subst, arith, append_assoc, length-append, Option, None, Some}
+use Rattle.std.proofs.Common.{◌≡◌, ℕ, ◌+◌, ◌⊎◌, inl, inr, Bool, true, false, List, [], ◌∷◌, ◌++◌, length, drop, refl, sym, ap, ◌∙◌, subst, arith, append_assoc, length-append, Option, None, Some}
 use Rattle.std.specs.Prelude.{IfSome}
-use Rattle.std.proofs.lemmas.List.{append-nil}
-use Rattle.std.proofs.Math.Seq.{drop-append_seam, drop-append-add}
-use Rattle.wh_log.specs.Sources.{IsNext, IsAtEnd, ReadsOn}
+use Rattle.std.proofs.lemmas.List.{append-nil, drop-drop}
+use Rattle.std.proofs.Math.Seq.{drop-append_seam}
+use Rattle.wh_log.specs.declared.window.Standing.{Standing}
+use Rattle.wh_log.specs.declared.window.Standing.TheVariants as standing
+use Rattle.wh_log.specs.Sources.{IsNext, IsAtEnd, ReadsOn, Shows, IsEnough, ReadsHead}
 use Rattle.wh_log.specs.Behinds.{Sees}
 
 -- ---- reading on and on
 
 further : (xs ys : List ℕ) (place : ℕ) (bytes : List ℕ) → drop place bytes ≡ xs ++ ys → drop (place + length xs) bytes ≡ ys
-further xs ys zero bytes e = ap (λ (t : List ℕ). drop (length xs) t) e ∙ drop-append_seam xs ys
-further [] ys (suc place) [] e = e
-further (x ∷ xs) ys (suc place) [] e = absurd (empty e)
-  where
-    empty : {x : ℕ} {l : List ℕ} → [] ≡ x ∷ l → ⊥
-    empty e = cc
-further xs ys (suc place) (b ∷ bytes) e = further xs ys place bytes e
+further xs ys place bytes e = sym (drop-drop (length xs) place bytes) ∙ ap (λ (t : List ℕ). drop (length xs) t) e ∙ drop-append_seam xs ys
 
 next_joins : (held : Option (List ℕ)) (place : ℕ) (one other : List ℕ) → IsNext held place one → IsNext held (place + length one) other → IsNext held place (one ++ other)
 next_joins None place one other h k = tt
@@ -43,9 +39,30 @@ reads_join held place old mid_place mid new_place new one other a b = record {
   at_end = b.at_end;
 }
 
--- where it did not end before, it may be said so
-pub not_ended : (held : Option (List ℕ)) (place : ℕ) (old : List ℕ) (new_place : ℕ) (new : List ℕ) (ended : Bool) → ReadsOn held place old new_place new ended → ReadsOn held place old new_place new false
-not_ended held place old new_place new ended a = reads_join held place old new_place new new_place new ended false a (reads_none held new_place new)
+-- the same of a source that tells what it told before
+pub reads_further : (held here : Option (List ℕ)) (place : ℕ) (old : List ℕ) (mid_place : ℕ) (mid : List ℕ) (new_place : ℕ) (new : List ℕ) (one other said : Bool)
+    → here ≡ held → other ≡ said → ReadsOn held place old mid_place mid one → ReadsOn here mid_place mid new_place new other → ReadsOn held place old new_place new said
+reads_further held here place old mid_place mid new_place new one other said e f a b =
+    reads_join held place old mid_place mid new_place new one said a
+    (subst (λ (x : Bool). ReadsOn held mid_place mid new_place new x) f (subst (λ (h : Option (List ℕ)). ReadsOn h mid_place mid new_place new other) e b))
+
+-- two lines stand whole, or it ended
+pub reads_head : (held : Option (List ℕ)) (place : ℕ) (old : List ℕ) (new_place : ℕ) (new : List ℕ) (ended : Bool) (said : Standing)
+    → ReadsOn held place old new_place new ended → Shows new said → (ended ≡ true) ⊎ (said ≡ standing.Two) → ReadsHead held place old new_place new said
+reads_head held place old new_place new ended said reads shows enough = record { ended = ended; reads = reads; shows = shows; enough = is_enough said enough }
+  where
+    is_enough : (said : Standing) → (ended ≡ true) ⊎ (said ≡ standing.Two) → IsEnough held new_place said
+    is_enough standing.Two e = tt
+    is_enough standing.One (inl e) = reads.at_end e
+    is_enough standing.None (inl e) = reads.at_end e
+    is_enough standing.One (inr e) = absurd (one e)
+      where
+        one : standing.One ≡ standing.Two → ⊥
+        one e = cc
+    is_enough standing.None (inr e) = absurd (none e)
+      where
+        none : standing.None ≡ standing.Two → ⊥
+        none e = cc
 
 -- ---- what was seen
 

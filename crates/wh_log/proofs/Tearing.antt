@@ -62,7 +62,7 @@ pub second_stands : (text one rest : List ℕ) → IsLine one → text ≡ one +
 second_stands text one rest is e (lines, more, all, parts, count) = cut lines all parts count
   where
     cut : (lines : List (List ℕ)) → AllByRecursion IsLine lines → text ≡ text_of lines ++ more → length lines ≡ 2 → HasLines rest 1
-    cut [] all parts count = omega (arith, count)
+    cut [] all parts count = absurd (omega (arith, count))
     cut (first ∷ lines) all parts count =
         let same = one_line one first rest (text_of lines ++ more) is all.0 (sym e ∙ parts ∙ one_text first lines more) in
         (lines, more, all.1, same.1, omega (arith, count))
@@ -121,7 +121,7 @@ module _ {S : Type 0} (opens : S → ℕ → List ℕ → S → Type 0) (steps :
   -- ---- behind the entries
   module _ (version : Version) (count : ℕ) (now : S) (rest : List ℕ) (b : Behind opens steps old text version count now rest) where
     -- how many bytes were told
-    pub told_bytes : ℕ
+    abbrev pub told_bytes : ℕ
     told_bytes = length (text_of (front_lines version b.clock b.slots b.entries))
 
     before_next : EndsBefore text (count + 3) told_bytes
