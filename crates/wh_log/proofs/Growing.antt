@@ -31,6 +31,9 @@ use Rattle.wh_log.proofs.Tearing.{one_stands, second_stands, lacks_on, stand_on,
 line_on : (rest line behind more : List ℕ) → rest ≡ line ++ 10 ∷ behind → rest ++ more ≡ line ++ 10 ∷ (behind ++ more)
 line_on rest line behind more e = ap (λ (t : List ℕ). t ++ more) e ∙ append_assoc line (10 ∷ behind) more
 
+not_both : false ≡ true → ⊥
+not_both e = cc
+
 first_of_two : (text : List ℕ) → HasLines text 2 → HasLines text 1
 first_of_two text (lines, more, all, parts, count) = cut lines all parts count
   where
@@ -45,19 +48,19 @@ module _ {S : Type 0} (opens : S → ℕ → List ℕ → S → Type 0) (steps :
 
   module _ (place : ℕ) (seen : List ℕ) (sees : Sees held place seen) where
     -- ---- the first two lines
-    pub from_no_head : (new : S) (front : Front) (said : Standing) (text : Vec ℕ) → CanOpen opens old → text.items ≡ seen → Shows seen said → IsEnough held place said → Lacks IsNoHead seen → LacksHead said text front
-        → RecoversFrom opens steps held old new front
-    from_no_head new front standing.None text can e shows enough lacks is =
-        (seen, all_seen held place seen sees enough, subst (λ (x : Front). Recovers opens steps seen old new x) (sym is) (inl shows, e))
-    from_no_head new front standing.One text can e shows enough lacks is = first_bad new front can lacks (one_stands seen shows.0 shows.1 shows.2 shows.4) is
-    from_no_head new front standing.Two text can e shows enough lacks is = first_bad new front can lacks (first_of_two seen shows) is
-
     first_bad : (new : S) (front : Front) → CanOpen opens old → Lacks IsNoHead seen → HasLines seen 1 → front ≡ Bad 1 0 → RecoversFrom opens steps held old new front
     first_bad new front can lacks has is =
         let g = grown held place seen sees in
         let lacks_all : Lacks IsNoHead g.text = subst (Lacks IsNoHead) (sym g.parts) (lacks_on IsNoHead seen g.more has lacks) in
         let has_all : HasLines g.text 1 = subst (λ t. HasLines t 1) (sym g.parts) (stand_on seen g.more 1 has) in
         (g.text, g.is, bad_is g.text new front 1 0 0 is refl (recovers_no_head opens steps old g.text new can lacks_all has_all))
+
+    pub from_no_head : (new : S) (front : Front) (said : Standing) (text : Vec ℕ) → CanOpen opens old → text.items ≡ seen → Shows seen said → IsEnough held place said → Lacks IsNoHead seen → LacksHead said text front
+        → RecoversFrom opens steps held old new front
+    from_no_head new front standing.None text can e shows enough lacks is =
+        (seen, all_seen held place seen sees enough, subst (λ (x : Front). Recovers opens steps seen old new x) (sym is) (inl shows, e))
+    from_no_head new front standing.One text can e shows enough lacks is = first_bad new front can lacks (one_stands seen shows.0 shows.1 shows.2 shows.4) is
+    from_no_head new front standing.Two text can e shows enough lacks is = first_bad new front can lacks (first_of_two seen shows) is
 
     second_bytes : (version : Version) (rest : List ℕ) → seen ≡ head_line version ++ 10 ∷ rest → length seen - length rest ≡ length (text_of (head_line version ∷ []))
     second_bytes version rest e = omega (arith, ap length (e ∙ sym (one_text (head_line version) [] rest)), length-append (text_of (head_line version ∷ [])) rest)
@@ -116,8 +119,8 @@ module _ {S : Type 0} (opens : S → ℕ → List ℕ → S → Type 0) (steps :
       pub from_bad : (front : Front) (s : Stop) → ((old : S) (clock : ℕ) (slots : List ℕ) (a b : S) → opens old clock slots a → opens old clock slots b → a ≡ b)
           → ((old : S) (entry : Entry) (a b : S) → steps old entry a → steps old entry b → a ≡ b) → is_bad_stop s ≡ true → StopsAt steps version count now rest s → IsBadAt s count rest place front
           → RecoversFrom opens steps held old now front
-      from_bad front stop.NoLine one_opening one_step () at is
-      from_bad front stop.End one_opening one_step () at is
+      from_bad front stop.NoLine one_opening one_step bad at is = absurd (not_both bad)
+      from_bad front stop.End one_opening one_step bad at is = absurd (not_both bad)
       from_bad front stop.WrongLine one_opening one_step bad at is =
           let g = grown held place seen sees in
           let all = behind_on opens steps old seen g.more g.text version count now rest g.parts b in (
@@ -163,11 +166,8 @@ module _ {S : Type 0} (opens : S → ℕ → List ℕ → S → Type 0) (steps :
     few = lit< tt;
     sees = λ seen s. subst (λ (t : List ℕ). Sees held old_place t) (sym (append-nil seen)) s;
     behind = λ old seen b. subst (λ (t : List ℕ). Behind opens steps old t version 0 old_now old_rest) (sym (append-nil seen)) b;
-    at_end = λ e. absurd (differ e);
+    at_end = λ e. absurd (not_both e);
   }
-    where
-      differ : false ≡ true → ⊥
-      differ e = cc
 
   module _ (ended : Bool) (place : ℕ) (rest : List ℕ) (count : ℕ) (now : S) (f : Follows opens steps held version old_place old_rest old_now ended place rest count now)
       (further : ℕ) (new : S) (left : List ℕ) (on : TellsOn opens steps version count now rest further new left) where
@@ -193,12 +193,12 @@ module _ {S : Type 0} (opens : S → ℕ → List ℕ → S → Type 0) (steps :
 
     pub follows_whole : (s : Stop) (is_ended : Bool) → (s ≡ stop.End → is_ended ≡ true) → (s ≡ stop.NoLine → is_ended ≡ false) → is_bad_stop s ≡ false → ended ≡ true → StopsAt steps version further new left s
         → RecoversOn opens steps held version old_place old_rest old_now new (Whole version further (place - length left) is_ended)
-    follows_whole stop.End is_ended yes no bad end at old seen sees b =
-        subst (λ (e : Bool). RecoversFrom opens steps held old new (Whole version further (place - length left) e)) (sym (yes refl))
+    follows_whole stop.End is_ended ended_so open_so bad end at old seen sees b =
+        subst (λ (e : Bool). RecoversFrom opens steps held old new (Whole version further (place - length left) e)) (sym (ended_so refl))
         (from_ended opens steps held old place (seen ++ f.piece) (f.sees seen sees) version further new left (on old (seen ++ f.piece) (f.behind old seen b)) at (f.at_end end))
-    follows_whole stop.NoLine is_ended yes no bad end at old seen sees b =
-        subst (λ (e : Bool). RecoversFrom opens steps held old new (Whole version further (place - length left) e)) (sym (no refl))
+    follows_whole stop.NoLine is_ended ended_so open_so bad end at old seen sees b =
+        subst (λ (e : Bool). RecoversFrom opens steps held old new (Whole version further (place - length left) e)) (sym (open_so refl))
         (from_cut opens steps held old place (seen ++ f.piece) (f.sees seen sees) version further new left (on old (seen ++ f.piece) (f.behind old seen b)) at (f.at_end end))
-    follows_whole stop.TextAfter is_ended yes no () end at
-    follows_whole stop.WrongLine is_ended yes no () end at
-    follows_whole stop.Refused is_ended yes no () end at
+    follows_whole stop.TextAfter is_ended ended_so open_so bad end at old seen sees b = absurd (not_both (sym bad))
+    follows_whole stop.WrongLine is_ended ended_so open_so bad end at old seen sees b = absurd (not_both (sym bad))
+    follows_whole stop.Refused is_ended ended_so open_so bad end at old seen sees b = absurd (not_both (sym bad))

@@ -1,11 +1,11 @@
 -- Bytes that are read piece by piece.
-use Rattle.std.proofs.Common.{◌≡◌, ℕ, ◌+◌, ◌⊎◌, inl, inr, Bool, true, false, List, [], ◌∷◌, ◌++◌, length, drop, refl, sym, ap, ◌∙◌, subst, arith, append_assoc, length-append, Option, None, Some}
+use Rattle.std.proofs.Common.{◌≡◌, ℕ, ◌+◌, ◌<◌, ◌≤◌, ◌⊎◌, inl, inr, Bool, true, false, List, [], ◌∷◌, ◌++◌, length, take, drop, drop_of_length-le, refl, sym, ap, ◌∙◌, subst, arith, append_assoc, length-append, Option, None, Some}
 use Rattle.std.specs.Prelude.{IfSome}
-use Rattle.std.proofs.lemmas.List.{append-nil, drop-drop}
+use Rattle.std.proofs.lemmas.List.{append-nil, drop-drop, take-append-drop, length-drop}
 use Rattle.std.proofs.Math.Seq.{drop-append_seam}
 use Rattle.wh_log.specs.declared.window.Standing.{Standing}
 use Rattle.wh_log.specs.declared.window.Standing.TheVariants as standing
-use Rattle.wh_log.specs.Sources.{IsNext, IsAtEnd, ReadsOn, Shows, IsEnough, ReadsHead}
+use Rattle.wh_log.specs.Sources.{IsPiece, IsNext, IsAtEnd, ReadsOn, Shows, IsEnough, ReadsHead}
 use Rattle.wh_log.specs.Behinds.{Sees}
 
 -- ---- reading on and on
@@ -102,3 +102,23 @@ pub record Grown (held : Option (List ℕ)) (seen : List ℕ) : Type 0 where
 pub grown : (held : Option (List ℕ)) (place : ℕ) (seen : List ℕ) → Sees held place seen → Grown held seen
 grown None place seen s = record { text = seen; more = []; is = tt; parts = sym (append-nil seen) }
 grown (Some bytes) place seen s = record { text = bytes; more = s.front.0; is = refl; parts = s.front.1 }
+
+-- ---- pieces of a text
+
+pub piece_none : (text : List ℕ) (place : ℕ) → length text ≤ place → IsPiece (Some text) place []
+piece_none text place h = record { next = (drop place text, refl); none = λ e. drop_of_length-le text h }
+
+pub piece_whole : (text : List ℕ) (place : ℕ) → IsPiece (Some text) place (drop place text)
+piece_whole text place = record { next = ([], sym (append-nil (drop place text))); none = λ e. e }
+
+empty_front : (most : ℕ) (xs : List ℕ) → 0 < most → take most xs ≡ [] → xs ≡ []
+empty_front most [] h e = refl
+empty_front most (x ∷ xs) h e =
+    let all : drop most (x ∷ xs) ≡ x ∷ xs = ap (λ (t : List ℕ). t ++ drop most (x ∷ xs)) (sym e) ∙ take-append-drop most (x ∷ xs) in
+    absurd (omega (arith, h, ap length all, length-drop most (x ∷ xs)))
+
+pub piece_front : (text : List ℕ) (place most : ℕ) → 0 < most → IsPiece (Some text) place (take most (drop place text))
+piece_front text place most h = record {
+  next = (drop most (drop place text), sym (take-append-drop most (drop place text)));
+  none = λ e. empty_front most (drop place text) h e;
+}

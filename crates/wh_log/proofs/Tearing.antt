@@ -75,7 +75,7 @@ lacks_on None text more (lines, behind, all, parts, count) (inl is) = absurd (no
 pub stand_on : (text more : List ℕ) (n : ℕ) → HasLines text n → HasLines (text ++ more) n
 stand_on text more n has = (has.0, has.1 ++ more, has.2, ap (λ (t : List ℕ). t ++ more) has.3 ∙ append_assoc (text_of has.0) has.1 more, has.4)
 
-pub behind_on : {S : Type 0} (opens : S → ℕ → List ℕ → S → Type 0) (steps : S → Entry → S → Type 0) (old : S) (text more whole : List ℕ) (version : Version) (count : ℕ) (now : S) (rest : List ℕ)
+abbrev pub behind_on : {S : Type 0} (opens : S → ℕ → List ℕ → S → Type 0) (steps : S → Entry → S → Type 0) (old : S) (text more whole : List ℕ) (version : Version) (count : ℕ) (now : S) (rest : List ℕ)
     → whole ≡ text ++ more → Behind opens steps old text version count now rest → Behind opens steps old whole version count now (rest ++ more)
 behind_on opens steps old text more whole version count now rest e b = record {
   clock = b.clock;

@@ -1,6 +1,6 @@
 //! Bytes that are read from their front, piece by piece.
 
-ghost use Rattle.std.specs.Prelude.{◌≡◌, ℕ, List, Option, None, Some, OnOk};
+ghost use Rattle.std.specs.Prelude.{◌≡◌, ◌<◌, ℕ, List, Option, None, Some, OnOk};
 ghost use Rattle.wh_log.specs.Sources.{AddsPiece, IsPiece};
 
 use crate::fault::NoMemory;
@@ -44,18 +44,19 @@ pub trait Source {
         ensures same { held self.new ≡ held self.old };
 }
 
-/// A piece of a text behind the first so many bytes.
-fn piece_at(text: &[u8], place: usize) -> &[u8]
+/// A piece of a text behind the first so many bytes, of no more than so many.
+fn piece_at(text: &[u8], place: usize, most: usize) -> &[u8]
+    requires { 0 < most }
     ensures { IsPiece (Some text.now) place result.now }
 {
     if place >= text.len() {
         return &[];
     }
     let behind = &text[place..];
-    if behind.len() < 65_536 {
+    if behind.len() <= most {
         behind
     } else {
-        &behind[..65_536]
+        &behind[..most]
     }
 }
 
@@ -63,7 +64,7 @@ impl<'a> Source for &'a [u8] {
     ghost held = { λ s. Some s.now };
 
     fn add_piece(&mut self, place: usize, buffer: &mut Vec<u8>) -> Result<(), SourceFault> {
-        buffer.extend_from_slice(piece_at(self, place))?;
+        buffer.extend_from_slice(piece_at(self, place, 65_536))?;
         Ok(())
     }
 }
