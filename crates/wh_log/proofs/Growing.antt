@@ -7,6 +7,7 @@ use Rattle.std.specs.List.{AllByRecursion}
 use Rattle.wh_words.specs.Lines.{IsLine, text_of}
 use Rattle.wh_event.specs.declared.entry.Entry.{Entry}
 use Rattle.wh_log.specs.Spelling.{entry_line}
+use Rattle.wh_log.specs.Ranges.{Keeps}
 use Rattle.wh_log.specs.declared.version.Version.{Version}
 use Rattle.wh_log.specs.declared.front_log.Front.{Front}
 use Rattle.wh_log.specs.declared.front_log.Front.TheVariants.{Whole, Unopened, Bad}
@@ -23,7 +24,7 @@ use Rattle.wh_log.specs.Behinds.{Behind, TellsOn, StopsAt, IsBadAt, IsBadStart, 
 use Rattle.wh_log.proofs.HeadLaws.{head_is_line, start_is_line, end_is_line}
 use Rattle.wh_log.proofs.LineLaws.{one_line, not_whole, one_text}
 use Rattle.wh_log.proofs.Fronts.{front_lines}
-use Rattle.wh_log.proofs.Following.{one_more}
+use Rattle.wh_log.proofs.Following.{one_more, behind_next}
 use Rattle.wh_log.proofs.Sources.{Grown, grown, all_seen, sees_on}
 use Rattle.wh_log.proofs.Tearing.{one_stands, second_stands, lacks_on, stand_on, behind_on, cut_at, recovers_no_head, recovers_no_start, recovers_unopened, recovers_ended, recovers_cut, recovers_wrong, recovers_refused, recovers_after}
 
@@ -150,6 +151,12 @@ module _ {S : Type 0} (opens : S → ℕ → List ℕ → S → Type 0) (steps :
           )
 
 -- ---- piece by piece
+
+pub tells_next : {S : Type 0} (opens : S → ℕ → List ℕ → S → Type 0) (steps : S → Entry → S → Type 0) (version : Version) (count : ℕ) (now : S) (rest : List ℕ) (further : ℕ) (new : S) (left : List ℕ) (entry : Entry) (after : List ℕ) (newer : S)
+    → TellsOn opens steps version count now rest further new left → left ≡ entry_line entry ++ 10 ∷ after → Keeps (most_stops version) entry → further + 1 < 10 ^ 9 → steps new entry newer
+    → TellsOn opens steps version count now rest (further + 1) newer after
+tells_next opens steps version count now rest further new left entry after newer on is keeps few step old seen b =
+    behind_next opens steps old seen version further new left entry after newer (on old seen b) is keeps few step
 
 -- From a judge that was told the first two lines on, with so much read and this left of it: how far it has come.
 pub record Follows {S : Type 0} (opens : S → ℕ → List ℕ → S → Type 0) (steps : S → Entry → S → Type 0) (held : Option (List ℕ)) (version : Version) (old_place : ℕ) (old_rest : List ℕ) (old_now : S) (ended : Bool) (place : ℕ) (rest : List ℕ) (count : ℕ) (now : S) : Type 0 where
