@@ -181,6 +181,13 @@ def test_rests_are_judged_as_soon_as_served() -> None:
     assert judged < 2 * served + 0.2, (judged, served)
 
 
+def test_a_maze_is_well_formed() -> None:
+    # its points are dead ends, so no walk between two of them needs a third
+    for numbers in ((21, 4, 20), (41, 10, 100)):
+        done = subprocess.run([PROGRAM, 'check'], input=made('maze', *numbers), capture_output=True, text=True)
+        assert (done.returncode, done.stdout) == (0, 'formed\n'), (numbers, done.stdout)
+
+
 def test_families_and_numbers_are_wanted() -> None:
     for words in ((), ('flood', '1'), ('door', '64'), ('door', '64', 'x'), ('ring', '9', '9', '9')):
         done = subprocess.run([sys.executable, os.path.join(ROOT, 'tools', 'floods.py'), *words], capture_output=True)

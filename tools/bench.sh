@@ -75,12 +75,12 @@ parts() {
     calls '1,000,000 tasks of 10,000 clients' "$folder/counted" replay --tail ledger
 }
 
-# Million instructions of the three warehouses, as a row.
+# Million instructions of the warehouses and of a maze, as a row.
 #   totals NAME PROGRAM WORDS..
 totals() {
     local name=$1 run row=
     shift
-    for run in small large open; do
+    for run in small large open stops rule large_rule maze; do
         valgrind -q --tool=callgrind --callgrind-out-file="$folder/calls" "$@" < "$folder/$run" > "$folder/$run.output" 2> /dev/null
         row+=" $(awk '/^totals:/ { printf "%.1f", $2 / 1e6 }' "$folder/calls") |"
         [[ ! -e $folder/$run.first ]] || cmp "$folder/$run.first" "$folder/$run.output"    # both print the same
@@ -93,8 +93,8 @@ instructions() {
     command -v valgrind > /dev/null || { echo 'bench.sh: no valgrind, so no instructions' >&2; return 0; }
     instances
     echo
-    echo '| Million instructions | small warehouse | large warehouse | open map |'
-    echo '|---|---|---|---|'
+    echo '| Million instructions | small warehouse | large warehouse | open map | small, 2 to 8 stops | small, the rule | large, the rule | maze |'
+    echo '|---|---|---|---|---|---|---|---|'
     totals 'the program' "$program" replay --planner near
     if command -v g++ > /dev/null; then
         g++ -O2 -march=x86-64-v2 -std=c++17 -o "$folder/peer" "$root/tools/peer/main.cpp"
@@ -132,6 +132,19 @@ peers() {
     row 'open map, by the peer in C++' "$folder/open" replay
 }
 
+# An instance with the cells round its first point blocked, so that its first pair of points is cut.
+walled() {
+    python3 -c '
+import sys
+level, points, script = sys.stdin.read().split("%%\n")
+rows = level.split("\n")
+x, y = map(int, points.split("\n")[0].split()[2:])
+for a, b in ((x - 1, y), (x + 1, y), (x, y - 1), (x, y + 1)):
+    if 0 <= a < len(rows[4]) and 0 <= b < len(rows) - 5:
+        rows[4 + b] = rows[4 + b][:a] + "@" + rows[4 + b][a + 1:]
+sys.stdout.write("%%\n".join(["\n".join(rows), points, script]))'
+}
+
 # The instances of both, made once; the program is built.
 instances() {
     [[ ! -e $folder/small ]] || return 0
@@ -141,7 +154,14 @@ instances() {
     $make --columns 35 --rows 21 --agents 50 --tasks 500 --ticks 1500 > "$folder/small"
     $make --columns 81 --rows 81 --agents 250 --tasks 1000 --ticks 1500 > "$folder/large"
     $make --columns 512 --rows 512 --open --agents 100 --tasks 200 --ticks 2500 > "$folder/open"
+    $make --columns 35 --rows 21 --agents 50 --tasks 500 --ticks 1500 --stops 8 > "$folder/stops"
+    $make --columns 35 --rows 21 --agents 50 --tasks 500 --ticks 1500 --nofollow > "$folder/rule"
+    $make --columns 81 --rows 81 --agents 250 --tasks 1000 --ticks 1500 --nofollow > "$folder/large_rule"
+    $make --columns 2048 --rows 2048 --open --agents 16 --tasks 32 --ticks 100 > "$folder/wider"
     $make --columns 1024 --rows 1024 --open --agents 100 --tasks 0 --ticks 0 > "$folder/wide"
+    walled < "$folder/wide" > "$folder/cut"
+    python3 "$root/tools/floods.py" maze 81 40 300 > "$folder/maze"
+    python3 "$root/tools/floods.py" blocked 16000 20 > "$folder/barred"
     python3 "$root/tools/floods.py" rests 1000 20 3000 > "$folder/rests"
 }
 
@@ -156,10 +176,16 @@ whole_runs() {
     row 'large warehouse, 81 x 81, 250 agents, 1000 tasks' "$folder/large" replay --planner near
     row 'open map, 512 x 512, 100 agents, 200 tasks' "$folder/open" replay --planner near
     peers
+    row 'small warehouse, 2 to 8 stops' "$folder/stops" replay --planner near
+    row 'small warehouse, nobody may follow' "$folder/rule" replay --planner near
+    row 'maze, 81 x 81, 40 agents, 300 tasks' "$folder/maze" replay --planner near
+    row '16,000 barred tasks, 20 agents' "$folder/barred" replay --planner near
+    row 'open map, 2048 x 2048, 16 agents' "$folder/wider" replay --planner near
     row '1,000,000 ticks, 21 x 35, 50 agents' "$folder/ticks" replay --planner near
     row '3000 rests among 1000 open tasks, 20 agents' "$folder/rests" replay --planner near
     row '4096 points, 512 x 512' "$folder/open" check
     row '4096 points, 1024 x 1024' "$folder/wide" check
+    row 'the same, the first of them walled in' "$folder/cut" check
     if "$program" replay --tail log < "$folder/ticks" > "$folder/log" 2> /dev/null; then
         with_log "$folder/ticks" "$folder/log" > "$folder/ticks_log"
         row 'log of 1,000,000 ticks' "$folder/ticks_log" verify
@@ -179,13 +205,17 @@ floods() {
     echo '| Instance | Options | Lines | Tasks taken | No path | Seconds | Memory, MB | Status |'
     echo '|---|---|---|---|---|---|---|---|'
     local words
-    for words in 'stops 64 5 2' 'stops 64 8 2' 'stops 128 5 2' 'unreachable 64 5' 'door 64 4' 'door 128 4' 'door 256 4' 'hall 100 80' \
-        'hall 200 150' 'hall 400 300' 'late 40 3 1' 'late 60 7 1' 'late 100 7 1' 'late 100 7 0' 'beside 100 7' 'beside 800 7' \
-        'ring 201 101' 'ring 401 201' 'ring 1001 301'; do
+    for words in 'stops 64 5 2' 'stops 64 8 2' 'stops 128 5 2' 'stops 256 8 2' 'unreachable 64 5' 'unreachable 256 5' 'door 64 4' \
+        'door 128 4' 'door 256 4' 'door 512 4' 'hall 100 80' 'hall 200 150' 'hall 400 300' 'hall 800 600' 'late 40 3 1' 'late 60 7 1' \
+        'late 100 7 1' 'late 200 7 1' 'late 100 7 0' 'beside 100 7' 'beside 800 7' 'beside 1600 7' 'ring 201 101' 'ring 401 201' \
+        'ring 1001 301' 'ring 2001 601' 'ring 4096 4094' 'blocked 1000 20' 'blocked 4000 20' 'blocked 16000 20' 'wide 512 16' \
+        'wide 1024 16' 'wide 2048 16'; do
         # shellcheck disable=SC2086
         python3 "$root/tools/floods.py" $words > "$folder/flood"
         row "$words" "$folder/flood" replay --planner near
     done
+    $make --columns 4096 --rows 4096 --open --agents 2 --tasks 1 --ticks 1 > "$folder/flood"
+    row 'open map, 4096 x 4096, 2 agents, a task of 2 stops' "$folder/flood" replay --planner near
 }
 
 case $what in

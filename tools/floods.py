@@ -18,11 +18,13 @@ Families, and their numbers:
   blocked T A        A agents, T open tasks, none of which can be done for where an agent rests
   rests T A N        the same tasks, and then N requests by turns, which all find that nothing can be done
   wide N A           an open map of N by N, A agents, one far task each: distance fields of whole maps
+  maze N A T         a maze of N by N with its points in dead ends, A agents, T tasks, one a tick, and each agent asks at each tick
 
 All but `unreachable` and `late` are well-formed where the numbers are large enough: `warehouse check` tells.
-The last request of an instance is the dear one; of `rests` none is, where what one has found serves the next.
+The last request of an instance is the dear one; of `rests`, `wide` and `maze` none is by itself.
 """
 import os
+import random
 import sys
 
 
@@ -167,8 +169,43 @@ def wide(n, agents):
         [line for i in range(agents) for line in (f'submit c S{i} T{i}', f'token {i}')])
 
 
+def maze(n, agents, tasks):
+    chance = random.Random(7)
+    rows, way = [['@'] * n for _ in range(n)], [(0, 0)]
+    rows[0][0] = '.'
+    while way:    # depth first over the cells of even numbers
+        x, y = way[-1]
+        nexts = [(a, b) for a, b in ((x - 2, y), (x + 2, y), (x, y - 2), (x, y + 2)) if 0 <= a < n and 0 <= b < n and rows[b][a] == '@']
+        if not nexts:
+            way.pop()
+            continue
+        a, b = chance.choice(nexts)
+        rows[(y + b) // 2][(x + a) // 2] = rows[b][a] = '.'
+        way.append((a, b))
+
+    def doors(x, y):
+        return sum(0 <= a < n and 0 <= b < n and rows[b][a] == '.' for a, b in ((x - 1, y), (x + 1, y), (x, y - 1), (x, y + 1)))
+
+    ends = [(x, y) for y in range(0, n, 2) for x in range(0, n, 2) if doors(x, y) == 1]
+    for y in range(0, n, 2):    # some more openings, so that agents can pass each other, but none at a dead end
+        for x in range(1, n - 1, 2):
+            if rows[y][x] == '@' and (x - 1, y) not in ends and (x + 1, y) not in ends and chance.random() < 0.1:
+                rows[y][x] = '.'
+    chance.shuffle(ends)
+    stations = ends[agents:agents + 100]
+    points = [f'parking P{i} {x} {y}' for i, (x, y) in enumerate(ends[:agents])]
+    points += [f'station S{i} {x} {y}' for i, (x, y) in enumerate(stations)] + [f'agent P{i}' for i in range(agents)]
+    script = []
+    for tick in range(tasks + 8 * n):
+        if tick < tasks:
+            script.append('submit c ' + ' '.join(f'S{i}' for i in chance.sample(range(len(stations)), 2)))
+        script += [f'token {i}' for i in range(agents)] + ['tick']
+    put(rows, points, script)
+
+
 FAMILIES = {'stops': (stops, 3), 'unreachable': (lambda n, k: stops(n, k, 0, True), 2), 'ring': (ring, 2), 'door': (door, 2),
-            'hall': (hall, 2), 'late': (late, 3), 'beside': (beside, 2), 'blocked': (blocked, 2), 'rests': (blocked, 3), 'wide': (wide, 2)}
+            'hall': (hall, 2), 'late': (late, 3), 'beside': (beside, 2), 'blocked': (blocked, 2), 'rests': (blocked, 3), 'wide': (wide, 2),
+            'maze': (maze, 3)}
 
 
 def main(words):

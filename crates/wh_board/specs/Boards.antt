@@ -1,7 +1,7 @@
 -- what a board shows of a history
 use Rattle.std.specs.Prelude.{◌≡◌, ℕ, List, Some, length, slice_get}
 use Rattle.wh_grid.specs.declared.cell.Cell.{Cell}
-use Rattle.wh_path.specs.Paths.{place_of}
+use Rattle.wh_path.specs.Paths.{place_of, steps_left}
 use Rattle.wh_tasks.specs.declared.task.Load.{Load}
 use Rattle.wh_tasks.specs.Changes.{counts_of}
 use Rattle.wh_core.specs.States.{State}
@@ -10,10 +10,11 @@ use Rattle.wh_board.specs.Pasts.{Past}
 use Rattle.wh_board.specs.declared.board.Board.{Board}
 use Rattle.wh_board.specs.declared.board.Shown.{Shown}
 
--- the agent of this number is shown: where it is now, and what it has to do
+-- the agent of this number is shown: where it is now, what it has to do, and how many steps of its path are left
 pub record IsShown (paths : List (List Cell)) (loads : List Load) (agent : ℕ) (shown : Shown) : Type 0 where
   pub cell : shown.cell ≡ place_of paths agent
   pub load : slice_get loads agent ≡ Some shown.load
+  pub steps_left_is : shown.steps_left ≡ steps_left paths agent
 
 -- each agent is shown, and no other
 pub record AreShown (paths : List (List Cell)) (loads : List Load) (agents : List Shown) : Type 0 where

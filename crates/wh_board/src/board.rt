@@ -18,17 +18,20 @@ pub struct Shown {
     pub cell: Cell,
     /// What it has to do.
     pub load: Load,
+    /// How many steps of its path are left: with none it is due, and may ask for the token.
+    pub steps_left: u64,
 }
 
 impl Default for Shown {
     ghost use Rattle.wh_tasks.specs.declared.task.Load.{Load as Duty};
 
-    ghost is_default = { λ s. s ≡ record { cell = record { x = 0; y = 0 }; load = Duty.None } };
+    ghost is_default = { λ s. s ≡ record { cell = record { x = 0; y = 0 }; load = Duty.None; steps_left = 0 } };
 
     fn default() -> Self {
         Shown {
             cell: Cell { x: 0, y: 0 },
             load: Load::None,
+            steps_left: 0,
         }
     }
 }
@@ -102,6 +105,7 @@ fn agents_of(paths: &[TimedPath], loads: &[Load]) -> ArrayVec<Shown, 256>
         agents.push(Shown {
             cell: path.start(),
             load: loads[k],
+            steps_left: path.remaining(),
         });
     }
     agents

@@ -1,5 +1,5 @@
 -- what is ready for the book, and what the laws give where it is prepared
-use Rattle.std.proofs.Common.{◌≡◌, ◌≢◌, ℕ, ◌<◌, ◌≤◌, ◌∙◌, List, [], ◌∷◌, ◌++◌, length, sym, subst, refl, ap, arith}
+use Rattle.std.proofs.Common.{◌≡◌, ◌≢◌, ℕ, ◌+◌, ◌<◌, ◌≤◌, ◌∙◌, List, [], ◌∷◌, ◌++◌, length, sym, subst, refl, ap, arith}
 use Prim.Native.Nat.{suc}
 use Rattle.std.specs.Prelude.{Some, slice_get, All, false}
 use Rattle.std.proofs.lemmas.Option.{same_Some, slice_get-get_or}
@@ -9,7 +9,7 @@ use Rattle.wh_points.specs.Points.{Site, IsLayout}
 use Rattle.wh_tasks.specs.declared.task.Task.{Task}
 use Rattle.wh_tasks.specs.declared.task.Load.{Load}
 use Rattle.wh_planner.specs.Duties.{IsLawful, Delivers}
-use Rattle.wh_core.specs.States.{State, opened, arrived, adopted, assigned, moved}
+use Rattle.wh_core.specs.States.{State, opened, arrived, adopted, assigned, moved, picked, dropped}
 use Rattle.wh_core.specs.Steps.{Step, Run, Answers, IsDue, IsNext, last_clock}
 use Rattle.wh_core.specs.Laws.{IsReached, IsOpening}
 use Rattle.wh_event.specs.declared.entry.Entry.{Entry}
@@ -24,8 +24,7 @@ use Rattle.wh_event.specs.declared.reply.Refusal.{Refusal}
 use Rattle.wh_points.specs.Formed.{IsFormed}
 use Rattle.std.proofs.lemmas.List.Elements.{Contains-push}
 use Rattle.wh_book.specs.declared.draft.Change.{Change}
-use Rattle.wh_book.specs.declared.draft.Draft.{Draft}
-use Rattle.wh_book.specs.Drafts.{Seen, IsKept, Drafts, IsDraftOf, Changes, CanChange, AllServed, ticked}
+use Rattle.wh_book.specs.Drafts.{Seen, IsKept, Drafts, Changes, CanChange, AllServed, ticked}
 
 -- what a book keeps is what the laws are about
 pub kept-reached : (site : Site) (opening : State) (history : List Entry) (state : State) → IsKept site opening history state → IsReached site history state
@@ -66,12 +65,12 @@ kept-idle site opening history state agent kept due =
     slice_get-get_or state.loads agent Load.None lt ∙ ap (λ l. Some l) (no_load_at_rest site history state agent reached due.known.known due.resting)
 
 -- a task that is taken
-pub took-drafts : (book : Seen) (caller agent n : ℕ) (path : List Cell) (task : Task) (draft : Draft) → IsKept book.site book.opening book.history book.state →
+pub took-drafts : (book : Seen) (caller agent n : ℕ) (path : List Cell) (task : Task) → IsKept book.site book.opening book.history book.state →
     IsDue book.state agent → IsNext book.site book.state agent n task →
     IsLawful book.site.grid book.site.layout.nofollow book.state.paths agent (length task.stops) (Delivers task.stops) path → 1 ≤ book.entry_room →
-    IsDraftOf (record { caller = caller; event = Event.Request agent; reply = Reply.Took n path }) (Change.Take agent n path) draft →
-    Drafts book caller (Event.Request agent) draft
-took-drafts book caller agent n path task draft kept due next lawful room is =
+    Drafts book caller (Event.Request agent)
+    (record { entry = record { caller = caller; event = Event.Request agent; reply = Reply.Took n path }; change = Change.Take agent n path })
+took-drafts book caller agent n path task kept due next lawful room =
     let entry : Entry = record { caller = caller; event = Event.Request agent; reply = Reply.Took n path } in
     let step : (new : State) → Changes (Change.Take agent n path) book.state new → Step book.site book.state entry new =
     λ new changes.
@@ -80,19 +79,28 @@ took-drafts book caller agent n path task draft kept due next lawful room is =
     let can : CanChange (Change.Take agent n path) (record { state = book.state; room = book.task_room }) =
     (due.known.known, kept-idle book.site book.opening book.history book.state agent kept due, (task, next.eligible.there, next.eligible.is_open)) in
     record {
-      caller_is = ap (λ (e : Entry). e.caller) is.entry_is;
-      event_is = ap (λ (e : Entry). e.event) is.entry_is;
-      ready = record {
-        told = is.told_is ∙ sym is.entry_is;
-        step = rw (is.change_is, is.entry_is) step;
-        can = rw is.change_is can;
-        room = room;
-      };
+      caller_is = refl;
+      event_is = refl;
+      ready = record { step = step; can = can; room = room };
     }
 
 -- a tick is a step
 pub step-ticked : (site : Site) (old new : State) → old.closed ≡ false → old.clock < last_clock → new ≡ arrived (moved old) → Answers site old (ticked old) Event.Tick new
 step-ticked site old new not_closed early is = (not_closed, early, refl, refl, refl, is)
+
+-- a tick that is drafted
+pub tick-drafts : (book : Seen) (caller clock first last : ℕ) → book.state.closed ≡ false → book.state.clock < last_clock → clock ≡ book.state.clock →
+    first ≡ picked (moved book.state) → last ≡ dropped (moved book.state) → 1 ≤ book.entry_room →
+    Drafts book caller Event.Tick (record { entry = record { caller = caller; event = Event.Tick; reply = Reply.Clock (clock + 1) first last }; change = Change.Tick })
+tick-drafts book caller clock first last not_closed early clock_is first_is last_is room = record {
+  caller_is = refl;
+  event_is = refl;
+  ready = record {
+    step = λ new changes. (not_closed, early, ap (λ n. n + 1) clock_is, first_is, last_is, changes);
+    can = early;
+    room = room;
+  };
+}
 
 -- one step more is kept
 pub kept-more : (site : Site) (opening : State) (history : List Entry) (state : State) (entry : Entry) (new : State) → IsKept site opening history state →

@@ -63,7 +63,6 @@ pub record IsSame (old new : Seen) : Type 0 where
 -- The draft may be committed to the book as it is: what its change makes of the state is a step by its entry, and the
 -- change can be made with the room that there is.
 pub record IsReady (book : Seen) (draft : Draft) : Type 0 where
-  pub told : draft.told ≡ draft.entry
   pub step : (new : State) → Changes draft.change book.state new → Step book.site book.state draft.entry new
   pub can : CanChange draft.change (record { state = book.state; room = book.task_room })
   pub room : 1 ≤ book.entry_room
@@ -77,12 +76,6 @@ pub record Drafts (book : Seen) (caller : ℕ) (event : Event) (draft : Draft) :
   pub caller_is : draft.entry.caller ≡ caller
   pub event_is : draft.entry.event ≡ event
   pub ready : IsReady book draft
-
--- the draft has this entry, also for the caller, and this change
-pub record IsDraftOf (entry : Entry) (change : Change) (draft : Draft) : Type 0 where
-  pub entry_is : draft.entry ≡ entry
-  pub told_is : draft.told ≡ entry
-  pub change_is : draft.change ≡ change
 
 -- no open task is delivered at the cell, and it is none of these ends
 pub record MayEnd (s : State) (ends : List Cell) (cell : Cell) : Type 0 where

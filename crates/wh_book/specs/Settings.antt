@@ -29,7 +29,7 @@ abbrev pub IsFault : Layout → List (List ℕ) → Fault → Type 0
 IsFault layout stops (Fault.Unknown k) = (k < length stops) × IsFirstFault layout stops (name_at stops k) × IsUnknownName layout (name_at stops k)
 IsFault layout stops (Fault.Parking k) = (k < length stops) × IsFirstFault layout stops (name_at stops k) × IsParkingName layout (name_at stops k)
 
--- the number that it tells is that of one of so many stops
+-- the number that it tells is that of one of `count` stops
 abbrev pub IsStop : Fault → ℕ → Type 0
 IsStop (Fault.Unknown k) count = k < count
 IsStop (Fault.Parking k) count = k < count

@@ -215,24 +215,18 @@ impl Book {
     }
 
     /// Adds the entry and makes its change. It takes no memory and always succeeds.
-    pub fn commit(&mut self, draft: Draft) -> Entry
+    pub fn commit(&mut self, draft: Draft)
         requires { IsReady self.old draft }
-        ensures entry { result ≡ draft.entry }
         ensures site { self.new.site ≡ self.old.site }
         ensures opening { self.new.opening ≡ self.old.opening }
         ensures history { self.new.history ≡ self.old.history ++ draft.entry ∷ [] }
-        ensures step { Step self.old.site self.old.state result self.new.state }
+        ensures step { Step self.old.site self.old.state draft.entry self.new.state }
         ensures seats { length self.new.state.paths ≡ length self.old.state.paths }
-        ensures served { IsFormed self.old.site → result.reply ≢ Answer.Refused Reason.NoPath }
+        ensures served { IsFormed self.old.site → draft.entry.reply ≢ Answer.Refused Reason.NoPath }
     {
-        let Draft {
-            entry,
-            told,
-            change,
-        } = draft;
+        let Draft { entry, change } = draft;
         apply(&mut self.floor, change);
         self.history.push_reserved(entry);
-        told
     }
 
     /// Adds the entry of an event whose answer changes nothing. It takes no memory and always succeeds.
@@ -276,38 +270,29 @@ impl Book {
     }
 
     /// Answers the event, and changes nothing.
-    pub fn draft_answer(
-        &self,
-        alloc: Global,
-        caller: u32,
-        event: Event,
-        reply: Reply,
-    ) -> Result<Draft, AllocError>
+    pub fn draft_answer(&self, caller: u32, event: Event, reply: Reply) -> Draft
         requires answers { Answers self.now.site self.now.state reply event self.now.state }
         requires room { 1 ≤ self.now.entry_room }
-        ensures { IfOk result (Drafts self.now caller event) }
+        ensures { Drafts self.now caller event result }
     {
         let entry = Entry {
             caller,
             event,
             reply,
         };
-        Draft::new(alloc, entry, Change::Nothing)
+        Draft {
+            entry,
+            change: Change::Nothing,
+        }
     }
 
     /// Refuses the event.
-    pub fn refuse(
-        &self,
-        alloc: Global,
-        caller: u32,
-        event: Event,
-        refusal: Refusal,
-    ) -> Result<Draft, AllocError>
+    pub fn refuse(&self, caller: u32, event: Event, refusal: Refusal) -> Draft
         requires refuses { Refuses self.now.site self.now.state refusal event }
         requires room { 1 ≤ self.now.entry_room }
-        ensures { IfOk result (Drafts self.now caller event) }
+        ensures { Drafts self.now caller event result }
     {
-        self.draft_answer(alloc, caller, event, Reply::Refused(refusal))
+        self.draft_answer(caller, event, Reply::Refused(refusal))
     }
 
     /// Accepts a task; or refuses it, where a stop is no station or the tasks are full.
@@ -330,17 +315,12 @@ impl Book {
             Ok(places) => places,
             Err(fault) => {
                 let refusal = refusal_of(fault, stops.stops());
-                return self.refuse(alloc, caller, Event::Submit { client, stops }, refusal);
+                return Ok(self.refuse(caller, Event::Submit { client, stops }, refusal));
             }
         };
         let task = self.floor.tasks().len();
         if task == 1_000_000 {
-            return self.refuse(
-                alloc,
-                caller,
-                Event::Submit { client, stops },
-                Refusal::TasksFull,
-            );
+            return Ok(self.refuse(caller, Event::Submit { client, stops }, Refusal::TasksFull));
         }
         self.reserve_task(alloc)?;
         let change = Change::Add {
@@ -352,18 +332,18 @@ impl Book {
             event: Event::Submit { client, stops },
             reply: Reply::Accepted { task },
         };
-        Draft::new(alloc, entry, change)
+        Ok(Draft { entry, change })
     }
 
     /// One step of time, or a refusal where the clock is full.
-    pub fn draft_tick(&self, alloc: Global, caller: u32) -> Result<Draft, AllocError>
+    pub fn draft_tick(&self, caller: u32) -> Draft
         requires not_closed { self.now.state.closed ≡ false }
         requires room { 1 ≤ self.now.entry_room }
-        ensures { IfOk result (Drafts self.now caller Asked.Tick) }
+        ensures { Drafts self.now caller Asked.Tick result }
     {
         let clock = self.clock();
         if clock == 1_000_000_000 {
-            return self.refuse(alloc, caller, Event::Tick, Refusal::ClockFull);
+            return self.refuse(caller, Event::Tick, Refusal::ClockFull);
         }
         let arrivals = self.floor.next_arrivals();
         let reply = Reply::Clock {
@@ -376,49 +356,52 @@ impl Book {
             event: Event::Tick,
             reply,
         };
-        Draft::new(alloc, entry, Change::Tick)
+        Draft {
+            entry,
+            change: Change::Tick,
+        }
     }
 
     /// The warehouse closes.
-    pub fn draft_close(&self, alloc: Global, caller: u32) -> Result<Draft, AllocError>
+    pub fn draft_close(&self, caller: u32) -> Draft
         requires not_closed { self.now.state.closed ≡ false }
         requires room { 1 ≤ self.now.entry_room }
-        ensures { IfOk result (Drafts self.now caller Asked.Close) }
+        ensures { Drafts self.now caller Asked.Close result }
     {
         let entry = Entry {
             caller,
             event: Event::Close,
             reply: Reply::Closed,
         };
-        Draft::new(alloc, entry, Change::Shut)
+        Draft {
+            entry,
+            change: Change::Shut,
+        }
     }
 
     /// The agent gets a spare planner, where there is one that fits.
-    pub fn draft_replace(
-        &self,
-        alloc: Global,
-        caller: u32,
-        agent: u32,
-        spare: Spare,
-    ) -> Result<Draft, AllocError>
+    pub fn draft_replace(&self, caller: u32, agent: u32, spare: Spare) -> Draft
         requires not_closed { self.now.state.closed ≡ false }
         requires room { 1 ≤ self.now.entry_room }
-        ensures { IfOk result (Drafts self.now caller (Asked.Replace agent spare)) }
+        ensures { Drafts self.now caller (Asked.Replace agent spare) result }
     {
         let event = Event::Replace { agent, spare };
         if agent as usize >= self.paths().len() {
-            return self.refuse(alloc, caller, event, Refusal::UnknownAgent(agent));
+            return self.refuse(caller, event, Refusal::UnknownAgent(agent));
         }
         match spare {
-            Spare::None => self.refuse(alloc, caller, event, Refusal::NoSpare),
-            Spare::Foreign => self.refuse(alloc, caller, event, Refusal::ForeignPlanner),
+            Spare::None => self.refuse(caller, event, Refusal::NoSpare),
+            Spare::Foreign => self.refuse(caller, event, Refusal::ForeignPlanner),
             Spare::Fits { slots } => {
                 let entry = Entry {
                     caller,
                     event,
                     reply: Reply::Replaced { slots },
                 };
-                Draft::new(alloc, entry, Change::Seat { agent, slots })
+                Draft {
+                    entry,
+                    change: Change::Seat { agent, slots },
+                }
             }
         }
     }
@@ -447,7 +430,10 @@ impl Book {
                 path: path.copy(alloc)?,
             },
         };
-        Draft::new(alloc, entry, Change::Take { agent, task, path })
+        Ok(Draft {
+            entry,
+            change: Change::Take { agent, task, path },
+        })
     }
 
     /// The agent makes way by the path.
@@ -473,7 +459,10 @@ impl Book {
                 path: path.copy(alloc)?,
             },
         };
-        Draft::new(alloc, entry, Change::Park { agent, path })
+        Ok(Draft {
+            entry,
+            change: Change::Park { agent, path },
+        })
     }
 
     /// The task that the agent takes. It takes no memory.

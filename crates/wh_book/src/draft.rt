@@ -1,9 +1,6 @@
 //! What was prepared.
 #![tactic(auto)]
 
-ghost use Rattle.std.specs.Prelude.{◌≡◌, IfOk};
-
-use std::alloc::{AllocError, Global};
 use wh_event::Entry;
 use wh_path::TimedPath;
 use wh_tasks::Places;
@@ -32,7 +29,7 @@ pub enum Change {
     },
     /// One step of time.
     Tick,
-    /// An agent's planner is replaced by one with so many slots.
+    /// An agent's planner is replaced by one with `slots` slots.
     Seat {
         agent: u32,
         slots: u32,
@@ -41,25 +38,9 @@ pub enum Change {
     Shut,
 }
 
-/// An event that is ready to be committed: its entry, once for the history and once for the caller, and what it does.
+/// An event that is ready to be committed: its entry for the history, and what it does.
 #[derive(Drop)]
 pub struct Draft {
     pub entry: Entry,
-    pub told: Entry,
     pub change: Change,
-}
-
-impl Draft {
-    ghost use Rattle.wh_book.specs.Drafts.{IsDraftOf};
-
-    pub(crate) fn new(alloc: Global, entry: Entry, change: Change) -> Result<Draft, AllocError>
-        ensures { IfOk result (IsDraftOf entry change) }
-    {
-        let told = entry.copy(alloc)?;
-        Ok(Draft {
-            entry,
-            told,
-            change,
-        })
-    }
 }

@@ -1,5 +1,5 @@
 -- how a run starts over what its log file holds
-use Rattle.std.specs.Prelude.{◌≡◌, ◌<◌, ◌+◌, ◌⊎◌, ℕ, Bool, List, [], ◌∷◌, Some, MatchOption, slice_get}
+use Rattle.std.specs.Prelude.{◌≡◌, ◌<◌, ◌+◌, ◌⊎◌, ℕ, Bool, List, [], ◌∷◌, Option, Some, IfSome, MatchOption, slice_get}
 use Rattle.wh_points.specs.Points.{Site}
 use Rattle.wh_words.specs.Lines.{text_of as lines_text}
 use Rattle.wh_core.specs.States.{opened}
@@ -14,7 +14,7 @@ use Rattle.wh_event.specs.declared.reply.Reply.{Reply}
 use Rattle.wh_event.specs.declared.reply.Reply.TheVariants.{Replaced}
 use Rattle.wh_continue.specs.declared.starting.Start.{Start}
 use Rattle.wh_continue.specs.declared.starting.StartFault.{StartFault}
-use Rattle.wh_continue.specs.declared.starting.StartFault.TheVariants.{Bad, NoMemory}
+use Rattle.wh_continue.specs.declared.starting.StartFault.TheVariants.{Bad, Unread, NoMemory}
 
 -- the first two lines of the log of a run that is at clock 0 with these slots
 abbrev pub first_lines : List ℕ → List ℕ
@@ -43,6 +43,12 @@ pub record GoesOnFrom (site : Site) (version : Version) (text : List ℕ) (bytes
 -- what a run starts from
 abbrev pub StartsIn : Site → (slots text : List ℕ) → Start → Type 0
 StartsIn site slots text start = MatchOption start.bytes (Begins site slots text start.book) (λ bytes. GoesOnFrom site start.version text bytes start.book)
+
+-- The file was read, and this is what a run starts from. A file that tells its bytes was read as it was.
+pub record StartsByFile (site : Site) (slots : List ℕ) (file : Option (List ℕ)) (start : Start) : Type 0 where
+  pub text : List ℕ
+  pub text_is : IfSome file (λ held. text ≡ held)
+  pub starts : StartsIn site slots text start
 
 -- a planner that is put in another's place has 2 to 64 slots, as each planner that the program makes
 abbrev pub HasOwnSlots : Reply → Type 0
@@ -73,6 +79,7 @@ pub record NamesOther (site : Site) (text : List ℕ) (line : ℕ) : Type 0 wher
 -- the line of the first entry that tells of such a planner
 abbrev pub TellsOther : List Entry → StartFault → Type 0
 TellsOther history (Bad line) = (place : ℕ) × IsFirstOther history place × (line ≡ 3 + place)
+TellsOther history Unread = ⊥
 TellsOther history NoMemory = ⊥
 
 -- Of a text with which no run goes on: the first line, from 1, with which no log of a run of this site goes on; or, where
@@ -82,7 +89,9 @@ pub record BreaksAt (site : Site) (slots text : List ℕ) (line : ℕ) : Type 0 
   pub ends : EndsBefore text line bytes
   pub why : BreaksOff site text line ⊎ BeginsOtherwise (first_lines slots) text
 
--- Why no run starts. A log that tells of a planner which the program could not make is refused with that line.
-abbrev pub IsWhyNoStart : Site → (slots text : List ℕ) → StartFault → Type 0
-IsWhyNoStart site slots text (Bad line) = BreaksAt site slots text line ⊎ NamesOther site text line
-IsWhyNoStart site slots text NoMemory = Unit {0}
+-- Why no run starts over a file, by what it was read as. A log that tells of a planner which the program could not make is
+-- refused with that line.
+abbrev pub IsWhyNoStart : Site → (slots : List ℕ) → (file : Option (List ℕ)) → StartFault → Type 0
+IsWhyNoStart site slots file (Bad line) = (text : List ℕ) × IfSome file (λ held. text ≡ held) × (BreaksAt site slots text line ⊎ NamesOther site text line)
+IsWhyNoStart site slots file Unread = Unit {0}
+IsWhyNoStart site slots file NoMemory = Unit {0}

@@ -4,12 +4,14 @@
 ghost use Rattle.std.specs.Prelude.{◌≡◌, ◌≤◌, IfOk, IfErr, length, All};
 ghost use Rattle.std.specs.List.{AllByRecursion};
 ghost use Rattle.wh_log.specs.Logs.{IsSlots};
+ghost use Rattle.wh_resume.specs.Resuming.{TellsFrom};
 ghost use Rattle.wh_continue.specs.declared.starting.StartFault.TheVariants as fault;
-ghost use Rattle.wh_continue.specs.Starting.{StartsIn, IsWhyNoStart, IsUnbegun, TellsOther};
+ghost use Rattle.wh_continue.specs.Starting.{StartsByFile, IsWhyNoStart, IsUnbegun, TellsOther};
 
 use crate::own::first_other;
 use std::alloc::{AllocError, Global};
-use wh_log::{NoMemory, Version, begun_text};
+use wh_journal::LogFile;
+use wh_log::{NoMemory, SourceFault, Version, begun_text};
 use wh_resume::{Book, Recovery, Resumed, Setting, recover};
 
 /// What a run starts from.
@@ -28,6 +30,8 @@ pub struct Start {
 pub enum StartFault {
     /// L1: no log of a run of this site goes on with this line, from 1; the text is none that could be gone on from.
     Bad { line: u64 },
+    /// X5: the file cannot be read, is no file of bytes, or another has it.
+    Unread,
     /// E90: memory was wanting.
     NoMemory,
 }
@@ -84,27 +88,48 @@ fn go_on(resumed: Resumed) -> Result<Start, StartFault>
     })
 }
 
-/// Finds out what a run of the site starts from, by the text that its log file holds, where each planner is to have these
-/// slots, 2 to 64, at an opening. A log of either version is gone on from. A text in which fewer than two lines stand whole is taken for a run that was not begun only
-/// where it is a beginning of the two lines that this very run would write first: no other file is.
+/// Recovers the book of the run that a log file tells.
+fn recover_file<L: LogFile>(
+    alloc: Global,
+    setting: Setting,
+    begun: &[u8],
+    file: &mut L,
+) -> Result<Recovery, SourceFault>
+    requires some { 1 ≤ length setting.layout.agents }
+    ensures told { IfOk result (TellsFrom setting begun.now (L.contents file.old)) }
+    ensures same { L.contents file.new ≡ L.contents file.old }
+{
+    recover(alloc, setting, begun, file)
+}
+
+/// Finds out what a run of the site starts from, by what its log file holds, where each planner is to have these slots, 2 to
+/// 64, at an opening. A log of either version is gone on from. A file in which fewer than two lines stand whole is taken for a
+/// run that was not begun only where it holds a beginning of the two lines that this very run would write first: no other is.
+/// The file is read piece by piece, and not changed: memory is taken for the run and for a line or two.
 ///
 /// Errors: `Bad` with the first line with which no log of a run of this site goes on, or with the line of an entry that tells
-/// of a planner with more slots or fewer; `NoMemory`.
-pub fn find_start(
+/// of a planner with more slots or fewer; `Unread`; `NoMemory`.
+pub fn find_start<L: LogFile>(
     alloc: Global,
     setting: Setting,
     slots: Vec<u32>,
-    text: &[u8],
+    file: &mut L,
 ) -> Result<Start, StartFault>
     requires some { 1 ≤ length setting.layout.agents }
     requires seats { length slots.items ≡ length setting.layout.agents }
     requires range { All IsSlots slots.items }
-    ensures ok { IfOk result (StartsIn setting slots.items text.now) }
+    ensures ok { IfOk result (StartsByFile setting slots.items (L.contents file.old)) }
     ensures slots { IfOk result (λ start. All IsSlots start.book.state.slots) }
-    ensures fault { IfErr result (IsWhyNoStart setting slots.items text.now) }
+    ensures fault { IfErr result (IsWhyNoStart setting slots.items (L.contents file.old)) }
+    ensures same { L.contents file.new ≡ L.contents file.old }
 {
     let begun = begun_text(alloc, 0, slots.as_slice())?;
-    match recover(alloc, setting, begun.as_slice(), text)? {
+    let found = match recover_file(alloc, setting, begun.as_slice(), file) {
+        Ok(found) => found,
+        Err(SourceFault::Unread) => return Err(StartFault::Unread),
+        Err(SourceFault::NoMemory) => return Err(StartFault::NoMemory),
+    };
+    match found {
         Recovery::Unopened(setting) => Ok(begin(alloc, setting, slots)?),
         Recovery::Bad { line, .. } => Err(StartFault::Bad { line }),
         Recovery::Resumed(resumed) => go_on(resumed),

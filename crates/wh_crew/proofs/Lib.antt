@@ -3,3 +3,4 @@ pub mod Calls
 pub mod Crews
 pub mod Sending
 pub mod Trying
+pub mod Turning

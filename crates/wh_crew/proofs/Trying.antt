@@ -1,5 +1,5 @@
 -- What a call of the desk came to, by its answer.
-use Rattle.std.proofs.Common.{◌≡◌, ℕ, List, ◌∷◌, [], Bool, Option, None, Some, Result, Ok, Err, IfOk, IfErr, refl, ap, sym, ◌∙◌, subst}
+use Rattle.std.proofs.Common.{◌≡◌, ℕ, List, Bool, Option, None, Result, Ok, Err, IfOk, IfErr, refl, ap, sym, ◌∙◌, subst}
 use Rattle.std.specs.Result.{result_err}
 use mathlib.Core.List.{IsPrefix}
 use Rattle.wh_grid.specs.Grids.{Floor}

@@ -1,10 +1,12 @@
 //! A crew: a thread for each worker, all over one desk.
 #![tactic(auto)]
 
+mod agents;
 mod gate;
 mod threads;
 mod worker;
 
+pub use agents::{Pace, run_agents};
 pub use gate::Gate;
 pub use threads::{CrewFault, Crewed, Due, crew};
 pub use worker::{Missed, Report, work_through};

@@ -60,16 +60,17 @@ pass_learns {origin} {row} {book} {callers} {caller} {last} {long} {held} {front
 }
 
 -- one more receipt, whose note knows its entry
-pub pass_push : {origin : Origin} {row : List ℕ} {book : Book} {callers caller last long : ℕ} {held : List Held} {front : Known} → PassKeeps origin row book callers caller last long held front → (h : List Entry) (x : Held) (after : Known) → list_of held ≡ entries_of h caller → NoteKnows row x → length h ≡ x.position → x.entry.caller ≡ caller → after.book ≡ book → after.past.history ≡ h ++ x.entry ∷ [] → IsRunFrom origin after.past.history → PassKeeps origin row book callers caller x.position (x.position + 1) (held ++ x ∷ []) after
-pass_push {origin} {row} {book} {callers} {caller} {last} {long} {held} {front} keeps h x after all knows place mine same grows run =
-    let more : list_of (held ++ x ∷ []) ≡ list_of held ++ pair_of x ∷ [] = map_push pair_of held x in
+pub pass_push : {origin : Origin} {row : List ℕ} {book : Book} {callers caller last long : ℕ} {held : List Held} {front : Known} → PassKeeps origin row book callers caller last long held front → (h : List Entry) (x : Held) (at : ℕ) (e : Entry) (after : Known) → x.position.value ≡ at → x.entry.value ≡ e → list_of held ≡ entries_of h caller → NoteKnows row x → length h ≡ at → e.caller ≡ caller → after.book ≡ book → after.past.history ≡ h ++ e ∷ [] → IsRunFrom origin after.past.history → PassKeeps origin row book callers caller at (at + 1) (held ++ x ∷ []) after
+pass_push {origin} {row} {book} {callers} {caller} {last} {long} {held} {front} keeps h x at e after at_is e_is all knows place mine same grows run =
+    let pair : pair_of x ≡ (at, e) = λ i. (at_is i, e_is i) in
+    let more : list_of (held ++ x ∷ []) ≡ list_of held ++ (at, e) ∷ [] = map_push pair_of held x ∙ ap (λ p. list_of held ++ p ∷ []) pair in
     record {
       caller_within = keeps.caller_within;
-      last_is = sym (ap last_position more ∙ last_push 0 (list_of held) (pair_of x));
+      last_is = sym (ap last_position more ∙ last_push 0 (list_of held) (at, e));
       book_is = same;
       run = run;
-      long_is = omega (arith, place, ap length grows, length_push h x.entry);
-      all = more ∙ ap (λ n. list_of held ++ (n, x.entry) ∷ []) (sym place) ∙ ap (λ l. l ++ (length h, x.entry) ∷ []) all ∙ sym (entries_push_same h x.entry caller mine) ∙ ap (λ l. entries_of l caller) (sym grows);
+      long_is = omega (arith, place, ap length grows, length_push h e);
+      all = more ∙ ap (λ n. list_of held ++ (n, e) ∷ []) (sym place) ∙ ap (λ l. l ++ (length h, e) ∷ []) all ∙ sym (entries_push_same h e caller mine) ∙ ap (λ l. entries_of l caller) (sym grows);
       notes = AllAt_push (λ _ y. NoteKnows row y) held x keeps.notes knows;
     }
 

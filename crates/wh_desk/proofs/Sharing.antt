@@ -64,7 +64,7 @@ pub page_sync : IsSync page.the_row
 page_sync = search (sendable, crosses, front_sync) depth 60 fits 20000
 
 pub held_send : IsSend held.the_row
-held_send = search (sendable, crosses, entry_send, note.the_send) depth 60 fits 20000
+held_send = search (sendable, crosses, note.the_send) depth 60 fits 20000
 
 pub pass_send : (N : RattleType) (g : Ghosts N.Denot) → IsSend N → IsSync N → IsSend (pass.the_row N g)
 pass_send N g s y = search (sendable, crosses, front_send, held_send) depth 60 fits 20000

@@ -1,6 +1,7 @@
 -- What the calls tell follows from what the journal and the pass keep.
-use Rattle.std.proofs.Common.{Option, None, IfSome, ◌≡◌, ℕ, ◌+◌, ◌<◌, List, [], ◌∷◌, ◌++◌, length, Some, slice_get, refl, ap, sym, ◌∙◌, subst, arith, IfOk, Result, Ok, Err}
+use Rattle.std.proofs.Common.{Option, None, IfSome, ◌≡◌, ℕ, ◌+◌, ◌<◌, List, [], ◌∷◌, ◌++◌, length, take, Some, slice_get, refl, ap, sym, ◌∙◌, subst, arith, IfOk, Result, Ok, Err}
 use Rattle.std.specs.List.{All}
+use Rattle.std.proofs.lemmas.List.{take_at}
 use Rattle.std.proofs.lemmas.List.Elements.{All-weaker}
 use Rattle.wh_event.specs.declared.entry.Entry.{Entry}
 use Rattle.wh_event.specs.declared.event.Command.{Command}
@@ -15,7 +16,7 @@ use Rattle.wh_board.proofs.Fronts.{prefix_self, prefix_trans}
 use mathlib.Core.List.{IsPrefix}
 use Rattle.std.proofs.Common.{◌≢◌, ◌≤◌, IfErr, OnErr}
 use Rattle.wh_desk.specs.Lists.{TellsTheSame}
-use Rattle.wh_desk.specs.Calls.{Entered, Called, KnowsFull, Refuses, TellsReceipt, Together, Untouched}
+use Rattle.wh_desk.specs.Calls.{Entered, Called, IsClockAt, KnowsFull, Refuses, TellsReceipt, Together, Untouched}
 use Rattle.wh_desk.proofs.Entries.{get_left, get_push, entries_stands, entries_before, entries_push_same}
 
 pub called : {X : Type 0} {origin : Origin} {before after : Ledger X} {had has : Received} {command : Command} {position : ℕ} {entry : Entry} → Entered origin before had command after has position entry → Run origin.site origin.opening after.history after.state → Called origin had command has position entry
@@ -58,6 +59,15 @@ together {origin} {one} {two} {long} history state run len all all' =
 pub called_if : {X : Type 0} (origin : Origin) (before after : Ledger X) (had has : Received) (command : Command) (outcome : Result Receipt DeskFault) → IfOk outcome (λ r. Entered origin before had command after has r.position r.entry) → Run origin.site origin.opening after.history after.state → IfOk outcome (λ r. Called origin had command has r.position r.entry)
 called_if origin before after had has command (Ok r) e run = called e run
 called_if origin before after had has command (Err fault) e run = tt
+
+-- the clock that a receipt tells is that at its entry's place
+pub clock_if : {X : Type 0} (origin : Origin) (before after : Ledger X) (had has : Received) (command : Command) (outcome : Result Receipt DeskFault)
+    → IfOk outcome (λ r. Entered origin before had command after has r.position r.entry) → IfOk outcome (λ r. r.clock ≡ before.state.clock)
+    → Run origin.site origin.opening before.history before.state → IfOk outcome (λ r. IsClockAt origin has.known r.position r.clock)
+clock_if origin before after had has command (Ok r) e is run =
+    let front : take r.position has.known ≡ before.history = ap (λ (l : List Entry). take r.position l) (e.has_known ∙ e.history) ∙ take_at before.history (r.entry ∷ []) r.position (sym e.position_is) in
+    (before.state, subst (λ (l : List Entry). Run origin.site origin.opening l before.state) (sym front) run, is)
+clock_if origin before after had has command (Err fault) e is run = tt
 
 told_one : {X : Type 0} (origin : Origin) (book : Book) (before after : Ledger X) (had has : Received) (command : Command) (position : ℕ) (entry : Entry) (told : Option Known)
     → Entered origin before had command after has position entry

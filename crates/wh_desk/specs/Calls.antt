@@ -1,5 +1,5 @@
 -- what the calls of a desk tell
-use Rattle.std.specs.Prelude.{◌≡◌, ℕ, ◌<◌, Bool, true, List, [], ◌∷◌, ◌++◌, length, Option, Some, slice_get, slice_set, All}
+use Rattle.std.specs.Prelude.{◌≡◌, ℕ, ◌<◌, Bool, true, List, [], ◌∷◌, ◌++◌, length, take, Option, Some, slice_get, slice_set, All}
 use mathlib.Core.List.{IsPrefix}
 use Rattle.wh_points.specs.Formed.{IsFormed}
 use Rattle.wh_grid.specs.Grids.{Floor}
@@ -74,6 +74,11 @@ pub record Called (origin : Origin) (had : Received) (command : Command) (has : 
   pub has_list : has.list ≡ had.list ++ (position, entry) ∷ []
   pub has_all : has.list ≡ entries_of history had.caller
   pub has_known : has.known ≡ history
+
+-- the clock at a place of the history: that of the state to which the entries before the place lead
+abbrev pub IsClockAt : Origin → List Entry → ℕ → ℕ → Type 0
+IsClockAt origin history position clock =
+    (before : State) × Run origin.site origin.opening (take position history) before × (clock ≡ before.clock)
 
 -- what is told with a receipt is of this desk's book, and stands for a history in which the receipt's entry stands at its position
 pub record TellsReceipt (book : Book) (origin : Origin) (position : ℕ) (entry : Entry) (told : Known) : Type 0 where

@@ -9,7 +9,7 @@ use Rattle.wh_desk.specs.declared.pass.Held.{Held}
 use Rattle.wh_desk.specs.declared.pass.Row.{Row}
 
 abbrev pub pair_of : Held → ℕ × Entry
-pair_of x = (x.position, x.entry)
+pair_of x = (x.position.value, x.entry.value)
 
 abbrev pub list_of : List Held → List (ℕ × Entry)
 list_of xs = map pair_of xs
@@ -20,8 +20,8 @@ RowOf all r = (r.count ≡ length all) × (r.last ≡ last_position all)
 
 -- the note is of the cell at the receipt's position, and knows the receipt's entry
 pub record NoteKnows (row : List ℕ) (x : Held) : Type 0 where
-  pub cell : slice_get row x.position ≡ Some x.note.cell
-  pub known : x.note.known ≡ Some x.entry
+  pub cell : slice_get row x.position.value ≡ Some x.note.cell
+  pub known : x.note.known ≡ Some x.entry.value
 
 -- The pass has all that its caller did in the history that its front knows, which has so many entries and is a run, and a
 -- note of the cell of each receipt.

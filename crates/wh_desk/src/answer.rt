@@ -29,6 +29,8 @@ pub struct Stale;
 pub struct Receipt {
     /// Where the entry stands in the history, from 0.
     pub position: u64,
+    /// The clock before the entry.
+    pub clock: u32,
     pub entry: Entry,
     /// Whether the board was published with it.
     pub shown: bool,

@@ -12,7 +12,7 @@ ghost use Rattle.wh_core.specs.Steps.{Run};
 ghost use Rattle.wh_token.specs.Fleet.{TellsFor, replaced_agent};
 ghost use Rattle.wh_board.specs.Pasts.{Extends, origin_of, past_of};
 ghost use Rattle.wh_desk.specs.Lists.{entries_of};
-ghost use Rattle.wh_desk.specs.Calls.{AllBegin, AllEmpty, Called, HandsBack, InOrder, NoneWantsPath, Refuses, TellsReceipt, Together};
+ghost use Rattle.wh_desk.specs.Calls.{AllBegin, AllEmpty, Called, HandsBack, InOrder, IsClockAt, NoneWantsPath, Refuses, TellsReceipt, Together};
 
 use crate::answer::{Answer, DeskFault, Met, Receipt, Stale};
 use crate::cells::Cells;
@@ -72,6 +72,7 @@ impl<N: DeskName, H: Wait + Drop, P: Planner> Desk<N, H, P> {
         spare: Option<P>,
     ) -> Answer<P>
         ensures ok { IfOk result.outcome (λ r. Called N.origin pass.old command pass.new r.position r.entry) }
+        ensures clock { IfOk result.outcome (λ r. IsClockAt N.origin pass.new.known r.position r.clock) }
         ensures shown { IfOk result.outcome (λ r. IsTrue r.shown ↔ IsSome r.told) }
         ensures told { IfOk result.outcome (λ r. IfSome r.told (λ t. TellsReceipt N.book N.origin r.position r.entry t)) }
         ensures served { IfOk result.outcome (λ r. IsFormed N.origin.site → r.entry.reply ≢ Answered.Refused Reason.NoPath) }
@@ -80,6 +81,7 @@ impl<N: DeskName, H: Wait + Drop, P: Planner> Desk<N, H, P> {
         ensures back { MatchResult result.outcome (λ r. HandsBack P.fits_map N.origin.site.grid (replaced_agent r.entry) spare result.back) (λ _. result.back ≡ spare) }
     {
         let mut journal = self.journal.lock(rt);
+        journal.is_run();
         let answer = journal.enter(alloc, pass, command, spare);
         journal.is_run();
         answer
@@ -97,6 +99,7 @@ impl<N: DeskName, H: Wait + Drop, P: Planner> Desk<N, H, P> {
         stops: Stops,
     ) -> Result<Receipt, DeskFault>
         ensures ok { IfOk result (λ r. Called N.origin pass.old (Asked.Submit client stops) pass.new r.position r.entry) }
+        ensures clock { IfOk result (λ r. IsClockAt N.origin pass.new.known r.position r.clock) }
         ensures shown { IfOk result (λ r. IsTrue r.shown ↔ IsSome r.told) }
         ensures served { IfOk result (λ r. IsFormed N.origin.site → r.entry.reply ≢ Answered.Refused Reason.NoPath) }
         ensures told { IfOk result (λ r. IfSome r.told (λ t. TellsReceipt N.book N.origin r.position r.entry t)) }
@@ -116,6 +119,7 @@ impl<N: DeskName, H: Wait + Drop, P: Planner> Desk<N, H, P> {
         agent: u32,
     ) -> Result<Receipt, DeskFault>
         ensures ok { IfOk result (λ r. Called N.origin pass.old (Asked.Token agent) pass.new r.position r.entry) }
+        ensures clock { IfOk result (λ r. IsClockAt N.origin pass.new.known r.position r.clock) }
         ensures shown { IfOk result (λ r. IsTrue r.shown ↔ IsSome r.told) }
         ensures served { IfOk result (λ r. IsFormed N.origin.site → r.entry.reply ≢ Answered.Refused Reason.NoPath) }
         ensures told { IfOk result (λ r. IfSome r.told (λ t. TellsReceipt N.book N.origin r.position r.entry t)) }
@@ -133,6 +137,7 @@ impl<N: DeskName, H: Wait + Drop, P: Planner> Desk<N, H, P> {
         pass: &mut Pass<N>,
     ) -> Result<Receipt, DeskFault>
         ensures ok { IfOk result (λ r. Called N.origin pass.old Asked.Tick pass.new r.position r.entry) }
+        ensures clock { IfOk result (λ r. IsClockAt N.origin pass.new.known r.position r.clock) }
         ensures shown { IfOk result (λ r. IsTrue r.shown ↔ IsSome r.told) }
         ensures served { IfOk result (λ r. IsFormed N.origin.site → r.entry.reply ≢ Answered.Refused Reason.NoPath) }
         ensures told { IfOk result (λ r. IfSome r.told (λ t. TellsReceipt N.book N.origin r.position r.entry t)) }
@@ -149,6 +154,7 @@ impl<N: DeskName, H: Wait + Drop, P: Planner> Desk<N, H, P> {
         pass: &mut Pass<N>,
     ) -> Result<Receipt, DeskFault>
         ensures ok { IfOk result (λ r. Called N.origin pass.old Asked.Close pass.new r.position r.entry) }
+        ensures clock { IfOk result (λ r. IsClockAt N.origin pass.new.known r.position r.clock) }
         ensures shown { IfOk result (λ r. IsTrue r.shown ↔ IsSome r.told) }
         ensures served { IfOk result (λ r. IsFormed N.origin.site → r.entry.reply ≢ Answered.Refused Reason.NoPath) }
         ensures told { IfOk result (λ r. IfSome r.told (λ t. TellsReceipt N.book N.origin r.position r.entry t)) }
@@ -168,6 +174,7 @@ impl<N: DeskName, H: Wait + Drop, P: Planner> Desk<N, H, P> {
         spare: Option<P>,
     ) -> Answer<P>
         ensures ok { IfOk result.outcome (λ r. Called N.origin pass.old (Asked.Replace agent) pass.new r.position r.entry) }
+        ensures clock { IfOk result.outcome (λ r. IsClockAt N.origin pass.new.known r.position r.clock) }
         ensures shown { IfOk result.outcome (λ r. IsTrue r.shown ↔ IsSome r.told) }
         ensures told { IfOk result.outcome (λ r. IfSome r.told (λ t. TellsReceipt N.book N.origin r.position r.entry t)) }
         ensures served { IfOk result.outcome (λ r. IsFormed N.origin.site → r.entry.reply ≢ Answered.Refused Reason.NoPath) }

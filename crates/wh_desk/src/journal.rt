@@ -239,6 +239,7 @@ impl<N: DeskName, H: Wait + Drop, P: Planner> Journal<N, H, P> {
         spare: Option<P>,
     ) -> Answer<P>
         ensures ok { IfOk result.outcome (λ r. Entered N.origin self.old pass.old command self.new pass.new r.position r.entry) }
+        ensures clock { IfOk result.outcome (λ r. r.clock ≡ self.old.state.clock) }
         ensures served { IfOk result.outcome (λ r. IsFormed N.origin.site → r.entry.reply ≢ Answered.Refused Reason.NoPath) }
         ensures tells { IfOk result.outcome (λ r. TellsFor P.fits_map P.slot_count N.origin.site.grid spare r.entry.event) }
         ensures shown { IfOk result.outcome (λ r. IsTrue r.shown ↔ IsSome r.told) }
@@ -283,6 +284,7 @@ impl<N: DeskName, H: Wait + Drop, P: Planner> Journal<N, H, P> {
         requires whole { pass.old.list ≡ entries_of self.old.history pass.old.caller }
         requires begins { IsPrefix pass.old.known self.old.history }
         ensures ok { IfOk result.outcome (λ r. Entered N.origin self.old pass.old command self.new pass.new r.position r.entry) }
+        ensures clock { IfOk result.outcome (λ r. r.clock ≡ self.old.state.clock) }
         ensures served { IfOk result.outcome (λ r. IsFormed N.origin.site → r.entry.reply ≢ Answered.Refused Reason.NoPath) }
         ensures tells { IfOk result.outcome (λ r. TellsFor P.fits_map P.slot_count N.origin.site.grid spare r.entry.event) }
         ensures shown { IfOk result.outcome (λ r. IsTrue r.shown ↔ IsSome r.told) }
@@ -295,6 +297,7 @@ impl<N: DeskName, H: Wait + Drop, P: Planner> Journal<N, H, P> {
         ensures reseats { IfOk result.outcome (λ r. Reseats command (replaced_agent r.entry) self.old.planners spare self.new.planners result.back) }
     {
         let position = self.warehouse.history().len() as u64;
+        let clock = self.warehouse.clock();
         let caller = pass.caller;
         let made = make_ready(
             &mut self.warehouse,
@@ -307,11 +310,17 @@ impl<N: DeskName, H: Wait + Drop, P: Planner> Journal<N, H, P> {
             command,
             spare,
         );
-        let Made { ready, entry, note } = match made {
+        let Made { ready, note } = match made {
             Ok(made) => made,
             Err((fault, back)) => return Answer::refused(fault, back),
         };
-        note_down(&mut self.notes, &mut pass.held, position, entry, note);
+        note_down(
+            &mut self.notes,
+            &mut pass.held,
+            position,
+            ready.entry(),
+            note,
+        );
         pass.front = self.publisher.front().again();
         pass.last = position;
         pass.known = position + 1;
@@ -326,6 +335,7 @@ impl<N: DeskName, H: Wait + Drop, P: Planner> Journal<N, H, P> {
         Answer {
             outcome: Ok(Receipt {
                 position,
+                clock,
                 entry,
                 shown: told.is_some(),
                 told,

@@ -1,4 +1,4 @@
-//! All that a call of the desk needs before it commits: the memory, the step, the copies of its entry, the book and the cell.
+//! All that a call of the desk needs before it commits: the memory, the step, the copy of its entry, the book and the cell.
 #![tactic(auto)]
 
 ghost use Rattle.std.specs.Prelude.{◌≡◌, ◌≢◌, ◌+◌, ◌∷◌, ◌++◌, ◌<◌, [], Some, length, slice_get, vec_len, vec_capacity, IfOk, IfErr, OnErr, MatchResult};
@@ -6,12 +6,14 @@ ghost use Rattle.wh_book.specs.Drafts.{IsSame, IsReady};
 ghost use Rattle.wh_token.specs.Fleet.{StaySeated, TellsFor};
 ghost use Rattle.wh_board.specs.Pasts.{grown, past_of};
 ghost use Rattle.wh_desk.specs.Calls.{IsAskedBy};
+ghost use Rattle.wh_desk.specs.declared.pass.Held.{Held as Receipt};
 
 use crate::answer::DeskFault;
 use crate::cells::CellRow;
 use crate::pass::Held;
 use once_cell::race::Note;
 use std::alloc::{AllocError, Global};
+use std::snapshot::Snapshot;
 use std::sync::Wait;
 use wh_board::Publisher;
 use wh_book::Book;
@@ -19,10 +21,9 @@ use wh_event::{Command, Entry};
 use wh_planner::Planner;
 use wh_token::{NoMemory, Ready, Warehouse};
 
-/// A step that was worked out, with the copy of its entry for the pass, and the note of the receipt's cell.
+/// A step that was worked out, with the note of the receipt's cell.
 pub(crate) struct Made<P> {
     pub ready: Ready<P>,
-    pub entry: Entry,
     pub note: Note<Entry>,
 }
 
@@ -50,7 +51,6 @@ pub(crate) fn make_ready<H: Wait + Drop, P: Planner>(
     ensures caller { IfOk result (λ made. made.ready.draft.entry.caller ≡ caller) }
     ensures event { IfOk result (λ made. IsAskedBy command made.ready.draft.entry.event) }
     ensures tells { IfOk result (λ made. TellsFor P.fits_map P.slot_count warehouse.old.book.site.grid spare made.ready.draft.entry.event) }
-    ensures entry { IfOk result (λ made. made.entry ≡ made.ready.draft.entry) }
     ensures book { publisher.new.book ≡ publisher.old.book }
     ensures shown { publisher.new.shown ≡ publisher.old.shown }
     ensures added { IfOk result (λ made. publisher.new.added ≡ grown publisher.old.added made.ready.draft.entry) }
@@ -71,37 +71,33 @@ pub(crate) fn make_ready<H: Wait + Drop, P: Planner>(
         Err((NoMemory, spare)) => return Err((DeskFault::NoMemory, spare)),
     };
     match write_down(publisher, cells, alloc, warehouse.book(), ready.entry()) {
-        Ok((entry, note)) => Ok(Made { ready, entry, note }),
+        Ok(note) => Ok(Made { ready, note }),
         Err(fault) => Err((fault, ready.withdraw())),
     }
 }
 
-/// Copies the entry, adds it to the book and writes it into the next cell. The copy and the note of the cell come back. On a
-/// refusal neither book nor cells have changed.
+/// Copies the entry, adds it to the book and writes the copy into the next cell. The note of the cell comes back. On a refusal
+/// neither book nor cells have changed.
 fn write_down<H: Wait + Drop>(
     publisher: &mut Publisher<H>,
     cells: &mut CellRow,
     alloc: Global,
     book: &Book,
     entry: &Entry,
-) -> Result<(Entry, Note<Entry>), DeskFault>
+) -> Result<Note<Entry>, DeskFault>
     requires added { publisher.old.added ≡ past_of book.now }
     requires room { cells.old.count < length cells.old.names }
-    ensures entry { IfOk result (λ both. both.0 ≡ entry.now) }
     ensures book { publisher.new.book ≡ publisher.old.book }
     ensures shown { publisher.new.shown ≡ publisher.old.shown }
     ensures added { MatchResult result (λ _. publisher.new.added ≡ grown publisher.old.added entry.now) (λ _. publisher.new.added ≡ publisher.old.added) }
     ensures names { cells.new.names ≡ cells.old.names }
     ensures count { MatchResult result (λ _. cells.new.count ≡ cells.old.count + 1) (λ _. cells.new.count ≡ cells.old.count) }
-    ensures cell { IfOk result (λ both. slice_get cells.old.names cells.old.count ≡ Some both.1.cell) }
-    ensures known { IfOk result (λ both. both.1.known ≡ Some entry.now) }
+    ensures cell { IfOk result (λ note. slice_get cells.old.names cells.old.count ≡ Some note.cell) }
+    ensures known { IfOk result (λ note. note.known ≡ Some entry.now) }
     ensures fault { IfErr result (λ fault. (fault ≢ DeskFault.Stale) × (fault ≢ DeskFault.Full)) }
 {
-    match copies(alloc, entry) {
-        Ok((mine, boxed)) => match add_and_fill(publisher, cells, book, entry, boxed) {
-            Ok(note) => Ok((mine, note)),
-            Err(fault) => Err(fault),
-        },
+    match boxed_copy(alloc, entry) {
+        Ok(boxed) => add_and_fill(publisher, cells, book, entry, boxed),
         Err(AllocError) => Err(DeskFault::NoMemory),
     }
 }
@@ -152,13 +148,12 @@ fn make_room(notes: &mut Vec<Note<Entry>>, held: &mut Vec<Held>) -> Result<(), A
     Ok(())
 }
 
-/// Two copies of the entry, one of them in a box.
-fn copies(alloc: Global, entry: &Entry) -> Result<(Entry, Box<Entry>), AllocError>
-    ensures { IfOk result (λ both. (both.0 ≡ entry.now) × (both.1.value ≡ entry.now)) }
+/// A copy of the entry, in a box.
+fn boxed_copy(alloc: Global, entry: &Entry) -> Result<Box<Entry>, AllocError>
+    ensures { IfOk result (λ boxed. boxed.value ≡ entry.now) }
 {
-    let mine = entry.copy(alloc)?;
     let kept = entry.copy(alloc)?;
-    Ok((mine, Box::new(alloc, kept)?))
+    Ok(Box::new(alloc, kept)?)
 }
 
 /// Keeps the note for the journal, and a receipt with it for the pass. It takes no memory.
@@ -166,19 +161,19 @@ pub(crate) fn note_down(
     notes: &mut Vec<Note<Entry>>,
     held: &mut Vec<Held>,
     position: u64,
-    entry: Entry,
+    entry: &Entry,
     mut note: Note<Entry>,
 )
     requires notes_room { vec_len notes.old < vec_capacity notes.old }
     requires held_room { vec_len held.old < vec_capacity held.old }
     ensures notes { notes.new.items ≡ notes.old.items ++ note ∷ [] }
-    ensures held { held.new.items ≡ held.old.items ++ record { position = position; entry = entry; note = note } ∷ [] }
+    ensures held { (x : Receipt) × (held.new.items ≡ held.old.items ++ x ∷ []) × (x.position.value ≡ position) × (x.entry.value ≡ entry.now) × (x.note ≡ note) }
 {
     let mine = note.again();
     notes.push_reserved(note);
     held.push_reserved(Held {
-        position,
-        entry,
+        position: Snapshot::of(&position),
+        entry: Snapshot::of(entry),
         note: mine,
     });
 }

@@ -11,6 +11,7 @@ use crate::naming::DeskName;
 use once_cell::race::Note;
 use std::alloc::Global;
 use std::marker::{Model, PhantomData};
+use std::snapshot::Snapshot;
 use wh_board::Front;
 use wh_event::Entry;
 
@@ -21,11 +22,11 @@ pub struct Row {
     pub(crate) last: u64,
 }
 
-/// One receipt: an entry, its position, and a note of the cell that holds it.
+/// One receipt: a note of the cell that holds its entry. Entry and position are there for the proofs alone.
 #[derive(Drop)]
 pub struct Held {
-    pub(crate) position: u64,
-    pub(crate) entry: Entry,
+    pub(crate) position: Snapshot<u64>,
+    pub(crate) entry: Snapshot<Entry>,
     pub(crate) note: Note<Entry>,
 }
 

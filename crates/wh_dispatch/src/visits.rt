@@ -17,7 +17,7 @@ use wh_replay::Warehouse;
 use wh_vehicles::Notice;
 
 /// A task that an agent has, of which not all visits were told: how many stops it has, and how many visits were told.
-#[derive(Clone, Copy, Debug, PartialEq, Eq)]
+#[derive(Clone, Copy)]
 pub(crate) struct Pending {
     pub agent: u32,
     pub task: u32,

@@ -64,11 +64,12 @@ fn first_submit<N: DeskName, H: Wait + Drop, P: Planner, R: Wait + Abort>(
     };
     let Receipt {
         position,
+        clock,
         entry,
         shown,
         told,
     } = receipt;
-    assert_eq!(rt; (position, shown), (0, true));
+    assert_eq!(rt; (position, clock, shown), (0, 0, true));
     assert!(rt; matches!(entry.reply, Reply::Accepted { task: 0 }));
     let told = told.ok_or("what was told")?;
     viewer.learn(&told);
@@ -98,7 +99,7 @@ fn took_and_ticked<N: DeskName, H: Wait + Drop, P: Planner, R: Wait + Abort>(
     let Ok(receipt) = desk.tick(rt, alloc, pass) else {
         return Err("there is room".into());
     };
-    assert_eq!(rt; receipt.position, 2);
+    assert_eq!(rt; (receipt.position, receipt.clock), (2, 0));
     Ok(())
 }
 

@@ -22,7 +22,7 @@ use Rattle.wh_intervals.specs.declared.interval.Interval.{Interval}
 use Rattle.wh_intervals.specs.declared.node.Node.{Node}
 use Rattle.wh_intervals.specs.declared.stay.Stay.{Stay}
 use Rattle.wh_intervals.specs.Nodes.{state_of, arrival_of, interval_of, node_at, total_at, bound_at, IsReached, IsOnward, IsExpanded, IsKept, Spreads}
-use Rattle.wh_intervals.specs.Told.{node_in, IsSpent, IsWithin, IsPast, IsTold}
+use Rattle.wh_intervals.specs.Told.{node_in, IsSpent, IsWithin, IsPast, IsRest, whole, front, IsTold}
 use Rattle.wh_intervals.proofs.Closings.{some_same}
 use Rattle.wh_intervals.proofs.Covering.{covered, stands_total}
 use Rattle.wh_intervals.proofs.Found.{IsNode, kept_expanded, start_settled}
@@ -133,18 +133,13 @@ one_end p a b k t x y in_a in_b st su =
       ]
     ]
 
--- the times of a node's interval for which none is expanded yet: all, or those before the first that is
-pub data IsRest (closed : Interval → Option ℕ) (n : Node) (last : ℕ) : Type 0 where
-  whole : closed (interval_of n) ≡ None → last ≡ n.until → IsRest closed n last
-  front : (since : ℕ) → closed (interval_of n) ≡ Some since → n.time < since → since ≡ last + 1 → IsRest closed n last
-
 -- none of these times is in a stay
-rest_apart : (closed : Interval → Option ℕ) (n : Node) (last : ℕ) → IsRest closed n last → (t k : ℕ) → closed (interval_of n) ≡ Some t → t ≤ k → k ≤ last → ⊥
+rest_apart : (closed : Interval → Option ℕ) (n : Node) (last : ℕ) → IsRest (closed (interval_of n)) n last → (t k : ℕ) → closed (interval_of n) ≡ Some t → t ≤ k → k ≤ last → ⊥
 rest_apart closed n last (whole none e) t k is from to = some_not_none t (sym is ∙ none)
 rest_apart closed n last (front since some soon e) t k is from to = let same = some_same t since (sym is ∙ some) in omega arith
 
 -- a later time of the interval was the first before
-rest_later : (closed : Interval → Option ℕ) (n : Node) (last : ℕ) → IsRest closed n last → (t : ℕ) → closed (interval_of n) ≡ Some t → n.time ≤ t
+rest_later : (closed : Interval → Option ℕ) (n : Node) (last : ℕ) → IsRest (closed (interval_of n)) n last → (t : ℕ) → closed (interval_of n) ≡ Some t → n.time ≤ t
 rest_later closed n last (whole none e) t is = absurd (some_not_none t (sym is ∙ none))
 rest_later closed n last (front since some soon e) t is = let same = some_same t since (sym is ∙ some) in omega arith
 
@@ -167,7 +162,7 @@ abbrev pub part_of : Node → ℕ → Stay
 part_of n last = record { time = n.time; leg = n.leg; cell = n.cell; until = last }
 
 rest_ends : (p : Problem) (nodes : List Node) (queue : List Entry) (index : ℕ) (closed : Interval → Option ℕ) (stays : List Stay) (last : ℕ) → IsTold p nodes queue (Some index) closed stays → IsReached p nodes index (node_at nodes index)
-    → ((i : Interval) (t : ℕ) → closed i ≡ Some t → bound_at p (node_in i t) ≤ bound_at p (node_at nodes index)) → IsRest closed (node_at nodes index) last → IsPart p.others p.estimate p.base p.limit stays (part_of (node_at nodes index) last)
+    → ((i : Interval) (t : ℕ) → closed i ≡ Some t → bound_at p (node_in i t) ≤ bound_at p (node_at nodes index)) → IsRest (closed (interval_of (node_at nodes index))) (node_at nodes index) last → IsPart p.others p.estimate p.base p.limit stays (part_of (node_at nodes index) last)
 rest_ends p nodes queue index closed stays last x r past (whole none e) =
     let from = r.from in
     let in_time = r.in_time in
@@ -193,7 +188,7 @@ rest_ends p nodes queue index closed stays last x r past (front since some soon 
     }
 
 -- what is expanded of the interval before, and the rest of it
-rest_onward : (p : Problem) (nodes : List Node) (queue : List Entry) (closed : Interval → Option ℕ) (stays : List Stay) (n : Node) (last : ℕ) → ((i : Interval) (t : ℕ) → closed i ≡ Some t → IsSpent p nodes queue stays i t) → IsRest closed n last
+rest_onward : (p : Problem) (nodes : List Node) (queue : List Entry) (closed : Interval → Option ℕ) (stays : List Stay) (n : Node) (last : ℕ) → ((i : Interval) (t : ℕ) → closed i ≡ Some t → IsSpent p nodes queue stays i t) → IsRest (closed (interval_of n)) n last
     → IsOnward p nodes n last → IsOnward p nodes n n.until
 rest_onward p nodes queue closed stays n last spent (whole none e) x k t from to step ne small = x k t from (omega arith) step ne small
 rest_onward p nodes queue closed stays n last spent (front since some soon e) x k t from to step ne small =
@@ -202,7 +197,7 @@ rest_onward p nodes queue closed stays n last spent (front since some soon e) x 
       | inr late ↦ (spent (interval_of n) since some).expanded.onward k t late to step ne small
     ]
 
-rest_stands : (p : Problem) (nodes : List Node) (queue : List Entry) (closed : Interval → Option ℕ) (stays : List Stay) (n : Node) (last : ℕ) → ((i : Interval) (t : ℕ) → closed i ≡ Some t → IsSpent p nodes queue stays i t) → IsRest closed n last → (k : ℕ) → n.time ≤ k → k ≤ n.until
+rest_stands : (p : Problem) (nodes : List Node) (queue : List Entry) (closed : Interval → Option ℕ) (stays : List Stay) (n : Node) (last : ℕ) → ((i : Interval) (t : ℕ) → closed i ≡ Some t → IsSpent p nodes queue stays i t) → IsRest (closed (interval_of n)) n last → (k : ℕ) → n.time ≤ k → k ≤ n.until
     → Covered (IsOneOf (stays ++ part_of n last ∷ [])) k (state_of n)
 rest_stands p nodes queue closed stays n last spent (whole none e) k from to =
     record { arrival = arrival (part_of n last); among = (part_of n last, Contains-push stays (part_of n last), refl); stands = record { state_is = refl; from = from; to = omega arith } }
@@ -230,13 +225,13 @@ spent_more p nodes queue new_nodes new_queue stays one low index i t more below 
     }
 
 -- the rest of an interval is within it
-pub last_within : (p : Problem) (nodes : List Node) (queue : List Entry) (closed : Interval → Option ℕ) (stays : List Stay) (n : Node) (last : ℕ) → ((i : Interval) (t : ℕ) → closed i ≡ Some t → IsSpent p nodes queue stays i t) → IsRest closed n last → last ≤ n.until
+pub last_within : (p : Problem) (nodes : List Node) (queue : List Entry) (closed : Interval → Option ℕ) (stays : List Stay) (n : Node) (last : ℕ) → ((i : Interval) (t : ℕ) → closed i ≡ Some t → IsSpent p nodes queue stays i t) → IsRest (closed (interval_of n)) n last → last ≤ n.until
 last_within p nodes queue closed stays n last spent (whole none e) = omega arith
 last_within p nodes queue closed stays n last spent (front since some soon e) = let from = (spent (interval_of n) since some).from in omega arith
 
 -- and apart from each stay
 part_apart : (p : Problem) (nodes : List Node) (queue : List Entry) (closed : Interval → Option ℕ) (stays : List Stay) (n : Node) (last : ℕ) (s : Stay) → ((i : Interval) (t : ℕ) → closed i ≡ Some t → IsSpent p nodes queue stays i t) → IsWithin closed s
-    → IsInterval p.others p.limit (arrival_of n) → n.until ≤ p.limit → last ≤ n.until → IsRest closed n last → (k : ℕ) (u : State) → Stands (arrival s) k u → Stands (arrival (part_of n last)) k u → ⊥
+    → IsInterval p.others p.limit (arrival_of n) → n.until ≤ p.limit → last ≤ n.until → IsRest (closed (interval_of n)) n last → (k : ℕ) (u : State) → Stands (arrival s) k u → Stands (arrival (part_of n last)) k u → ⊥
 part_apart p nodes queue closed stays n last s spent w interval in_time long rest k u st su =
     let y = spent w.interval w.since w.closed_is in
     let from = w.from in
@@ -273,7 +268,7 @@ parent_within p nodes i r late = elim r.comes [ inl s ↦ absurd (omega (arith, 
 
 -- with the rest of its interval the node is expanded
 pub rest_kept : (p : Problem) (nodes : List Node) (queue : List Entry) (new_nodes : List Node) (new_queue : List Entry) (index : ℕ) (closed : Interval → Option ℕ) (stays : List Stay) (last : ℕ) → IsTold p nodes queue (Some index) closed stays → index < length nodes
-    → ((i : Interval) (t : ℕ) → closed i ≡ Some t → bound_at p (node_in i t) ≤ bound_at p (node_at nodes index)) → IsKept p new_nodes new_queue (Some index) → Spreads p (bound_at p (node_at nodes index)) index nodes queue new_nodes new_queue → IsRest closed (node_at nodes index) last
+    → ((i : Interval) (t : ℕ) → closed i ≡ Some t → bound_at p (node_in i t) ≤ bound_at p (node_at nodes index)) → IsKept p new_nodes new_queue (Some index) → Spreads p (bound_at p (node_at nodes index)) index nodes queue new_nodes new_queue → IsRest (closed (interval_of (node_at nodes index))) (node_at nodes index) last
     → IsOnward p new_nodes (node_at nodes index) last → (IsEnd p.others p.via p.ends (node_at nodes index).time (state_of (node_at nodes index)) → ⊥) → IsKept p new_nodes new_queue None
 rest_kept p nodes queue new_nodes new_queue index closed stays last x within past kept more rest onward no_end =
     let n = node_at nodes index in
@@ -288,7 +283,7 @@ pub told_note : (p : Problem) (nodes : List Node) (queue : List Entry) (new_node
     → ((i : Interval) (t : ℕ) → closed i ≡ Some t → bound_at p (node_in i t) ≤ bound_at p (node_at nodes index))
     → ((b i : ℕ) → Waiting queue b i → bound_at p (node_at nodes index) ≤ b)
     → (IsEnd p.others p.via p.ends (node_at nodes index).time (state_of (node_at nodes index)) → ⊥)
-    → IsRest closed (node_at nodes index) last → Spreads p (bound_at p (node_at nodes index)) index nodes queue new_nodes new_queue → IsOnward p new_nodes (node_at nodes index) last
+    → IsRest (closed (interval_of (node_at nodes index))) (node_at nodes index) last → Spreads p (bound_at p (node_at nodes index)) index nodes queue new_nodes new_queue → IsOnward p new_nodes (node_at nodes index) last
     → Notes closed new_closed (interval_of (node_at nodes index)) (node_at nodes index).time
     → IsTold p new_nodes new_queue None new_closed (stays ++ part_of (node_at nodes index) last ∷ [])
 told_note p nodes queue new_nodes new_queue index closed new_closed stays last x within all lead past least no_end rest more onward notes =

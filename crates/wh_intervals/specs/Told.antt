@@ -1,5 +1,5 @@
 -- what a search has expanded so far
-use Rattle.std.specs.Prelude.{◌≡◌, ℕ, ◌<◌, ◌≤◌, ◌⊎◌, Option, Some, List, length, Contains}
+use Rattle.std.specs.Prelude.{◌≡◌, ℕ, ◌+◌, ◌<◌, ◌≤◌, ◌⊎◌, Option, Some, None, List, length, Contains}
 use Rattle.wh_grid.specs.declared.cell.Cell.{Cell}
 use Rattle.wh_path.specs.Paths.{last_index}
 use Rattle.wh_search.specs.States.{Steps, Reaches}
@@ -45,6 +45,12 @@ pub record IsPast (closed : Interval → Option ℕ) (n : Node) : Type 0 where
   pub since : ℕ
   pub closed_is : closed (interval_of n) ≡ Some since
   pub from : since ≤ n.time
+
+-- where the node's interval is expanded from a time on, or is not at all: from the node's time up to this last one it is left to be, which is all of it,
+-- or what is before that time
+pub data IsRest (since : Option ℕ) (n : Node) (last : ℕ) : Type 0 where
+  whole : since ≡ None → last ≡ n.until → IsRest since n last
+  front : (time : ℕ) → since ≡ Some time → n.time < time → time ≡ last + 1 → IsRest since n last
 
 -- one of the stays begins at this time
 abbrev pub IsBegun : List Stay → ℕ → Type 0

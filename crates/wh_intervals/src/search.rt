@@ -13,13 +13,12 @@ ghost use Rattle.wh_intervals.specs.Efforts.{AreExpandedBy, MovesAtMost};
 ghost use Rattle.wh_intervals.specs.Nodes.{node_at, state_of, bound_at, total_at, IsKept};
 ghost use Rattle.wh_intervals.specs.Queues.{Waiting};
 ghost use Rattle.indexmap.specs.IndexMap.{get};
-ghost use Rattle.wh_intervals.specs.Closings.{interval_eq};
+ghost use Rattle.wh_intervals.specs.Closings.{interval_eq, closed_by};
 ghost use Rattle.wh_intervals.specs.Told.{node_in, IsTold};
 ghost use Rattle.wh_intervals.specs.declared.interval.Interval.{Interval as Span};
 
-use crate::closed::Closed;
 use crate::errand::Errand;
-use crate::interval::interval_of;
+use crate::known::close;
 use crate::states::States;
 use crate::stay::{Stay, stay_of};
 use crate::trail::walk_back;
@@ -32,33 +31,25 @@ use wh_timetable::Occupancy;
 fn take<T: Occupancy>(
     errand: &Errand<T>,
     states: &mut States,
-    closed: &mut Closed,
     expanded: &mut Vec<Stay>,
     index: usize,
 ) -> Result<(), AllocError>
     requires errand { IsProblem (problem T.others errand.now) }
     requires kept { IsKept (problem T.others errand.now) states.old.nodes.items states.old.queue (Some index) }
     requires within { index < vec_len states.old.nodes }
-    requires told { IsTold (problem T.others errand.now) states.old.nodes.items states.old.queue (Some index) (get interval_eq closed.old.times) expanded.old.items }
+    requires told { IsTold (problem T.others errand.now) states.old.nodes.items states.old.queue (Some index) (closed_by (get interval_eq states.old.intervals)) expanded.old.items }
     requires first { (b i : ℕ) → Waiting states.old.queue b i → bound_at (problem T.others errand.now) (node_at states.old.nodes.items index) ≤ b }
-    requires past { (i : Span) (t : ℕ) → get interval_eq closed.old.times i ≡ Some t → bound_at (problem T.others errand.now) (node_in i t) ≤ bound_at (problem T.others errand.now) (node_at states.old.nodes.items index) }
+    requires past { (i : Span) (t : ℕ) → closed_by (get interval_eq states.old.intervals) i ≡ Some t → bound_at (problem T.others errand.now) (node_in i t) ≤ bound_at (problem T.others errand.now) (node_at states.old.nodes.items index) }
     requires may_lead { (q : List Cell) → IsTour errand.now.grid.now (T.others errand.now.others.now) errand.now.loc errand.now.via.now errand.now.ends.now q → total_at (problem T.others errand.now) (node_at states.old.nodes.items index) ≤ last_index q }
     requires no_end { IsEnd (T.others errand.now.others.now) errand.now.via.now errand.now.ends.now (node_at states.old.nodes.items index).time (state_of (node_at states.old.nodes.items index)) → ⊥ }
     ensures kept { OnOk result (IsKept (problem T.others errand.now) states.new.nodes.items states.new.queue None) }
-    ensures told { OnOk result (IsTold (problem T.others errand.now) states.new.nodes.items states.new.queue None (get interval_eq closed.new.times) expanded.new.items) }
+    ensures told { OnOk result (IsTold (problem T.others errand.now) states.new.nodes.items states.new.queue None (closed_by (get interval_eq states.new.intervals)) expanded.new.items) }
 {
     let node = states.nodes[index];
-    let last = match closed.since(interval_of(node)) {
-        None => node.until,
-        Some(since) => {
-            if since <= node.time {
-                return Ok(());
-            }
-            since - 1
-        }
+    let Some(last) = close(&mut states.intervals, node)? else {
+        return Ok(());
     };
     states.expand(errand, index, u64::from(last))?;
-    closed.note(interval_of(node), node.time)?;
     expanded.push(stay_of(node, last))?;
     Ok(())
 }
@@ -82,7 +73,6 @@ pub fn search<T: Occupancy>(
         return Ok(None);
     }
     let mut states = States::new(alloc);
-    let mut closed = Closed::empty(alloc);
     let _until = states.meet(errand, 0, errand.first, errand.loc, 0)?;
     expanded.clear();
     for _ in 0..u64::MAX {
@@ -93,7 +83,7 @@ pub fn search<T: Occupancy>(
             let path = walk_back(alloc, errand, &states.nodes, index)?;
             return Ok(Some(path));
         }
-        take(errand, &mut states, &mut closed, expanded, index)?;
+        take(errand, &mut states, expanded, index)?;
     }
     // not in practice: each round looks at one more of the nodes
     Err(AllocError)

@@ -28,7 +28,7 @@ const MOST_ENTRIES: usize = 999_999_999;
 pub(crate) const MOST_ANSWERS: usize = 32_768;
 
 /// What a line was answered.
-#[derive(Clone, Copy, Debug, PartialEq, Eq)]
+#[derive(Clone, Copy)]
 pub(crate) enum Answer {
     /// What the next entry of the history says.
     Entry,

@@ -1,7 +1,9 @@
 //! A journal in a file.
 #![tactic(auto)]
 
-ghost use Rattle.std.specs.Prelude.{◌≡◌, false};
+ghost use Rattle.std.specs.Prelude.{◌≡◌, None, OnOk, false, refl};
+ghost use Rattle.std.specs.Io.{ReadsAtMost};
+ghost use Rattle.wh_log.specs.Sources.{AddsPiece};
 
 use crate::journal::{Journal, JournalFault};
 use crate::log_file::{LogFile, LogFileFault};
@@ -10,6 +12,7 @@ use std::fs::{File, Files, OpenOptions};
 use std::io;
 use std::io::{ErrorKind, Read, Seek, SeekFrom};
 use std::path::Path;
+use wh_log::{Source, SourceFault};
 use wh_replay::write_all;
 
 /// A file that is open and locked. What is appended goes behind its last byte.
@@ -33,11 +36,11 @@ enum Standing {
 
 /// A journal in the file at a path. Of a file's bytes no contract can say anything.
 ///
-/// `text` opens what stands there, never empties it, and locks it before a byte is read; one that another has locked, or that
-/// is no regular file, is `Unread`, and is left as it is. Where nothing stands, nothing is made, and the text is empty.
-/// `put` writes one byte over another, and syncs. `cut` makes the file where nothing stood, sets its length, and syncs it and
-/// its folder. Both fail, and touch nothing, where `text` told no text before, where the text had fewer bytes, and where another
-/// made the file or changed its length since.
+/// `text`, or the first piece that is read, opens what stands there, never empties it, and locks it before a byte is read; one that
+/// another has locked, or that is no regular file, is `Unread`, and is left as it is. Where nothing stands, nothing is made, and the
+/// text is empty. `put` writes one byte over another, and syncs. `cut` makes the file where nothing stood, sets its length, and syncs
+/// it and its folder. Both fail, and touch nothing, where nothing was read before, where the file had fewer bytes as it was opened, and
+/// where another made the file or changed its length since.
 ///
 /// After a sync that failed, a later one may succeed although bytes were lost, so from the first fault on each call fails and
 /// no byte is written. On the first fault of `append` or `sync` the file is set back to its length at the last sync, where
@@ -69,6 +72,17 @@ fn open_standing<R: Files<File = File>>(files: &R, path: Path<'_>) -> io::Result
     }
 }
 
+/// Adds to a buffer a piece of what stands in a file behind the first so many bytes.
+fn read_piece(file: &mut File, place: u64, buffer: &mut Vec<u8>) -> io::Result<()>
+    ensures { OnOk result (AddsPiece None place buffer.old.items buffer.new.items) }
+{
+    let mut room = [0; 65_536];
+    file.seek(SeekFrom::Start(place))?;
+    let count = read_again(file, &mut room)?;
+    buffer.extend_from_slice(&room[..count])?;
+    Ok(())
+}
+
 /// All bytes of a file.
 fn read_whole(alloc: Global, file: &mut File) -> io::Result<Vec<u8>> {
     let mut text: Vec<u8> = Vec::new(alloc);
@@ -81,6 +95,20 @@ fn read_whole(alloc: Global, file: &mut File) -> io::Result<Vec<u8>> {
 fn lock_and_read(alloc: Global, file: &mut File) -> io::Result<Vec<u8>> {
     lock(file)?;
     read_whole(alloc, file)
+}
+
+/// Reads once, and again where that was interrupted.
+fn read_again(file: &mut File, room: &mut [u8]) -> io::Result<usize>
+    ensures { ReadsAtMost result room.new }
+{
+    for _ in 0..1_000 {
+        match file.read(room) {
+            Ok(count) => return Ok(count),
+            Err(error) if error.kind() == ErrorKind::Interrupted => {}
+            Err(error) => return Err(error),
+        }
+    }
+    Err(io::Error::from(ErrorKind::Interrupted))
 }
 
 /// Makes a file where nothing stands, and locks it.
@@ -234,6 +262,31 @@ impl<'a, R: Files<File = File>> FileJournal<'a, R> {
         }
     }
 
+    /// Opens what stands at the path, where it was not yet.
+    fn open(&mut self) -> io::Result<()> {
+        if let Standing::Unread = &self.standing {
+            let Some(file) = open_standing(self.files, self.path)? else {
+                self.standing = Standing::Missing;
+                return Ok(());
+            };
+            lock(&file)?;
+            let length = file.metadata()?.len();
+            self.standing = Standing::Found(OpenLog::new(file, length));
+        }
+        Ok(())
+    }
+
+    /// Adds a piece to a buffer, of the file as it was opened before, or now.
+    fn read_piece(&mut self, place: u64, buffer: &mut Vec<u8>) -> io::Result<()>
+        ensures { OnOk result (AddsPiece None place buffer.old.items buffer.new.items) }
+    {
+        self.open()?;
+        match &mut self.standing {
+            Standing::Found(log) => read_piece(&mut log.file, place, buffer),
+            _ => Ok(()),
+        }
+    }
+
     /// Makes the file where nothing stood.
     fn make_missing(&mut self)
         ensures { self.new.has_failed ≡ self.old.has_failed }
@@ -276,6 +329,16 @@ impl<'a, R> Journal for FileJournal<'a, R> {
     }
 }
 
+impl<'a, R: Files<File = File>> Source for FileJournal<'a, R> {
+    fn add_piece(&mut self, place: usize, buffer: &mut Vec<u8>) -> Result<(), SourceFault> {
+        match self.read_piece(place as u64, buffer) {
+            Ok(()) => Ok(()),
+            Err(error) if error.kind() == ErrorKind::OutOfMemory => Err(SourceFault::NoMemory),
+            Err(_) => Err(SourceFault::Unread),
+        }
+    }
+}
+
 impl<'a, R: Files<File = File>> LogFile for FileJournal<'a, R> {
     fn text(&mut self, alloc: Global) -> Result<Vec<u8>, LogFileFault> {
         match self.read(alloc) {
@@ -311,4 +374,6 @@ impl<'a, R: Files<File = File>> LogFile for FileJournal<'a, R> {
         self.has_failed = true;
         Err(JournalFault)
     }
+
+    ghost one_text = { λ j. refl };
 }

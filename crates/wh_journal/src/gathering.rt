@@ -18,7 +18,7 @@ use wh_token::Warehouse;
 use wh_words::whole_line;
 
 /// What gathering came to.
-#[derive(Clone, Copy, Debug, PartialEq, Eq)]
+#[derive(Clone, Copy)]
 pub(crate) enum Part {
     /// Lines were served, and more may wait, for whose answers there is no room.
     Full,

@@ -6,6 +6,7 @@ ghost use Rattle.wh_journal.specs.Cutting.{front_of, with_byte, MayCut, MayPut};
 
 use crate::journal::{Journal, JournalFault};
 use std::alloc::Global;
+use wh_log::Source;
 
 /// Why the bytes of a log are not told.
 #[derive(Clone, Copy, Debug, PartialEq, Eq)]
@@ -16,10 +17,10 @@ pub enum LogFileFault {
     NoMemory,
 }
 
-/// A journal whose bytes were kept before, by another life of the program. A start takes these steps in their order: `text`;
-/// others judge the text, and where it is refused nothing has changed; `put`, where a byte of it is to be another; `cut`, also
-/// where nothing is cut off, since the life before may not have synced; and then the calls of `Journal`.
-pub trait LogFile: Journal {
+/// A journal whose bytes were kept before, by another life of the program. A start takes these steps in their order: `text`, or
+/// the pieces of `Source`; others judge what was read, and where it is refused nothing has changed; `put`, where a byte of it is
+/// to be another; `cut`, also where nothing is cut off, since the life before may not have synced; and then the calls of `Journal`.
+pub trait LogFile: Journal + Source {
     /// All bytes that it holds. Nothing changes. One that was not made yet holds none.
     fn text(&mut self, alloc: Global) -> Result<Vec<u8>, LogFileFault>
         ensures ok { IfOk result (λ text. IfSome (Self.contents self.old) (λ held. text.items ≡ held)) }
@@ -48,4 +49,7 @@ pub trait LogFile: Journal {
         ensures open { OnOk result (Self.failed self.new ≡ false) }
         ensures failed { OnErr result (Self.failed self.new ≡ true) }
         ensures again { Self.failed self.old ≡ true → IsErr result × (Self.contents self.new ≡ Self.contents self.old) };
+
+    /// As a source it tells the same bytes.
+    ghost one_text: { (l : Self) → Self.held l ≡ Self.contents l };
 }

@@ -1,11 +1,12 @@
 //! A journal in memory.
 #![tactic(auto)]
 
-ghost use Rattle.std.specs.Prelude.{◌≡◌, ◌≤◌, [], length, take, Some, false};
+ghost use Rattle.std.specs.Prelude.{◌≡◌, ◌≤◌, [], length, refl, take, Some, false};
 
 use crate::journal::{Journal, JournalFault};
 use crate::log_file::{LogFile, LogFileFault};
 use std::alloc::Global;
+use wh_log::{Source, SourceFault};
 use wh_replay::write_all;
 
 /// A journal in memory: what it holds, how many bytes of it were synced, and whether a call has failed.
@@ -60,6 +61,15 @@ impl Journal for MemoryJournal {
     }
 }
 
+impl Source for MemoryJournal {
+    ghost held = { λ j. Some j.held.items };
+
+    fn add_piece(&mut self, place: usize, buffer: &mut Vec<u8>) -> Result<(), SourceFault> {
+        let mut text = self.held.as_slice();
+        text.add_piece(place, buffer)
+    }
+}
+
 impl LogFile for MemoryJournal {
     fn text(&mut self, alloc: Global) -> Result<Vec<u8>, LogFileFault> {
         match Vec::from_slice(alloc, self.held.as_slice()) {
@@ -86,4 +96,6 @@ impl LogFile for MemoryJournal {
         self.safe = self.held.len();
         Ok(())
     }
+
+    ghost one_text = { λ j. refl };
 }

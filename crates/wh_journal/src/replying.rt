@@ -50,7 +50,7 @@ fn tell_entry<W: Write>(
 }
 
 /// How far the entries of a history were told, and the clock behind them.
-#[derive(Clone, Copy, Debug, PartialEq, Eq)]
+#[derive(Clone, Copy)]
 struct Told {
     next: usize,
     clock: u32,

@@ -4,7 +4,8 @@ use Rattle.wh_grid.specs.declared.cell.Cell.{Cell}
 use Rattle.wh_grid.specs.Grids.{Floor, IsPassable, IsMove}
 use Rattle.wh_path.specs.Paths.{at, cell_at}
 
--- With so many stops behind it, an agent that comes to the cell goes past each next stop that is the cell.
+-- An agent that comes to the cell goes past each next stop that is the cell: before it `before` stops are behind it, then
+-- `after`.
 pub record GoesPast (stops : List Cell) (before : ℕ) (here : Cell) (after : ℕ) : Type 0 where
   pub forward : before ≤ after
   pub few : after ≤ length stops

@@ -32,7 +32,7 @@ pub fn is_due(floor: &Floor, agent: u32) -> bool
     floor.paths()[agent as usize].remaining() == 0
 }
 
-/// Whether the agent has so many steps left, and not none.
+/// Whether the agent has just `left` steps left, and not none.
 pub fn is_moving(floor: &Floor, agent: u32, left: u64) -> bool
     ensures { IsTrue result ↔ (IsKnown floor.now.state agent × (left ≡ steps_left floor.now.state.paths agent) × (left ≢ 0)) }
 {

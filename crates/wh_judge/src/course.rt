@@ -11,7 +11,7 @@ use wh_grid::{Cell, Grid};
 use wh_path::{TimedPath, conflict};
 use wh_planner::last_to_rest;
 
-/// How many stops are behind an agent that comes to the cell with so many behind it.
+/// How many stops are behind an agent that comes to the cell with `before` of them behind it.
 fn go_past(stops: &[Cell], before: usize, here: Cell) -> usize
     requires { before ≤ length stops.now }
     ensures { GoesPast stops.now before here result }
@@ -79,7 +79,7 @@ fn free_of_others(nofollow: bool, paths: &[TimedPath], agent: usize, path: &Time
     true
 }
 
-/// Whether the agent may adopt the path, whatever its duty of so many legs asks of it. The cheap questions come first.
+/// Whether the agent may adopt the path, whatever its duty of `legs` legs asks of it. The cheap questions come first.
 pub fn is_course(
     grid: &Grid,
     nofollow: bool,

@@ -9,9 +9,10 @@ ghost use Rattle.wh_judge.specs.Judged.{Decides, IsQuiet, IsReachable, IsStep};
 
 use crate::instance::Instance;
 use crate::plain::{close, replace, tick};
-use crate::requests::request;
+use crate::refusals::refuses;
+use crate::requests::{park, rest, take};
 use crate::rests::quiet_after;
-use crate::submitting::submit;
+use crate::submitting::accept;
 use std::alloc::{AllocError, Global};
 use std::marker::Model;
 use wh_book::Floor;
@@ -19,7 +20,7 @@ use wh_event::{Entry, Event, Reply};
 use wh_field::LazyField;
 use wh_grid::Cell;
 
-/// Whether the event may be answered so; if so, it is done.
+/// Whether the event may be answered so; if so, it is done. Each arm is a line of the definition.
 fn answer(
     alloc: Global,
     instance: &Instance,
@@ -35,24 +36,37 @@ fn answer(
     ensures answer { IfOk result (Decides instance.now floor.old.state reply event floor.new.state) }
     ensures kept { IfOk result (λ b. b ≡ false → floor.new.state ≡ floor.old.state) }
     ensures err { OnErr result (floor.new.state ≡ floor.old.state) }
-    ensures reached { IsReachable instance.now floor.new.state }
     ensures grid { near.new.grid ≡ instance.now.grid }
 {
-    match event {
-        Event::Submit { client, stops } => submit(
-            alloc,
-            instance,
-            floor,
-            client,
-            stops.stops(),
-            &reply,
-        ),
-        Event::Request { agent } => {
-            request(alloc, instance, floor, near, is_quiet, agent, reply)
+    match (reply, event) {
+        (Reply::Refused(refusal), event) => {
+            refuses(alloc, instance, floor, near, &refusal, &event)
         }
-        Event::Tick => Ok(tick(instance, floor, &reply)),
-        Event::Replace { agent, spare } => Ok(replace(instance, floor, agent, spare, &reply)),
-        Event::Close => Ok(close(instance, floor, &reply)),
+        (Reply::Accepted { task }, Event::Submit { client, stops }) => {
+            accept(alloc, instance, floor, client, stops.stops(), task)
+        }
+        (Reply::Took { task, path }, Event::Request { agent }) => {
+            Ok(take(instance, floor, near, agent, task, path))
+        }
+        (Reply::Rested, Event::Request { agent }) => {
+            Ok(rest(instance, floor, near, is_quiet, agent))
+        }
+        (Reply::Parked { point, path }, Event::Request { agent }) => {
+            Ok(park(instance, floor, near, agent, &point, path))
+        }
+        (
+            Reply::Clock {
+                now,
+                picked,
+                dropped,
+            },
+            Event::Tick,
+        ) => { Ok(tick(floor, now, picked, dropped)) }
+        (Reply::Replaced { slots }, Event::Replace { agent, spare }) => {
+            Ok(replace(floor, agent, spare, slots))
+        }
+        (Reply::Closed, Event::Close) => Ok(close(floor)),
+        _ => Ok(false),
     }
 }
 
@@ -126,7 +140,7 @@ impl<'a> Model for Judge<'a> {
 
 impl<'a> Judge<'a> {
     /// The warehouse as it opens, before any entry, at a clock of at most 1,000,000,000, with the slots of each agent's
-    /// planner. The error comes where memory is wanting: for the state, with two bytes a cell for the paths' ends, and
+    /// planner. The error is out of memory: it takes memory for the state, with two bytes a cell for the paths' ends, and
     /// twelve bytes a cell for the field.
     pub fn open(
         alloc: Global,
@@ -149,7 +163,7 @@ impl<'a> Judge<'a> {
         })
     }
 
-    /// Begins again with another opening. Want of memory changes nothing.
+    /// Begins again with another opening. Out of memory, nothing changes.
     pub fn reopen(&mut self, alloc: Global, clock: u32, slots: Vec<u32>) -> Result<(), AllocError>
         requires clock { clock ≤ last_clock }
         requires seats { length slots.items ≡ length self.old.site.layout.agents }
@@ -186,8 +200,8 @@ impl<'a> Judge<'a> {
         floor
     }
 
-    /// Whether the entry is a step from the state; if so, it is made. The error comes where memory is wanting, for a new
-    /// task or to see that a clear way is wanting; then the state stays.
+    /// Whether the entry is a step from the state; if so, it is made. The error is out of memory, where a task is new or
+    /// it is to be seen that there is no clear way; then the state stays.
     pub fn step(&mut self, alloc: Global, entry: Entry) -> Result<bool, AllocError>
         ensures step { IfOk result (IsStep self.old.site self.old.state entry self.new.state) }
         ensures kept { IfOk result (λ b. b ≡ false → self.new.state ≡ self.old.state) }

@@ -9,6 +9,7 @@ mod judge;
 mod lacking;
 pub mod laws;
 mod plain;
+mod refusals;
 mod requests;
 mod rests;
 mod routes;

@@ -1,7 +1,7 @@
 //! The answers to an agent that asks for something to do.
 #![tactic(auto)]
 
-ghost use Rattle.std.specs.Prelude.{◌≡◌, ◌<◌, ◌↔◌, true, false, IsTrue, IfOk, OnErr, length};
+ghost use Rattle.std.specs.Prelude.{◌≡◌, ◌<◌, ◌↔◌, true, false, IsTrue, IfOk, length};
 ghost use Rattle.wh_path.specs.Paths.{end};
 ghost use Rattle.wh_points.specs.Points.{IsPointCell};
 ghost use Rattle.wh_tasks.specs.declared.task.Task.{Task as Job};
@@ -12,7 +12,7 @@ ghost use Rattle.wh_event.specs.declared.reply.Refusal.TheVariants as refusals;
 ghost use Rattle.wh_core.specs.Steps.{Refuses, IsNext, IsAllowed};
 ghost use Rattle.wh_judge.specs.Judged.{Decides, IsQuiet, IsReachable};
 
-use crate::agents::{is_due, is_moving, is_stranger};
+use crate::agents::is_due;
 use crate::choice::is_next;
 use crate::course::{is_course, may_deliver};
 use crate::instance::Instance;
@@ -20,7 +20,6 @@ use crate::lacking::{lacks_way, makes_way, may_rest};
 use crate::rests::rests_by_note;
 use std::alloc::{AllocError, Global};
 use wh_book::{Floor, may_end};
-use wh_event::{Refusal, Reply};
 use wh_field::LazyField;
 use wh_path::TimedPath;
 use wh_text::Name;
@@ -73,7 +72,7 @@ fn may_park(instance: &Instance, floor: &Floor, agent: u32, path: &TimedPath) ->
 }
 
 /// Whether the agent may take the task by the path; if so, it does.
-fn take(
+pub fn take(
     instance: &Instance,
     floor: &mut Floor,
     near: &mut LazyField,
@@ -98,7 +97,7 @@ fn take(
 }
 
 /// Whether the agent may be told to rest. It takes constant time where the note tells it.
-fn rest(
+pub fn rest(
     instance: &Instance,
     floor: &Floor,
     near: &mut LazyField,
@@ -124,7 +123,7 @@ fn rest(
 }
 
 /// Whether the agent may make way by the path to the point of this name; if so, it does.
-fn park(
+pub fn park(
     instance: &Instance,
     floor: &mut Floor,
     near: &mut LazyField,
@@ -155,7 +154,7 @@ fn park(
 }
 
 /// Whether a due agent lacks a clear way for what it is to do.
-fn has_no_path(
+pub fn has_no_path(
     alloc: Global,
     instance: &Instance,
     floor: &Floor,
@@ -171,66 +170,4 @@ fn has_no_path(
         return Ok(false);
     }
     lacks_way(alloc, instance, floor, near, agent)
-}
-
-/// Whether the refusal may be given to the agent.
-fn refuses_request(
-    alloc: Global,
-    instance: &Instance,
-    floor: &Floor,
-    near: &mut LazyField,
-    agent: u32,
-    refusal: &Refusal,
-) -> Result<bool, AllocError>
-    requires reached { IsReachable instance.now floor.now.state }
-    requires grid { near.old.grid ≡ instance.now.grid }
-    ensures refuses { IfOk result (λ b. IsTrue b ↔ Refuses instance.now floor.now.state refusal.now (events.Request agent)) }
-    ensures grid { near.new.grid ≡ instance.now.grid }
-{
-    let _grid = instance.grid();
-    match refusal {
-        Refusal::UnknownPoint(_) => Ok(false),
-        Refusal::NotStation(_) => Ok(false),
-        Refusal::TasksFull => Ok(false),
-        Refusal::UnknownAgent(told) => Ok(is_stranger(floor, agent) && *told == agent),
-        Refusal::Moving(left) => Ok(is_moving(floor, agent, *left)),
-        Refusal::NoPath => has_no_path(alloc, instance, floor, near, agent),
-        Refusal::ClockFull => Ok(false),
-        Refusal::Closed => Ok(floor.closed()),
-        Refusal::ForeignPlanner => Ok(false),
-        Refusal::NoSpare => Ok(false),
-    }
-}
-
-/// Whether the agent may be answered so; if so, it is done. Only a refusal for want of a path wants memory.
-pub fn request(
-    alloc: Global,
-    instance: &Instance,
-    floor: &mut Floor,
-    near: &mut LazyField,
-    is_quiet: bool,
-    agent: u32,
-    reply: Reply,
-) -> Result<bool, AllocError>
-    requires reached { IsReachable instance.now floor.old.state }
-    requires grid { near.old.grid ≡ instance.now.grid }
-    requires quiet { is_quiet ≡ true → IsQuiet floor.old.state }
-    ensures answer { IfOk result (Decides instance.now floor.old.state reply (events.Request agent) floor.new.state) }
-    ensures kept { IfOk result (λ b. b ≡ false → floor.new.state ≡ floor.old.state) }
-    ensures err { OnErr result (floor.new.state ≡ floor.old.state) }
-    ensures grid { near.new.grid ≡ instance.now.grid }
-{
-    match reply {
-        Reply::Accepted { .. } => Ok(false),
-        Reply::Took { task, path } => Ok(take(instance, floor, near, agent, task, path)),
-        Reply::Rested => Ok(rest(instance, floor, near, is_quiet, agent)),
-        Reply::Parked { point, path } => Ok(park(instance, floor, near, agent, &point, path)),
-        Reply::Clock { .. } => Ok(false),
-        Reply::Replaced { .. } => Ok(false),
-        Reply::Closed => Ok(false),
-        Reply::Refused(refusal) => {
-            let refuses = refuses_request(alloc, instance, floor, near, agent, &refusal)?;
-            Ok(refuses)
-        }
-    }
 }

@@ -2,7 +2,7 @@
 #![tactic(auto)]
 
 ghost use Rattle.std.specs.Prelude.{◌≡◌, ◌↔◌, false, IsTrue, IfOk, OnErr, All, length};
-ghost use Rattle.wh_core.specs.Steps.{Refuses, IsStationName, IsParkingName, IsUnknownName, IsFirstFault, most_tasks};
+ghost use Rattle.wh_core.specs.Steps.{IsStationName, IsParkingName, IsUnknownName, IsFirstFault, most_tasks};
 ghost use Rattle.wh_event.specs.declared.event.Event.TheVariants as events;
 ghost use Rattle.wh_event.specs.declared.reply.Reply.TheVariants as replies;
 ghost use Rattle.wh_judge.specs.Judged.{Decides};
@@ -10,11 +10,11 @@ ghost use Rattle.wh_judge.specs.Judged.{Decides};
 use crate::instance::Instance;
 use std::alloc::{AllocError, Global};
 use wh_book::{Fault, Floor, places_of};
-use wh_event::{Refusal, Reply, Stops};
+use wh_event::Stops;
 use wh_text::Name;
 
 /// Whether the first stop that is no station has this name, which no point has.
-fn has_unknown(instance: &Instance, floor: &Floor, stops: &Stops, name: &Name) -> bool
+pub fn has_unknown(instance: &Instance, floor: &Floor, stops: &Stops, name: &Name) -> bool
     ensures { IsTrue result ↔ ((floor.now.state.closed ≡ false) × IsFirstFault instance.now.layout stops.now name.now × IsUnknownName instance.now.layout name.now) }
 {
     let points = instance.points();
@@ -29,7 +29,7 @@ fn has_unknown(instance: &Instance, floor: &Floor, stops: &Stops, name: &Name) -
 }
 
 /// Whether the first stop that is no station has this name, which is a parking's.
-fn has_parking(instance: &Instance, floor: &Floor, stops: &Stops, name: &Name) -> bool
+pub fn has_parking(instance: &Instance, floor: &Floor, stops: &Stops, name: &Name) -> bool
     ensures { IsTrue result ↔ ((floor.now.state.closed ≡ false) × IsFirstFault instance.now.layout stops.now name.now × IsParkingName instance.now.layout name.now) }
 {
     let points = instance.points();
@@ -44,7 +44,7 @@ fn has_parking(instance: &Instance, floor: &Floor, stops: &Stops, name: &Name) -
 }
 
 /// Whether the stops are stations and there is no room for one more task.
-fn is_full(instance: &Instance, floor: &Floor, stops: &Stops) -> bool
+pub fn is_full(instance: &Instance, floor: &Floor, stops: &Stops) -> bool
     ensures { IsTrue result ↔ ((floor.now.state.closed ≡ false) × All (IsStationName instance.now.layout) stops.now × (length floor.now.state.tasks ≡ most_tasks)) }
 {
     let points = instance.points();
@@ -60,32 +60,8 @@ fn is_full(instance: &Instance, floor: &Floor, stops: &Stops) -> bool
     }
 }
 
-/// Whether the refusal may be given to a submit.
-fn refuses_submit(
-    instance: &Instance,
-    floor: &Floor,
-    _client: &Name,
-    stops: &Stops,
-    refusal: &Refusal,
-) -> bool
-    ensures { IsTrue result ↔ Refuses instance.now floor.now.state refusal.now (events.Submit _client.now stops.now) }
-{
-    match refusal {
-        Refusal::UnknownPoint(name) => has_unknown(instance, floor, stops, name),
-        Refusal::NotStation(name) => has_parking(instance, floor, stops, name),
-        Refusal::TasksFull => is_full(instance, floor, stops),
-        Refusal::UnknownAgent(_) => false,
-        Refusal::Moving(_) => false,
-        Refusal::NoPath => false,
-        Refusal::ClockFull => false,
-        Refusal::Closed => floor.closed(),
-        Refusal::ForeignPlanner => false,
-        Refusal::NoSpare => false,
-    }
-}
-
 /// Whether a submit may be accepted with the number; if so, it is.
-fn accept(
+pub fn accept(
     alloc: Global,
     instance: &Instance,
     floor: &mut Floor,
@@ -110,30 +86,5 @@ fn accept(
             floor.submit(client, cells);
             Ok(true)
         }
-    }
-}
-
-/// Whether a submit may be answered so; if so, it is made.
-pub fn submit(
-    alloc: Global,
-    instance: &Instance,
-    floor: &mut Floor,
-    client: Name,
-    stops: &Stops,
-    reply: &Reply,
-) -> Result<bool, AllocError>
-    ensures answer { IfOk result (Decides instance.now floor.old.state reply.now (events.Submit client stops.now) floor.new.state) }
-    ensures kept { IfOk result (λ b. b ≡ false → floor.new.state ≡ floor.old.state) }
-    ensures err { OnErr result (floor.new.state ≡ floor.old.state) }
-{
-    match reply {
-        Reply::Accepted { task } => accept(alloc, instance, floor, client, stops, *task),
-        Reply::Took { .. } => Ok(false),
-        Reply::Rested => Ok(false),
-        Reply::Parked { .. } => Ok(false),
-        Reply::Clock { .. } => Ok(false),
-        Reply::Replaced { .. } => Ok(false),
-        Reply::Closed => Ok(false),
-        Reply::Refused(refusal) => Ok(refuses_submit(instance, floor, &client, stops, refusal)),
     }
 }

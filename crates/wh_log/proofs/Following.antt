@@ -12,26 +12,13 @@ use Rattle.wh_log.specs.declared.follow_log.Followed.TheVariants.{Whole, Bad}
 use Rattle.wh_log.specs.Logs.{Content, head_line, most_stops, start_line, end_line, log_lines, Opens, Fits, IsLogText}
 use Rattle.wh_log.specs.FirstBad.{IsLogOf, Begins}
 use Rattle.wh_log.specs.Places.{IsNeither, IsNoHead, IsNoStart, Lacks}
+use Rattle.wh_log.specs.Behinds.{Behind}
 use Rattle.wh_log.specs.Judges.{RunOf, Refuses, RefusesOpening, IsAccepted, CanOpen, Concludes}
 use Rattle.wh_log.proofs.HeadLaws.{head_is_line, one_start, start_is_line, end_differs, end_is_line}
 use Rattle.wh_log.proofs.LineLaws.{not_whole, line_or_none, text_cons, lines_front, lines_all}
 use Rattle.wh_log.proofs.Fronts.{AreKept, front_lines, content_of, front_is_lines, log_is_lines, text-append, all_append}
 use Rattle.wh_log.proofs.Continuing.{begun, wrong_line, after_end, no_line, text_behind}
 use Rattle.wh_log.proofs.Runs.{run_more, run_step, run_one}
-
--- the lines that were read, and where the judge stands
-pub record Behind {S : Type 0} (opens : S → ℕ → List ℕ → S → Type 0) (steps : S → Entry → S → Type 0) (old : S) (text : List ℕ) (version : Version) (count : ℕ) (now : S) (rest : List ℕ) : Type 0 where
-  pub clock : ℕ
-  pub slots : List ℕ
-  pub entries : List Entry
-  pub begins : Opens clock slots
-  pub kept : AreKept version entries
-  pub number : length entries ≡ count
-  pub few : count < 10 ^ 9
-  pub parts : text ≡ text_of (front_lines version clock slots entries) ++ rest
-  pub opening : S
-  pub opened : opens old clock slots opening
-  pub run : RunOf steps opening entries now
 
 two_lines : (a b rest : List ℕ) → a ++ 10 ∷ (b ++ 10 ∷ rest) ≡ text_of (a ∷ b ∷ []) ++ rest
 two_lines a b rest = simp append_assoc

@@ -17,3 +17,5 @@ pub mod LogLaws
 pub mod Tearing
 pub mod Collected
 pub mod Telling
+pub mod Sources
+pub mod Growing

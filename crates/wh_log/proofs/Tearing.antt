@@ -6,19 +6,19 @@ use Rattle.wh_event.specs.declared.entry.Entry.{Entry}
 use Rattle.wh_log.specs.Spelling.{entry_line}
 use Rattle.wh_log.specs.Ranges.{Keeps}
 use Rattle.wh_log.specs.declared.version.Version.{Version}
-use Rattle.wh_log.specs.declared.front_log.Front.{Front}
-use Rattle.wh_log.specs.declared.front_log.Front.TheVariants.{Whole, Unopened, Bad}
+use Rattle.wh_log.specs.declared.front_log.Front.TheVariants.{Whole, Bad}
 use Rattle.wh_log.specs.Logs.{Content, head_line, most_stops, start_line, end_line, log_lines, Opens, Fits}
 use Rattle.wh_log.specs.FirstBad.{IsLogOf, IsFirstBad, Begins}
 use Rattle.wh_log.specs.Places.{IsNeither, IsNoHead, IsNoStart, Lacks}
 use Rattle.wh_log.specs.Judges.{Refuses, RefusesOpening, IsAccepted, CanOpen}
-use Rattle.wh_log.specs.Torn.{begun_lines, IsRest, Recovers, HasLines, LacksHead, LacksStart, CutsAreFound, CutsBegin}
+use Rattle.wh_log.specs.Torn.{begun_lines, IsRest, Recovers, HasLines, EndsBefore, CutsAreFound, CutsBegin}
+use Rattle.wh_log.specs.Behinds.{Behind}
 use Rattle.wh_log.proofs.EntryLaws.{entry_is_line, one_entry}
 use Rattle.wh_log.proofs.HeadLaws.{head_is_line, start_is_line, end_is_line, one_version, one_start, end_differs}
 use Rattle.wh_log.proofs.LineLaws.{one_line, not_whole, line_or_none, one_text, text_cons}
 use Rattle.wh_log.proofs.Fronts.{AreKept, front_lines, content_of, front_is_lines, all_append, text-append}
 use Rattle.wh_log.proofs.Continuing.{after_end, text_behind}
-use Rattle.wh_log.proofs.Following.{Behind, one_more, front_length, ends_no_head, ends_no_start, ends_unopened, ends_wrong, ends_after, ends_refused}
+use Rattle.wh_log.proofs.Following.{one_more, front_length, ends_no_head, ends_no_start, ends_unopened, ends_wrong, ends_after, ends_refused}
 
 -- ---- lines that stand whole
 
@@ -56,41 +56,87 @@ two_stand text one other rest more is too e f = (
   refl,
 )
 
+-- one stands whole behind a first one, where two do
+pub second_stands : (text one rest : List ℕ) → IsLine one → text ≡ one ++ 10 ∷ rest → HasLines text 2 → HasLines rest 1
+second_stands text one rest is e (lines, more, all, parts, count) = cut lines all parts count
+  where
+    cut : (lines : List (List ℕ)) → AllByRecursion IsLine lines → text ≡ text_of lines ++ more → length lines ≡ 2 → HasLines rest 1
+    cut [] all parts count = absurd (omega (arith, count))
+    cut (first ∷ lines) all parts count =
+        let same = one_line one first rest (text_of lines ++ more) is all.0 (sym e ∙ parts ∙ one_text first lines more) in
+        (lines, more, all.1, same.1, omega (arith, count))
+
+-- where a line stands whole, what lacks one of a kind does so in all that goes on with it
+pub lacks_on : (None : List ℕ → Type 0) (text more : List ℕ) → HasLines text 1 → Lacks None text → Lacks None (text ++ more)
+lacks_on None text more has (inr bad) = inr (bad.0, bad.1 ++ more, bad.2, ap (λ (t : List ℕ). t ++ more) bad.3 ∙ append_assoc bad.0 (10 ∷ bad.1) more, bad.4)
+lacks_on None text more (lines, behind, all, parts, count) (inl is) = absurd (not_so_many [] lines text behind tt all is (omega (arith, count)) parts)
+
+pub stand_on : (text more : List ℕ) (n : ℕ) → HasLines text n → HasLines (text ++ more) n
+stand_on text more n has = (has.0, has.1 ++ more, has.2, ap (λ (t : List ℕ). t ++ more) has.3 ∙ append_assoc (text_of has.0) has.1 more, has.4)
+
+abbrev pub behind_on : {S : Type 0} (opens : S → ℕ → List ℕ → S → Type 0) (steps : S → Entry → S → Type 0) (old : S) (text more whole : List ℕ) (version : Version) (count : ℕ) (now : S) (rest : List ℕ)
+    → whole ≡ text ++ more → Behind opens steps old text version count now rest → Behind opens steps old whole version count now (rest ++ more)
+behind_on opens steps old text more whole version count now rest e b = record {
+  clock = b.clock;
+  slots = b.slots;
+  entries = b.entries;
+  begins = b.begins;
+  kept = b.kept;
+  number = b.number;
+  few = b.few;
+  parts = e ∙ ap (λ (t : List ℕ). t ++ more) b.parts ∙ append_assoc (text_of (front_lines version b.clock b.slots b.entries)) rest more;
+  opening = b.opening;
+  opened = b.opened;
+  run = b.run;
+}
+
 module _ {S : Type 0} (opens : S → ℕ → List ℕ → S → Type 0) (steps : S → Entry → S → Type 0) (old : S) (text : List ℕ) where
   -- ---- the first two lines
-  pub recovers_no_head : (new : S) (front : Front) → CanOpen opens old → Lacks IsNoHead text → LacksHead text front → Recovers opens steps text old new front
-  recovers_no_head new (Whole version count bytes is_ended) can lacks has = absurd has
-  recovers_no_head new Unopened can lacks has = inl has
-  recovers_no_head new (Bad line) can lacks has =
+  pub recovers_no_head : (new : S) → CanOpen opens old → Lacks IsNoHead text → HasLines text 1 → Recovers opens steps text old new (Bad 1 0)
+  recovers_no_head new can lacks has =
       let bad : IsFirstBad (IsAccepted opens steps old) text 1 = ends_no_head opens steps old text new can lacks in
-      subst (λ n. Recovers opens steps text old new (Bad n)) (sym has.0) (bad, whole_bad (IsAccepted opens steps old) text 1 bad has.1)
+      (bad, whole_bad (IsAccepted opens steps old) text 1 bad has, record { before = []; rest = text; lines = tt; parts = refl; place = refl; bytes_are = refl })
 
-  pub recovers_no_start : (new : S) (front : Front) (version : Version) (rest : List ℕ) → CanOpen opens old → text ≡ head_line version ++ 10 ∷ rest → Lacks IsNoStart rest → LacksStart text front
-      → Recovers opens steps text old new front
-  recovers_no_start new (Whole version count bytes is_ended) v rest can is lacks has = absurd has
-  recovers_no_start new Unopened version rest can is lacks (inl none) = inl none
-  recovers_no_start new Unopened version rest can is lacks (inr has) =
-      let cut = one_line (head_line version) has.0 rest has.1 (head_is_line version) has.2 (sym is ∙ has.4) in
-      inr (version, rest, subst IsLine (sym cut.1) has.3, is)
-  recovers_no_start new (Bad line) version rest can is lacks has =
+  -- the second line is bad behind so many bytes
+  before_second : (version : Version) (rest : List ℕ) → text ≡ head_line version ++ 10 ∷ rest → EndsBefore text 2 (length (text_of (head_line version ∷ [])))
+  before_second version rest is = record { before = head_line version ∷ []; rest = rest; lines = (head_is_line version, tt); parts = is ∙ sym (one_text (head_line version) [] rest); place = refl; bytes_are = refl }
+
+  pub recovers_no_start : (new : S) (version : Version) (rest : List ℕ) → CanOpen opens old → text ≡ head_line version ++ 10 ∷ rest → Lacks IsNoStart rest → HasLines text 2
+      → Recovers opens steps text old new (Bad 2 (length (text_of (head_line version ∷ []))))
+  recovers_no_start new version rest can is lacks has =
       let bad : IsFirstBad (IsAccepted opens steps old) text 2 = ends_no_start opens steps old text version rest new can is lacks in
-      subst (λ n. Recovers opens steps text old new (Bad n)) (sym has.0) (bad, whole_bad (IsAccepted opens steps old) text 2 bad has.1)
+      (bad, whole_bad (IsAccepted opens steps old) text 2 bad has, before_second version rest is)
 
   pub recovers_unopened : (version : Version) (clock : ℕ) (slots rest : List ℕ) (new : S) → CanOpen opens old → text ≡ head_line version ++ 10 ∷ (start_line clock slots ++ 10 ∷ rest) → Opens clock slots
-      → RefusesOpening opens old clock slots → Recovers opens steps text old new (Bad 2)
+      → RefusesOpening opens old clock slots → Recovers opens steps text old new (Bad 2 (length (text_of (head_line version ∷ []))))
   recovers_unopened version clock slots rest new can is fits refuses =
       let bad : IsFirstBad (IsAccepted opens steps old) text 2 = ends_unopened opens steps old text version clock slots rest new can is fits refuses in (
         bad,
         whole_bad (IsAccepted opens steps old) text 2 bad
             (two_stand text (head_line version) (start_line clock slots) (start_line clock slots ++ 10 ∷ rest) rest (head_is_line version) (start_is_line clock slots fits) is refl),
+        before_second version (start_line clock slots ++ 10 ∷ rest) is,
       )
 
   -- ---- behind the entries
   module _ (version : Version) (count : ℕ) (now : S) (rest : List ℕ) (b : Behind opens steps old text version count now rest) where
+    -- how many bytes were told
+    abbrev pub told_bytes : ℕ
+    told_bytes = length (text_of (front_lines version b.clock b.slots b.entries))
+
+    before_next : EndsBefore text (count + 3) told_bytes
+    before_next = record {
+      before = front_lines version b.clock b.slots b.entries;
+      rest = rest;
+      lines = front_is_lines version b.clock b.slots b.entries b.begins b.kept;
+      parts = b.parts;
+      place = front_length version b.clock b.slots b.entries count b.number;
+      bytes_are = refl;
+    }
+
     read_fits : Fits version (content_of b.clock b.slots b.entries)
     read_fits = record { opens = b.begins; entries = b.kept; count = omega (arith, b.number, b.few) }
 
-    cut_at : length text - length rest ≡ length (text_of (front_lines version b.clock b.slots b.entries))
+    pub cut_at : length text - length rest ≡ length (text_of (front_lines version b.clock b.slots b.entries))
     cut_at = omega (arith, ap length b.parts, length-append (text_of (front_lines version b.clock b.slots b.entries)) rest)
 
     pub recovers_ended : rest ≡ end_line count ++ 10 ∷ [] → Recovers opens steps text old now (Whole version count (length text - length rest) true)
@@ -119,18 +165,18 @@ module _ {S : Type 0} (opens : S → ℕ → List ℕ → S → Type 0) (steps :
           omega (arith, front_length version b.clock b.slots b.entries count b.number, length-append front (line ∷ [])),
         )
 
-    pub recovers_wrong : (line more : List ℕ) → IsLine line → rest ≡ line ++ 10 ∷ more → IsNeither version count line → Recovers opens steps text old now (Bad (count + 3))
+    pub recovers_wrong : (line more : List ℕ) → IsLine line → rest ≡ line ++ 10 ∷ more → IsNeither version count line → Recovers opens steps text old now (Bad (count + 3) told_bytes)
     recovers_wrong line more is e neither =
         let bad : IsFirstBad (IsAccepted opens steps old) text (count + 3) = ends_wrong opens steps old text version count now rest line more b is e neither in
-        (bad, whole_bad (IsAccepted opens steps old) text (count + 3) bad (stands line more is e))
+        (bad, whole_bad (IsAccepted opens steps old) text (count + 3) bad (stands line more is e), before_next)
 
     pub recovers_refused : (entry : Entry) (after : List ℕ) (new : S) → ((old : S) (clock : ℕ) (slots : List ℕ) (a b : S) → opens old clock slots a → opens old clock slots b → a ≡ b)
         → ((old : S) (entry : Entry) (a b : S) → steps old entry a → steps old entry b → a ≡ b) → rest ≡ entry_line entry ++ 10 ∷ after → Keeps (most_stops version) entry
-        → Refuses steps now entry → Recovers opens steps text old new (Bad (count + 3))
+        → Refuses steps now entry → Recovers opens steps text old new (Bad (count + 3) told_bytes)
     recovers_refused entry after new one_opening one_step e keeps refuses =
         let bad : IsFirstBad (IsAccepted opens steps old) text (count + 3) =
         ends_refused opens steps old text version count now rest entry after new one_opening one_step b e keeps refuses in
-        (bad, whole_bad (IsAccepted opens steps old) text (count + 3) bad (stands (entry_line entry) after (entry_is_line (most_stops version) entry keeps) e))
+        (bad, whole_bad (IsAccepted opens steps old) text (count + 3) bad (stands (entry_line entry) after (entry_is_line (most_stops version) entry keeps) e), before_next)
 
     -- no log goes on behind its end line
     ended_already : (P : Content → Type 0) (more : List ℕ) → 0 < length more → rest ≡ end_line count ++ 10 ∷ more → Begins P text → ⊥
@@ -154,9 +200,21 @@ module _ {S : Type 0} (opens : S → ℕ → List ℕ → S → Type 0) (steps :
         regroup : (front line more : List ℕ) → front ++ (line ++ 10 ∷ more) ≡ (front ++ (line ++ 10 ∷ [])) ++ more
         regroup front line more = simp append_assoc
 
-    pub recovers_after : (more : List ℕ) → 0 < length more → rest ≡ end_line count ++ 10 ∷ more → Recovers opens steps text old now (Bad (count + 4))
+    pub recovers_after : (more : List ℕ) → 0 < length more → rest ≡ end_line count ++ 10 ∷ more
+        → Recovers opens steps text old now (Bad (count + 4) (length (text_of (front_lines version b.clock b.slots b.entries ++ end_line count ∷ []))))
     recovers_after more some is =
-        (ends_after opens steps old text version count now rest more b some is, ended_already (IsAccepted opens steps old) more some is)
+        let front = front_lines version b.clock b.slots b.entries in (
+          ends_after opens steps old text version count now rest more b some is,
+          ended_already (IsAccepted opens steps old) more some is,
+          record {
+            before = front ++ end_line count ∷ [];
+            rest = more;
+            lines = all_append IsLine front (end_line count ∷ []) (front_is_lines version b.clock b.slots b.entries b.begins b.kept) (end_is_line count b.few, tt);
+            parts = b.parts ∙ ap (λ (t : List ℕ). text_of front ++ t) is ∙ one_more front (end_line count) more;
+            place = omega (arith, front_length version b.clock b.slots b.entries count b.number, length-append front (end_line count ∷ []));
+            bytes_are = refl;
+          },
+        )
 
 -- ---- what is found of a log that was cut
 

@@ -12,3 +12,5 @@ pub mod ReadReplies
 pub mod Heads
 pub mod Places
 pub mod Told
+pub mod Sources
+pub mod Behinds

@@ -6,8 +6,8 @@ ghost use Rattle.wh_log.specs.Judges.{CanOpen, Concludes};
 use crate::fault::NoMemory;
 use crate::head::Head;
 use crate::judge::Judge;
-use crate::look::{next, read_head};
-use crate::places::Place;
+use crate::look::read_head;
+use crate::tell_entries::{Stop, Told, tell_lines};
 use std::alloc::Global;
 
 /// What came of a log that a judge was told.
@@ -50,21 +50,12 @@ pub fn follow<J: Judge>(alloc: Global, judge: &mut J, text: &[u8]) -> Result<Fol
     if !judge.open(alloc, clock, slots)? {
         return Ok(Followed::Bad { line: 2 });
     }
-    let mut count: u32 = 0;
-    let mut rest = rest;
-    loop {
-        match next(alloc, version, count, rest)? {
-            Place::Next { entry, rest: after } => {
-                if !judge.step(alloc, entry)? {
-                    return Ok(bad(count, 3));
-                }
-                count += 1;
-                rest = after;
-            }
-            Place::End => return Ok(Followed::Whole { entries: count }),
-            Place::TextAfter => return Ok(bad(count, 4)),
-            Place::NoLine => return Ok(bad(count, 3)),
-            Place::WrongLine => return Ok(bad(count, 3)),
-        }
+    let Told { entries, stop, .. } = tell_lines(alloc, judge, version, 0, rest)?;
+    match stop {
+        Stop::End => Ok(Followed::Whole { entries }),
+        Stop::TextAfter => Ok(bad(entries, 4)),
+        Stop::NoLine => Ok(bad(entries, 3)),
+        Stop::WrongLine => Ok(bad(entries, 3)),
+        Stop::Refused => Ok(bad(entries, 3)),
     }
 }

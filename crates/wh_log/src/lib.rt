@@ -21,7 +21,10 @@ mod read_path;
 mod read_reply;
 mod read_words;
 mod reader;
+mod source;
+mod tell_entries;
 mod version;
+mod window;
 mod write_entry;
 mod writer;
 
@@ -35,5 +38,6 @@ pub use laws::{cuts_are_found, logs_are, replies_are};
 pub use log::Log;
 pub use pieces::{cell_piece, entry_head, path_of};
 pub use reader::{LogFault, read_log};
+pub use source::{Source, SourceFault};
 pub use version::Version;
 pub use writer::{begun_text, end_text, entries_text, log_text, written_again};

@@ -1,5 +1,5 @@
 -- Words of `replay` whose options do not go together.
-use Rattle.std.proofs.Common.{◌≡◌, List, refl, sym, ◌∙◌, Option, inl, inr, codes}
+use Rattle.std.proofs.Common.{◌≡◌, List, refl, ◌∙◌, Option, codes}
 use Rattle.wh_options.specs.Setting.{Setting, Text, value_of}
 use Rattle.wh_options.specs.Options.{IsAmiss, LacksAny, Means, WordsGive, replay_names}
 use Rattle.wh_options.specs.declared.chosen.Options.{Options}

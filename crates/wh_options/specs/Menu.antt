@@ -69,11 +69,17 @@ abbrev pub with_vehicle_rules : App → App
 with_vehicle_rules a = with_rule (with_rule (with_rule a (switch_rule (codes "vehicles")))
     (number_rule (codes "behind") 1 1000)) (number_rule (codes "ahead") 1 1000)
 
+-- the options that say how replies are told, and what follows them
+abbrev pub with_telling_rules : Choices → Choices → App → App
+with_telling_rules tails replies a = with_rule (with_rule a (choice_rule (codes "tail") tails)) (choice_rule (codes "replies") replies)
+
+-- the options that say which file keeps the log, and what is told of it
+abbrev pub with_log_rules : App → App
+with_log_rules a = with_rule (with_rule a (file_rule (codes "log"))) (number_rule (codes "told") 0 999999999)
+
 abbrev pub replay_app : Choices → Choices → Choices → App
-replay_app planners tails replies = with_vehicle_rules (with_rule (with_rule (with_rule
-    (with_rule (fleet_app (codes "replay") planners)
-    (choice_rule (codes "tail") tails)) (choice_rule (codes "replies") replies))
-    (file_rule (codes "log"))) (number_rule (codes "told") 0 999999999))
+replay_app planners tails replies =
+    with_vehicle_rules (with_log_rules (with_telling_rules tails replies (fleet_app (codes "replay") planners)))
 
 abbrev pub live_app : Choices → App
 live_app planners = with_rule (with_rule (fleet_app (codes "live") planners)
@@ -116,6 +122,22 @@ pub record IsLiveCommand (c : Command) : Type 0 where
   pub planners : Choices
   pub planner_texts : texts planners.now ≡ planner_words
   pub is : HasShape c (live_app planners)
+
+-- a command that has the subcommand `replay` besides
+pub record AddsReplay (b c : Command) : Type 0 where
+  pub planners : Choices
+  pub tails : Choices
+  pub replies : Choices
+  pub planner_texts : texts planners.now ≡ planner_words
+  pub tail_texts : texts tails.now ≡ tail_words
+  pub replies_texts : texts replies.now ≡ replies_words
+  pub is : app_of c ≡ with_subcommand (app_of b) (replay_app planners tails replies).top
+
+-- a command that has the subcommand `live` besides
+pub record AddsLive (b c : Command) : Type 0 where
+  pub planners : Choices
+  pub planner_texts : texts planners.now ≡ planner_words
+  pub is : app_of c ≡ with_subcommand (app_of b) (live_app planners).top
 
 -- the command of the program
 pub record IsMenu (a : App) : Type 0 where

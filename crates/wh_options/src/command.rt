@@ -1,7 +1,7 @@
 //! The command line as `clap` is told of it: the subcommands, their options and the help texts.
 ghost use Rattle.std.specs.Prelude.{◌≡◌, IfOk, codes, false};
-ghost use Rattle.clap.specs.Words.{App, app_of, new_app, rule_of};
-ghost use Rattle.wh_options.specs.Menu.{choice_rule, file_rule, number_rule, switch_rule, HasShape, IsFleetCommand, IsLiveCommand, IsMenu, IsReplayCommand, with_vehicle_rules};
+ghost use Rattle.clap.specs.Words.{App, app_of, new_app, rule_of, with_rule, with_subcommand};
+ghost use Rattle.wh_options.specs.Menu.{AddsLive, AddsReplay, choice_rule, file_rule, number_rule, switch_rule, HasShape, IsFleetCommand, IsLiveCommand, IsMenu, IsReplayCommand, with_log_rules, with_settings, with_telling_rules, with_vehicle_rules};
 
 use clap::builder::ValueParser;
 use clap::{Arg, ArgAction, Command};
@@ -73,6 +73,34 @@ fn plain_command<'a>(alloc: Global, name: &'a str, about: &'a str) -> Command<'a
     Command::new(alloc, name).about(about)
 }
 
+// The command with one option more, as of number_arg. Each option is made where it is added, so that nothing else is owned where
+// memory may be wanting: that keeps the proof of a command with many options short.
+fn with_number<'a>(
+    alloc: Global,
+    command: Command<'a>,
+    name: &'a str,
+    least: u64,
+    most: u64,
+    help: &'a str,
+) -> Result<Command<'a>, AllocError>
+    ensures { (a : App) → HasShape command.entry a → IfOk result (λ c. HasShape c (with_rule a (number_rule name.entry.now least most))) }
+{
+    command.arg(number_arg(alloc, name, least, most, help))
+}
+
+// The command with one option more, as of choice_arg.
+fn with_choice<'a>(
+    alloc: Global,
+    command: Command<'a>,
+    name: &'a str,
+    choices: &'a [&'a str],
+    help: &'a str,
+) -> Result<Command<'a>, AllocError>
+    ensures { (a : App) → HasShape command.entry a → IfOk result (λ c. HasShape c (with_rule a (choice_rule name.entry.now choices.entry))) }
+{
+    command.arg(choice_arg(alloc, name, choices, help))
+}
+
 // A subcommand with the options of a fleet. Defaults are named in the help texts and applied by
 // the readers of the values: clap's own would count as given.
 fn fleet_command<'a>(
@@ -82,38 +110,15 @@ fn fleet_command<'a>(
 ) -> Result<Command<'a>, AllocError>
     ensures { IfOk result (λ c. IsFleetCommand c name.entry.now) }
 {
-    let planner = choice_arg(
-        alloc,
-        "planner",
-        PLANNERS.as_slice(),
-        "Kind of each planner [default: near]",
-    );
-    let slots = number_arg(
-        alloc,
-        "slots",
-        2,
-        64,
-        "Distance fields that each planner may keep, 2 to 64 [default: 4]",
-    );
-    let bank = number_arg(
-        alloc,
-        "bank",
-        2,
-        65536,
-        "Slots that all planners share, 2 to 65536 [default: 1024]",
-    );
-    let spares = number_arg(
-        alloc,
-        "spares",
-        0,
-        16,
-        "Planners that stand by to replace others, 0 to 16 [default: 0]",
-    );
-    plain_command(alloc, name, about)
-        .arg(planner)?
-        .arg(slots)?
-        .arg(bank)?
-        .arg(spares)
+    let command = plain_command(alloc, name, about);
+    let help = "Kind of each planner [default: near]";
+    let command = with_choice(alloc, command, "planner", PLANNERS.as_slice(), help)?;
+    let help = "Distance fields that each planner may keep, 2 to 64 [default: 4]";
+    let command = with_number(alloc, command, "slots", 2, 64, help)?;
+    let help = "Slots that all planners share, 2 to 65536 [default: 1024]";
+    let command = with_number(alloc, command, "bank", 2, 65536, help)?;
+    let help = "Planners that stand by to replace others, 0 to 16 [default: 0]";
+    with_number(alloc, command, "spares", 0, 16, help)
 }
 
 // The options of vehicles behind the others of `replay`.
@@ -125,97 +130,98 @@ fn with_vehicles<'a>(alloc: Global, command: Command<'a>) -> Result<Command<'a>,
         "vehicles",
         "Vehicles carry out the plan, each at its own pace: takes `at AGENT STEP`, tells `go AGENT STEP X,Y`",
     );
-    let behind = number_arg(
+    let command = command.arg(vehicles)?;
+    let help =
+        "With --vehicles: steps that a vehicle may be behind before the clock waits, 1 to 1000 [default: 8]";
+    let command = with_number(alloc, command, "behind", 1, 1000, help)?;
+    let help = "With --vehicles: cells ahead that a vehicle may be told, 1 to 1000 [default: 1]";
+    with_number(alloc, command, "ahead", 1, 1000, help)
+}
+
+// How replies are told, and what follows them.
+fn with_telling<'a>(
+    alloc: Global,
+    command: Command<'a>,
+    tails: &'a [&'a str],
+    replies: &'a [&'a str],
+) -> Result<Command<'a>, AllocError>
+    ensures { (a : App) → HasShape command.entry a → IfOk result (λ c. HasShape c (with_telling_rules tails.entry replies.entry a)) }
+{
+    let help = "What follows the replies, behind a line %% [default: none]";
+    let command = with_choice(alloc, command, "tail", tails, help)?;
+    let help =
+        "How a reply is told: short, of a path its end; full, each cell; placed, full behind its entry's number and the clock [default: short]";
+    with_choice(alloc, command, "replies", replies, help)
+}
+
+// The file that keeps the log, and what is told of it.
+fn with_log<'a>(alloc: Global, command: Command<'a>) -> Result<Command<'a>, AllocError>
+    ensures { (a : App) → HasShape command.entry a → IfOk result (λ c. HasShape c (with_log_rules a)) }
+{
+    let log = file_arg(
         alloc,
-        "behind",
-        1,
-        1000,
-        "With --vehicles: steps that a vehicle may be behind before the clock waits, 1 to 1000 [default: 8]",
+        "log",
+        "Keeps the log of the run in FILE, and goes on from the log that FILE has",
     );
-    let ahead = number_arg(
-        alloc,
-        "ahead",
-        1,
-        1000,
-        "With --vehicles: cells ahead that a vehicle may be told, 1 to 1000 [default: 1]",
-    );
-    command.arg(vehicles)?.arg(behind)?.arg(ahead)
+    let command = command.arg(log)?;
+    let help = "With --log: tells the entries of FILE again, from this one on, before the script";
+    with_number(alloc, command, "told", 0, 999_999_999, help)
 }
 
 /// The subcommand `replay`.
 pub(crate) fn replay_command<'a>(alloc: Global) -> Result<Command<'a>, AllocError>
     ensures { IfOk result IsReplayCommand }
 {
-    let tail = choice_arg(
-        alloc,
-        "tail",
-        TAILS.as_slice(),
-        "What follows the replies, behind a line %% [default: none]",
-    );
-    let replies = choice_arg(
-        alloc,
-        "replies",
-        REPLIES.as_slice(),
-        "How a reply is told: short, of a path its end; full, each cell; placed, full behind its entry's number and the clock [default: short]",
-    );
-    let log = file_arg(
-        alloc,
-        "log",
-        "Keeps the log of the run in FILE, and goes on from the log that FILE has",
-    );
-    let told = number_arg(
-        alloc,
-        "told",
-        0,
-        999_999_999,
-        "With --log: tells the entries of FILE again, from this one on, before the script",
-    );
     let about = "Answers each command of a script (input: map, points, script)";
-    let command = fleet_command(alloc, "replay", about)?
-        .arg(tail)?
-        .arg(replies)?
-        .arg(log)?
-        .arg(told)?;
+    let command = fleet_command(alloc, "replay", about)?;
+    let command = with_telling(alloc, command, TAILS.as_slice(), REPLIES.as_slice())?;
+    let command = with_log(alloc, command)?;
     with_vehicles(alloc, command)
 }
 
 fn live_command<'a>(alloc: Global) -> Result<Command<'a>, AllocError>
     ensures { IfOk result IsLiveCommand }
 {
-    let turns = number_arg(
-        alloc,
-        "turns",
-        1,
-        100_000,
-        "Requests of each agent, and ticks of the clock, 1 to 100000 [default: 64]",
-    );
-    let journal = number_arg(
-        alloc,
-        "journal",
-        1,
-        1_000_000,
-        "Entries that the log may have, 1 to 1000000 [default: 10000]",
-    );
     let about = "Runs clients, agents and a clock in threads (input: map, points, scripts)";
-    fleet_command(alloc, "live", about)?
-        .arg(turns)?
-        .arg(journal)
+    let command = fleet_command(alloc, "live", about)?;
+    let help = "Requests of each agent, and ticks of the clock, 1 to 100000 [default: 64]";
+    let command = with_number(alloc, command, "turns", 1, 100_000, help)?;
+    let help = "Entries that the log may have, 1 to 1000000 [default: 10000]";
+    with_number(alloc, command, "journal", 1, 1_000_000, help)
 }
 
-/// The program's command line.
-pub(crate) fn warehouse_command<'a>(alloc: Global) -> Result<Command<'a>, AllocError>
-    ensures { IfOk result (λ c. IsMenu (app_of c)) }
+// The command with one subcommand more, which has no options.
+fn with_plain<'a>(
+    alloc: Global,
+    command: Command<'a>,
+    name: &'a str,
+    about: &'a str,
+) -> Result<Command<'a>, AllocError>
+    ensures { IfOk result (λ c. app_of c ≡ with_subcommand (app_of command.entry) (new_app name.entry.now).top) }
 {
-    let check = plain_command(
-        alloc,
-        "check",
-        "Tells whether the warehouse is well-formed (input: map, points)",
-    );
-    let verify = plain_command(
-        alloc,
-        "verify",
-        "Tells whether a log is a run of the warehouse (input: map, points, log)",
-    );
+    command.subcommand(plain_command(alloc, name, about))
+}
+
+// The command with the subcommand `replay`.
+fn with_replay<'a>(alloc: Global, command: Command<'a>) -> Result<Command<'a>, AllocError>
+    ensures { IfOk result (AddsReplay command.entry) }
+{
+    let replay = replay_command(alloc)?;
+    command.subcommand(replay)
+}
+
+// The command with the subcommand `live`.
+fn with_live<'a>(alloc: Global, command: Command<'a>) -> Result<Command<'a>, AllocError>
+    ensures { IfOk result (AddsLive command.entry) }
+{
+    let live = live_command(alloc)?;
+    command.subcommand(live)
+}
+
+// The program's command line before its subcommands.
+fn bare_command<'a>(alloc: Global) -> Command<'a>
+    ensures { app_of result ≡ with_settings (new_app (codes "warehouse")) }
+{
     Command::new(alloc, "warehouse")
         .about("Controls the agents of a warehouse on a grid")
         .after_help(
@@ -225,8 +231,16 @@ pub(crate) fn warehouse_command<'a>(alloc: Global) -> Result<Command<'a>, AllocE
         .subcommand_required(true)
         .version(VERSION)
         .propagate_version(true)
-        .subcommand(check)?
-        .subcommand(replay_command(alloc)?)?
-        .subcommand(verify)?
-        .subcommand(live_command(alloc)?)
+}
+
+/// The program's command line.
+pub(crate) fn warehouse_command<'a>(alloc: Global) -> Result<Command<'a>, AllocError>
+    ensures { IfOk result (λ c. IsMenu (app_of c)) }
+{
+    let about = "Tells whether the warehouse is well-formed (input: map, points)";
+    let command = with_plain(alloc, bare_command(alloc), "check", about)?;
+    let command = with_replay(alloc, command)?;
+    let about = "Tells whether a log is a run of the warehouse (input: map, points, log)";
+    let command = with_plain(alloc, command, "verify", about)?;
+    with_live(alloc, command)
 }

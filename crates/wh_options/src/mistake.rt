@@ -9,7 +9,7 @@ use clap::{ArgMatches, Error};
 use std::alloc::{AllocError, Global};
 
 /// Which option is given without the one that it belongs to.
-#[derive(Clone, Copy, Debug, PartialEq, Eq)]
+#[derive(Clone, Copy)]
 pub(crate) enum Mistake {
     /// Entries are to be told again, of no log.
     ToldWithoutLog,

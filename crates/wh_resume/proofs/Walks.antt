@@ -1,16 +1,13 @@
 -- Whole lines at the front of a text.
-use Rattle.std.proofs.Common.{◌≡◌, ◌≤◌, ◌<◌, ◌+◌, ◌-◌, ◌⊎◌, ℕ, inl, inr, List, [], ◌∷◌, ◌++◌, length, take, refl, sym, ap, ◌∙◌, subst, arith, length-append, append-nil}
+use Rattle.std.proofs.Common.{◌≡◌, ◌≤◌, ◌<◌, ◌-◌, ◌⊎◌, ℕ, inl, inr, List, [], ◌∷◌, ◌++◌, length, take, refl, sym, ap, ◌∙◌, subst, arith, length-append, append-nil}
 use Rattle.std.specs.List.{AllByRecursion}
 use Rattle.wh_points.specs.Points.{Site}
 use Rattle.wh_words.specs.Lines.{IsLine, text_of}
-use Rattle.wh_log.specs.declared.version.Version.{Version}
 use Rattle.wh_log.specs.Logs.{head_line}
-use Rattle.wh_log.specs.FirstBad.{Begins, IsFirstBad}
+use Rattle.wh_log.specs.FirstBad.{Begins}
 use Rattle.wh_log.specs.Torn.{IsUnopened}
 use Rattle.wh_log.proofs.LineLaws.{one_line, not_whole, one_text}
 use Rattle.wh_log.proofs.HeadLaws.{head_is_line}
-use Rattle.wh_log.proofs.Fronts.{all_append}
-use Rattle.wh_log.proofs.Following.{one_more}
 use Rattle.wh_resume.specs.declared.recovery.Resumed.{Resumed}
 use Rattle.wh_resume.specs.declared.recovery.Recovery.{Recovery}
 use Rattle.wh_resume.specs.declared.recovery.Recovery.TheVariants as told
@@ -33,35 +30,6 @@ fewer_lines [] (m ∷ b) x y h k is less e = not_whole x m (text_of b ++ y) is (
 fewer_lines (l ∷ a) (m ∷ b) x y h k is less e =
     let cut = one_line l m (text_of a ++ x) (text_of b ++ y) h.0 k.0 (sym (one_text l a x) ∙ e ∙ one_text m b y) in
     fewer_lines a b x y h.1 k.1 is (omega (arith, less)) cut.1
-
--- the whole lines before this one were walked over, and this is the rest
-pub record Walked (text rest : List ℕ) (line : ℕ) : Type 0 where
-  pub before : List (List ℕ)
-  pub lines : AllByRecursion IsLine before
-  pub parts : text ≡ text_of before ++ rest
-  pub place : line ≡ length before + 1
-
-pub walked_none : (text : List ℕ) → Walked text text 1
-walked_none text = record { before = []; lines = tt; parts = refl; place = refl }
-
-pub walked_line : (text rest : List ℕ) (count : ℕ) (line after : List ℕ) → Walked text rest count → IsLine line → rest ≡ line ++ 10 ∷ after → Walked text after (count + 1)
-walked_line text rest count line after w is e = record {
-  before = w.before ++ line ∷ [];
-  lines = all_append IsLine w.before (line ∷ []) w.lines (is, tt);
-  parts = w.parts ∙ ap (λ (t : List ℕ). text_of w.before ++ t) e ∙ one_more w.before line after;
-  place = omega (arith, w.place, length-append w.before (line ∷ []));
-}
-
-pub walked_all : (text rest : List ℕ) (count line : ℕ) (before : List (List ℕ)) (other : List ℕ) → Walked text rest count → line ≤ count → (1 ≤ line → count ≤ line) → AllByRecursion IsLine before → text ≡ text_of before ++ other
-    → line ≡ length before + 1 → length text - length rest ≡ length (text_of before)
-walked_all text rest count line before other w least most h e place =
-    let upper : count ≤ line = most (omega (arith, place)) in
-    let same : w.before ≡ before = same_lines w.before before rest other w.lines h (omega (arith, w.place, place, least, upper)) (sym w.parts ∙ e) in
-    omega (arith, ap length w.parts, length-append (text_of w.before) rest, ap (λ (ls : List (List ℕ)). length (text_of ls)) same)
-
-pub walked_less : (text rest : List ℕ) (count line : ℕ) (before : List (List ℕ)) (other : List ℕ) → Walked text rest count → IsLine rest → count < line → AllByRecursion IsLine before → text ≡ text_of before ++ other
-    → line ≡ length before + 1 → ⊥
-walked_less text rest count line before other w is less h e place = fewer_lines w.before before rest other w.lines h is (omega (arith, w.place, place, less)) (sym w.parts ∙ e)
 
 pub ends_before_one : (text line rest : List ℕ) → IsLine line → text ≡ line ++ 10 ∷ rest → EndsBefore text 2 (length text - length rest)
 ends_before_one text line rest is e =
@@ -115,11 +83,3 @@ front_resumed site begun other text line bytes said e (inr otherwise) three t =
 
 pub fronts_are_resumed : FrontsAreResumed
 fronts_are_resumed site begun other text line bytes said bad three t = front_resumed site begun other text line bytes said bad.0 bad.1 three t
-
-pub breaks_off : (site : Site) (begun text : List ℕ) (line bytes : ℕ) (bad : IsFirstBad (IsRunOf site) text line) → (Begins (IsRunOf site) text → ⊥)
-    → ((before : List (List ℕ)) (rest : List ℕ) → AllByRecursion IsLine before → text ≡ text_of before ++ rest → line ≡ length before + 1 → bytes ≡ length (text_of before))
-    → Tells site begun text (told.Bad line bytes)
-breaks_off site begun text line bytes bad never long = (
-  record { before = bad.before; rest = bad.rest; lines = bad.lines; parts = bad.parts; place = bad.place; bytes_are = long bad.before bad.rest bad.lines bad.parts bad.place },
-  inl (record { bad = bad; never = never }),
-)

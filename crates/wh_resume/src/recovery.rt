@@ -1,15 +1,15 @@
-//! Recovers a book from the text of a log that may have been cut.
+//! Recovers a book from a log that is read piece by piece and may have been cut.
 #![tactic(auto)]
 
 ghost use Rattle.std.specs.Prelude.{◌≡◌, ◌≤◌, IfOk, length};
 ghost use Rattle.wh_points.specs.Points.{IsLayout};
-ghost use Rattle.wh_resume.specs.Resuming.{Tells, TellsOther};
+ghost use Rattle.wh_resume.specs.Resuming.{TellsFrom, TellsOther};
 
-use crate::fronts::{is_front, length_before};
+use crate::fronts::is_front;
 use crate::keeper::{Keeper, Parts};
 use std::alloc::Global;
 use wh_judge::{Book, Instance, Setting};
-use wh_log::{Front, NoMemory, Version, follow_front};
+use wh_log::{Front, Source, SourceFault, Version, follow_front};
 use wh_words::whole_line;
 
 /// A book that goes on from what a log tells.
@@ -53,40 +53,36 @@ fn begun_otherwise(text: &[u8]) -> Recovery
 
 /// Recovers the book of the run that a log tells, as far as its lines stand whole. The log may have been cut anywhere. A text
 /// in which not even the first two lines stand whole is taken for a run that was not begun only where it is a front of the
-/// two lines that would begin it: no other file is.
+/// two lines that would begin it: no other file is. Of what is read no more is kept than the book, a piece and a line.
 ///
-/// Error: `NoMemory` where memory is wanting.
-pub fn recover(
+/// Errors: `Unread` where the log cannot be read to its end, or to its first bad line; `NoMemory`.
+pub fn recover<S: Source>(
     alloc: Global,
     setting: Setting,
     begun: &[u8],
-    text: &[u8],
-) -> Result<Recovery, NoMemory>
+    source: &mut S,
+) -> Result<Recovery, SourceFault>
     requires some { 1 ≤ length setting.layout.agents }
-    ensures { IfOk result (Tells setting begun.now text.now) }
+    ensures told { IfOk result (TellsFrom setting begun.now (S.held source.old)) }
+    ensures same { S.held source.new ≡ S.held source.old }
 {
     let _agents = setting.agents();
     let mut keeper = Keeper::new(alloc, Instance::new(setting.grid(), setting.points()))?;
-    let (version, bytes, is_ended) = match follow_front(alloc, &mut keeper, text)? {
+    let (version, bytes, is_ended) = match follow_front(alloc, &mut keeper, source)? {
         Front::Whole {
             version,
             bytes,
             is_ended,
             ..
         } => (version, bytes, is_ended),
-        Front::Unopened => {
+        Front::Unopened { text } => {
             drop(keeper);
-            if is_front(text, begun) {
+            if is_front(text.as_slice(), begun) {
                 return Ok(Recovery::Unopened(setting));
             }
-            return Ok(begun_otherwise(text));
+            return Ok(begun_otherwise(text.as_slice()));
         }
-        Front::Bad { line } => {
-            return Ok(Recovery::Bad {
-                line,
-                bytes: length_before(text, line),
-            });
-        }
+        Front::Bad { line, bytes } => return Ok(Recovery::Bad { line, bytes }),
     };
     let Parts {
         first_clock,

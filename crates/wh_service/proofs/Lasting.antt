@@ -60,14 +60,14 @@ site_at site slots text book version (Some n) starts = starts.goes_on.site_is
 pub start_site : (site : Site) (slots text : List ℕ) (start : Start) → StartsIn site slots text start → start.book.site ≡ site
 start_site site slots text start starts = site_at site slots text start.book start.version start.bytes starts
 
-starts_of : {fleet : Fleet} {site : Site} {start : Start} (file : Option (List ℕ)) → StartsFrom fleet site file start → IsStartOf file start
-starts_of {fleet} {site} {start} None from = tt
-starts_of {fleet} {site} {start} (Some held) from =
+starts_of : (fleet : Fleet) (site : Site) (start : Start) (file : Option (List ℕ)) → StartsFrom fleet site file start → IsStartOf file start
+starts_of fleet site start None from = tt
+starts_of fleet site start (Some held) from =
     (site, first_slots fleet site, subst (λ (text : List ℕ). StartsIn site (first_slots fleet site) text start) from.text_is from.starts)
 
 -- what the file was read as is what it holds
 pub start_of_file : (fleet : Fleet) (site : Site) (file held : Option (List ℕ)) (start : Start) → StartsFrom fleet site file start → held ≡ file → IsStartOf held start
-start_of_file fleet site file held start from same = subst (λ (h : Option (List ℕ)). IsStartOf h start) (sym same) (starts_of file from)
+start_of_file fleet site file held start from same = subst (λ (h : Option (List ℕ)). IsStartOf h start) (sym same) (starts_of fleet site start file from)
 
 -- a site that was read, where its grid lies elsewhere, and so does its text
 pub kept_at : {old new : Input} {layout : Layout} (floor at : Floor) (text bytes : List ℕ) → at ≡ floor → bytes ≡ text → SiteKept old new floor layout text → SiteKept old new at layout bytes

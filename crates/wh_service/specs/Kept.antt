@@ -12,7 +12,7 @@ use Rattle.wh_log.specs.Told.{Answered}
 use Rattle.wh_core.specs.Laws.{IsOpening}
 use Rattle.wh_core.specs.Steps.{Run}
 use Rattle.wh_verify.specs.Drafts.{AllServed, Seen}
-use Rattle.wh_continue.specs.Starting.{IsWhyNoStart, StartsIn}
+use Rattle.wh_continue.specs.Starting.{IsWhyNoStart, StartsByFile}
 use Rattle.wh_continue.specs.Besides.{HoldsOther, StandsBeside}
 use Rattle.wh_continue.specs.Running.{LeavesFront, Opens, RunsOn, StopsRun}
 use Rattle.wh_continue.specs.declared.beside.Beside.{Beside}
@@ -48,11 +48,9 @@ pub record IsSeated {X : Type 0} (gives : PlannerParts → Result X AllocError �
 abbrev pub first_slots : Fleet → Site → List ℕ
 first_slots fleet site = replicate (length site.layout.agents) fleet.slots
 
--- The file was read, and this is what a run of the site starts from. A file that tells its bytes was read as it was.
-pub record StartsFrom (fleet : Fleet) (site : Site) (file : Option (List ℕ)) (start : Start) : Type 0 where
-  pub text : List ℕ
-  pub text_is : IfSome file (λ held. text ≡ held)
-  pub starts : StartsIn site (first_slots fleet site) text start
+-- this is what a run of the site starts from, by the log file
+abbrev pub StartsFrom : Fleet → Site → (file : Option (List ℕ)) → Start → Type 0
+StartsFrom fleet site file start = StartsByFile site (first_slots fleet site) file start
 
 -- the file beside the log: what it told before and tells after, what of that was synced, and whether a call of it has failed
 pub record Siding : Type 0 where
@@ -136,8 +134,7 @@ IsWhyAside beside text _ = ⊥
 -- Why no run starts over the log of a site that was read: it was not to be read, or its text is none that a run goes on from,
 -- or memory was wanting.
 abbrev pub IsWhyNotStarted : Fleet → Site → Option (List ℕ) → Trouble → Type 0
-IsWhyNotStarted fleet site file (trouble.Log line) =
-    (text : List ℕ) × IfSome file (λ held. text ≡ held) × IsWhyNoStart site (first_slots fleet site) text (started.Bad line)
+IsWhyNotStarted fleet site file (trouble.Log line) = IsWhyNoStart site (first_slots fleet site) file (started.Bad line)
 IsWhyNotStarted fleet site file trouble.Unkept = Unit {0}
 IsWhyNotStarted fleet site file trouble.NoMemory = Unit {0}
 IsWhyNotStarted fleet site file _ = ⊥

@@ -18,8 +18,8 @@ use std::io::{Read, Write};
 use std::sync::Arc;
 use wh_claims::Bank;
 use wh_continue::{
-    Beside, BesideFault, ContinueFault, JournaledFault, KeepFault, LogFile, LogFileFault, RunFault,
-    Setting, Start, StartFault, find_start, keep_beside, look_beside, run_on,
+    Beside, BesideFault, ContinueFault, JournaledFault, KeepFault, LogFile, RunFault, Setting,
+    Start, StartFault, find_start, keep_beside, look_beside, run_on,
 };
 use wh_edge::{KeptSite, Site, Trouble, read_kept_site};
 use wh_grid::Grid;
@@ -106,7 +106,7 @@ fn look_aside<L: LogFile>(alloc: Global, beside: &mut L, text: &[u8]) -> Result<
     }
 }
 
-/// What the log's text lets a run of the site start from.
+/// What the log file lets a run of the site start from.
 fn start_over<L: LogFile>(
     alloc: Global,
     file: &mut L,
@@ -122,16 +122,12 @@ fn start_over<L: LogFile>(
     ensures fault { IfErr result (IsWhyNotStarted fleet.now (record { grid = arc_value grid.now; layout = points }) (L.contents file.old)) }
     ensures same { L.contents file.new ≡ L.contents file.old }
 {
-    let text = match file.text(alloc) {
-        Ok(text) => text,
-        Err(LogFileFault::Unread) => return Err(Trouble::Unkept),
-        Err(LogFileFault::NoMemory) => return Err(Trouble::NoMemory),
-    };
     let each = vec![in alloc; fleet.slots; points.agents().len()]?;
     let setting = Setting::new(Arc::try_clone(grid)?, points);
-    match find_start(alloc, setting, each, text.as_slice()) {
+    match find_start(alloc, setting, each, file) {
         Ok(start) => Ok(start),
         Err(StartFault::Bad { line }) => Err(Trouble::Log { line }),
+        Err(StartFault::Unread) => Err(Trouble::Unkept),
         Err(StartFault::NoMemory) => Err(Trouble::NoMemory),
     }
 }

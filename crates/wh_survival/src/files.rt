@@ -5,6 +5,7 @@ use std::fs;
 use std::path::Path;
 use std::test::*;
 use wh_journal::{FileJournal, Journal, LogFile, LogFileFault};
+use wh_log::{Source, SourceFault};
 
 const TEXT: &[u8] = b"one\ntwo\nthr";
 
@@ -25,6 +26,25 @@ fn tells(alloc: Global, journal: &mut FileJournal<'_, HostRuntime>, bytes: &[u8]
         Ok(text) => text.as_slice() == bytes,
         Err(_) => false,
     }
+}
+
+/// Whether these bytes are what a journal tells piece by piece.
+fn tells_in_pieces(
+    alloc: Global,
+    journal: &mut FileJournal<'_, HostRuntime>,
+    bytes: &[u8],
+) -> bool {
+    let mut told = Vec::new(alloc);
+    for _ in 0..100 {
+        let place = told.len();
+        if journal.add_piece(place, &mut told).is_err() {
+            return false;
+        }
+        if told.len() == place {
+            return told.as_slice() == bytes;
+        }
+    }
+    false
 }
 
 fn is_unread(alloc: Global, journal: &mut FileJournal<'_, HostRuntime>) -> bool {
@@ -96,4 +116,34 @@ fn made_or_written_meanwhile(rt: HostRuntime) -> Result<(), Fail> {
     assert!(rt; second.cut(4).is_err());
     assert!(rt; holds(&rt, path, b"one\n")?);
     Ok(fs::remove_dir_all(&rt, "survival_meanwhile")?)
+}
+
+#[test]
+fn read_piece_by_piece(rt: HostRuntime) -> Result<(), Fail> {
+    let alloc = rt.alloc();
+    make_folder(&rt, "survival_pieces")?;
+    let path = Path::new("survival_pieces/run.log");
+    assert!(rt; tells_in_pieces(alloc, &mut FileJournal::new(&rt, path), b""));
+    assert!(rt; !fs::exists(&rt, path)?);
+    let mut text = Vec::new(alloc);
+    for _ in 0..10_000 {
+        text.extend_from_slice(TEXT)?;
+    }
+    fs::write(&rt, path, text.as_slice())?;
+    let mut first = FileJournal::new(&rt, path);
+    assert!(rt; tells_in_pieces(alloc, &mut first, text.as_slice()));
+    // locked by the first
+    let mut second = FileJournal::new(&rt, path);
+    let mut none = Vec::new(alloc);
+    assert!(rt; second.add_piece(0, &mut none) == Err(SourceFault::Unread));
+    assert!(rt; none.is_empty());
+    // it goes on behind what was read
+    assert!(rt; first.cut(70_000).is_ok());
+    assert!(rt; first.append(TEXT).is_ok());
+    assert!(rt; first.sync().is_ok());
+    text.truncate(70_000);
+    text.extend_from_slice(TEXT)?;
+    assert!(rt; holds(&rt, path, text.as_slice())?);
+    assert!(rt; tells_in_pieces(alloc, &mut first, text.as_slice()));
+    Ok(fs::remove_dir_all(&rt, "survival_pieces")?)
 }

@@ -163,7 +163,7 @@ fn survives(rt: HostRuntime) -> Result<(), Fail> {
         };
         let places = points(alloc, &map)?;
         let setting = Setting::new(over, places);
-        let Ok(found) = recover(alloc, setting, head.as_slice(), &held[..cut]) else {
+        let Ok(found) = recover(alloc, setting, head.as_slice(), &mut &held[..cut]) else {
             return Err("there is memory")?;
         };
         match found {

@@ -1,15 +1,14 @@
 //! What tells how far a cell is.
 #![tactic(auto)]
 
-ghost use Rattle.std.specs.Prelude.{◌≡◌, ℕ, ◌<◌, ◌≤◌, ◌⊎◌, ◌↔◌, Bool, false, IsTrue, IfSome, IfNone, OnOk, OnErr, Some};
+ghost use Rattle.std.specs.Prelude.{◌≡◌, ℕ, ◌<◌, ◌≤◌, ◌⊎◌, ◌↔◌, Bool, false, IsTrue, IfSome, IfNone, Some};
 ghost use Rattle.wh_grid.specs.Grids.{Floor};
 ghost use Rattle.wh_grid.specs.declared.cell.Cell.{Cell as Place};
 ghost use Rattle.wh_field.specs.Distances.{IsDistance, IsDistanceToFirst};
 ghost use Rattle.wh_field.specs.Lazy.{is_sought};
 
-use std::alloc::{AllocError, Global};
 use wh_field::LazyField;
-use wh_grid::{Cell, Grid};
+use wh_grid::Cell;
 
 /// Tells the distance from one cell to every other, as a distance field does, and to the nearest of some cells that are
 /// sought. What it tells stays the same; it may note what it has found.
@@ -19,13 +18,6 @@ pub trait Distances {
     ghost source: { Self → Place };
 
     ghost sought: { Self → Place → Bool };
-
-    /// The least number of steps of a walk to the cell; None where no walk leads there.
-    fn dist(&mut self, to: Cell) -> Option<u32>
-        ensures grid { grid self.new ≡ grid self.old }
-        ensures source { source self.new ≡ source self.old }
-        ensures sought { (c : Place) → sought self.new c ≡ sought self.old c }
-        ensures distance { IsDistance (grid self.old) (source self.old) to result };
 
     /// The distance of a cell where it is at most the limit; None where it is greater, or no walk leads there. What lies
     /// beyond the limit need not be looked at.
@@ -55,13 +47,6 @@ pub trait Distances {
         ensures source { source self.new ≡ source self.old }
         ensures sought { (c : Place) → sought self.new c ≡ sought self.old c }
         ensures distance { IsDistanceToFirst (grid self.old) (source self.old) (sought self.old) result };
-
-    /// From now on it tells the distances from this cell, on the same grid. Want of memory changes nothing.
-    fn turn(&mut self, alloc: Global, on: &Grid, from: Cell) -> Result<(), AllocError>
-        requires { grid self.old ≡ on.now }
-        ensures grid { grid self.new ≡ grid self.old }
-        ensures source { OnOk result (source self.new ≡ from) }
-        ensures kept { OnErr result (source self.new ≡ source self.old) };
 }
 
 /// It is filled only as far as asked.
@@ -71,10 +56,6 @@ impl Distances for LazyField {
     ghost source = { λ f. f.cell };
 
     ghost sought = { λ f. is_sought f };
-
-    fn dist(&mut self, to: Cell) -> Option<u32> {
-        LazyField::dist(self, to)
-    }
 
     fn within(&mut self, to: Cell, limit: u32) -> Option<u32> {
         LazyField::within(self, to, limit)
@@ -90,13 +71,5 @@ impl Distances for LazyField {
 
     fn first_sought(&mut self) -> Option<u32> {
         LazyField::first_sought(self)
-    }
-
-    /// It takes no memory.
-    fn turn(&mut self, alloc: Global, on: &Grid, from: Cell) -> Result<(), AllocError> {
-        let _ = alloc;
-        let _ = on;
-        self.again(from);
-        Ok(())
     }
 }

@@ -17,7 +17,6 @@ can_stay Change.Shut s before after more can = can
 
 pub stays_ready : (old new : Seen) → IsSame old new → old.entry_room ≤ new.entry_room → old.task_room ≤ new.task_room → StaysReady old new
 stays_ready old new same entries tasks draft ready = record {
-  told = ready.told;
   step = λ state changes.
       let step : Step old.site old.state draft.entry state = ready.step state (subst (λ (s : State). Changes draft.change s state) same.state changes) in
       subst (λ (site : Site). Step site new.state draft.entry state) (sym same.site) (subst (λ (s : State). Step old.site s draft.entry state) (sym same.state) step);

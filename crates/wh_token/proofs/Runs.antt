@@ -4,9 +4,11 @@ use Rattle.std.proofs.lemmas.List.{take_more}
 use Rattle.wh_core.specs.States.{State, arrived, moved}
 use Rattle.wh_grid.specs.Grids.{Floor}
 use Rattle.wh_points.specs.Points.{Site}
-use Rattle.wh_core.specs.Steps.{Run, Answers, last_clock}
-use Rattle.wh_book.specs.Drafts.{Seen, ticked}
+use Rattle.wh_core.specs.Steps.{Step, Run, Answers, last_clock}
+use Rattle.wh_book.specs.Drafts.{Seen, IsSame, ticked}
 use Rattle.wh_book.proofs.Kept.{step-ticked}
+use Rattle.wh_token.specs.Commands.{event_of}
+use Rattle.wh_token.specs.Fleet.{TellsFor, TellsSpare}
 use Rattle.wh_token.specs.Houses.{StaysAt}
 use Rattle.wh_token.specs.Runs.{Moves, Ran, RunsOne, entries_of}
 use Rattle.wh_event.specs.declared.event.Command.{Command}
@@ -111,6 +113,49 @@ moved-at-once fits count caller agent reply old spares new false answers same st
   moves = (same, refl);
   stays = stays;
 }
+
+-- a request that is not answered at once, where there was memory for its entry
+pub moved-by-choice : {X : Type 0} (fits : X → Floor → Bool) (count : X → ℕ) (caller agent : ℕ) (entry : Entry) (old : Seen) (spares : List X) (new : Seen) →
+    entry.caller ≡ caller → entry.event ≡ Event.Request agent → Step old.site old.state entry new.state → StaysAt old new → new.history ≡ old.history ++ entry ∷ [] →
+    RunsOne fits count caller (Command.Token agent) true old spares new spares
+moved-by-choice {X} fits count caller agent entry old spares new caller_is event_is step stays history =
+    let none : Option X = None in
+    record {
+      outcome = Some entry;
+      added_is = refl;
+      history = history;
+      moves = (
+        caller_is,
+        step,
+        (Spare.None, event_is),
+        record {
+          last = λ wants. absurd wants;
+          other = λ unwanted. refl;
+          none_told = λ unwanted. subst (λ (e : Event). TellsFor fits count old.site.grid none e) (sym event_is) tt;
+        },
+      );
+      stays = stays;
+    }
+
+-- a command that added no entry
+pub moved-none : {X : Type 0} (fits : X → Floor → Bool) (count : X → ℕ) (caller : ℕ) (command : Command) (old : Seen) (spares : List X) (new : Seen) →
+    IsSame old new → RunsOne fits count caller command false old spares new spares
+moved-none fits count caller command old spares new same = record {
+  outcome = None;
+  added_is = refl;
+  history = same.history ∙ sym (append-nil old.history);
+  moves = (same.state, refl);
+  stays = record { site = same.site; opening = same.opening };
+}
+
+-- what the event of a command tells of the spare that was looked at
+pub tells_of : {X : Type 0} (fits : X → Floor → Bool) (count : X → ℕ) (grid : Floor) (handed : Option X) (command : Command) (told : Spare) (event : Event) →
+    TellsSpare fits count grid handed told → event ≡ event_of command told → TellsFor fits count grid handed event
+tells_of fits count grid handed (Command.Submit client stops) told event tells is = subst (λ (e : Event). TellsFor fits count grid handed e) (sym is) tt
+tells_of fits count grid handed (Command.Token agent) told event tells is = subst (λ (e : Event). TellsFor fits count grid handed e) (sym is) tt
+tells_of fits count grid handed Command.Tick told event tells is = subst (λ (e : Event). TellsFor fits count grid handed e) (sym is) tt
+tells_of fits count grid handed (Command.Replace agent) told event tells is = subst (λ (e : Event). TellsFor fits count grid handed e) (sym is) tells
+tells_of fits count grid handed Command.Close told event tells is = subst (λ (e : Event). TellsFor fits count grid handed e) (sym is) tt
 
 -- a tick at once, where there was memory for its entry
 pub moved-by-tick : {X : Type 0} (fits : X → Floor → Bool) (count : X → ℕ) (caller : ℕ) (old : Seen) (spares : List X) (new : Seen) (added : Bool) →

@@ -26,7 +26,7 @@ pub record IsFirstForeign {X : Type 0} (fits : X → Floor → Bool) (grid : Flo
   pub foreign : fits planner grid ≡ false
   pub earlier : (k : ℕ) (other : X) → k < agent → slice_get planners k ≡ Some other → fits other grid ≡ true
 
--- Why a warehouse is not opened: a wrong count comes first, then the first planner of another map, then want of memory.
+-- Why a warehouse is not opened: a wrong count comes first, then the first planner of another map, then out of memory.
 abbrev pub RefusesToOpen : {X : Type 0} → (X → Floor → Bool) → Floor → List X → ℕ → OpenFault → Type 0
 RefusesToOpen fits grid planners agents OpenFault.WrongCount = length planners ≢ agents
 RefusesToOpen fits grid planners agents (OpenFault.Foreign agent) = (length planners ≡ agents) × IsFirstForeign fits grid planners agent
@@ -44,7 +44,7 @@ pub record IsFirstOther {X : Type 0} (count : X → ℕ) (planners : List X) (sl
   pub earlier : (k : ℕ) (other : X) → k < agent → slice_get planners k ≡ Some other → count other ≡ slice_index slots k
 
 -- Why a warehouse does not go on: a wrong count comes first, then the first planner of another map, then the first with
--- other slots, then want of memory.
+-- other slots, then out of memory.
 abbrev pub RefusesToResume : {X : Type 0} → (X → Floor → Bool) → (X → ℕ) → Floor → List X → List ℕ → ResumeFault → Type 0
 RefusesToResume fits count grid planners slots ResumeFault.WrongCount = length planners ≢ length slots
 RefusesToResume fits count grid planners slots (ResumeFault.Foreign agent) =

@@ -9,7 +9,7 @@ ghost use Rattle.wh_token.specs.Fleet.{replaced_agent};
 use std::alloc::{AllocError, Global};
 use wh_event::{Command, Entry, Event, KeptStops, Reply, Spare};
 
-/// The event of the command, with what is told of the spare planner. The stops of a task want memory.
+/// The event of the command, with what is told of the spare planner. The stops of a task take memory.
 pub(crate) fn event_of(alloc: Global, command: Command, told: Spare) -> Result<Event, AllocError>
     ensures { IfOk result (λ event. event ≡ commands.event_of command told) }
 {

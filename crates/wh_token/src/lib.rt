@@ -2,8 +2,10 @@
 #![tactic(auto)]
 
 mod command;
+mod ready;
 mod roster;
 mod warehouse;
 
+pub use ready::{Committed, NoMemory, Ran, Ready};
 pub use roster::{OpenFault, ResumeFault};
-pub use warehouse::{Committed, NoMemory, Ran, Ready, Warehouse};
+pub use warehouse::Warehouse;

@@ -13,6 +13,7 @@ ghost use Rattle.wh_event.specs.declared.reply.Reply.{Reply as Answer};
 ghost use Rattle.wh_event.specs.declared.reply.Refusal.{Refusal as Reason};
 ghost use Rattle.wh_event.specs.declared.entry.Entry.{Entry as Line};
 ghost use Rattle.wh_event.specs.declared.event.Spare.{Spare as Told};
+ghost use Rattle.wh_event.specs.declared.event.Command.{Command as Asks};
 ghost use Rattle.wh_ledger.specs.Ledgers.{rows_of};
 ghost use Rattle.wh_planner.specs.Duties.{IsLawful, HasNoClearWay, Delivers, ParksAt};
 ghost use Rattle.wh_core.specs.States.{opened, arrived, moved};
@@ -26,6 +27,7 @@ ghost use Rattle.wh_token.specs.Houses.{StaysAt};
 ghost use Rattle.wh_token.specs.Runs.{RunsOne, Ran as RanBy, WantsSpare, entries_of};
 
 use crate::command::{event_of, leaves_quiet, replaced};
+use crate::ready::{Committed, NoMemory, Ran, Ready};
 use crate::roster::{OpenFault, ResumeFault, fields_over, first_foreign, outfit, slots_of};
 use std::alloc::{AllocError, Global};
 use std::marker::Model;
@@ -70,7 +72,7 @@ impl<P: Planner> Model for Warehouse<P> {
 
 impl<P: Planner> Warehouse<P> {
     /// The warehouse in its opening state, at a clock of at most 1,000,000,000, with one planner for each agent, in the
-    /// agents' order. It refuses a wrong count of planners, then the first planner of another map, then wants memory;
+    /// agents' order. It refuses a wrong count of planners, then the first planner of another map, then it is out of memory;
     /// on a refusal what was handed in is dropped.
     pub fn open(
         alloc: Global,
@@ -133,11 +135,10 @@ impl<P: Planner> Warehouse<P> {
 
     /// The warehouse that goes on from the book's state, with one planner for each agent, in the agents' order, each with
     /// the slots that the state tells. It refuses a wrong count of planners, then the first planner of another map, then
-    /// the first with other slots, then wants memory; on a refusal what was handed in is dropped.
+    /// the first with other slots, then it is out of memory; on a refusal what was handed in is dropped.
     pub fn resume(alloc: Global, book: Book, planners: Vec<P>) -> Result<Warehouse<P>, ResumeFault>
         ensures book { IfOk result (λ w. w.book ≡ book) }
         ensures planners { IfOk result (λ w. w.planners ≡ planners.items) }
-        ensures tied { IfOk result (λ w. IsTied P.fits_map P.slot_count book.site.grid w.planners w.book.state.slots) }
         ensures refused { IfErr result (RefusesToResume P.fits_map P.slot_count book.site.grid planners.items book.state.slots) }
     {
         let (near, fields) = outfit(alloc, &book, planners.as_slice())?;
@@ -220,7 +221,7 @@ impl<P: Planner> Warehouse<P> {
         self.book.tasks().task(n)
     }
 
-    /// What the tasks of each client have come to, in one pass over the tasks. The error is want of memory.
+    /// What the tasks of each client have come to, in one pass over the tasks. The error is out of memory.
     pub fn ledger(&self, alloc: Global) -> Result<DeliveryLedger, AllocError>
         ensures { IfOk result (λ ledger. ledger ≡ rows_of self.now.book.state.tasks) }
     {
@@ -347,7 +348,7 @@ impl<P: Planner> Warehouse<P> {
             Ok(path) => self.book.draft_took(alloc, caller, agent, task, path),
             Err(PlanFault::NoPath) => {
                 let event = Event::Request { agent };
-                self.book.refuse(alloc, caller, event, Refusal::NoPath)
+                Ok(self.book.refuse(caller, event, Refusal::NoPath))
             }
             Err(PlanFault::NoMemory) => Err(AllocError),
         }
@@ -373,7 +374,7 @@ impl<P: Planner> Warehouse<P> {
             Ok(path) => self.book.draft_parked(alloc, caller, agent, path),
             Err(PlanFault::NoPath) => {
                 let event = Event::Request { agent };
-                self.book.refuse(alloc, caller, event, Refusal::NoPath)
+                Ok(self.book.refuse(caller, event, Refusal::NoPath))
             }
             Err(PlanFault::NoMemory) => Err(AllocError),
         }
@@ -427,7 +428,7 @@ impl<P: Planner> Warehouse<P> {
         let here = self.book.paths()[agent as usize].start();
         if !self.book.tasks().delivers_at(here) {
             let event = Event::Request { agent };
-            return self.book.draft_answer(alloc, caller, event, Reply::Rested);
+            return Ok(self.book.draft_answer(caller, event, Reply::Rested));
         }
         let allowed = self.book.allowed(alloc, agent)?;
         self.draft_parking(alloc, caller, agent, allowed.as_slice())
@@ -444,7 +445,7 @@ impl<P: Planner> Warehouse<P> {
         match self.answer_at_once(agent) {
             Some(reply) => {
                 let event = Event::Request { agent };
-                self.book.draft_answer(alloc, caller, event, reply)
+                Ok(self.book.draft_answer(caller, event, reply))
             }
             None => self.draft_choice(alloc, caller, agent),
         }
@@ -468,22 +469,41 @@ impl<P: Planner> Warehouse<P> {
         self.book.reserve_entry()?;
         if self.book.closed() {
             let event = event_of(alloc, command, told)?;
-            return self.book.refuse(alloc, caller, event, Refusal::Closed);
+            return Ok(self.book.refuse(caller, event, Refusal::Closed));
         }
         match command {
             Command::Submit { client, stops } => self
                 .book
                 .draft_submit(alloc, caller, client, stops),
             Command::Token { agent } => self.draft_request(alloc, caller, agent),
-            Command::Tick => self.book.draft_tick(alloc, caller),
-            Command::Replace { agent } => self.book.draft_replace(alloc, caller, agent, told),
-            Command::Close => self.book.draft_close(alloc, caller),
+            Command::Tick => Ok(self.book.draft_tick(caller)),
+            Command::Replace { agent } => Ok(self.book.draft_replace(caller, agent, told)),
+            Command::Close => Ok(self.book.draft_close(caller)),
         }
+    }
+
+    /// The same, with a copy of its entry for the caller.
+    #[tactic(auto, using(crate::proofs::Readied::stays_ready))]
+    fn draft_and_copy(
+        &mut self,
+        alloc: Global,
+        caller: u32,
+        command: Command,
+        told: Spare,
+    ) -> Result<(Draft, Entry), AllocError>
+        ensures same { IsSame self.old.book self.new.book }
+        ensures stays { StaysReady self.old.book self.new.book }
+        ensures drafts { IfOk result (λ both. Drafts self.new.book caller (event_of command told) both.0) }
+        ensures told { IfOk result (λ both. both.1 ≡ both.0.entry) }
+        ensures still { StaySeated command self.old.planners self.new.planners }
+    {
+        let draft = self.draft(alloc, caller, command, told)?;
+        let told = draft.entry.copy(alloc)?;
+        Ok((draft, told))
     }
 
     /// Plans and makes every growth; the state and the history stay. What was prepared before, and is neither committed nor
     /// withdrawn, may be committed still.
-    #[tactic(auto, using(crate::proofs::Readied::stays_ready))]
     pub fn prepare(
         &mut self,
         alloc: Global,
@@ -501,8 +521,8 @@ impl<P: Planner> Warehouse<P> {
         ensures still { StaySeated command self.old.planners self.new.planners }
     {
         let told = self.tell(&spare);
-        match self.draft(alloc, caller, command, told) {
-            Ok(draft) => Ok(Ready { draft, spare }),
+        match self.draft_and_copy(alloc, caller, command, told) {
+            Ok((draft, told)) => Ok(Ready { draft, told, spare }),
             Err(AllocError) => Err((NoMemory, spare)),
         }
     }
@@ -519,30 +539,29 @@ impl<P: Planner> Warehouse<P> {
         ensures seats { length self.old.planners ≡ length self.old.book.state.paths }
         ensures swaps { Swaps (replaced_agent result.entry) self.old.planners ready.spare self.new.planners result.back }
     {
-        let Ready { draft, spare } = ready;
-        self.commit_draft(draft, spare)
+        let Ready { draft, told, spare } = ready;
+        let back = self.commit_draft(draft, spare);
+        Committed { entry: told, back }
     }
 
-    /// Commits a draft, for which this planner was handed in.
-    fn commit_draft(&mut self, draft: Draft, spare: Option<P>) -> Committed<P>
+    /// Commits a draft, for which this planner was handed in, and returns the planner that is left over.
+    fn commit_draft(&mut self, draft: Draft, spare: Option<P>) -> Option<P>
         requires ready { IsReady self.old.book draft }
         requires tells { TellsFor P.fits_map P.slot_count self.old.book.site.grid spare draft.entry.event }
-        ensures entry { result.entry ≡ draft.entry }
         ensures stays { StaysAt self.old.book self.new.book }
-        ensures history { self.new.book.history ≡ self.old.book.history ++ result.entry ∷ [] }
-        ensures step { Step self.old.book.site self.old.book.state result.entry self.new.book.state }
-        ensures served { IsFormed self.old.book.site → result.entry.reply ≢ Answer.Refused Reason.NoPath }
+        ensures history { self.new.book.history ≡ self.old.book.history ++ draft.entry ∷ [] }
+        ensures step { Step self.old.book.site self.old.book.state draft.entry self.new.book.state }
+        ensures served { IsFormed self.old.book.site → draft.entry.reply ≢ Answer.Refused Reason.NoPath }
         ensures seats { length self.old.planners ≡ length self.old.book.state.paths }
-        ensures swaps { Swaps (replaced_agent result.entry) self.old.planners spare self.new.planners result.back }
+        ensures swaps { Swaps (replaced_agent draft.entry) self.old.planners spare self.new.planners result }
     {
         let agent = replaced(&draft.entry);
         self.quiet = self.quiet && leaves_quiet(&draft.entry.reply);
-        let entry = self.book.commit(draft);
-        let back = swap(&mut self.planners, agent, spare);
-        Committed { entry, back }
+        self.book.commit(draft);
+        swap(&mut self.planners, agent, spare)
     }
 
-    /// Drafts and commits at once.
+    /// Prepares and commits at once.
     pub fn step(
         &mut self,
         alloc: Global,
@@ -561,10 +580,9 @@ impl<P: Planner> Warehouse<P> {
         ensures swaps { IfOk result (λ done. ((mid : List P) × StaySeated command self.old.planners mid × Swaps (replaced_agent done.entry) mid spare self.new.planners done.back)) }
         ensures still { IfErr result (λ _. StaySeated command self.old.planners self.new.planners) }
     {
-        let told = self.tell(&spare);
-        match self.draft(alloc, caller, command, told) {
-            Ok(draft) => Ok(self.commit_draft(draft, spare)),
-            Err(AllocError) => Err((NoMemory, spare)),
+        match self.prepare(alloc, caller, command, spare) {
+            Ok(ready) => Ok(self.commit(ready)),
+            Err(fault) => Err(fault),
         }
     }
 
@@ -619,8 +637,25 @@ impl<P: Planner> Warehouse<P> {
         true
     }
 
+    /// Answers a request by a due agent, which may have a task or may have to make way: whether there was memory for it.
+    fn add_choice(&mut self, alloc: Global, caller: u32, agent: u32) -> bool
+        requires due { IsDue self.old.book.state agent }
+        ensures runs { (spares : List P) → RunsOne P.fits_map P.slot_count caller (Asks.Token agent) result self.old.book spares self.new.book spares }
+    {
+        if self.book.reserve_entry().is_err() {
+            return false;
+        }
+        match self.draft_choice(alloc, caller, agent) {
+            Ok(draft) => {
+                let _none = self.commit_draft(draft, None);
+                true
+            }
+            Err(AllocError) => false,
+        }
+    }
+
     /// Runs a command, and a Replace of a known agent takes the last spare: whether it added an entry. With none it was
-    /// refused for want of memory, and the spare goes back to its place.
+    /// refused, out of memory, and the spare goes back to its place.
     pub fn run_event(
         &mut self,
         alloc: Global,
@@ -633,14 +668,14 @@ impl<P: Planner> Warehouse<P> {
         match command {
             Command::Token { agent } => match self.answer_at_once(*agent) {
                 Some(reply) => self.add_answer(caller, *agent, reply),
-                None => self.run_step(alloc, caller, command, spares),
+                None => self.add_choice(alloc, caller, *agent),
             },
             Command::Tick if self.may_tick() => self.add_tick(caller),
             _ => self.run_step(alloc, caller, command, spares),
         }
     }
 
-    /// Runs a command by a step. It stays a function of its own, since a command has room for nine names, and where none is
+    /// Runs a command by a draft. It stays a function of its own, since a command has room for nine names, and where none is
     /// copied it is not even cleared.
     #[inline(never)]
     fn run_step(
@@ -654,12 +689,13 @@ impl<P: Planner> Warehouse<P> {
     {
         let wants = self.wants_spare(command);
         let spare = if wants { spares.pop() } else { None };
-        match self.step(alloc, caller, command.copy(), spare) {
-            Ok(done) => {
-                drop(done);
+        let told = self.tell(&spare);
+        match self.draft(alloc, caller, command.copy(), told) {
+            Ok(draft) => {
+                drop(self.commit_draft(draft, spare));
                 true
             }
-            Err((NoMemory, spare)) => {
+            Err(AllocError) => {
                 if let Some(planner) = spare {
                     spares.push_reserved(planner);
                 }
@@ -713,55 +749,4 @@ fn swap<P>(planners: &mut Vec<P>, replaced: Option<u32>, spare: Option<P>) -> Op
         }
         (_, spare) => spare,
     }
-}
-
-/// How many commands added an entry, and how many were refused for memory.
-#[derive(Clone, Copy, Debug, PartialEq, Eq)]
-pub struct Ran {
-    pub entries: u64,
-    pub starved: u64,
-}
-
-/// A growth was refused.
-#[derive(Clone, Copy, Debug, PartialEq, Eq)]
-pub struct NoMemory;
-
-/// An event that is ready to be committed, and the box that was handed in with it.
-#[derive(Drop)]
-pub struct Ready<P = Box<dyn Planner>> {
-    draft: Draft,
-    spare: Option<P>,
-}
-
-impl<P> Model for Ready<P> {
-    ghost use Rattle.wh_token.specs.Houses.{Prepared};
-
-    ghost Value = { Prepared P };
-
-    ghost view = { λ r. record { draft = r.draft; spare = r.spare } };
-}
-
-impl<P: Drop> Ready<P> {
-    /// The entry that the commit will add.
-    pub fn entry(&self) -> &Entry
-        ensures { result.now ≡ self.now.draft.entry }
-    {
-        &self.draft.entry
-    }
-
-    /// Gives the box back; nothing is committed.
-    pub fn withdraw(self) -> Option<P>
-        ensures { result ≡ self.spare }
-    {
-        let Ready { draft, spare } = self;
-        drop(draft);
-        spare
-    }
-}
-
-/// The entry that was added, and the box that is not in the warehouse.
-#[derive(Drop)]
-pub struct Committed<P = Box<dyn Planner>> {
-    pub entry: Entry,
-    pub back: Option<P>,
 }

@@ -61,39 +61,55 @@ fn fault_of(line: &[u8]) -> Option<LineFault> {
     read_line(line).err()
 }
 
-#[test]
-fn commands(rt: HostRuntime) {
-    assert!(rt; submits(b"submit x A B", b"x", &[b"A", b"B"]));
-    let eight: [&[u8]; 8] = [b"A", b"B", b"C", b"D", b"E", b"F", b"G", b"H"];
-    assert!(rt; submits(b"\t submit  x\tA B C D E F G H ", b"x", eight.as_slice()));
-    for (line, agent) in [
-        (b"token 0".as_slice(), (true, 0)),
-        (b"token 000000007", (true, 7)),
-        (b"replace 999999999", (false, 999_999_999)),
-    ] {
-        assert!(rt; agent_of(line) == Some(agent));
-    }
-    assert!(rt; ticks(b"tick") && closes(b"close "));
+/// Eight stops, the most that a task has.
+const EIGHT: [&[u8]; 8] = [b"A", b"B", b"C", b"D", b"E", b"F", b"G", b"H"];
+
+/// Whether tasks of two and of eight stops are read, also between blanks.
+fn tasks_are_read() -> bool {
+    submits(b"submit x A B", b"x", &[b"A", b"B"])
+        && submits(b"\t submit  x\tA B C D E F G H ", b"x", EIGHT.as_slice())
+}
+
+/// Whether the numbers of agents are read.
+fn agents_are_read() -> bool {
+    agent_of(b"token 0") == Some((true, 0))
+        && agent_of(b"token 000000007") == Some((true, 7))
+        && agent_of(b"replace 999999999") == Some((false, 999_999_999))
 }
 
 #[test]
-fn skipped_and_refused_lines(rt: HostRuntime) {
-    for line in [b"".as_slice(), b" \t ", b"# note", b"  #submit x A B"] {
+fn commands(rt: HostRuntime) {
+    assert!(rt; tasks_are_read() && agents_are_read() && ticks(b"tick") && closes(b"close "));
+}
+
+/// Lines that are no command, and no fault.
+const SKIPPED: [&[u8]; 4] = [b"", b" \t ", b"# note", b"  #submit x A B"];
+
+#[test]
+fn skipped_lines(rt: HostRuntime) {
+    for line in SKIPPED {
         assert!(rt; is_skipped(line));
     }
-    for line in [
-        b"submit x A".as_slice(),
-        b"submit x A B C D E F G H I",
-        b"submit x A B$",
-        b"submit x A ABCDEFGHIJKLMNOPQ",
-        b"token",
-        b"token 1234567890",
-        b"token -1",
-        b"token 1 2",
-        b"tick 1",
-        b"ticks",
-        b"Close",
-    ] {
+}
+
+/// Lines that have the form of no command.
+const NO_COMMANDS: [&[u8]; 11] = [
+    b"submit x A",
+    b"submit x A B C D E F G H I",
+    b"submit x A B$",
+    b"submit x A ABCDEFGHIJKLMNOPQ",
+    b"token",
+    b"token 1234567890",
+    b"token -1",
+    b"token 1 2",
+    b"tick 1",
+    b"ticks",
+    b"Close",
+];
+
+#[test]
+fn refused_lines(rt: HostRuntime) {
+    for line in NO_COMMANDS {
         assert!(rt; fault_of(line) == Some(LineFault::Form));
     }
 }
@@ -138,47 +154,65 @@ fn replies(rt: HostRuntime) {
     assert!(rt; is_told(&Reply::Rested, b"rested") && is_told(&Reply::Closed, b"closed"));
 }
 
+/// Whether the copy of a reply that a task was taken is told so.
+fn took_is_told(alloc: Global) -> Result<bool, AllocError> {
+    let path = path(alloc, 6)?;
+    let copy = Reply::Took { task: 0, path }.copy(alloc)?;
+    Ok(is_told(&copy, b"took 0 end 6"))
+}
+
+/// Whether a reply that an agent was parked is told so.
+fn parked_is_told(alloc: Global) -> Result<bool, AllocError> {
+    let path = path(alloc, 0)?;
+    let point = name(b"ABCDEFGHIJKLMNOP");
+    Ok(is_told(
+        &Reply::Parked { point, path },
+        b"parked ABCDEFGHIJKLMNOP end 0",
+    ))
+}
+
 #[test]
 fn replies_with_a_path(rt: HostRuntime) -> Result<(), Fail> {
-    let took = Reply::Took {
-        task: 0,
-        path: path(rt.alloc(), 6)?,
-    };
-    assert!(rt; is_told(&took.copy(rt.alloc())?, b"took 0 end 6"));
-    let parked = Reply::Parked {
-        point: name(b"ABCDEFGHIJKLMNOP"),
-        path: path(rt.alloc(), 0)?,
-    };
-    assert!(rt; is_told(&parked, b"parked ABCDEFGHIJKLMNOP end 0"));
+    assert!(rt; took_is_told(rt.alloc())? && parked_is_told(rt.alloc())?);
     Ok(())
 }
 
-fn is_refused(refusal: Refusal, text: &[u8]) -> bool {
+fn is_refused(refusal: &Refusal, text: &[u8]) -> bool {
     is_told(&Reply::Refused(refusal.copy()), text)
 }
 
-#[test]
-fn refusals_that_name(rt: HostRuntime) {
-    assert!(rt; is_refused(Refusal::UnknownPoint(name(b"Z")), b"refused E1 Z"));
-    assert!(rt; is_refused(Refusal::NotStation(name(b"P1")), b"refused E2 P1"));
-    assert!(rt; is_refused(Refusal::UnknownAgent(7), b"refused E4 7"));
-    assert!(rt; is_refused(Refusal::Moving(6), b"refused E5 6"));
-    assert!(rt;
-        is_refused(
-            Refusal::Moving(u64::MAX),
-            b"refused E5 18446744073709551615"
-        )
-    );
+/// Whether refusals that name a point are told with it.
+fn points_are_named() -> bool {
+    is_refused(&Refusal::UnknownPoint(name(b"Z")), b"refused E1 Z")
+        && is_refused(&Refusal::NotStation(name(b"P1")), b"refused E2 P1")
 }
 
 #[test]
-fn refusals_that_name_nothing(rt: HostRuntime) {
-    assert!(rt; is_refused(Refusal::TasksFull, b"refused E3"));
-    assert!(rt; is_refused(Refusal::NoPath, b"refused E6"));
-    assert!(rt; is_refused(Refusal::ClockFull, b"refused E7"));
-    assert!(rt; is_refused(Refusal::Closed, b"refused E8"));
-    assert!(rt; is_refused(Refusal::ForeignPlanner, b"refused E9"));
-    assert!(rt; is_refused(Refusal::NoSpare, b"refused E10"));
+fn refusals_that_name_a_point(rt: HostRuntime) {
+    assert!(rt; points_are_named());
+}
+
+/// Refusals that name no point, with their texts.
+const REFUSALS: [(Refusal, &[u8]); 9] = [
+    (Refusal::UnknownAgent(7), b"refused E4 7"),
+    (Refusal::Moving(6), b"refused E5 6"),
+    (
+        Refusal::Moving(u64::MAX),
+        b"refused E5 18446744073709551615",
+    ),
+    (Refusal::TasksFull, b"refused E3"),
+    (Refusal::NoPath, b"refused E6"),
+    (Refusal::ClockFull, b"refused E7"),
+    (Refusal::Closed, b"refused E8"),
+    (Refusal::ForeignPlanner, b"refused E9"),
+    (Refusal::NoSpare, b"refused E10"),
+];
+
+#[test]
+fn refusals_that_name_no_point(rt: HostRuntime) {
+    for (refusal, text) in REFUSALS.iter() {
+        assert!(rt; is_refused(refusal, text));
+    }
 }
 
 /// Whether the entry, of this caller, hands in this task as number 5.
@@ -193,20 +227,28 @@ fn hands_in(entry: &Entry, caller: u32, client: &[u8], stops: &[&[u8]]) -> bool 
     }
 }
 
-#[test]
-fn entries(rt: HostRuntime) -> Result<(), Fail> {
+/// The stops A and B.
+fn two_stops() -> Stops {
     let mut names: ArrayVec<Name, 8> = ArrayVec::new();
     names.push(name(b"A"));
     names.push(name(b"B"));
-    let entry = Entry {
+    Stops::of(names)
+}
+
+/// The entry of a task.
+fn entry(alloc: Global) -> Result<Entry, AllocError> {
+    let stops = KeptStops::new(alloc, two_stops().copy())?;
+    let client = name(b"x");
+    Ok(Entry {
         caller: 63,
-        event: Event::Submit {
-            client: name(b"x"),
-            stops: KeptStops::new(rt.alloc(), Stops::of(names).copy())?,
-        },
+        event: Event::Submit { client, stops },
         reply: Reply::Accepted { task: 5 },
-    };
-    let copy = entry.copy(rt.alloc())?;
+    })
+}
+
+#[test]
+fn entries(rt: HostRuntime) -> Result<(), Fail> {
+    let copy = entry(rt.alloc())?.copy(rt.alloc())?;
     assert!(rt; hands_in(&copy, 63, b"x", &[b"A", b"B"]));
     Ok(())
 }

@@ -79,19 +79,35 @@ fn barred_sections<R: Read>(alloc: Global, lines: &mut Lines<R>) -> Result<Vec<u
     Ok(all)
 }
 
+/// Whether the sections up to the end are these, each with a bar behind it.
+fn has_sections<R: Read>(alloc: Global, lines: &mut Lines<R>, barred: &[u8]) -> bool {
+    match barred_sections(alloc, lines) {
+        Ok(found) => found.as_slice() == barred,
+        Err(_) => false,
+    }
+}
+
+const SECTIONS: &[u8] = b"a\r\n%% \nb%%\n%%\r\n\n%%\n%%%\nc";
+
+const BARRED: &[u8] = b"a\r\n%% \nb%%\n|\n|%%%\nc|";
+
 #[test]
-fn sections_are_the_same_in_one_piece_and_byte_by_byte(rt: HostRuntime) -> Result<(), Fail> {
-    let text = b"a\r\n%% \nb%%\n%%\r\n\n%%\n%%%\nc".as_slice();
-    let barred = b"a\r\n%% \nb%%\n|\n|%%%\nc|".as_slice();
-    let mut whole = Lines::new(text);
-    assert!(rt; !whole.ended());
-    assert!(rt; barred_sections(rt.alloc(), &mut whole)?.as_slice() == barred);
-    let mut drops = Lines::new(Drip::new(text, 1000));
-    assert!(rt; barred_sections(rt.alloc(), &mut drops)?.as_slice() == barred);
-    // A missing section is empty.
-    assert!(rt; barred_sections(rt.alloc(), &mut drops)?.as_slice() == b"|".as_slice());
-    assert!(rt; !drops.has_failed());
-    Ok(())
+fn sections_in_one_piece(rt: HostRuntime) {
+    let mut lines = Lines::new(SECTIONS);
+    assert!(rt; !lines.ended() && has_sections(rt.alloc(), &mut lines, BARRED));
+}
+
+/// Whether the sections are the same byte by byte, and one that is missing is empty.
+fn drops_are_the_same(alloc: Global) -> bool {
+    let mut lines = Lines::new(Drip::new(SECTIONS, 1000));
+    has_sections(alloc, &mut lines, BARRED)
+        && has_sections(alloc, &mut lines, b"|")
+        && !lines.has_failed()
+}
+
+#[test]
+fn sections_byte_by_byte(rt: HostRuntime) {
+    assert!(rt; drops_are_the_same(rt.alloc()));
 }
 
 /// The length of the first section, or its fault.
@@ -100,39 +116,76 @@ fn first_section(alloc: Global, text: &[u8], limit: usize) -> Result<usize, Sect
     Ok(lines.section(alloc, limit)?.len())
 }
 
+/// Texts and limits, each with the length of the first section, or its fault.
+const LIMITS: [(&[u8], usize, Result<usize, SectionFault>); 7] = [
+    (b"abc\n%%\r\nx", 4, Ok(4)),
+    (b"abc\n%%\r", 4, Ok(4)),
+    (b"abc\n%%\r\n", 3, Err(SectionFault::TooLong)),
+    (b"abcde", 4, Err(SectionFault::TooLong)),
+    (b"abcdefgh", 4, Err(SectionFault::TooLong)),
+    (b"%%", 0, Ok(0)),
+    (b"", 0, Ok(0)),
+];
+
 #[test]
 fn a_section_has_no_more_bytes_than_the_limit(rt: HostRuntime) {
-    assert!(rt; first_section(rt.alloc(), b"abc\n%%\r\nx", 4) == Ok(4));
-    assert!(rt; first_section(rt.alloc(), b"abc\n%%\r", 4) == Ok(4));
-    assert!(rt; first_section(rt.alloc(), b"abc\n%%\r\n", 3) == Err(SectionFault::TooLong));
-    assert!(rt; first_section(rt.alloc(), b"abcde", 4) == Err(SectionFault::TooLong));
-    assert!(rt; first_section(rt.alloc(), b"abcdefgh", 4) == Err(SectionFault::TooLong));
-    assert!(rt; first_section(rt.alloc(), b"%%", 0) == Ok(0));
-    assert!(rt; first_section(rt.alloc(), b"", 0) == Ok(0));
+    for (text, limit, wanted) in LIMITS {
+        assert!(rt; first_section(rt.alloc(), text, limit) == wanted);
+    }
+}
+
+/// The fault of the next section of so many bytes, if it has one.
+fn fault_of<R: Read>(alloc: Global, lines: &mut Lines<R>, limit: usize) -> Option<SectionFault> {
+    lines.section(alloc, limit).err()
+}
+
+/// Whether a section that is too long is told, and that nothing more is read behind it.
+fn is_given_up(alloc: Global) -> bool {
     let mut lines = Lines::new(b"abcde\n%%\nf".as_slice());
-    assert!(rt; lines.section(rt.alloc(), 5).err() == Some(SectionFault::TooLong));
-    assert!(rt; lines.section(rt.alloc(), 5).err() == Some(SectionFault::Broken));
+    fault_of(alloc, &mut lines, 5) == Some(SectionFault::TooLong)
+        && fault_of(alloc, &mut lines, 5) == Some(SectionFault::Broken)
+}
+
+#[test]
+fn nothing_is_read_behind_a_long_section(rt: HostRuntime) {
+    assert!(rt; is_given_up(rt.alloc()));
+}
+
+/// One section of two bytes and a line feed, and a line behind it.
+const SHORT: &[u8] = b"ab\n%%\nc\n";
+
+/// Whether the section has a fault where the reader fails after so many bytes, now and again.
+fn section_fails(alloc: Global, given: usize) -> bool {
+    let mut lines = Lines::new(Drip::new(SHORT, given));
+    fault_of(alloc, &mut lines, 100) == Some(SectionFault::Broken)
+        && lines.has_failed()
+        && !lines.ended()
+        && fault_of(alloc, &mut lines, 100) == Some(SectionFault::Broken)
+}
+
+/// Whether the next line is told as broken.
+fn is_broken<R: Read>(alloc: Global, lines: &mut Lines<R>) -> bool {
+    let mut sink = Vec::new(alloc);
+    let broken = Err(LineFault::Read(ReadFault::Broken));
+    lines.next_line(&mut sink, &mut CommandLine::new()) == broken
+}
+
+/// Whether the line behind the section has a fault where the reader fails after so many bytes, now and again.
+fn line_fails(alloc: Global, given: usize) -> bool {
+    let mut lines = Lines::new(Drip::new(SHORT, given));
+    fault_of(alloc, &mut lines, 100).is_none()
+        && is_broken(alloc, &mut lines)
+        && lines.has_failed()
+        && is_broken(alloc, &mut lines)
 }
 
 #[test]
 fn each_read_fails_in_turn(rt: HostRuntime) {
-    let text = b"ab\n%%\nc\n".as_slice();
     for given in 0..6 {
-        let mut lines = Lines::new(Drip::new(text, given));
-        assert!(rt; lines.section(rt.alloc(), 100).err() == Some(SectionFault::Broken));
-        assert!(rt; lines.has_failed());
-        assert!(rt; !lines.ended());
-        assert!(rt; lines.section(rt.alloc(), 100).err() == Some(SectionFault::Broken));
+        assert!(rt; section_fails(rt.alloc(), given));
     }
     for given in 6..8 {
-        let mut lines = Lines::new(Drip::new(text, given));
-        let mut line = CommandLine::new();
-        let mut sink = Vec::new(rt.alloc());
-        assert!(rt; lines.section(rt.alloc(), 100).is_ok());
-        let broken = Err(LineFault::Read(ReadFault::Broken));
-        assert!(rt; lines.next_line(&mut sink, &mut line) == broken);
-        assert!(rt; lines.has_failed());
-        assert!(rt; lines.next_line(&mut sink, &mut line) == broken);
+        assert!(rt; line_fails(rt.alloc(), given));
     }
 }
 
@@ -154,14 +207,19 @@ fn barred_lines<R: Read>(alloc: Global, lines: &mut Lines<R>) -> Result<Vec<u8>,
     Ok(all)
 }
 
+/// Whether the lines are read as they are to be.
+fn has_lines<R: Read + Drop>(alloc: Global, mut lines: Lines<R>) -> bool {
+    match barred_lines(alloc, &mut lines) {
+        Ok(found) => found.as_slice() == b"one||t\rw|end\r$".as_slice(),
+        Err(_) => false,
+    }
+}
+
 #[test]
-fn lines_are_the_same_in_one_piece_and_byte_by_byte(rt: HostRuntime) -> Result<(), Fail> {
+fn lines_are_the_same_in_one_piece_and_byte_by_byte(rt: HostRuntime) {
     let text = b"one\r\n\nt\rw\r\nend\r\r".as_slice();
-    let barred = b"one||t\rw|end\r$".as_slice();
-    assert!(rt; barred_lines(rt.alloc(), &mut Lines::new(text))?.as_slice() == barred);
-    let mut drops = Lines::new(Drip::new(text, 1000));
-    assert!(rt; barred_lines(rt.alloc(), &mut drops)?.as_slice() == barred);
-    Ok(())
+    let drops = Lines::new(Drip::new(text, 1000));
+    assert!(rt; has_lines(rt.alloc(), Lines::new(text)) && has_lines(rt.alloc(), drops));
 }
 
 /// Of each part its byte, so many times, and its end.
@@ -212,33 +270,45 @@ fn a_line_may_have_any_length(rt: HostRuntime) -> Result<(), Fail> {
         (b'd', 4, b"\n"),
     ];
     let text = parts_of(rt.alloc(), parts.as_slice())?;
-    let mut lines = Lines::new(text.as_slice());
-    assert!(rt; goes_on(&mut lines, Some((b'a', 256)), b"c"));
-    assert!(rt; goes_on(&mut lines, None, b"c"));
-    assert!(rt; goes_on(&mut lines, None, b"dddd\n"));
-    assert!(rt; lines.waiting().len() == 5);
-    assert!(rt; goes_on(&mut lines, Some((b'd', 4)), b""));
-    assert!(rt; lines.waiting().is_empty());
+    assert!(rt; goes_through(&text));
     Ok(())
+}
+
+/// Whether a line of 256 bytes is read, the two longer ones are told as such, and the last one is read.
+fn goes_through(text: &[u8]) -> bool {
+    let mut lines = Lines::new(text);
+    goes_on(&mut lines, Some((b'a', 256)), b"c")
+        && goes_on(&mut lines, None, b"c")
+        && goes_on(&mut lines, None, b"dddd\n")
+        && lines.waiting().len() == 5
+        && goes_on(&mut lines, Some((b'd', 4)), b"")
+        && lines.waiting().is_empty()
+}
+
+/// What comes of the next line, for which the writer may be flushed.
+fn next_of(lines: &mut Lines<&[u8]>, writer: &mut Flushes) -> Result<Next, LineFault> {
+    lines.next_line(writer, &mut CommandLine::new())
+}
+
+/// Whether a writer is flushed once before the first read, and the second flush is told where it fails.
+fn is_flushed(lines: &mut Lines<&[u8]>, writer: &mut Flushes) -> bool {
+    next_of(lines, writer) == Ok(Next::Whole)
+        && next_of(lines, writer) == Ok(Next::Whole)
+        && writer.count == 1
+        && next_of(lines, writer) == Err(LineFault::Flush)
+        && next_of(lines, writer) == Err(LineFault::Read(ReadFault::Broken))
 }
 
 #[test]
 fn the_writer_is_flushed_before_each_read(rt: HostRuntime) {
-    let mut line = CommandLine::new();
     let mut writer = Flushes { count: 0, room: 1 };
-    let mut lines = Lines::new(b"a\nb\nc".as_slice());
-    assert!(rt; lines.next_line(&mut writer, &mut line) == Ok(Next::Whole));
-    assert!(rt; lines.next_line(&mut writer, &mut line) == Ok(Next::Whole));
-    assert_eq!(rt; writer.count, 1);
-    assert!(rt; lines.next_line(&mut writer, &mut line) == Err(LineFault::Flush));
-    let broken = Err(LineFault::Read(ReadFault::Broken));
-    assert!(rt; lines.next_line(&mut writer, &mut line) == broken);
+    assert!(rt; is_flushed(&mut Lines::new(b"a\nb\nc".as_slice()), &mut writer));
 }
 
 #[test]
 fn a_reader_that_is_given_up_is_not_asked_again(rt: HostRuntime) {
     let mut lines = Lines::new(b"a\n".as_slice());
     lines.fail();
-    assert!(rt; lines.section(rt.alloc(), 100).err() == Some(SectionFault::Broken));
-    assert!(rt; lines.waiting().is_empty());
+    let is_broken = fault_of(rt.alloc(), &mut lines, 100) == Some(SectionFault::Broken);
+    assert!(rt; is_broken && lines.waiting().is_empty());
 }

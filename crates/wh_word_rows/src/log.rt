@@ -27,151 +27,189 @@ fn fault(alloc: Global, text: &[u8]) -> u64 {
     }
 }
 
+/// Texts, each with the line of its fault, or 0.
+const LOGS: [(&[u8], u64); 19] = [
+    (LOG, 0),
+    (LOG_IN_TWO, 0),
+    (ALL, 0),
+    (b"wlog 2\nstart 0 slots 4\nend 0\n", 0),
+    (b"", 1),
+    (b"wlog 1", 1),
+    (b"wlog 3\nstart 0 slots 4\nend 0\n", 1),
+    (b"wlog 2\r\nstart 0 slots 2\nend 0\n", 1),
+    (b"wlog 2\n", 2),
+    (b"wlog 2\nstart 0 slots 1\nend 0\n", 2),
+    (b"wlog 2\nstart 0 slots\nend 0\n", 2),
+    (b"wlog 2\nstart 1000000001 slots 2\nend 0\n", 2),
+    (b"wlog 2\nstart 00 slots 2\nend 0\n", 2),
+    (b"wlog 2\nstart 0 slots 2\n", 3),
+    (b"wlog 2\nstart 0 slots 2\nend 0", 3),
+    (b"wlog 2\nstart 0 slots 2\nend 1\n", 3),
+    (b"wlog 2\nstart 0 slots 2\nend 0\nx\n", 4),
+    (b"wlog 2\nstart 0 slots 2\nend 0\nx", 4),
+    (b"wlog 2\nstart 0 slots 2\nend 0\n\n", 4),
+];
+
 #[test]
 fn the_log_and_its_changes(rt: HostRuntime) {
-    let table = [
-        (LOG, 0),
-        (LOG_IN_TWO, 0),
-        (ALL, 0),
-        (b"wlog 2\nstart 0 slots 4\nend 0\n", 0),
-        (b"", 1),
-        (b"wlog 1", 1),
-        (b"wlog 3\nstart 0 slots 4\nend 0\n", 1),
-        (b"wlog 2\r\nstart 0 slots 2\nend 0\n", 1),
-        (b"wlog 2\n", 2),
-        (b"wlog 2\nstart 0 slots 1\nend 0\n", 2),
-        (b"wlog 2\nstart 0 slots\nend 0\n", 2),
-        (b"wlog 2\nstart 1000000001 slots 2\nend 0\n", 2),
-        (b"wlog 2\nstart 00 slots 2\nend 0\n", 2),
-        (b"wlog 2\nstart 0 slots 2\n", 3),
-        (b"wlog 2\nstart 0 slots 2\nend 0", 3),
-        (b"wlog 2\nstart 0 slots 2\nend 1\n", 3),
-        (b"wlog 2\nstart 0 slots 2\nend 0\nx\n", 4),
-        (b"wlog 2\nstart 0 slots 2\nend 0\nx", 4),
-        (b"wlog 2\nstart 0 slots 2\nend 0\n\n", 4),
-    ];
-    for (text, line) in table {
-        assert_eq!(rt; fault(rt.alloc(), text), line);
+    for (text, line) in LOGS {
+        assert!(rt; fault(rt.alloc(), text) == line);
     }
 }
+
+/// Logs of one entry, each with the line of its fault, or 0.
+const ENTRIES: [(&[u8], u64); 17] = [
+    (
+        b"wlog 1\nstart 0 slots 4\n0 submit  x A B = accepted 0\nend 1\n",
+        3,
+    ),
+    (
+        b"wlog 1\nstart 0 slots 4\n64 submit x A B = accepted 0\nend 1\n",
+        3,
+    ),
+    (
+        b"wlog 1\nstart 0 slots 4\n0 submit x A C B = accepted 0\nend 1\n",
+        3,
+    ),
+    (
+        b"wlog 2\nstart 0 slots 4\n0 submit x A C B = accepted 0\nend 1\n",
+        0,
+    ),
+    (
+        b"wlog 2\nstart 0 slots 4\n0 submit x A = accepted 0\nend 1\n",
+        3,
+    ),
+    (
+        b"wlog 2\nstart 0 slots 4\n0 submit x A B A B A B A B A = accepted 0\nend 1\n",
+        3,
+    ),
+    (b"wlog 2\nstart 0 slots 4\n0 tick = rested \nend 1\n", 3),
+    (b"wlog 2\nstart 0 slots 4\n 0 tick = rested\nend 1\n", 3),
+    (b"wlog 2\nstart 0 slots 4\n0 tick = rested\n\nend 1\n", 4),
+    (b"wlog 2\nstart 0 slots 4\n0 tick = accepted 01\nend 1\n", 3),
+    (
+        b"wlog 2\nstart 0 slots 4\n0 tick = accepted 1000000000\nend 1\n",
+        3,
+    ),
+    (
+        b"wlog 2\nstart 0 slots 4\n0 tick = clock 1000000001 picked 0 dropped 0\nend 1\n",
+        3,
+    ),
+    (
+        b"wlog 2\nstart 0 slots 4\n0 token 0 = took 0 path 0,0 1,1\nend 1\n",
+        3,
+    ),
+    (
+        b"wlog 2\nstart 0 slots 4\n0 token 0 = took 0 path 4096,0\nend 1\n",
+        3,
+    ),
+    (
+        b"wlog 2\nstart 0 slots 4\n0 token 0 = took 0 path\nend 1\n",
+        3,
+    ),
+    (
+        b"wlog 2\nstart 0 slots 4\n0 token 0 = took 0 path 4095,4095\nend 1\n",
+        0,
+    ),
+    (
+        b"wlog 2\nstart 0 slots 4\n0 token 0 = refused E5 18446744073709551616\nend 1\n",
+        3,
+    ),
+];
 
 #[test]
 fn one_entry_changed(rt: HostRuntime) {
-    let table = [
-        (
-            b"wlog 1\nstart 0 slots 4\n0 submit  x A B = accepted 0\nend 1\n".as_slice(),
-            3,
-        ),
-        (
-            b"wlog 1\nstart 0 slots 4\n64 submit x A B = accepted 0\nend 1\n",
-            3,
-        ),
-        (
-            b"wlog 1\nstart 0 slots 4\n0 submit x A C B = accepted 0\nend 1\n",
-            3,
-        ),
-        (
-            b"wlog 2\nstart 0 slots 4\n0 submit x A C B = accepted 0\nend 1\n",
-            0,
-        ),
-        (
-            b"wlog 2\nstart 0 slots 4\n0 submit x A = accepted 0\nend 1\n",
-            3,
-        ),
-        (
-            b"wlog 2\nstart 0 slots 4\n0 submit x A B A B A B A B A = accepted 0\nend 1\n",
-            3,
-        ),
-        (b"wlog 2\nstart 0 slots 4\n0 tick = rested \nend 1\n", 3),
-        (b"wlog 2\nstart 0 slots 4\n 0 tick = rested\nend 1\n", 3),
-        (b"wlog 2\nstart 0 slots 4\n0 tick = rested\n\nend 1\n", 4),
-        (b"wlog 2\nstart 0 slots 4\n0 tick = accepted 01\nend 1\n", 3),
-        (
-            b"wlog 2\nstart 0 slots 4\n0 tick = accepted 1000000000\nend 1\n",
-            3,
-        ),
-        (
-            b"wlog 2\nstart 0 slots 4\n0 tick = clock 1000000001 picked 0 dropped 0\nend 1\n",
-            3,
-        ),
-        (
-            b"wlog 2\nstart 0 slots 4\n0 token 0 = took 0 path 0,0 1,1\nend 1\n",
-            3,
-        ),
-        (
-            b"wlog 2\nstart 0 slots 4\n0 token 0 = took 0 path 4096,0\nend 1\n",
-            3,
-        ),
-        (
-            b"wlog 2\nstart 0 slots 4\n0 token 0 = took 0 path\nend 1\n",
-            3,
-        ),
-        (
-            b"wlog 2\nstart 0 slots 4\n0 token 0 = took 0 path 4095,4095\nend 1\n",
-            0,
-        ),
-        (
-            b"wlog 2\nstart 0 slots 4\n0 token 0 = refused E5 18446744073709551616\nend 1\n",
-            3,
-        ),
-    ];
-    for (text, line) in table {
-        assert_eq!(rt; fault(rt.alloc(), text), line);
+    for (text, line) in ENTRIES {
+        assert!(rt; fault(rt.alloc(), text) == line);
+    }
+}
+
+/// Whether a log of this clock, these slots and so many entries is read from a text, and written as another.
+fn is_read(
+    alloc: Global,
+    text: &[u8],
+    head: (u32, &[u32]),
+    entries: usize,
+    written: &[u8],
+) -> bool {
+    match read_log(alloc, text) {
+        Ok(log) => {
+            log.clock() == head.0
+                && log.slots() == head.1
+                && log.entries().len() == entries
+                && is_written(alloc, &log, written)
+        }
+        Err(_) => false,
+    }
+}
+
+/// Whether the text of a log is this.
+fn is_written(alloc: Global, log: &Log, written: &[u8]) -> bool {
+    match log_text(alloc, log.clock(), log.slots(), log.entries()) {
+        Ok(text) => text.as_slice() == written,
+        Err(_) => false,
     }
 }
 
 #[test]
-fn written_as_it_was_read(rt: HostRuntime) -> Result<(), Fail> {
-    let alloc = rt.alloc();
-    let log = read_log(alloc, LOG)?;
-    assert_eq!(rt; log.entries().len(), 3);
-    let text = log_text(alloc, log.clock(), log.slots(), log.entries())?;
-    assert_eq!(rt; text.as_slice(), LOG_IN_TWO);
-    let log = read_log(alloc, ALL)?;
-    assert_eq!(rt; log.clock(), 1_000_000_000);
-    assert_eq!(rt; log.slots(), [2, 64].as_slice());
-    let text = log_text(alloc, log.clock(), log.slots(), log.entries())?;
-    assert_eq!(rt; text.as_slice(), ALL);
-    Ok(())
+fn written_as_it_was_read(rt: HostRuntime) {
+    let begun = (0, [4, 4].as_slice());
+    let last = (1_000_000_000, [2, 64].as_slice());
+    assert!(rt;
+        is_read(rt.alloc(), LOG, begun, 3, LOG_IN_TWO) && is_read(rt.alloc(), ALL, last, 16, ALL)
+    );
 }
 
-/// The replies of a log in this form, a line for each, as if the greatest clock stood before each.
-fn replies(alloc: Global, form: Form, text: &[u8]) -> Result<Vec<u8>, Fail> {
-    let log = read_log(alloc, text)?;
+/// The replies of a log in this form, a line for each, as if the greatest clock stood before each. None: it could not be told.
+fn replies(alloc: Global, form: Form, text: &[u8]) -> Option<Vec<u8>> {
+    let log = read_log(alloc, text).ok()?;
     let mut told = Vec::new(alloc);
     for (place, entry) in log.entries().iter().enumerate() {
         if tell(form, &mut told, place as u64, 1_000_000_000, &entry.reply).is_err() {
-            return Err("it is told")?;
+            return None;
         }
-        told.push(b'\n')?;
+        told.push(b'\n').ok()?;
     }
-    Ok(told)
+    Some(told)
+}
+
+/// Forms and logs, each with the replies that are told.
+const TOLD: [(Form, &[u8], &[u8]); 4] = [
+    (
+        Form::Short,
+        LOG,
+        b"accepted 0\ntook 0 end 6\nclock 1 picked 0 dropped 0\n",
+    ),
+    (
+        Form::Full,
+        LOG,
+        b"accepted 0\ntook 0 path 0,1 1,1 1,0 1,1 2,1 3,1 3,0\nclock 1 picked 0 dropped 0\n",
+    ),
+    (
+        Form::Placed,
+        LOG,
+        b"0 1000000000 accepted 0\n1 1000000000 took 0 path 0,1 1,1 1,0 1,1 2,1 3,1 3,0\n2 1000000000 clock 1 picked 0 dropped 0\n",
+    ),
+    (
+        Form::Full,
+        ALL,
+        b"accepted 999999999\nrested\nrefused E4 999999999\nparked P-1 path 4095,0 4095,0 4094,0\nrefused E5 18446744073709551615\nclock 1000000000 picked 0 dropped 7\nrefused E10\nrefused E9\nreplaced 100\nclosed\nrefused E8\nrefused E1 Z\nrefused E2 P1\nrefused E3\nrefused E6\nrefused E7\n",
+    ),
+];
+
+/// Whether the replies of a log are told so.
+fn are_told(alloc: Global, form: Form, text: &[u8], wanted: &[u8]) -> bool {
+    match replies(alloc, form, text) {
+        Some(told) => told.as_slice() == wanted,
+        None => false,
+    }
 }
 
 #[test]
-fn told_in_few_words_and_in_all(rt: HostRuntime) -> Result<(), Fail> {
-    let alloc = rt.alloc();
-    let short = replies(alloc, Form::Short, LOG)?;
-    assert_eq!(rt;
-        short.as_slice(),
-        b"accepted 0\ntook 0 end 6\nclock 1 picked 0 dropped 0\n".as_slice()
-    );
-    let full = replies(alloc, Form::Full, LOG)?;
-    assert_eq!(rt;
-        full.as_slice(),
-        b"accepted 0\ntook 0 path 0,1 1,1 1,0 1,1 2,1 3,1 3,0\nclock 1 picked 0 dropped 0\n".as_slice()
-    );
-    let placed = replies(alloc, Form::Placed, LOG)?;
-    assert_eq!(rt;
-        placed.as_slice(),
-        b"0 1000000000 accepted 0\n1 1000000000 took 0 path 0,1 1,1 1,0 1,1 2,1 3,1 3,0\n2 1000000000 clock 1 picked 0 dropped 0\n".as_slice()
-    );
-    let full = replies(alloc, Form::Full, ALL)?;
-    assert_eq!(rt;
-        full.as_slice(),
-        b"accepted 999999999\nrested\nrefused E4 999999999\nparked P-1 path 4095,0 4095,0 4094,0\nrefused E5 18446744073709551615\nclock 1000000000 picked 0 dropped 7\nrefused E10\nrefused E9\nreplaced 100\nclosed\nrefused E8\nrefused E1 Z\nrefused E2 P1\nrefused E3\nrefused E6\nrefused E7\n".as_slice()
-    );
-    Ok(())
+fn told_in_few_words_and_in_all(rt: HostRuntime) {
+    for (form, text, wanted) in TOLD {
+        assert!(rt; are_told(rt.alloc(), form, text, wanted));
+    }
 }
 
 /// Takes two entries, and refuses a third.

@@ -8,8 +8,8 @@ use std::test::Fail;
 use wh_field::LazyField;
 use wh_grid::{Cell, Grid};
 use wh_tasks::{
-    Arrived, Counts, Distances, EndSet, Foretold, Load, PathEnds, Phase, Places, TaskSet, Visit,
-    arrive, foretell, laws,
+    Arrived, Counts, EndSet, Foretold, Load, PathEnds, Phase, Places, TaskSet, Visit, arrive,
+    foretell, laws,
 };
 use wh_text::Name;
 
@@ -136,7 +136,7 @@ fn nearest_task_first(rt: HostRuntime) -> Result<(), Fail> {
 fn nearest_from_right(alloc: Global, set: &TaskSet) -> Result<Option<u32>, AllocError> {
     let grid = map(alloc)?;
     let mut lazy = LazyField::from(alloc, &grid, LEFT)?;
-    lazy.turn(alloc, &grid, RIGHT)?;
+    lazy.again(RIGHT);
     nearest_beside(alloc, set, &mut lazy)
 }
 

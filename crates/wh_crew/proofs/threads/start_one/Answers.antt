@@ -14,3 +14,9 @@ spawn_with-started-requires-send-F g c κs within =
     let r = c.type_bounds.sync-R in
     let t = c.type_bounds.sync-G in
     search (sendable, crosses, desk_sync, pass_send, work_send, given_send) depth 30 fits 20000
+
+pub spawn_with-started-requires-send-T : goal.spawn_with-started-requires-send-T
+spawn_with-started-requires-send-T g c κs within =
+    let n = c.type_bounds.send-N in
+    let m = c.type_bounds.sync-N in
+    search (sendable, crosses, pass_send, given_send) depth 30 fits 20000

@@ -1,23 +1,20 @@
 -- The shape of the program's command, from those of its subcommands.
-use Rattle.std.proofs.Common.{rules, ◌≡◌, ◌∙◌, ap, ap₂, codes}
+use Rattle.std.proofs.Common.{◌≡◌, ◌∙◌, ap, codes}
 use Rattle.std.proofs.lemmas.Result.{IfOk-weaker}
-use Rattle.clap.specs.Words.{App, app_of, new_app, with_subcommand}
-use Rattle.wh_options.specs.Menu.{with_settings}
+use Rattle.clap.specs.Words.{app_of, new_app, with_subcommand}
+use Rattle.wh_options.specs.Menu.{live_app, replay_app, with_settings}
 use Rattle.wh_options.proofs.command.warehouse_command.Goals as goal
 
 pub returns : goal.returns
 returns c =
-    let replay = c.in_ok-replay_command.ensures in
-    let live = c.in_ok-live_command.ensures in
-    let top_of : (a b : App) → a ≡ b → a.top ≡ b.top = λ a b e. ap (λ (x : App). x.top) e in
-    let root : app_of c.propagate_version.result ≡ with_settings (new_app (codes "warehouse")) = search rules in
-    let check_in = c.in_ok-subcommand.ensures.shape c.plain_command-check.ensures.local
-    ∙ ap₂ with_subcommand root (top_of _ _ c.plain_command-check.ensures.shape) in
-    let replay_in = c.in_ok-subcommand-2.ensures.shape replay.is.local
-    ∙ ap₂ with_subcommand check_in (top_of _ _ replay.is.shape) in
-    let verify_in = c.in_ok-subcommand-3.ensures.shape c.plain_command-verify.ensures.local
-    ∙ ap₂ with_subcommand replay_in (top_of _ _ c.plain_command-verify.ensures.shape) in
-    IfOk-weaker c.subcommand-4.result _ _ (λ made added. record {
+    let replay = c.in_ok-command-2.ensures in
+    let check_in : app_of c.in_ok-command.command ≡ with_subcommand (with_settings (new_app (codes "warehouse"))) (new_app (codes "check")).top = c.in_ok-command.ensures
+    ∙ ap (λ a. with_subcommand a (new_app (codes "check")).top) c.bare_command.ensures in
+    let replay_in = replay.is
+    ∙ ap (λ a. with_subcommand a (replay_app replay.planners replay.tails replay.replies).top) check_in in
+    let verify_in = c.in_ok-command-3.ensures
+    ∙ ap (λ a. with_subcommand a (new_app (codes "verify")).top) replay_in in
+    IfOk-weaker c.with_live.result _ _ (λ made live. record {
       planners = replay.planners;
       tails = replay.tails;
       replies = replay.replies;
@@ -26,5 +23,5 @@ returns c =
       tail_texts = replay.tail_texts;
       replies_texts = replay.replies_texts;
       other_texts = live.planner_texts;
-      is = added.shape live.is.local ∙ ap₂ with_subcommand verify_in (top_of _ _ live.is.shape);
-    }) c.subcommand-4.ensures
+      is = live.is ∙ ap (λ a. with_subcommand a (live_app live.planners).top) verify_in;
+    }) c.with_live.ensures

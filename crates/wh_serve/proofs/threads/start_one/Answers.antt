@@ -25,3 +25,11 @@ pub spawn_with-started-requires-clause-keeps : goal.spawn_with-started-requires-
 spawn_with-started-requires-clause-keeps g c κs within = λ r s.
     subst (λ d. Session (length g.N.DeskName.cells) g.P.Planner.fits_map g.P.Planner.slot_count g.N.DeskName.origin.site.grid (receipt_text c.args.form) (λ x. g.R.Read.remaining x) (λ x. g.W.Write.contents x) d c.of.result.value r.pass r.ended.writer r.ended.outcome) (sym c.of-2.ensures)
     (subst (λ (p : Received). Session (length g.N.DeskName.cells) g.P.Planner.fits_map g.P.Planner.slot_count g.N.DeskName.origin.site.grid (receipt_text c.args.form) (λ x. g.R.Read.remaining x) (λ x. g.W.Write.contents x) c.args.client p r.pass r.ended.writer r.ended.outcome) (sym c.of.ensures) s)
+
+pub spawn_with-started-requires-send-T : goal.spawn_with-started-requires-send-T
+spawn_with-started-requires-send-T g c κs within =
+    let n = c.type_bounds.send-N in
+    let m = c.type_bounds.sync-N in
+    let r = c.type_bounds.send-R in
+    let w = c.type_bounds.send-W in
+    search (sendable, crosses, pass_send, client_send, form_send, given_send) depth 30 fits 20000

@@ -1,5 +1,6 @@
 use Rattle.std.proofs.Common.{arith, ap, sym, subst, ◌∙◌, ◌≡◌, ◌+◌, ◌<◌, ℕ, List, [], ◌∷◌, ◌++◌, length, Some, slice_get, slice_set}
 use Rattle.std.proofs.lemmas.List.{length-map, length_push}
+use Rattle.once_cell.specs.declared.race.note.Note.{Note}
 use Rattle.wh_event.specs.declared.entry.Entry.{Entry}
 use Rattle.wh_points.specs.Points.{Site}
 use Rattle.wh_token.specs.Fleet.{AllFit, replaced_agent}
@@ -56,25 +57,31 @@ invariant_of-pass-2 g c =
     let at : ℕ = length c.history.result.now in
     let made = c.in-Ok.made in
     let e : Entry = made.ready.draft.entry in
-    let x : Held = record { position = at; entry = made.entry; note = made.note } in
+    let x : Held = c.note_down.ensures.held.0 in
+    let at_is : x.position.value ≡ at = c.note_down.ensures.held.2 in
+    let e_is : x.entry.value ≡ e = c.note_down.ensures.held.3 ∙ c.entry.ensures in
+    let note_is : x.note ≡ made.note = c.note_down.ensures.held.4 in
     let place : length h ≡ at = sym (ap length c.history.ensures.value) in
     let all : list_of c.pass.inside.held.items ≡ entries_of h c.pass.inside.caller = ap (λ v. v.list) c.pass.view_is ∙ c.requires.whole ∙ sym (ap (λ (s : Ledger g.row.P.Denot). entries_of s.history c.args.pass.now.caller) c.self.view_is) ∙ sym (ap (λ (v : Received). entries_of h v.caller) c.pass.view_is) in
-    let mine : x.entry.caller ≡ c.pass.inside.caller = ap (λ (e : Entry). e.caller) c.in-Ok.ensures.entry ∙ c.in-Ok.ensures.caller in
-    let items : c.note_down.new.held.items ≡ c.pass.inside.held.items ++ x ∷ [] = c.note_down.ensures.held ∙ ap (λ l. l ++ x ∷ []) c.make_ready-made.ensures.held in
-    let front : c.again.result.past.history ≡ h ++ x.entry ∷ [] = ap (λ k. k.past.history) c.again.ensures ∙ ap (λ p. p.history) c.front.ensures.past ∙ ap (λ p. p.history) c.in-Ok.ensures.added ∙ ap (λ (p : Past). p.history ++ e ∷ []) c.self.invariant.added_is ∙ ap (λ (e : Entry). h ++ e ∷ []) (sym c.in-Ok.ensures.entry) in
+    let mine : e.caller ≡ c.pass.inside.caller = c.in-Ok.ensures.caller in
+    let items : c.note_down.new.held.items ≡ c.pass.inside.held.items ++ x ∷ [] = c.note_down.ensures.held.1 ∙ ap (λ l. l ++ x ∷ []) c.make_ready-made.ensures.held in
+    let front : c.again.result.past.history ≡ h ++ e ∷ [] = ap (λ k. k.past.history) c.again.ensures ∙ ap (λ p. p.history) c.front.ensures.past ∙ ap (λ p. p.history) c.in-Ok.ensures.added ∙ ap (λ (p : Past). p.history ++ e ∷ []) c.self.invariant.added_is in
     let book : c.again.result.book ≡ g.N.DeskName.book = ap (λ k. k.book) c.again.ensures ∙ c.front.ensures.book ∙ c.make_ready-made.ensures.book ∙ c.self.invariant.book_is in
     let filled : c.self.inside.cells ≡ record { names = g.N.DeskName.cells; count = length h } = c.self.invariant.cells_are in
     let cell : slice_get g.N.DeskName.cells at ≡ Some made.note.cell = ap (λ n. slice_get g.N.DeskName.cells n) (sym place) ∙ ap (λ (f : Filled). slice_get f.names f.count) (sym filled) ∙ c.in-Ok.ensures.cell in
-    let knows : NoteKnows g.N.DeskName.cells x = record { cell = cell; known = c.in-Ok.ensures.known ∙ ap Some (sym c.in-Ok.ensures.entry) } in
+    let knows : NoteKnows g.N.DeskName.cells x = record {
+      cell = ap (λ n. slice_get g.N.DeskName.cells n) at_is ∙ cell ∙ ap (λ (n : Note Entry). Some n.cell) (sym note_is);
+      known = ap (λ (n : Note Entry). n.known) note_is ∙ c.in-Ok.ensures.known ∙ ap Some (sym e_is);
+    } in
     let was : Past = past_of c.self.inside.warehouse.book in
     let ready : past_of c.make_ready-made.new.warehouse.book ≡ was = past_same _ _ c.make_ready-made.ensures.same in
     let left = c.commit-entry.new.self.book in
-    let done : c.commit-entry.result.entry ≡ x.entry = c.commit-entry.ensures.entry ∙ sym c.in-Ok.ensures.entry in
-    let grows : left.history ≡ h ++ x.entry ∷ [] = c.commit-entry.ensures.history ∙ ap (λ (d : Entry). c.make_ready-made.new.warehouse.book.history ++ d ∷ []) done ∙ ap (λ (p : Past). p.history ++ x.entry ∷ []) ready in
+    let done : c.commit-entry.result.entry ≡ e = c.commit-entry.ensures.entry in
+    let grows : left.history ≡ h ++ e ∷ [] = c.commit-entry.ensures.history ∙ ap (λ (d : Entry). c.make_ready-made.new.warehouse.book.history ++ d ∷ []) done ∙ ap (λ (p : Past). p.history ++ e ∷ []) ready in
     let begins : origin_of left ≡ origin = (λ i. record { site = c.commit-entry.ensures.stays.site i; opening = c.commit-entry.ensures.stays.opening i }) ∙ ap (λ (p : Past). p.origin) ready ∙ c.self.invariant.origin_is in
     let ran : IsRunFrom origin left.history = (left.state, subst (λ (o : Origin). Run o.site o.opening left.history left.state) begins c.history-run.ensures.run) in
     let run : IsRunFrom origin c.again.result.past.history = subst (λ (l : List Entry). IsRunFrom origin l) (grows ∙ sym front) ran in
-    subst (λ l. PassKeeps origin g.N.DeskName.cells g.N.DeskName.book g.N.DeskName.callers c.pass.inside.caller at (at + 1) l c.again.result) (sym items) (pass_push c.pass.invariant h x c.again.result all knows place mine book front run)
+    subst (λ l. PassKeeps origin g.N.DeskName.cells g.N.DeskName.book g.N.DeskName.callers c.pass.inside.caller at (at + 1) l c.again.result) (sym items) (pass_push c.pass.invariant h x at e c.again.result at_is e_is all knows place mine book front run)
 
 pub invariant_of-self-2 : goal.invariant_of-self-2
 invariant_of-self-2 g c =
@@ -85,7 +92,7 @@ invariant_of-self-2 g c =
     let n = made.note in
     let caller = c.pass.inside.caller in
     let r : Row = record { count = c.len.result; last = at } in
-    let x : Held = record { position = at; entry = made.entry; note = n } in
+    let x : Held = c.note_down.ensures.held.0 in
     let was : Past = past_of c.self.inside.warehouse.book in
     let ready : past_of c.make_ready-made.new.warehouse.book ≡ was = past_same _ _ c.make_ready-made.ensures.same in
     let now : Past = past_of c.commit-entry.new.self.book in
@@ -96,7 +103,7 @@ invariant_of-self-2 g c =
     let place : length h ≡ at = sym (ap length c.history.ensures.value) in
     let mine : e.caller ≡ caller = c.in-Ok.ensures.caller in
     let all : list_of c.pass.inside.held.items ≡ entries_of h caller = ap (λ v. v.list) c.pass.view_is ∙ c.requires.whole ∙ sym (ap (λ (s : Ledger g.row.P.Denot). entries_of s.history c.args.pass.now.caller) c.self.view_is) ∙ sym (ap (λ (v : Received). entries_of h v.caller) c.pass.view_is) in
-    let items : c.note_down.new.held.items ≡ c.pass.inside.held.items ++ x ∷ [] = c.note_down.ensures.held ∙ ap (λ l. l ++ x ∷ []) c.make_ready-made.ensures.held in
+    let items : c.note_down.new.held.items ≡ c.pass.inside.held.items ++ x ∷ [] = c.note_down.ensures.held.1 ∙ ap (λ l. l ++ x ∷ []) c.make_ready-made.ensures.held in
     let counted : c.len.result ≡ length c.pass.inside.held.items + 1 = omega (arith, ap length items, length_push c.pass.inside.held.items x, c.len.ensures) in
     let pushed = entries_push_same h e caller mine in
     let count : c.len.result ≡ length (entries_of (h ++ e ∷ []) caller) = omega (arith, counted, ap length pushed, length_push (entries_of h caller) (length h, e), ap length all, length-map c.pass.inside.held.items pair_of) in

@@ -14,8 +14,8 @@ returns-clause-note g c =
     let knows : NoteKnows g.N.DeskName.cells x = c.self.invariant.notes at x is in
     let again = c.again.ensures.1 in
     record {
-      position = x.position;
-      entry = x.entry;
+      position = x.position.value;
+      entry = x.entry.value;
       held = ap (λ v. slice_get v.list at) (sym c.self.view_is) ∙ slice_get-map pair_of held at ∙ ap (option_map pair_of) is;
       cell = knows.cell ∙ ap (λ n. Some n.cell) (sym again);
       known = ap (λ n. n.known) again ∙ knows.known;

@@ -1,6 +1,4 @@
 use Rattle.std.proofs.Common.{◌≡◌, ◌∙◌, ap, sym, subst}
-use Rattle.wh_core.specs.Steps.{Step}
-use Rattle.wh_event.specs.declared.entry.Entry.{Entry}
 use Rattle.wh_token.specs.Houses.{House}
 use Rattle.wh_token.specs.Fleet.{IsTied}
 use Rattle.wh_grid.specs.Grids.{Floor}
@@ -15,19 +13,18 @@ use Rattle.wh_token.proofs.warehouse.Warehouse.commit_draft.Goals.{then-self, el
 pub invariant_of-self : goal.invariant_of-self
 invariant_of-self g c =
     let old = c.self.inside in
-    let new = c.commit-entry.new.self in
+    let new = c.commit.new.self in
     let entry = c.args.draft.entry in
     let same_book : old.book ≡ c.args.self.now.book = ap (λ (h : House g.row.P.Denot). h.book) c.self.view_is in
-    let S : Entry → Type 0 = λ e. Step old.book.site old.book.state e new.state in
-    let step = subst S c.commit-entry.ensures.entry c.commit-entry.ensures.step in
-    let grid : old.book.site.grid ≡ new.site.grid = ap (λ (s : Site). s.grid) (sym c.commit-entry.ensures.site) in
-    let swaps = rw c.replaced-agent.ensures at c.swap-back.ensures.swaps in
+    let step = c.commit.ensures.step in
+    let grid : old.book.site.grid ≡ new.site.grid = ap (λ (s : Site). s.grid) (sym c.commit.ensures.site) in
+    let swaps = rw c.replaced-agent.ensures at c.swap.ensures.swaps in
     let tied = tied-step g.P.Planner.fits_map g.P.Planner.slot_count old.book.site old.book.state entry.reply entry.event new.state
-    old.planners.items c.args.spare c.swap-back.new.planners.items c.swap-back.result
+    old.planners.items c.args.spare c.swap.new.planners.items c.swap.result
     c.self.invariant.seats step (rw same_book c.requires.tells) swaps c.self.invariant.tied in
     record {
-      seats = c.swap-back.ensures.len ∙ c.self.invariant.seats ∙ sym c.commit-entry.ensures.seats;
-      tied = subst (λ (f : Floor). IsTied g.P.Planner.fits_map g.P.Planner.slot_count f c.swap-back.new.planners.items new.state.slots) grid tied;
+      seats = c.swap.ensures.len ∙ c.self.invariant.seats ∙ sym c.commit.ensures.seats;
+      tied = subst (λ (f : Floor). IsTied g.P.Planner.fits_map g.P.Planner.slot_count f c.swap.new.planners.items new.state.slots) grid tied;
       over = c.self.invariant.over ∙ grid;
       lent = c.self.invariant.lent ∙ grid;
       quiet = λ on. elim c.if-self.branch [

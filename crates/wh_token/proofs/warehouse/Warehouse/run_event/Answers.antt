@@ -7,6 +7,9 @@ returns-in-Some g c = record {
       c.add_answer.result c.in-Some.ensures.answers c.add_answer.ensures.state c.add_answer.ensures.stays c.add_answer.ensures.history);
 }
 
+pub returns-in-None : goal.returns-in-None
+returns-in-None g c = record { runs = rw c.in-Token.is (c.add_choice.ensures.runs c.args.spares.now.items) }
+
 pub returns-in-Tick : goal.returns-in-Tick
 returns-in-Tick g c =
     let may = c.may_tick.ensures c.if-may_tick.true in

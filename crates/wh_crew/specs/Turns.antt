@@ -1,0 +1,95 @@
+-- turns of the agents' worker
+use Rattle.std.specs.Prelude.{◌≡◌, ◌⊎◌, ℕ, ◌+◌, ◌==◌, ◌<◌, ◌≤◌, Bool, true, List, [], ◌∷◌, ◌++◌, length, cond, All, MatchBool}
+use Rattle.std.specs.List.{flat_map}
+use mathlib.Core.List.{IsPrefix}
+use Rattle.wh_event.specs.declared.entry.Entry.{Entry}
+use Rattle.wh_event.specs.declared.event.Command.{Command}
+use Rattle.wh_event.specs.declared.event.Command.TheVariants.{Token, Tick}
+use Rattle.wh_board.specs.Pasts.{Past, Extends}
+use Rattle.wh_board.specs.Boards.{IsBoardOf}
+use Rattle.wh_board.specs.declared.board.Board.{Board}
+use Rattle.wh_board.specs.declared.board.Shown.{Shown}
+use Rattle.wh_desk.specs.Lists.{Received}
+use Rattle.wh_desk.specs.Calls.{Refuses}
+use Rattle.wh_desk.specs.declared.answer.DeskFault.{DeskFault}
+use Rattle.wh_crew.specs.Work.{commands_of}
+use Rattle.wh_crew.specs.declared.agents.Pace.{Pace}
+
+-- what an agent that is shown so asks for: the token, where it has no steps left
+abbrev pub asks : ℕ → Shown → List Command
+asks agent shown = cond (shown.steps_left == 0) (Token agent ∷ []) []
+
+-- what the agents ask for, in their order, counted from this number
+abbrev pub asks_from : ℕ → List Shown → List Command
+asks_from agent [] = []
+asks_from agent (shown ∷ agents) = asks agent shown ++ asks_from (agent + 1) agents
+
+-- one turn: each agent that is due asks for the token, in order, and then the clock ticks
+abbrev pub turn_of : List Shown → List Command
+turn_of agents = asks_from 0 agents ++ Tick ∷ []
+
+-- a turn for each of the boards, one after another
+abbrev pub turns_of : List Board → List Command
+turns_of boards = flat_map (λ board. turn_of board.agents.items) boards
+
+-- no task is open or under way
+abbrev pub IsIdle : Board → Type 0
+IsIdle board = (board.open_tasks ≡ 0) × (board.assigned ≡ 0) × (board.carried ≡ 0)
+
+-- the pass gained entries that answer the commands, in order, and nothing else
+pub record Does (commands : List Command) (had has : Received) : Type 0 where
+  pub caller_is : has.caller ≡ had.caller
+  pub received : List (ℕ × Entry)
+  pub goes_on : has.list ≡ had.list ++ received
+  pub commands_are : commands_of received ≡ commands
+  pub known : IsPrefix had.known has.known
+
+-- it did so for the first of them, and the desk refused the next one
+pub record DoesUntil (cells : ℕ) (commands : List Command) (fault : DeskFault) (had has : Received) : Type 0 where
+  pub done : List Command
+  pub next : Command
+  pub rest : List Command
+  pub parts : commands ≡ done ++ next ∷ rest
+  pub between : Received
+  pub does : Does done had between
+  pub refused : Refuses cells between fault has
+
+-- a turn may be taken at this board: it shows a beginning of what is known, and where a worker ends idle, something to do
+pub record MayTurn (ends_idle : Bool) (known : Past) (board : Board) : Type 0 where
+  pub past : Past
+  pub begins : Extends past known
+  pub shows : IsBoardOf past board
+  pub has_work : ends_idle ≡ true → IsIdle board → ⊥
+
+-- what is known shows no task that is open or under way, and the worker ends then
+pub record EndsIdle (ends_idle : Bool) (known : Past) : Type 0 where
+  pub may : ends_idle ≡ true
+  pub board : Board
+  pub shows : IsBoardOf known board
+  pub idle : IsIdle board
+
+-- One look: at a board that was seen a turn was taken, or nothing was to be done there.
+abbrev pub Looks : Bool → Past → Received → Received → Bool → Type 0
+Looks ends_idle known had has took =
+    MatchBool took ((board : Board) × MayTurn ends_idle known board × Does (turn_of board.agents.items) had has) ((has ≡ had) × EndsIdle ends_idle known)
+
+-- a look at a board, and a turn there in which the desk refused a call
+abbrev pub LooksUntil : ℕ → Bool → Past → DeskFault → Received → Received → Type 0
+LooksUntil cells ends_idle known fault had has =
+    (board : Board) × MayTurn ends_idle known board × DoesUntil cells (turn_of board.agents.items) fault had has
+
+-- So many turns were taken, each at a board that shows a beginning of what is known: all that may be, or fewer, up to where
+-- nothing was to be done.
+pub record TakesTurns (pace : Pace) (known : Past) (had has : Received) (turns : ℕ) : Type 0 where
+  pub boards : List Board
+  pub seen : All (MayTurn pace.ends_idle known) boards
+  pub does : Does (turns_of boards) had has
+  pub count : length boards ≡ turns
+  pub ends : (turns ≡ pace.turns) ⊎ ((turns < pace.turns) × EndsIdle pace.ends_idle known)
+
+-- turns were taken so, and in one of them the desk refused a call
+pub record TakesUntil (cells : ℕ) (pace : Pace) (known : Past) (fault : DeskFault) (had has : Received) : Type 0 where
+  pub boards : List Board
+  pub seen : All (MayTurn pace.ends_idle known) boards
+  pub does : DoesUntil cells (turns_of boards) fault had has
+  pub count : length boards ≤ pace.turns

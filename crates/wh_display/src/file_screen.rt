@@ -1,0 +1,54 @@
+//! A file as a screen.
+#![tactic(auto)]
+
+ghost use Rattle.std.specs.Prelude.{◌∷◌, [], OnOk, OnErr};
+ghost use Rattle.wh_display.specs.Screens.{Shows};
+
+use crate::screen::{Screen, ShowFault};
+use std::fs;
+use std::fs::{File, Files};
+use std::io::Write;
+
+/// A file that is replaced as a whole: whoever reads it sees one text or another, never a part of one. It tells nothing of what
+/// was shown, since others may write there.
+#[derive(Drop)]
+pub struct FileScreen<'a, T: Files<File = File>> {
+    files: &'a T,
+    path: &'a str,
+    beside: &'a str,
+}
+
+impl<'a, T: Files<File = File>> FileScreen<'a, T> {
+    /// The file of this path. A text is written to another one beside it, in the same folder, which then takes its name.
+    pub fn new(files: &'a T, path: &'a str, beside: &'a str) -> FileScreen<'a, T> {
+        FileScreen {
+            files,
+            path,
+            beside,
+        }
+    }
+}
+
+/// Writes a file anew.
+fn write_anew<T: Files<File = File>>(files: &T, path: &str, text: &[u8]) -> Result<(), ShowFault> {
+    let Ok(mut file) = File::create(files, path) else {
+        return Err(ShowFault::Unshown);
+    };
+    match file.write_all(text) {
+        Ok(()) => Ok(()),
+        Err(_) => Err(ShowFault::Unshown),
+    }
+}
+
+impl<'a, T: Files<File = File>> Screen for FileScreen<'a, T> {
+    fn show(&mut self, text: &[u8]) -> Result<(), ShowFault> {
+        match write_anew(self.files, self.beside, text) {
+            Ok(()) => {}
+            Err(fault) => return Err(fault),
+        }
+        match fs::rename(self.files, self.beside, self.path) {
+            Ok(()) => Ok(()),
+            Err(_) => Err(ShowFault::Unshown),
+        }
+    }
+}

@@ -1,0 +1,10 @@
+//! What a display is shown of a running warehouse: the text of a board, shown anew each time that the board has changed.
+#![tactic(auto)]
+
+mod file_screen;
+mod screen;
+mod text;
+
+pub use file_screen::FileScreen;
+pub use screen::{Screen, ShowFault, refresh};
+pub use text::text_of_board;
