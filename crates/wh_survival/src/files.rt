@@ -10,13 +10,13 @@ use wh_log::{Source, SourceFault};
 const TEXT: &[u8] = b"one\ntwo\nthr";
 
 /// Makes an empty folder, also where an earlier run left one.
-fn make_folder(rt: &HostRuntime, folder: &str) -> Result<(), Fail> {
+pub fn make_folder(rt: &HostRuntime, folder: &str) -> Result<(), Fail> {
     let _ = fs::remove_dir_all(rt, folder);
     Ok(fs::create_dir(rt, folder)?)
 }
 
 /// Whether these bytes stand in a file.
-fn holds(rt: &HostRuntime, path: Path<'_>, bytes: &[u8]) -> Result<bool, Fail> {
+pub fn holds(rt: &HostRuntime, path: Path<'_>, bytes: &[u8]) -> Result<bool, Fail> {
     Ok(fs::read(rt, path)?.as_slice() == bytes)
 }
 

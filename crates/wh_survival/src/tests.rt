@@ -63,14 +63,14 @@ impl Journal for Shelf {
     }
 }
 
-fn grid(alloc: Global) -> Result<Arc<Grid>, Fail> {
+pub fn grid(alloc: Global) -> Result<Arc<Grid>, Fail> {
     match Grid::read(alloc, MAP) {
         Ok(grid) => Ok(Arc::new(alloc, grid)?),
         Err(_) => Err("the map is read")?,
     }
 }
 
-fn points(alloc: Global, grid: &Grid) -> Result<Points, Fail>
+pub fn points(alloc: Global, grid: &Grid) -> Result<Points, Fail>
     ensures layout { IfOk result (IsLayout grid.now) }
     ensures some { IfOk result (λ p. 1 ≤ length p.agents) }
 {
@@ -80,7 +80,7 @@ fn points(alloc: Global, grid: &Grid) -> Result<Points, Fail>
     }
 }
 
-fn planners(alloc: Global, grid: &Arc<Grid>, slots: &[u32]) -> Result<Vec<Patient>, Fail> {
+pub fn planners(alloc: Global, grid: &Arc<Grid>, slots: &[u32]) -> Result<Vec<Patient>, Fail> {
     let (bank, mut seat) = Bank::new(alloc, 1024)?;
     let mut row = Vec::new(alloc);
     for count in slots {
