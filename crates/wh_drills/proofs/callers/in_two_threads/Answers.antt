@@ -12,3 +12,9 @@ join-requires-send-F g c κs within =
     let p = c.type_bounds.send-P in
     let r = c.type_bounds.sync-R in
     search (sendable, crosses, desk_sync, pass_send, given_send) depth 30 fits 20000
+
+pub join-requires-send-A : goal.join-requires-send-A
+join-requires-send-A g c κs within =
+    let n = c.type_bounds.send-N in
+    let m = c.type_bounds.sync-N in
+    search (sendable, crosses, pass_send, given_send) depth 30 fits 20000
