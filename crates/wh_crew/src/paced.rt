@@ -212,10 +212,10 @@ pub fn crew_at_pace<
     ensures agents { IfOk result (λ c. (own : Received) → slice_get passes.items (length works.items) ≡ Some own → TurnsIn (length N.cells) turns N.origin c.history.warehouse.book.history own c.taken) }
     ensures stopped { IfOk result (λ c. IfErr c.taken (IsWhyStopped (length N.cells) c.history.warehouse.book.history)) }
 {
-    let Ok(room) = make_room(alloc, passes.len()) else {
+    let Ok(viewer) = desk.viewer(rt) else {
         return Err(CrewFault::NoMemory);
     };
-    let Ok(viewer) = desk.viewer(rt) else {
+    let Ok(room) = make_room(alloc, passes.len()) else {
         return Err(CrewFault::NoMemory);
     };
     let Room {
