@@ -5,3 +5,4 @@ pub mod Sending
 pub mod Trying
 pub mod Turning
 pub mod Pacing
+pub mod Ending

@@ -158,7 +158,14 @@ fn run_beside<
         {
             let handles = start_all(scope, rt, alloc, desk, passes, works, &calls)?;
             let taken = work_beside(
-                rt, alloc, desk, &mut pass, &mut viewer, &calls, turns, pause,
+                rt,
+                alloc,
+                desk,
+                &mut pass,
+                &mut viewer,
+                &calls,
+                turns,
+                pause,
             );
             let reports = join_all(rt, handles, reports);
             Ok(Shift {
