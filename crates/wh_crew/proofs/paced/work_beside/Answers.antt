@@ -1,4 +1,4 @@
-use Rattle.std.proofs.Common.{◌≡◌, ◌≤◌, ◌+◌, ◌-◌, refl, true, false, length, arith}
+use Rattle.std.proofs.Common.{◌≤◌, ◌-◌, refl, true, false, length, arith}
 use Rattle.wh_crew.proofs.Pacing.{takes_both, refused_alone}
 use Rattle.wh_crew.proofs.paced.work_beside.Goals as goal
 
