@@ -1,15 +1,15 @@
 -- turns of the agents' worker
-use Rattle.std.specs.Prelude.{◌≡◌, ◌⊎◌, ℕ, ◌+◌, ◌==◌, ◌<◌, ◌≤◌, Bool, true, List, [], ◌∷◌, ◌++◌, length, cond, All, MatchBool}
+use Rattle.std.specs.Prelude.{◌≡◌, ◌⊎◌, ℕ, ◌+◌, ◌==◌, ◌<◌, ◌≤◌, Bool, true, false, List, [], ◌∷◌, ◌++◌, length, cond, All, MatchBool, Result, Ok, Err}
 use Rattle.std.specs.List.{flat_map}
 use mathlib.Core.List.{IsPrefix}
 use Rattle.wh_event.specs.declared.entry.Entry.{Entry}
 use Rattle.wh_event.specs.declared.event.Command.{Command}
 use Rattle.wh_event.specs.declared.event.Command.TheVariants.{Token, Tick}
-use Rattle.wh_board.specs.Pasts.{Past, Extends}
+use Rattle.wh_board.specs.Pasts.{Origin, Past, Extends}
 use Rattle.wh_board.specs.Boards.{IsBoardOf}
 use Rattle.wh_board.specs.declared.board.Board.{Board}
 use Rattle.wh_board.specs.declared.board.Shown.{Shown}
-use Rattle.wh_desk.specs.Lists.{Received}
+use Rattle.wh_desk.specs.Lists.{Received, entries_of}
 use Rattle.wh_desk.specs.Calls.{Refuses}
 use Rattle.wh_desk.specs.declared.answer.DeskFault.{DeskFault}
 use Rattle.wh_crew.specs.Work.{commands_of}
@@ -93,3 +93,43 @@ pub record TakesUntil (cells : ℕ) (pace : Pace) (known : Past) (fault : DeskFa
   pub seen : All (MayTurn pace.ends_idle known) boards
   pub does : DoesUntil cells (turns_of boards) fault had has
   pub count : length boards ≤ pace.turns
+
+-- Beside others turns were taken while those were at work, and more once they were through: all that may be, or fewer, up to
+-- where nothing was to be done. Each was taken at a board that shows a beginning of what is known, and behind those of the
+-- others there was something to do.
+pub record TakesBeside (turns : ℕ) (known : Past) (had has : Received) (taken : ℕ) : Type 0 where
+  pub beside : List Board
+  pub alone : List Board
+  pub seen_beside : All (MayTurn false known) beside
+  pub seen_alone : All (MayTurn true known) alone
+  pub does : Does (turns_of (beside ++ alone)) had has
+  pub count : length (beside ++ alone) ≡ taken
+  pub ends : (taken ≡ turns) ⊎ ((taken < turns) × EndsIdle true known)
+
+-- turns were taken so, and in one of them the desk refused a call
+pub record RefusedBeside (cells turns : ℕ) (known : Past) (fault : DeskFault) (had has : Received) : Type 0 where
+  pub boards : List Board
+  pub seen : All (MayTurn false known) boards
+  pub does : DoesUntil cells (turns_of boards) fault had has
+  pub count : length boards ≤ turns
+
+-- what the agents' worker did beside others: the turns that it took, or those up to a call that the desk refused
+abbrev pub WorksBeside : ℕ → ℕ → Past → Received → Received → Result ℕ DeskFault → Type 0
+WorksBeside cells turns known had has (Ok taken) = TakesBeside turns known had has taken
+WorksBeside cells turns known had has (Err fault) = RefusedBeside cells turns known fault had has
+
+-- What the agents' worker, which had this pass, has in the whole history: the answers to what it did, and nothing else. What it
+-- saw are boards of beginnings of that history.
+pub record TurnsIn (cells turns : ℕ) (origin : Origin) (history : List Entry) (had : Received) (ended : Result ℕ DeskFault) : Type 0 where
+  pub known : Past
+  pub begins : Extends known (record { origin = origin; history = history })
+  pub has : Received
+  pub has_all : has.list ≡ entries_of history had.caller
+  pub has_known : IsPrefix has.known history
+  pub works : WorksBeside cells turns known had has ended
+
+-- why the worker's turns ended before it was through: the journal was full, or memory was wanting
+abbrev pub IsWhyStopped : ℕ → List Entry → DeskFault → Type 0
+IsWhyStopped cells history DeskFault.Full = length history ≡ cells
+IsWhyStopped cells history DeskFault.NoMemory = Unit {0}
+IsWhyStopped cells history fault = ⊥

@@ -91,7 +91,7 @@ fn take_turn<N: DeskName, H: Wait + Drop, P: Planner, R: Wait>(
 }
 
 /// A look at the board, and a turn by what it shows, unless nothing is to be done. Whether a turn was taken.
-fn look_and_turn<N: DeskName, H: Wait + Drop, P: Planner, R: Wait>(
+pub(crate) fn look_and_turn<N: DeskName, H: Wait + Drop, P: Planner, R: Wait>(
     rt: &R,
     alloc: Global,
     desk: &Desk<N, H, P>,

@@ -3,11 +3,13 @@
 
 mod agents;
 mod gate;
+mod paced;
 mod threads;
 mod worker;
 
 pub use agents::{Pace, run_agents};
 pub use gate::Gate;
+pub use paced::{PacedCrew, crew_at_pace};
 pub use threads::{CrewFault, Crewed, Due, crew};
 pub use worker::{Missed, Report, work_through};
 

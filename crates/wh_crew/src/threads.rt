@@ -99,7 +99,7 @@ fn start_one<
 }
 
 /// Starts a thread for each worker: worker i with pass i and work i.
-fn start_all<
+pub(crate) fn start_all<
     's,
     E: 's,
     N: DeskName + Send + Sync + 's,
@@ -152,7 +152,7 @@ fn join_and_drop<N: DeskName, P: Planner, R: Threads>(
 }
 
 /// Joins each thread. Its report is at its place.
-fn join_all<N: DeskName, P: Planner, R: Threads>(
+pub(crate) fn join_all<N: DeskName, P: Planner, R: Threads>(
     rt: &R,
     handles: Vec<PromisedHandle<Report<N>, Due<N, P>>>,
     mut reports: Vec<Report<N>>,
@@ -169,7 +169,7 @@ fn join_all<N: DeskName, P: Planner, R: Threads>(
 }
 
 /// The passes of the reports, and the counts of missed calls.
-fn take_apart<N: DeskName>(
+pub(crate) fn take_apart<N: DeskName>(
     reports: Vec<Report<N>>,
     mut passes: Vec<Pass<N>>,
     mut missed: Vec<Missed>,
@@ -178,6 +178,7 @@ fn take_apart<N: DeskName>(
     requires room { (length reports.items ≤ vec_capacity passes) × (length reports.items ≤ vec_capacity missed) }
     ensures passes { result.0.items ≡ map (λ r. r.pass) reports.items }
     ensures missed { result.1.items ≡ map (λ r. r.missed) reports.items }
+    ensures kept { vec_capacity passes ≤ vec_capacity result.0 }
 {
     for report in reports {
         let Report {
@@ -285,7 +286,7 @@ pub fn crew<
 }
 
 /// Whether each call that was refused was so by E11 or E90.
-fn none_other(missed: &[Missed]) -> bool
+pub(crate) fn none_other(missed: &[Missed]) -> bool
     ensures { result ≡ true → All (λ n. n.other ≡ 0) missed.now }
 {
     for each in missed {
@@ -304,13 +305,13 @@ fn has_other(missed: &Missed) -> bool
 }
 
 /// Room for what so many workers leave, made before the first thread starts.
-struct Room<N: DeskName> {
-    reports: Vec<Report<N>>,
-    passes: Vec<Pass<N>>,
-    missed: Vec<Missed>,
+pub(crate) struct Room<N: DeskName> {
+    pub(crate) reports: Vec<Report<N>>,
+    pub(crate) passes: Vec<Pass<N>>,
+    pub(crate) missed: Vec<Missed>,
 }
 
-fn make_room<N: DeskName>(alloc: Global, count: usize) -> Result<Room<N>, AllocError>
+pub(crate) fn make_room<N: DeskName>(alloc: Global, count: usize) -> Result<Room<N>, AllocError>
     ensures empty { IfOk result (λ r. (r.reports.items ≡ []) × (r.passes.items ≡ []) × (r.missed.items ≡ [])) }
     ensures room { IfOk result (λ r. (count ≤ vec_capacity r.reports) × (count ≤ vec_capacity r.passes) × (count ≤ vec_capacity r.missed)) }
 {

@@ -11,5 +11,5 @@ pub use works::works_of;
 
 // handed on, for callers: what the items below take, return and speak of
 pub use wh_crew::{
-    Cells, Desk, DeskFault, DeskName, Front, Missed, Pass, Publisher, Receipt, Viewer,
+    Cells, Desk, DeskFault, DeskName, Front, Missed, Pace, Pass, Publisher, Receipt, Viewer,
 };
