@@ -15,6 +15,7 @@ use std::io::{self, BufWriter, ErrorKind, Write};
 use std::process::ExitCode;
 use std::sync::Wait;
 use std::thread::Threads;
+use std::time::Clock;
 use wh_edge::{Status, Trouble};
 use wh_lines::Lines;
 use wh_options::PlannerKind;
@@ -49,7 +50,11 @@ fn words<R: AllocGlobal + env::Env, E: Write>(
 }
 
 /// Does what the words ask for, over the process's streams. All planners are made here.
-fn obey<'w, R: AllocGlobal + Print + Input + Files<File = File> + Threads + Wait + Sync, E: Write>(
+fn obey<
+    'w,
+    R: AllocGlobal + Print + Input + Files<File = File> + Threads + Wait + Clock + Sync,
+    E: Write,
+>(
     rt: &'w R,
     words: &'w [String],
     errors: &mut E,
