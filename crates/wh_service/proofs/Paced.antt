@@ -169,7 +169,7 @@ paced_keeps {X} fits count origin works turns journal history state few seats ke
         subst (λ n. AllByRecursion ReceiptKeeps (entries_of history n)) caller_is
         (receipts_keep (entries_of history paced.own.caller) (turns_keep (length origin.site.layout.agents) (commands_of (entries_of history paced.own.caller)) seats asked) told)
     each : (caller : ℕ) → caller < length works + 1 → AllByRecursion ReceiptKeeps (entries_of history caller)
-    each caller less = elim (eq-or-lt_of_le {caller} {length works} (omega arith)) [
+    each caller less = elim (eq-or-lt_of_le {n = caller} {m = length works} (omega arith)) [
       | inl last ↦ subst (λ n. AllByRecursion ReceiptKeeps (entries_of history n)) (sym last) mine
       | inr before ↦ worker_keeps fits count origin works (length works + 1) journal history state (omega arith) keep paced.worked caller before
     ]
