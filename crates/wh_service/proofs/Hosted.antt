@@ -68,10 +68,16 @@ few_callers {X} gives options grid agents scripts planners works team few = go o
         omega (arith, size, others, asked_each options.turns agents, clients, room)
     go (Some every) same room = omega (arith, ap length same, clients, room)
 
+few_of : (turns : Option ℕ) (works : ℕ) → callers_of turns works ≤ 64 → works ≤ 64
+few_of None works few = few
+few_of (Some turns) works few = omega arith
+
 -- they are at most 64 threads
-pub few_works : (turns : Option ℕ) (works : ℕ) → callers_of turns works ≤ 64 → works ≤ 64
-few_works None works few = few
-few_works (Some turns) works few = omega arith
+pub few_works : {X : Type 0} (gives : Gives X) (options : LiveOptions) (grid : Floor) (agents threads : ℕ) (between new : Input) (scripts : List (List Command)) (planners : List X) (works : List (Work X))
+    → IsTeam gives options grid agents scripts planners works → ClientsRead threads between new scripts → threads ≡ agent_threads options.every agents → length works ≤ 64
+few_works gives options grid agents threads between new scripts planners works team read room =
+    few_of (paced_turns options) (length works)
+    (few_callers gives options grid agents scripts planners works team (subst (λ (n : ℕ). length scripts + n + 1 ≤ 64) room read.few))
 
 -- what a team's run came to: each planner has the fleet's slots
 pub hosts : {X : Type 0} (fits : X → Floor → Bool) (count : X → ℕ) (gives : Gives X) (options : LiveOptions) (site : Site) (scripts : List (List Command)) (planners : List X) (works : List (Work X)) (old new : Input) (text : List ℕ)

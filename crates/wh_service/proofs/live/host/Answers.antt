@@ -1,10 +1,9 @@
-use Rattle.std.proofs.Common.{◌+◌, ◌≤◌, List, ap, length, refl, subst, sym, ℕ}
+use Rattle.std.proofs.Common.{ap, length, refl, sym}
 use Rattle.std.proofs.KnownBytes.{Keeps-refl}
 use Rattle.std.specs.Arc.{arc_value}
 use Rattle.wh_points.specs.Points.{Site}
-use Rattle.wh_service.specs.Hosts.{paced_turns}
 use Rattle.wh_service.proofs.Played.{members_fit}
-use Rattle.wh_service.proofs.Hosted.{at_clients, at_run, at_team, few_callers, few_works, hosts, lives_at, reads_all, team_at, unwritten, written}
+use Rattle.wh_service.proofs.Hosted.{at_clients, at_run, at_team, few_works, hosts, lives_at, reads_all, team_at, unwritten, written}
 use Rattle.wh_service.proofs.live.host.Goals as goal
 
 pub returns-in-Err-clause-fault : goal.returns-in-Err-clause-fault
@@ -31,8 +30,7 @@ run_crew-requires-clause-fit g c κs within =
 
 pub run_crew-requires-clause-few : goal.run_crew-requires-clause-few
 run_crew-requires-clause-few g c κs within =
-    let room = subst (λ (n : ℕ). length _ + n + 1 ≤ 64) c.agent_threads.ensures.value c.in-Ok.ensures.ok.few in
-    few_works (paced_turns c.args.options.now) (length c.in-Ok-make_team.team.works.items) (few_callers _ _ _ _ _ _ _ c.in-Ok-make_team.ensures.ok room)
+    few_works _ c.args.options.now _ _ _ _ _ _ _ _ c.in-Ok-make_team.ensures.ok c.in-Ok.ensures.ok c.agent_threads.ensures.value
 
 pub returns-in-Err-run_crew-clause-fault : goal.returns-in-Err-run_crew-clause-fault
 returns-in-Err-run_crew-clause-fault g c =
@@ -53,7 +51,7 @@ returns-clause-ok g c =
     let reads = reads_all _ _ _ _ c.in_ok-grid.field-0.grid grid layout _ _ _ c.in-Ok-new.ensures.ok seats c.agent_threads.ensures.value c.in_ok-grid.ensures.ok c.in-Ok.ensures.ok in
     let team = team_at _ c.args.options.now grid _ _ _ _ _ seats c.in-Ok-make_team.ensures.ok in
     let made = c.in-Ok-make_team.team in
-    let lives = lives_at g.P.Planner.fits_map g.P.Planner.slot_count site made.planners.items made.works.items _ _ c.args.options.now.journal _ _ c.pace_of.ensures.turns (sym c.as_slice.ensures.value) c.in-Ok-run_crew.ensures.ok in
+    let lives = lives_at g.P.Planner.fits_map g.P.Planner.slot_count site made.planners.items made.works.items _ _ c.args.options.now.journal _ _ c.pace_of-pace.ensures.turns (sym c.as_slice.ensures.value) c.in-Ok-run_crew.ensures.ok in
     written _ _ _ c.args.options.now _ _ _ _ _ c.write_text.result
     (hosts _ _ _ c.args.options.now site _ made.planners.items made.works.items _ _ c.as_slice.result.now reads c.requires.makes c.requires.range team lives)
     c.write_text.ensures.ok
@@ -67,7 +65,7 @@ returns-clause-fault g c =
     let reads = reads_all _ _ _ _ c.in_ok-grid.field-0.grid grid layout _ _ _ c.in-Ok-new.ensures.ok seats c.agent_threads.ensures.value c.in_ok-grid.ensures.ok c.in-Ok.ensures.ok in
     let team = team_at _ c.args.options.now grid _ _ _ _ _ seats c.in-Ok-make_team.ensures.ok in
     let made = c.in-Ok-make_team.team in
-    let lives = lives_at g.P.Planner.fits_map g.P.Planner.slot_count site made.planners.items made.works.items _ _ c.args.options.now.journal _ _ c.pace_of.ensures.turns (sym c.as_slice.ensures.value) c.in-Ok-run_crew.ensures.ok in
+    let lives = lives_at g.P.Planner.fits_map g.P.Planner.slot_count site made.planners.items made.works.items _ _ c.args.options.now.journal _ _ c.pace_of-pace.ensures.turns (sym c.as_slice.ensures.value) c.in-Ok-run_crew.ensures.ok in
     unwritten _ _ _ c.args.options.now _ _ _ _ _ c.write_text.result
     (hosts _ _ _ c.args.options.now site _ made.planners.items made.works.items _ _ c.as_slice.result.now reads c.requires.makes c.requires.range team lives)
     c.write_text.ensures.fault c.write_text.ensures.front
