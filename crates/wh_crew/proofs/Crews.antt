@@ -31,7 +31,7 @@ map_get f [] k x at = absurd (cc)
 map_get f (y ∷ xs) zero x at = ap (λ z. Some (f z)) (same_Some _ _ at)
 map_get f (y ∷ xs) (suc k) x at = map_get f xs k x at
 
-all_at : {A : Type 0} (P : A → Type 0) (xs : List A) → All P xs → (k : ℕ) (x : A) → slice_get xs k ≡ Some x → P x
+pub all_at : {A : Type 0} (P : A → Type 0) (xs : List A) → All P xs → (k : ℕ) (x : A) → slice_get xs k ≡ Some x → P x
 all_at P [] all k x at = absurd (cc)
 all_at P (y ∷ xs) all zero x at = subst P (same_Some _ _ at) (All-head P y xs all)
 all_at P (y ∷ xs) all (suc k) x at = all_at P xs (All-tail P y xs all) k x at

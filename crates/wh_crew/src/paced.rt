@@ -1,7 +1,7 @@
 //! A crew beside one worker for all agents and the clock.
 #![tactic(auto)]
 
-ghost use Rattle.std.specs.Prelude.{◌≡◌, ◌+◌, ◌<◌, ◌≤◌, ◌⊎◌, [], All, IfErr, IfOk, Some, length, slice_get, vec_capacity, false};
+ghost use Rattle.std.specs.Prelude.{◌≡◌, ◌+◌, ◌<◌, ◌≤◌, ◌⊎◌, [], All, IfErr, IfOk, Some, length, slice_get, vec_capacity, true, false};
 ghost use Rattle.wh_core.specs.Laws.{IsOpening};
 ghost use Rattle.wh_core.specs.Steps.{Run};
 ghost use Rattle.wh_board.specs.Pasts.{Extends};
@@ -158,7 +158,14 @@ fn run_beside<
         {
             let handles = start_all(scope, rt, alloc, desk, passes, works, &calls)?;
             let taken = work_beside(
-                rt, alloc, desk, &mut pass, &mut viewer, &calls, turns, pause,
+                rt,
+                alloc,
+                desk,
+                &mut pass,
+                &mut viewer,
+                &calls,
+                turns,
+                pause,
             );
             let reports = join_all(rt, handles, reports);
             Ok(Shift {
@@ -212,10 +219,10 @@ pub fn crew_at_pace<
     ensures agents { IfOk result (λ c. (own : Received) → slice_get passes.items (length works.items) ≡ Some own → TurnsIn (length N.cells) turns N.origin c.history.warehouse.book.history own c.taken) }
     ensures stopped { IfOk result (λ c. IfErr c.taken (IsWhyStopped (length N.cells) c.history.warehouse.book.history)) }
 {
-    let Ok(room) = make_room(alloc, passes.len()) else {
+    let Ok(viewer) = desk.viewer(rt) else {
         return Err(CrewFault::NoMemory);
     };
-    let Ok(viewer) = desk.viewer(rt) else {
+    let Ok(room) = make_room(alloc, passes.len()) else {
         return Err(CrewFault::NoMemory);
     };
     let Room {
@@ -237,7 +244,17 @@ pub fn crew_at_pace<
     let (mut ended, missed) = take_apart(reports, ended, missed);
     ended.push_reserved(pass);
     match desk.finish(ended) {
-        Ok(history) => close(history, missed, &viewer, taken),
+        Ok(history) => {
+            if is_sound(&history, missed.as_slice(), &viewer, &taken) {
+                Ok(PacedCrew {
+                    history,
+                    missed,
+                    taken,
+                })
+            } else {
+                Err(CrewFault::Stale)
+            }
+        }
         Err(_) => Err(CrewFault::Stale),
     }
 }
@@ -249,27 +266,20 @@ fn is_stale(taken: &Result<u32, DeskFault>) -> bool
     matches!(taken, Err(DeskFault::Stale | DeskFault::CellTaken))
 }
 
-/// What was left, unless a call was refused otherwise than by E11 or E90, or the viewer knows of more than was done.
-fn close<P: Planner>(
-    history: History<P>,
-    missed: Vec<Missed>,
+/// Whether no call was refused otherwise than by E11 or E90, and the viewer knows of no more than was done.
+fn is_sound<P: Planner>(
+    history: &History<P>,
+    missed: &[Missed],
     viewer: &Viewer,
-    taken: Result<u32, DeskFault>,
-) -> Result<PacedCrew<P>, CrewFault>
-    requires { viewer.now.book ≡ history.front.book }
-    ensures history { IfOk result (λ c. c.history ≡ history) }
-    ensures missed { IfOk result (λ c. c.missed ≡ missed) }
-    ensures taken { IfOk result (λ c. c.taken ≡ taken) }
-    ensures none { IfOk result (λ _. All (λ n. n.other ≡ 0) missed.items) }
-    ensures why { IfOk result (λ _. IfErr taken (λ fault. (fault ≡ DeskFault.Full) ⊎ (fault ≡ DeskFault.NoMemory))) }
-    ensures begins { IfOk result (λ _. Extends viewer.now.past history.front.past) }
+    taken: &Result<u32, DeskFault>,
+) -> bool
+    requires { viewer.now.book ≡ history.now.front.book }
+    ensures none { result ≡ true → All (λ n. n.other ≡ 0) missed.now }
+    ensures why { result ≡ true → IfErr taken.now (λ fault. (fault ≡ DeskFault.Full) ⊎ (fault ≡ DeskFault.NoMemory)) }
+    ensures begins { result ≡ true → Extends viewer.now.past history.now.front.past }
 {
-    if history.front.is_before(viewer.front()) || is_stale(&taken) || !none_other(missed.as_slice()) {
-        return Err(CrewFault::Stale);
+    if history.front.is_before(viewer.front()) || is_stale(taken) {
+        return false;
     }
-    Ok(PacedCrew {
-        history,
-        missed,
-        taken,
-    })
+    none_other(missed)
 }

@@ -178,6 +178,7 @@ pub(crate) fn take_apart<N: DeskName>(
     requires room { (length reports.items ≤ vec_capacity passes) × (length reports.items ≤ vec_capacity missed) }
     ensures passes { result.0.items ≡ map (λ r. r.pass) reports.items }
     ensures missed { result.1.items ≡ map (λ r. r.missed) reports.items }
+    ensures kept { vec_capacity passes ≤ vec_capacity result.0 }
 {
     for report in reports {
         let Report {

@@ -5,4 +5,5 @@ pub mod Lives
 pub use Rattle.wh_crew.specs.Calls
 pub use Rattle.wh_crew.specs.Lists
 pub use Rattle.wh_crew.specs.Pasts
+pub use Rattle.wh_crew.specs.Turns
 pub use Rattle.wh_crew.specs.Work

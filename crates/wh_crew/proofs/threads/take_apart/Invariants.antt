@@ -10,3 +10,4 @@ invariant-loop-report g l =
     × (l.missed.items ≡ map (λ r. r.missed) l.yielded)
     × (length l.fn.reports.items ≤ vec_capacity l.passes)
     × (length l.fn.reports.items ≤ vec_capacity l.missed)
+    × (vec_capacity l.fn.passes ≤ vec_capacity l.passes)

@@ -1,4 +1,4 @@
-use Rattle.std.proofs.Common.{rules, ◌≡◌, ℕ, List, ap, ◌∙◌, subst}
+use Rattle.std.proofs.Common.{rules, option_map, ◌≡◌, ℕ, List, ap, ◌∙◌, subst}
 use Rattle.wh_words.specs.Lines.{text_of}
 use Rattle.wh_points.specs.Points.{Site}
 use Rattle.wh_event.specs.declared.entry.Entry.{Entry}
@@ -6,7 +6,7 @@ use Rattle.wh_core.specs.States.{State}
 use Rattle.wh_crew.specs.Fleet.{IsTied}
 use Rattle.wh_log.specs.Logs.{log_lines}
 use Rattle.wh_log.specs.declared.version.Version.TheVariants.{Two}
-use Rattle.wh_live.specs.Lives.{WorkedFrom}
+use Rattle.wh_live.specs.Lives.{WorkedBy}
 use Rattle.wh_live.proofs.run.run_crew.Goals as goal
 
 pub returns-in-Ok-log_text-clause-ok : goal.returns-in-Ok-log_text-clause-ok
@@ -15,18 +15,18 @@ returns-in-Ok-log_text-clause-ok g c =
     let count : g.row.P.Denot → ℕ = g.P.Planner.slot_count in
     let book = c.in-Ok.warehouse.book in
     let opened = c.in-Ok.ensures in
-    let left = c.in-Ok-over_desk.crewed.history.warehouse.book in
+    let left = c.in-Ok-history_of.history.warehouse.book in
     let slots = opened.opening.0 in
+    let turns = option_map (λ p. p.turns) c.args.pace in
     let copied : c.deref.result.now ≡ book.opening.slots = search rules in
     let tied = subst (λ (n : List ℕ). IsTied fits count c.args.grid.value c.in-Ok.warehouse.planners n) (ap (λ (s : State). s.slots) (opened.opening.2 ∙ opened.opening.1)) opened.tied in
-    let ran = subst (λ (n : ℕ). WorkedFrom fits count (record { site = book.site; opening = book.opening }) c.args.works.items n left.history left.state) (c.in_ok-cells.ensures ∙ c.from.ensures) c.in-Ok-over_desk.ensures.ok in
-    let sited = subst (λ (s : Site). WorkedFrom fits count (record { site = s; opening = book.opening }) c.args.works.items c.args.journal left.history left.state) opened.site ran in
+    let sited = subst (λ (s : Site). WorkedBy fits count c.args.works.items turns c.args.journal (record { site = s; opening = book.opening }) left.history left.state) opened.site c.in-Ok-history_of.ensures.ok in
     record {
       slots = slots;
       tied = subst (λ row. IsTied fits count c.args.grid.value row slots) opened.planners tied;
       history = left.history;
       state = left.state;
-      worked = subst (λ (o : State). WorkedFrom fits count (record { site = record { grid = c.args.grid.value; layout = c.args.points }; opening = o }) c.args.works.items c.args.journal left.history left.state) opened.opening.1 sited;
+      worked = subst (λ (o : State). WorkedBy fits count c.args.works.items turns c.args.journal (record { site = record { grid = c.args.grid.value; layout = c.args.points }; opening = o }) left.history left.state) opened.opening.1 sited;
       text_is =
           c.in-Ok-log_text.ensures.text
           ∙ ap (λ (n : List ℕ). text_of (log_lines Two (record { clock = 0; slots = n; entries = c.history.result.now }))) (copied ∙ ap (λ (s : State). s.slots) opened.opening.1)
