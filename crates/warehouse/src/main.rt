@@ -54,11 +54,7 @@ fn obey<
     'w,
     R: AllocGlobal + Print + Input + Files<File = File> + Threads + Wait + Clock + Sync,
     E: Write,
->(
-    rt: &'w R,
-    words: &'w [String],
-    errors: &mut E,
-) -> Status {
+>(rt: &'w R, words: &'w [String], errors: &mut E) -> Status {
     let alloc = rt.alloc();
     let make = |parts: PlannerParts| -> Result<Box<dyn Planner>, AllocError>
         ensures on_grid { IfOk result (λ b. fits_map b parts.grid.value ≡ true) }

@@ -140,7 +140,7 @@ const REPLAYS: [(&[&str], ReplayOptions<'static>); 17] = [
 ];
 
 /// Words that are refused, and the kind of the error.
-const MISTAKES: [(&[&str], ErrorKind); 24] = [
+const MISTAKES: [(&[&str], ErrorKind); 27] = [
     (&["replay", "--log"], ErrorKind::InvalidValue),
     (&["replay", "--log="], ErrorKind::InvalidValue),
     (&["replay", "--log", ""], ErrorKind::InvalidValue),
@@ -254,7 +254,13 @@ fn other_subcommands(rt: HostRuntime) {
         journal: 10_000,
         every: Some(10),
     };
-    assert!(rt; gives(alloc, &["warehouse", "live", "--every", "010"], Options::Live(paced)));
+    assert!(rt;
+        gives(
+            alloc,
+            &["warehouse", "live", "--every", "010"],
+            Options::Live(paced)
+        )
+    );
 }
 
 #[test]

@@ -58,8 +58,10 @@ few_callers {X} gives options grid agents scripts planners works team few = go o
   where
     commands : Work X → List Command
     commands w = w.commands.items
+
     clients : length team.clients ≡ length scripts
     clients = sym (length-map team.clients commands) ∙ ap length team.scripts_are
+
     go : (every : Option ℕ) → MatchOption every (AreWorks agents options.turns team.clients works) (λ n. works ≡ team.clients) → length scripts + agent_threads every agents + 1 ≤ 64
         → callers_of (option_map (λ n. options.turns) every) (length works) ≤ 64
     go None joined room =

@@ -1,5 +1,5 @@
 -- What the worker for all agents and the clock asks is in the ranges of a log.
-use Rattle.std.proofs.Common.{◌≡◌, ◌+◌, ◌<◌, ◌≤◌, ◌^◌, ◌==◌, ◌∙◌, ℕ, Bool, true, false, List, [], ◌∷◌, ◌++◌, length, cond, get_or, ap, ap₂, refl, sym, subst, arith, inl, inr, All, Option, None, Some, Result, Ok, Err, slice_get}
+use Rattle.std.proofs.Common.{◌≡◌, ◌+◌, ◌<◌, ◌≤◌, ◌==◌, ◌∙◌, ℕ, Bool, true, false, List, [], ◌∷◌, ◌++◌, length, cond, get_or, ap, ap₂, refl, sym, subst, arith, inl, inr, All, Option, None, Some, Result, Ok, Err}
 use Rattle.std.specs.List.{AllByRecursion}
 use Rattle.std.proofs.Math.Nat.{eq-or-lt_of_le}
 use Rattle.std.proofs.lemmas.List.Elements.{recursion_from_All}
@@ -95,13 +95,15 @@ turns_asked limit cells turns origin history own taken opening few none told =
   where
     small : (ends : Bool) (boards : List Board) → All (MayTurn ends told.known) boards → AreSmall limit boards
     small ends boards seen = boards_small limit ends told.known origin boards opening few told.begins.0 seen
+
     goes : (has : Received) (received : List (ℕ × Entry)) → has.list ≡ own.list ++ received → has.list ≡ received
     goes has received on = on ∙ ap (λ l. l ++ received) none
+
     go : (ended : Result ℕ DeskFault) → WorksBeside cells turns told.known own told.has ended → AllByRecursion (IsTurn limit) (commands_of told.has.list)
     go (Ok n) works =
         let does = works.does in
         let asked = all_turns limit (works.beside ++ works.alone)
-            (keeps_append (λ (board : Board). length board.agents.items ≤ limit) works.beside works.alone (small false works.beside works.seen_beside) (small true works.alone works.seen_alone)) in
+        (keeps_append (λ (board : Board). length board.agents.items ≤ limit) works.beside works.alone (small false works.beside works.seen_beside) (small true works.alone works.seen_alone)) in
         subst (λ l. AllByRecursion (IsTurn limit) (commands_of l)) (sym (goes told.has does.received does.goes_on)) (subst (AllByRecursion (IsTurn limit)) (sym does.commands_are) asked)
     go (Err fault) works =
         let until = works.does in
@@ -161,6 +163,7 @@ paced_keeps {X} fits count origin works turns journal history state few seats ke
         let count_is = order.count in
         let at = get_or_from_slice_get paced.worked.passes (length works) paced.own paced.own paced.own_is in
         subst (λ (r : Received). r.list ≡ []) at (paced.worked.empty (length works) paced.own (omega arith))
+
     mine : AllByRecursion ReceiptKeeps (entries_of history (length works))
     mine =
         let caller_is : paced.own.caller ≡ length works = paced.worked.in_order.each (length works) paced.own paced.own_is in
@@ -168,6 +171,7 @@ paced_keeps {X} fits count origin works turns journal history state few seats ke
         let told = subst (AllByRecursion SpareKeeps) (sym (turns_tell (length origin.site.layout.agents) (entries_of history paced.own.caller) asked)) tt in
         subst (λ n. AllByRecursion ReceiptKeeps (entries_of history n)) caller_is
         (receipts_keep (entries_of history paced.own.caller) (turns_keep (length origin.site.layout.agents) (commands_of (entries_of history paced.own.caller)) seats asked) told)
+
     each : (caller : ℕ) → caller < length works + 1 → AllByRecursion ReceiptKeeps (entries_of history caller)
     each caller less = elim (eq-or-lt_of_le {n = caller} {m = length works} (omega arith)) [
       | inl last ↦ subst (λ n. AllByRecursion ReceiptKeeps (entries_of history n)) (sym last) mine

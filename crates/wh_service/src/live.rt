@@ -162,7 +162,14 @@ pub fn host<
     };
     let pace = pace_of(options);
     let text = match run_crew(
-        rt, alloc, grid, points, planners, works, options.journal, pace,
+        rt,
+        alloc,
+        grid,
+        points,
+        planners,
+        works,
+        options.journal,
+        pace,
     ) {
         Ok(text) => text,
         Err(trouble) => return Err(trouble),
