@@ -1,4 +1,4 @@
-use Rattle.std.proofs.Common.{ℕ, ◌+◌, ◌<◌, length, arith, sym, subst}
+use Rattle.std.proofs.Common.{ℕ, ◌<◌, length, arith, sym, subst}
 use Rattle.std.specs.List.{All}
 use Rattle.wh_event.specs.declared.entry.Entry.{Entry}
 use Rattle.wh_crew.specs.Calls.{InOrder}
