@@ -38,10 +38,25 @@ run() {
     echo "$(cat -- "$site" "$scratch/log" | "$warehouse" verify) $(grep -c 'refused E6$' "$scratch/log")"
 }
 
+# What `verify` says of the log of one run, and how many tasks the log has and how many of them are delivered, by the reader of
+# logs that counts from each path's cells.
+#   delivered SITE SCRIPTS WORDS..
+delivered() {
+    local site=$1 scripts=$2
+    shift 2
+    cat -- "$site" "$scripts" > "$scratch/whole"
+    "$warehouse" live "$@" < "$scratch/whole" > "$scratch/log" 2> "$scratch/errors"
+    [[ -s $scratch/errors ]] && cat -- "$scratch/errors"
+    echo "$(cat -- "$site" "$scratch/log" | "$warehouse" verify)" \
+        "$(python3 ../tools/stats.py "$scratch/whole" "$scratch/log" | awk -F, 'NR == 2 { print $3, $4 }')"
+}
+
 # What is printed where `live` does not begin: standard output, standard error, status.
+#   refused INPUT WORDS..
 refused() {
-    local status
-    "$warehouse" live < "$1" > "$scratch/stdout" 2> "$scratch/stderr"
+    local input=$1 status
+    shift
+    "$warehouse" live "$@" < "$input" > "$scratch/stdout" 2> "$scratch/stderr"
     status=$?
     echo "$(cat "$scratch/stdout")|$(cat "$scratch/stderr")|$status"
 }
@@ -81,5 +96,25 @@ sed '$d' "$scratch/small" > "$scratch/no_client"
 judge 'no client' "$(cat "$scratch/small" "$scratch/log" | "$warehouse" verify)" 'run 192'
 python3 ../tools/make_instance.py --columns 60 --rows 40 --agents 64 --tasks 0 --ticks 0 | sed '$d' > "$scratch/crowd"
 judge '64 agents, a clock and no client' "$(refused "$scratch/crowd")" '|refused E94|1'
+
+# one worker for all agents and the clock
+told=$(delivered "$scratch/shelves" "$scratch/three" --every 1 --journal 100000)
+judge 'shelves, at a pace' "$told" "run $(grep -c ' = ' "$scratch/log") 200 200"
+# 3 commands of clients, a request of each of two agents, a tick
+judge 'two clients, one turn' "$(run "$scratch/small" "$scratch/two" --every 1 --turns 1)" 'run 6 0'
+judge 'two clients, at a pace, a journal of 5' "$(run "$scratch/small" "$scratch/two" --every 1 --journal 5)" 'run 5 0'
+"$warehouse" live --every 1 < "$scratch/no_client" > "$scratch/log"
+judge 'no client, at a pace' "$(cat "$scratch/small" "$scratch/log" | "$warehouse" verify)" 'run 3'
+"$warehouse" live --every 1 < "$scratch/crowd" > "$scratch/log"
+judge '64 agents at a pace' "$({ cat "$scratch/crowd"; echo %%; cat "$scratch/log"; } | "$warehouse" verify)" 'run 65'
+empty_clients 63 > "$scratch/many"
+"$warehouse" live --every 1 < "$scratch/many" > "$scratch/log"
+judge '63 clients beside one worker' "$(cat "$scratch/small" "$scratch/log" | "$warehouse" verify)" 'run 3'
+empty_clients 64 > "$scratch/too_many"
+judge '64 clients beside one worker' "$(refused "$scratch/too_many" --every 1)" '|refused E94|1'
+for every in 0 60001; do
+    said=$(refused "$scratch/small" --every "$every")
+    judge "--every $every" "${said%%|*}|${said##*|}" '|2'
+done
 echo "$passed passed, $failed failed"
 ((failed == 0))

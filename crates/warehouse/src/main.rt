@@ -15,6 +15,7 @@ use std::io::{self, BufWriter, ErrorKind, Write};
 use std::process::ExitCode;
 use std::sync::Wait;
 use std::thread::Threads;
+use std::time::Clock;
 use wh_edge::{Status, Trouble};
 use wh_lines::Lines;
 use wh_options::PlannerKind;
@@ -49,11 +50,11 @@ fn words<R: AllocGlobal + env::Env, E: Write>(
 }
 
 /// Does what the words ask for, over the process's streams. All planners are made here.
-fn obey<'w, R: AllocGlobal + Print + Input + Files<File = File> + Threads + Wait + Sync, E: Write>(
-    rt: &'w R,
-    words: &'w [String],
-    errors: &mut E,
-) -> Status {
+fn obey<
+    'w,
+    R: AllocGlobal + Print + Input + Files<File = File> + Threads + Wait + Clock + Sync,
+    E: Write,
+>(rt: &'w R, words: &'w [String], errors: &mut E) -> Status {
     let alloc = rt.alloc();
     let make = |parts: PlannerParts| -> Result<Box<dyn Planner>, AllocError>
         ensures on_grid { IfOk result (λ b. fits_map b parts.grid.value ≡ true) }

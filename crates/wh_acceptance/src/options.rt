@@ -140,7 +140,7 @@ const REPLAYS: [(&[&str], ReplayOptions<'static>); 17] = [
 ];
 
 /// Words that are refused, and the kind of the error.
-const MISTAKES: [(&[&str], ErrorKind); 24] = [
+const MISTAKES: [(&[&str], ErrorKind); 27] = [
     (&["replay", "--log"], ErrorKind::InvalidValue),
     (&["replay", "--log="], ErrorKind::InvalidValue),
     (&["replay", "--log", ""], ErrorKind::InvalidValue),
@@ -195,6 +195,9 @@ const MISTAKES: [(&[&str], ErrorKind); 24] = [
     (&["replay", "--replies=Full"], ErrorKind::InvalidValue),
     (&["replay", "--replies=log"], ErrorKind::InvalidValue),
     (&["live", "--replies=full"], ErrorKind::UnknownArgument),
+    (&["live", "--every", "0"], ErrorKind::ValueValidation),
+    (&["live", "--every=60001"], ErrorKind::ValueValidation),
+    (&["replay", "--every", "1"], ErrorKind::UnknownArgument),
 ];
 
 /// The program's name, with these words behind it.
@@ -242,8 +245,22 @@ fn other_subcommands(rt: HostRuntime) {
         fleet: FLEET,
         turns: 64,
         journal: 10_000,
+        every: None,
     };
     assert!(rt; gives(alloc, &["warehouse", "live"], Options::Live(live)));
+    let paced = LiveOptions {
+        fleet: FLEET,
+        turns: 100_000,
+        journal: 10_000,
+        every: Some(10),
+    };
+    assert!(rt;
+        gives(
+            alloc,
+            &["warehouse", "live", "--every", "010"],
+            Options::Live(paced)
+        )
+    );
 }
 
 #[test]
@@ -260,6 +277,7 @@ fn every_option_of_live(rt: HostRuntime) {
         "--bank",
         "65536",
         "--spares=16",
+        "--every=60000",
     ];
     let live = LiveOptions {
         fleet: Fleet {
@@ -270,6 +288,7 @@ fn every_option_of_live(rt: HostRuntime) {
         },
         turns: 7,
         journal: 1_000_000,
+        every: Some(60_000),
     };
     assert!(rt; gives(rt.alloc(), words.as_slice(), Options::Live(live)));
 }

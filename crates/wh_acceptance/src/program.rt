@@ -10,6 +10,7 @@ use std::fs::{File, Files};
 use std::sync::Wait;
 use std::test::*;
 use std::thread::Threads;
+use std::time::Clock;
 use wh_lines::Lines;
 use wh_options::PlannerKind;
 use wh_planner::Planner;
@@ -25,7 +26,7 @@ struct Shown {
 }
 
 /// Calls the program with these words behind its name.
-fn call<R: AllocGlobal + Threads + Wait + Sync + Files<File = File>>(
+fn call<R: AllocGlobal + Threads + Wait + Clock + Sync + Files<File = File>>(
     rt: &R,
     words: &[&str],
     input: &[u8],
@@ -83,7 +84,7 @@ const RUN: &str =
 const PASSED_BY: &str =
     "wlog 2\nstart 0 slots 4 4\n0 submit x A B = accepted 0\n0 token 0 = took 0 path 0,1 1,1 2,1 3,1 3,0\n0 tick = clock 1 picked 0 dropped 0\nend 3\n";
 
-const ROWS: [Row; 19] = [
+const ROWS: [Row; 20] = [
     Row {
         words: &["warehouse", "check"],
         points: POINTS,
@@ -220,6 +221,15 @@ const ROWS: [Row; 19] = [
         output: "",
         errors: "refused C1 line 2\n",
     },
+    // Behind a client without a command one worker for the agents and the clock takes a turn, and then nothing is to be done.
+    Row {
+        words: &["warehouse", "live", "--every", "1"],
+        points: POINTS,
+        rest: "",
+        status: 0,
+        output: "wlog 2\nstart 0 slots 4 4\n1 token 0 = rested\n1 token 1 = rested\n1 tick = clock 1 picked 0 dropped 0\nend 3\n",
+        errors: "",
+    },
     // 62 clients, of whom each has an empty section.
     Row {
         words: &["warehouse", "live"],
@@ -273,13 +283,25 @@ fn mistaken_words(rt: HostRuntime) -> Result<(), Fail> {
 }
 
 /// The log of threads is a run: it has each command of the clients, 8 requests of each of two agents, and 8 ticks, or as many
-/// entries as its journal takes.
+/// entries as its journal takes; or each command of the clients, and one turn of the worker for all agents and the clock.
 #[test]
 fn a_live_log_is_verified(rt: HostRuntime) -> Result<(), Fail> {
     let site = format!(in rt.alloc(); "{MAP}%%\n{POINTS}{AGENTS}%%\n")?;
     let input = format!(in rt.alloc(); "{site}submit x A B\nsubmit x B A\n%%\nsubmit y C D\n")?;
-    for (journal, wanted) in [("10000", "run 27\n"), ("10", "run 10\n")] {
-        let words = ["warehouse", "live", "--turns", "8", "--journal", journal];
+    for (words, wanted) in [
+        (
+            ["warehouse", "live", "--turns", "8", "--journal", "10000"],
+            "run 27\n",
+        ),
+        (
+            ["warehouse", "live", "--turns", "8", "--journal", "10"],
+            "run 10\n",
+        ),
+        (
+            ["warehouse", "live", "--turns", "1", "--every", "1"],
+            "run 6\n",
+        ),
+    ] {
         let lived = call(&rt, words.as_slice(), input.as_bytes())?;
         assert!(rt; lived.status == 0 && lived.errors.is_empty(), "{wanted}");
         let mut log = Vec::from_slice(rt.alloc(), site.as_bytes())?;

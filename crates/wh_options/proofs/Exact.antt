@@ -17,7 +17,7 @@ use Rattle.clap.specs.Faults.{action_fault, built_fault, check_fault, default_fa
 use Rattle.clap.specs.Simple.{App, Shape, built, entered, filled, label_of, names_of}
 use Rattle.clap.specs.declared.builder.value_parser.ValueParser.TheVariants as vp
 use Rattle.wh_options.specs.Setting.{IsInPlace, IsLine, Setting, Spelling, StandsBy, alone, apart, has_some, is_switch, joined, spelled, value_of}
-use Rattle.wh_options.specs.Options.{GivesFleet, GivesLog, GivesNumber, GivesPlanner, GivesReplay, GivesReplies, GivesTail, GivesTold, IsWritten, WordsGive, live_names, log_of, planner_text, replay_names, replies_text, tail_text}
+use Rattle.wh_options.specs.Options.{GivesFleet, GivesLog, GivesNumber, GivesPlanner, GivesReplay, GivesReplies, GivesTail, MayGive, IsWritten, WordsGive, default_turns, live_names, log_of, planner_text, replay_names, replies_text, tail_text}
 use Rattle.wh_options.specs.Menu.{Choices, IsMenu, choice_rule, file_rule, menu, number_rule, planner_words, replies_words, switch_rule, tail_words}
 use Rattle.wh_options.specs.declared.chosen.Options.{Options}
 use Rattle.wh_options.specs.declared.chosen.Options.TheVariants.{Check, Replay, Verify, Live}
@@ -356,13 +356,14 @@ valid_log s settings x log is value found gives =
     valid_setting s x (codes "log") (filled (file_rule (codes "log"))) is found (file_option (codes "log")) refl refl refl
     (name_taken x.value (λ empty. gives.named (given ∙ empty))) value.1
 
-valid_told : (s : Shape) (settings : List Setting) (x : Setting) (told : Option ℕ) → x.name ≡ codes "told" → IsGiven settings x
-    → arg_by_long s.rules (codes "told") ≡ Some (filled (number_rule (codes "told") 0 999999999)) → GivesTold settings told → IsValid s x
-valid_told s settings x told is value found gives =
-    let given : (n : ℕ) × (told ≡ Some n) × IsWritten n x.value × (n ≤ 999999999) =
-    subst (λ o. MatchOption o (told ≡ None) (λ text. (n : ℕ) × (told ≡ Some n) × IsWritten n text × (n ≤ 999999999))) (value_at settings x (codes "told") is value.0) gives in
-    valid_setting s x (codes "told") (filled (number_rule (codes "told") 0 999999999)) is found (number_option (codes "told") 0 999999999) refl refl refl
-    (number_taken x.value 0 999999999 given.0 (lit< tt) given.2 (omega arith) given.3) value.1
+valid_may : (s : Shape) (settings : List Setting) (x : Setting) (name : Text) (least most : ℕ) (read : Option ℕ) → x.name ≡ name → IsGiven settings x
+    → arg_by_long s.rules name ≡ Some (filled (number_rule name least most)) → has_some name ≡ true → has_byte 61 name ≡ false → is_switch name ≡ false → most < 2 ^ 32
+    → MayGive settings name least most read → IsValid s x
+valid_may s settings x name least most read is value found some plain no_switch fits gives =
+    let given : (n : ℕ) × (read ≡ Some n) × IsWritten n x.value × (least ≤ n) × (n ≤ most) =
+    subst (λ o. MatchOption o (read ≡ None) (λ text. (n : ℕ) × (read ≡ Some n) × IsWritten n text × (least ≤ n) × (n ≤ most))) (value_at settings x name is value.0) gives in
+    valid_setting s x name (filled (number_rule name least most)) is found (number_option name least most) some plain no_switch
+    (number_taken x.value least most given.0 fits given.2 given.3 given.4) value.1
 
 -- ---- the settings of a subcommand
 
@@ -415,7 +416,7 @@ replay_valid p t r q settings o planners tails words gives x listed value =
         | inr g ↦ elim (either_true _ _ g) [
           | inl is ↦ valid_log (leaf_at 1 p t r q) settings x (log_of o) (bytes_same _ _ is) value refl gives.log
           | inr h ↦ elim (either_true _ _ h) [
-            | inl is ↦ valid_told (leaf_at 1 p t r q) settings x o.told (bytes_same _ _ is) value refl gives.told
+            | inl is ↦ valid_may (leaf_at 1 p t r q) settings x (codes "told") 0 999999999 o.told (bytes_same _ _ is) value refl refl refl refl (lit< tt) gives.told
             | inr i ↦ vehicles_valid p t r q settings o gives x value i
           ]
         ]
@@ -423,15 +424,18 @@ replay_valid p t r q settings o planners tails words gives x listed value =
     ]) listed
 
 live_valid : (p t r q : Choices) (settings : List Setting) (o : LiveOptions) → texts q.now ≡ planner_words → GivesFleet settings o.fleet
-    → GivesNumber settings (codes "turns") 64 1 100000 o.turns → GivesNumber settings (codes "journal") 10000 1 1000000 o.journal
+    → GivesNumber settings (codes "turns") (default_turns o.every) 1 100000 o.turns → GivesNumber settings (codes "journal") 10000 1 1000000 o.journal → MayGive settings (codes "every") 1 60000 o.every
     → (x : Setting) → list_any (bytes_eq x.name) live_names ≡ true → IsGiven settings x → IsValid (leaf_at 3 p t r q) x
-live_valid p t r q settings o planners fleet turns journal x listed value =
-    fleet_valid (leaf_at 3 p t r q) settings q o.fleet (codes "turns" ∷ codes "journal" ∷ []) planners fleet refl refl refl refl x value
+live_valid p t r q settings o planners fleet turns journal every x listed value =
+    fleet_valid (leaf_at 3 p t r q) settings q o.fleet (codes "turns" ∷ codes "journal" ∷ codes "every" ∷ []) planners fleet refl refl refl refl x value
     (λ e. elim (either_true _ _ e) [
-      | inl is ↦ valid_number (leaf_at 3 p t r q) settings x (codes "turns") 1 100000 64 o.turns (bytes_same _ _ is) value refl refl refl refl (lit< tt) turns
+      | inl is ↦ valid_number (leaf_at 3 p t r q) settings x (codes "turns") 1 100000 (default_turns o.every) o.turns (bytes_same _ _ is) value refl refl refl refl (lit< tt) turns
       | inr f ↦ elim (either_true _ _ f) [
         | inl is ↦ valid_number (leaf_at 3 p t r q) settings x (codes "journal") 1 1000000 10000 o.journal (bytes_same _ _ is) value refl refl refl refl (lit< tt) journal
-        | inr none ↦ absurd (true≢false (sym none))
+        | inr g ↦ elim (either_true _ _ g) [
+          | inl is ↦ valid_may (leaf_at 3 p t r q) settings x (codes "every") 1 60000 o.every (bytes_same _ _ is) value refl refl refl refl (lit< tt) every
+          | inr none ↦ absurd (true≢false (sym none))
+        ]
       ]
     ]) listed
 
@@ -465,7 +469,7 @@ menu_fine p t r q words Verify planners tails replies others gives =
 menu_fine p t r q words (Replay o) planners tails replies others gives =
     replay_fine p t r q words gives.0 gives.1 o planners tails replies gives.3.0 gives.2 gives.3.1
 menu_fine p t r q words (Live o) planners tails replies others gives =
-    let valid = all_zip _ _ _ (live_valid p t r q gives.1 o others gives.3.2 gives.3.3 gives.3.4) gives.1 gives.3.1 (each_given gives.1 gives.2.once gives.2.spelling.in_place) in
+    let valid = all_zip _ _ _ (live_valid p t r q gives.1 o others gives.3.2 gives.3.3 gives.3.4 gives.3.5) gives.1 gives.3.1 (each_given gives.1 gives.2.once gives.2.spelling.in_place) in
     line_fine p t r q words (codes "live") gives.0 gives.1 (leaf_at 3 p t r q) gives.3.0 (live_enters p t r q) (live_plain p t r q) (λ rows. refl)
     (valid_taken (leaf_at 3 p t r q) gives.1 [] (live_plain p t r q) refl valid (none_fresh gives.1) gives.2.once) gives.2
 

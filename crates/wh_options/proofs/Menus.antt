@@ -8,7 +8,7 @@ use Rattle.clap.specs.Simple.{App, Shape, built, filled, help_rule, is_simple, l
 use Rattle.clap.specs.declared.builder.action.ArgAction.TheVariants.{Set, Help, Version}
 use Rattle.clap.specs.Walk.{Row, Rule, Text, action_of, answers_to, arg_by_long, first_of, nothing_held, rows_after, settled, texts, walk, has_long}
 use Rattle.wh_options.specs.Setting.{IsLine, IsSpelled, Setting, is_switch, value_of}
-use Rattle.wh_options.specs.Options.{GivesFleet, HasOnly, LacksAny, Means, WordsGive, log_of, replay_names}
+use Rattle.wh_options.specs.Options.{GivesFleet, HasOnly, LacksAny, Means, WordsGive, default_turns, log_of, replay_names}
 use Rattle.wh_options.specs.Reads.{Reads, ReadsFleet}
 use Rattle.wh_options.specs.Menu.{Choices, IsMenu, choice_rule, file_rule, menu, number_rule, planner_words, replies_words, switch_rule, tail_words}
 use Rattle.clap.specs.declared.builder.value_parser.ValueParser.TheVariants as vp
@@ -20,7 +20,7 @@ use Rattle.wh_options.proofs.Leaf.{ArePlain, IsAsking, IsOption, IsPlainRule, Is
 use Rattle.wh_options.proofs.Words.{self_same, words_said}
 use Rattle.wh_options.proofs.Rows.{IsTaken, first_given, no_defaults, results}
 use Rattle.wh_options.proofs.Top.{IsMenuApp, level_parts, menu_entered}
-use Rattle.wh_options.proofs.Values.{some_same, log_given, no_settings, number_given, only_names, planner_given, replies_given, tail_given, told_given, vehicles_given}
+use Rattle.wh_options.proofs.Values.{some_same, log_given, no_settings, number_given, only_names, planner_given, replies_given, tail_given, may_given, vehicles_given}
 
 -- ---- any subcommand
 
@@ -210,7 +210,7 @@ pub replay_plain : (p t r q : Choices) → ArePlain (leaf_at 1 p t r q).rules
 replay_plain p t r q = (choice_plain (codes "planner") p refl, (number_plain (codes "slots") 2 64 refl, (number_plain (codes "bank") 2 65536 refl, (number_plain (codes "spares") 0 16 refl, (choice_plain (codes "tail") t refl, (choice_plain (codes "replies") r refl, (file_plain (codes "log") refl, (number_plain (codes "told") 0 999999999 refl, vehicles_plain Flags asking_plain))))))))
 
 pub live_plain : (p t r q : Choices) → ArePlain (leaf_at 3 p t r q).rules
-live_plain p t r q = (choice_plain (codes "planner") q refl, (number_plain (codes "slots") 2 64 refl, (number_plain (codes "bank") 2 65536 refl, (number_plain (codes "spares") 0 16 refl, (number_plain (codes "turns") 1 100000 refl, (number_plain (codes "journal") 1 1000000 refl, asking_plain))))))
+live_plain p t r q = (choice_plain (codes "planner") q refl, (number_plain (codes "slots") 2 64 refl, (number_plain (codes "bank") 2 65536 refl, (number_plain (codes "spares") 0 16 refl, (number_plain (codes "turns") 1 100000 refl, (number_plain (codes "journal") 1 1000000 refl, (number_plain (codes "every") 1 60000 refl, asking_plain)))))))
 
 -- what is found and what the settings give are amiss alike
 pub lacks_as : (f g : Text → Option Text) → ((id : Text) → f id ≡ g id) → LacksAny f → LacksAny g
@@ -230,7 +230,7 @@ replay_means p t r q rest (Replay o) says planners tails replies reads = (
         (first_of (codes "replies") (rows_after (leaf_at 1 p t r q).rules [] rest)) (says.first (codes "replies")) reads.1.replies;
     log = log_given (leaf_at 1 p t r q).rules says.settings (log_of o) says.taken (filled (file_rule (codes "log"))) refl refl
         (first_of (codes "log") (rows_after (leaf_at 1 p t r q).rules [] rest)) (says.first (codes "log")) reads.1.log;
-    told = told_given (leaf_at 1 p t r q).rules says.settings o.told says.taken (filled (number_rule (codes "told") 0 999999999)) refl refl refl
+    told = may_given (leaf_at 1 p t r q).rules says.settings (codes "told") 0 999999999 o.told (lit< tt) says.taken (filled (number_rule (codes "told") 0 999999999)) refl refl refl
         (first_of (codes "told") (rows_after (leaf_at 1 p t r q).rules [] rest)) (says.first (codes "told")) reads.1.told;
     vehicles = vehicles_given (leaf_at 1 p t r q).rules says.settings o.vehicles says.taken
         (filled (number_rule (codes "behind") 1 1000)) refl refl refl (filled (number_rule (codes "ahead") 1 1000)) refl refl refl
@@ -250,10 +250,12 @@ live_means p t r q rest (Live o) says planners reads = (
   refl,
   only_names (leaf_at 3 p t r q).rules says.settings (live_plain p t r q) says.taken,
   fleet_given (leaf_at 3 p t r q) rest q o.fleet (live_fleet p t r q) planners says reads.1.fleet,
-  number_given (leaf_at 3 p t r q).rules says.settings (codes "turns") 1 100000 64 o.turns (lit< tt) says.taken (filled (number_rule (codes "turns") 1 100000)) refl refl refl
+  number_given (leaf_at 3 p t r q).rules says.settings (codes "turns") 1 100000 (default_turns o.every) o.turns (lit< tt) says.taken (filled (number_rule (codes "turns") 1 100000)) refl refl refl
       (first_of (codes "turns") (rows_after (leaf_at 3 p t r q).rules [] rest)) (says.first (codes "turns")) reads.1.turns,
   number_given (leaf_at 3 p t r q).rules says.settings (codes "journal") 1 1000000 10000 o.journal (lit< tt) says.taken (filled (number_rule (codes "journal") 1 1000000)) refl refl refl
       (first_of (codes "journal") (rows_after (leaf_at 3 p t r q).rules [] rest)) (says.first (codes "journal")) reads.1.journal,
+  may_given (leaf_at 3 p t r q).rules says.settings (codes "every") 1 60000 o.every (lit< tt) says.taken (filled (number_rule (codes "every") 1 60000)) refl refl refl
+      (first_of (codes "every") (rows_after (leaf_at 3 p t r q).rules [] rest)) (says.first (codes "every")) reads.1.every,
 )
 
 -- ---- the whole line

@@ -6,7 +6,7 @@ use Rattle.std.specs.Str.{bytes_eq}
 use Rattle.clap.proofs.WalkLemmas.{both}
 use Rattle.clap.specs.Lexer.{has_byte}
 use Rattle.wh_options.specs.Setting.{Closes, IsInPlace, IsLine, Setting, Spelling, StandsBy, Text, alone, apart, is_switch, joined, spelled, spelled_by, value_of}
-use Rattle.wh_options.specs.Options.{AreSame, GivesFleet, GivesNumber, GivesPlanner, GivesReplies, GivesTail, GivesTold, GivesVehicles, HasOnly, IsWritten, Means, WordsGive, live_names, planner_text, replay_names, replies_text, tail_text}
+use Rattle.wh_options.specs.Options.{AreSame, GivesFleet, GivesNumber, GivesPlanner, GivesReplies, GivesTail, MayGive, GivesVehicles, HasOnly, IsWritten, Means, WordsGive, default_turns, live_names, planner_text, replay_names, replies_text, tail_text}
 use Rattle.wh_options.specs.declared.chosen.Options.{Options}
 use Rattle.wh_options.specs.declared.chosen.Options.TheVariants.{Check, Replay, Verify, Live}
 use Rattle.wh_options.specs.declared.chosen.Fleet.{Fleet}
@@ -221,16 +221,16 @@ replies_once : (xs ys : List Setting) (p q : Replies) → Agree xs ys → GivesR
 replies_once xs ys p q agree a b =
     one_replies (value_of (codes "replies") xs) p q a (subst (λ v. MatchOption v (q ≡ Short) (λ text. text ≡ replies_text q)) (sym (agree (codes "replies"))) b)
 
-one_told : (v : Option Text) (a b : Option ℕ) → MatchOption v (a ≡ None) (λ text. (n : ℕ) × (a ≡ Some n) × IsWritten n text × (n ≤ 999999999))
-    → MatchOption v (b ≡ None) (λ text. (n : ℕ) × (b ≡ Some n) × IsWritten n text × (n ≤ 999999999)) → a ≡ b
-one_told None a b p q = p ∙ sym q
-one_told (Some text) a b p q =
+one_may : (v : Option Text) (least most : ℕ) (a b : Option ℕ) → MatchOption v (a ≡ None) (λ text. (n : ℕ) × (a ≡ Some n) × IsWritten n text × (least ≤ n) × (n ≤ most))
+    → MatchOption v (b ≡ None) (λ text. (n : ℕ) × (b ≡ Some n) × IsWritten n text × (least ≤ n) × (n ≤ most)) → a ≡ b
+one_may None least most a b p q = p ∙ sym q
+one_may (Some text) least most a b p q =
     let same : p.0 ≡ q.0 = p.2.1 ∙ sym q.2.1 in
     p.1 ∙ ap (λ (n : ℕ). Some n) same ∙ sym q.1
 
-told_once : (xs ys : List Setting) (a b : Option ℕ) → Agree xs ys → GivesTold xs a → GivesTold ys b → a ≡ b
-told_once xs ys a b agree p q =
-    one_told (value_of (codes "told") xs) a b p (subst (λ v. MatchOption v (b ≡ None) (λ text. (n : ℕ) × (b ≡ Some n) × IsWritten n text × (n ≤ 999999999))) (sym (agree (codes "told"))) q)
+may_once : (xs ys : List Setting) (name : Text) (least most : ℕ) (a b : Option ℕ) → Agree xs ys → MayGive xs name least most a → MayGive ys name least most b → a ≡ b
+may_once xs ys name least most a b agree p q =
+    one_may (value_of name xs) least most a b p (subst (λ v. MatchOption v (b ≡ None) (λ text. (n : ℕ) × (b ≡ Some n) × IsWritten n text × (least ≤ n) × (n ≤ most))) (sym (agree name)) q)
 
 one_pace : (v : Option Text) (a b : Option VehicleOptions) (p q : VehicleOptions) → p ≡ q → MatchOption v (a ≡ None) (λ text. a ≡ Some p) → MatchOption v (b ≡ None) (λ text. b ≡ Some q) → a ≡ b
 one_pace None a b p q same m n = m ∙ sym n
@@ -261,7 +261,7 @@ means_once name told xs ys (Replay o) (Replay p) is agree m n =
     let fleet = fleet_once xs ys o.fleet p.fleet agree m.1.fleet n.1.fleet in
     let tail = tail_once xs ys o.tail p.tail agree m.1.tail n.1.tail in
     let replies = replies_once xs ys o.replies p.replies agree m.1.replies n.1.replies in
-    let told = told_once xs ys o.told p.told agree m.1.told n.1.told in
+    let told = may_once xs ys (codes "told") 0 999999999 o.told p.told agree m.1.told n.1.told in
     (fleet, tail, replies, m.1.log.is ∙ agree (codes "log") ∙ sym n.1.log.is, told, vehicles_once xs ys o.vehicles p.vehicles agree m.1.vehicles n.1.vehicles)
 means_once name told xs ys (Replay o) Verify is agree m n = absurd (other_word (codes "replay") (codes "verify") refl (sym m.0 ∙ is ∙ n.0))
 means_once name told xs ys (Replay o) (Live p) is agree m n = absurd (other_word (codes "replay") (codes "live") refl (sym m.0 ∙ is ∙ n.0))
@@ -274,9 +274,11 @@ means_once name told xs ys (Live o) (Replay p) is agree m n = absurd (other_word
 means_once name told xs ys (Live o) Verify is agree m n = absurd (other_word (codes "live") (codes "verify") refl (sym m.0 ∙ is ∙ n.0))
 means_once name told xs ys (Live o) (Live p) is agree m n =
     let fleet = fleet_once xs ys o.fleet p.fleet agree m.2 n.2 in
-    let turns = number_once xs ys (codes "turns") 64 1 100000 o.turns p.turns agree m.3 n.3 in
+    let every = may_once xs ys (codes "every") 1 60000 o.every p.every agree m.5 n.5 in
+    let other : GivesNumber ys (codes "turns") (default_turns o.every) 1 100000 p.turns = subst (λ e. GivesNumber ys (codes "turns") (default_turns e) 1 100000 p.turns) (sym every) n.3 in
+    let turns = number_once xs ys (codes "turns") (default_turns o.every) 1 100000 o.turns p.turns agree m.3 other in
     let journal = number_once xs ys (codes "journal") 10000 1 1000000 o.journal p.journal agree m.4 n.4 in
-    λ i. Live (record { fleet = fleet i; turns = turns i; journal = journal i })
+    λ i. Live (record { fleet = fleet i; turns = turns i; journal = journal i; every = every i })
 
 -- words give at most one set of options
 pub given_once : (words : List Text) (o p : Options) → WordsGive words o → WordsGive words p → AreSame o p

@@ -13,8 +13,8 @@ use Rattle.clap.specs.declared.builder.value_parser.ValueParser.TheVariants as v
 use Rattle.wh_options.specs.Setting.{Setting, value_of}
 use Rattle.clap.specs.declared.builder.action.ArgAction.{ArgAction}
 use Rattle.clap.specs.declared.builder.action.ArgAction.TheVariants.{Set}
-use Rattle.wh_options.specs.Options.{GivesLog, GivesNumber, GivesPlanner, GivesReplies, GivesTail, GivesTold, GivesVehicles, HasOnly, IsWritten, planner_text, replies_text, tail_text}
-use Rattle.wh_options.specs.Reads.{ReadsNumber, ReadsTold, ReadsVehicles, planner_of, replies_of, tail_of}
+use Rattle.wh_options.specs.Options.{GivesLog, GivesNumber, GivesPlanner, GivesReplies, GivesTail, MayGive, GivesVehicles, HasOnly, IsWritten, planner_text, replies_text, tail_text}
+use Rattle.wh_options.specs.Reads.{MayRead, ReadsNumber, ReadsVehicles, planner_of, replies_of, tail_of}
 use Rattle.wh_options.specs.Menu.{Choices, planner_words, replies_words, tail_words}
 use Rattle.wh_options.specs.declared.chosen.PlannerKind.{PlannerKind}
 use Rattle.wh_options.specs.declared.chosen.PlannerKind.TheVariants.{Near}
@@ -124,20 +124,20 @@ number_given c settings name least most default n fits taken r is case parser o 
     (subst (λ q. ReadsNumber q default n) same reads)
 
 -- a number that may be given, and has no default
-told_step : (o : Option Text) (told : Option ℕ) → ((text : Text) → o ≡ Some text → accepts false (vp.Unsigned 0 999999999) text ≡ true)
-    → ReadsTold o told → MatchOption o (told ≡ None) (λ text. (n : ℕ) × (told ≡ Some n) × IsWritten n text × (n ≤ 999999999))
-told_step None told passes reads = reads
-told_step (Some text) told passes reads =
-    let n = number_step (Some text) 0 999999999 0 reads.0 (lit< tt) passes reads.2 in
-    (reads.0, reads.1, n.0, n.2)
+may_step : (o : Option Text) (least most : ℕ) (read : Option ℕ) → most < 2 ^ 32 → ((text : Text) → o ≡ Some text → accepts false (vp.Unsigned least most) text ≡ true)
+    → MayRead o read → MatchOption o (read ≡ None) (λ text. (n : ℕ) × (read ≡ Some n) × IsWritten n text × (least ≤ n) × (n ≤ most))
+may_step None least most read fits passes reads = reads
+may_step (Some text) least most read fits passes reads =
+    let n = number_step (Some text) least most 0 reads.0 fits passes reads.2 in
+    (reads.0, reads.1, n.0, n.1, n.2)
 
-pub told_given : (c : List Rule) (settings : List Setting) (told : Option ℕ) → AllByRecursion (IsTaken c) settings
-    → (r : Rule) → arg_by_long c (codes "told") ≡ Some r → r.ignore_case ≡ false → r.parser ≡ Some (vp.Unsigned 0 999999999)
-    → (o : Option Text) → o ≡ value_of (codes "told") settings → ReadsTold o told → GivesTold settings told
-told_given c settings told taken r is case parser o same reads =
-    told_step (value_of (codes "told") settings) told
-    (λ text e. let p = taken_value c settings (codes "told") text r taken is e in rw (case, parser) at p)
-    (subst (λ q. ReadsTold q told) same reads)
+pub may_given : (c : List Rule) (settings : List Setting) (name : Text) (least most : ℕ) (read : Option ℕ) → most < 2 ^ 32 → AllByRecursion (IsTaken c) settings
+    → (r : Rule) → arg_by_long c name ≡ Some r → r.ignore_case ≡ false → r.parser ≡ Some (vp.Unsigned least most)
+    → (o : Option Text) → o ≡ value_of name settings → MayRead o read → MayGive settings name least most read
+may_given c settings name least most read fits taken r is case parser o same reads =
+    may_step (value_of name settings) least most read fits
+    (λ text e. let p = taken_value c settings name text r taken is e in rw (case, parser) at p)
+    (subst (λ q. MayRead q read) same reads)
 
 -- ---- vehicles
 

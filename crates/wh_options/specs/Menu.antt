@@ -82,8 +82,9 @@ replay_app planners tails replies =
     with_vehicle_rules (with_log_rules (with_telling_rules tails replies (fleet_app (codes "replay") planners)))
 
 abbrev pub live_app : Choices → App
-live_app planners = with_rule (with_rule (fleet_app (codes "live") planners)
-    (number_rule (codes "turns") 1 100000)) (number_rule (codes "journal") 1 1000000)
+live_app planners = with_rule (with_rule (with_rule (fleet_app (codes "live") planners)
+    (number_rule (codes "turns") 1 100000)) (number_rule (codes "journal") 1 1000000))
+    (number_rule (codes "every") 1 60000)
 
 -- a subcommand must follow, and each command tells the version
 abbrev pub with_settings : App → App

@@ -64,10 +64,10 @@ pub record GivesLog (settings : List Setting) (log : Option Text) : Type 0 where
   pub is : log ≡ value_of (codes "log") settings
   pub named : log ≢ Some []
 
--- from which entry on entries are told again, if a number from 0 to 999999999 is given for it
-abbrev pub GivesTold : List Setting → Option ℕ → Type 0
-GivesTold settings told = MatchOption (value_of (codes "told") settings)
-    (told ≡ None) (λ text. (n : ℕ) × (told ≡ Some n) × IsWritten n text × (n ≤ 999999999))
+-- the number given, in its range, if one is
+abbrev pub MayGive : List Setting → Text → ℕ → ℕ → Option ℕ → Type 0
+MayGive settings name least most given = MatchOption (value_of name settings)
+    (given ≡ None) (λ text. (n : ℕ) × (given ≡ Some n) × IsWritten n text × (least ≤ n) × (n ≤ most))
 
 -- how vehicles carry out the plan, if they do: each number as given, or by default
 pub record GivesVehicles (settings : List Setting) (vehicles : Option VehicleOptions) : Type 0 where
@@ -99,7 +99,7 @@ replay_names = codes "planner" ∷ codes "slots" ∷ codes "bank" ∷ codes "spa
 
 abbrev pub live_names : List Text
 live_names = codes "planner" ∷ codes "slots" ∷ codes "bank" ∷ codes "spares" ∷ codes "turns"
-    ∷ codes "journal" ∷ []
+    ∷ codes "journal" ∷ codes "every" ∷ []
 
 -- what each setting of `replay` says by itself
 pub record GivesReplay (settings : List Setting) (o : ReplayOptions) : Type 0 where
@@ -108,7 +108,7 @@ pub record GivesReplay (settings : List Setting) (o : ReplayOptions) : Type 0 wh
   pub tail : GivesTail settings o.tail
   pub replies : GivesReplies settings o.replies
   pub log : GivesLog settings (log_of o)
-  pub told : GivesTold settings o.told
+  pub told : MayGive settings (codes "told") 0 999999999 o.told
   pub vehicles : GivesVehicles settings o.vehicles
 
 -- one is given, and the other is not
@@ -121,6 +121,11 @@ LacksAny given = Lacks given (codes "told") (codes "log")
     ⊎ (Lacks given (codes "behind") (codes "vehicles")
     ⊎ Lacks given (codes "ahead") (codes "vehicles"))
 
+-- how many turns there are where no number is given for them
+abbrev pub default_turns : Option ℕ → ℕ
+default_turns None = 64
+default_turns (Some every) = 100000
+
 -- the subcommand and its settings mean these options
 abbrev pub Means : Text → List Setting → Options → Type 0
 Means name settings Check = (name ≡ codes "check") × (settings ≡ [])
@@ -129,8 +134,9 @@ Means name settings (Replay o) = (name ≡ codes "replay") × GivesReplay settin
 Means name settings Verify = (name ≡ codes "verify") × (settings ≡ [])
 Means name settings (Live o) = (name ≡ codes "live") × HasOnly live_names settings
     × GivesFleet settings o.fleet
-    × GivesNumber settings (codes "turns") 64 1 100000 o.turns
+    × GivesNumber settings (codes "turns") (default_turns o.every) 1 100000 o.turns
     × GivesNumber settings (codes "journal") 10000 1 1000000 o.journal
+    × MayGive settings (codes "every") 1 60000 o.every
 
 -- the words give these options
 abbrev pub WordsGive : List Text → Options → Type 0

@@ -3,7 +3,7 @@ use Rattle.std.specs.Prelude.{◌≡◌, ◌≢◌, ◌<◌, ◌^◌, ℕ, Optio
 use Rattle.std.specs.Str.{bytes_eq}
 use Rattle.std.specs.Str.Parse.{IsNumeral, digits_value, without_leading_plus}
 use Rattle.clap.specs.Words.{Text}
-use Rattle.wh_options.specs.Options.{LacksAny, log_of}
+use Rattle.wh_options.specs.Options.{LacksAny, default_turns, log_of}
 use Rattle.wh_options.specs.declared.mistake.Mistake.{Mistake}
 use Rattle.wh_options.specs.declared.chosen.PlannerKind.{PlannerKind}
 use Rattle.wh_options.specs.declared.chosen.PlannerKind.TheVariants.{Near, Patient}
@@ -39,10 +39,10 @@ replies_of None = Short
 replies_of (Some text) = if bytes_eq text (codes "full") then Full
     else (if bytes_eq text (codes "placed") then Placed else Short)
 
--- from which entry on entries are told again, where a number of 32 bits is written for it
-abbrev pub ReadsTold : Option Text → Option ℕ → Type 0
-ReadsTold None told = told ≡ None
-ReadsTold (Some text) told = (n : ℕ) × (told ≡ Some n) × ReadsNumber (Some text) 0 n
+-- the number that the text writes, where there is one and it writes one of 32 bits
+abbrev pub MayRead : Option Text → Option ℕ → Type 0
+MayRead None read = read ≡ None
+MayRead (Some text) read = (n : ℕ) × (read ≡ Some n) × ReadsNumber (Some text) 0 n
 
 -- how vehicles carry out the plan, where the switch was found
 pub record ReadsVehicles (given : Text → Option Text) (vehicles : Option VehicleOptions) : Type 0 where
@@ -63,13 +63,14 @@ pub record ReadsReplay (given : Text → Option Text) (o : ReplayOptions) : Type
   pub tail : o.tail ≡ tail_of (given (codes "tail"))
   pub replies : o.replies ≡ replies_of (given (codes "replies"))
   pub log : log_of o ≡ given (codes "log")
-  pub told : ReadsTold (given (codes "told")) o.told
+  pub told : MayRead (given (codes "told")) o.told
   pub vehicles : ReadsVehicles given o.vehicles
 
 pub record ReadsLive (given : Text → Option Text) (o : LiveOptions) : Type 0 where
   pub fleet : ReadsFleet given o.fleet
-  pub turns : ReadsNumber (given (codes "turns")) 64 o.turns
+  pub turns : ReadsNumber (given (codes "turns")) (default_turns o.every) o.turns
   pub journal : ReadsNumber (given (codes "journal")) 10000 o.journal
+  pub every : MayRead (given (codes "every")) o.every
 
 -- the subcommand and what was found for its arguments, as options
 abbrev pub Reads : Text → (Text → Option Text) → Options → Type 0

@@ -75,10 +75,14 @@ pub struct ReplayOptions<'a> {
 pub struct LiveOptions {
     /// The planners of the run; each client has its own `spares`.
     pub fleet: Fleet,
-    /// How many requests each agent makes, and how many ticks the clock, 1 to 100000.
+    /// How many requests each agent makes, and how many ticks the clock; with `every`, at most how many turns their worker
+    /// takes. 1 to 100000.
     pub turns: u32,
     /// How many entries the journal may hold, 1 to 1000000.
     pub journal: u32,
+    /// How many milliseconds the worker of all agents and the clock rests behind each turn, 1 to 60000, if there is one in
+    /// place of a thread for each.
+    pub every: Option<u32>,
 }
 
 /// A subcommand with its options.

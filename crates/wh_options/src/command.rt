@@ -184,10 +184,14 @@ fn live_command<'a>(alloc: Global) -> Result<Command<'a>, AllocError>
 {
     let about = "Runs clients, agents and a clock in threads (input: map, points, scripts)";
     let command = fleet_command(alloc, "live", about)?;
-    let help = "Requests of each agent, and ticks of the clock, 1 to 100000 [default: 64]";
+    let help =
+        "Requests of each agent, and ticks of the clock, 1 to 100000 [default: 64; with --every 100000]";
     let command = with_number(alloc, command, "turns", 1, 100_000, help)?;
     let help = "Entries that the log may have, 1 to 1000000 [default: 10000]";
-    with_number(alloc, command, "journal", 1, 1_000_000, help)
+    let command = with_number(alloc, command, "journal", 1, 1_000_000, help)?;
+    let help =
+        "One worker for all agents and the clock, in place of a thread for each: rests N milliseconds behind each turn, 1 to 60000; ends where no task is open or under way";
+    with_number(alloc, command, "every", 1, 60_000, help)
 }
 
 // The command with one subcommand more, which has no options.

@@ -1,9 +1,9 @@
 //! From the words of a command line to the options that they give.
 ghost use Rattle.std.specs.Prelude.{◌≡◌, IfErr, IfOk, IsErrAnd, List, Some, codes, map, option_map, ℕ};
 ghost use Rattle.clap.specs.Words.{Row, Text, first_of, first_value, found_of, kind_of, rows_of, subcommand_rows_of};
-ghost use Rattle.wh_options.specs.Options.{AreSame, IsAmiss, LacksAny, WordsGive};
+ghost use Rattle.wh_options.specs.Options.{AreSame, IsAmiss, LacksAny, WordsGive, default_turns};
 ghost use Rattle.wh_options.specs.Requests.{AsksBy, IsKind, help_flags, version_flags};
-ghost use Rattle.wh_options.specs.Reads.{Reads, ReadsFleet, ReadsLive, ReadsNumber, ReadsReplay, ReadsTold, ReadsVehicles, planner_of, replies_of, tail_of};
+ghost use Rattle.wh_options.specs.Reads.{Reads, ReadsFleet, ReadsLive, ReadsNumber, ReadsReplay, MayRead, ReadsVehicles, planner_of, replies_of, tail_of};
 
 use crate::chosen::{
     Fleet, LiveOptions, Options, PlannerKind, ReplayOptions, Replies, Tail, VehicleOptions,
@@ -73,10 +73,10 @@ fn replies(matches: &ArgMatches<'_>) -> Replies
     }
 }
 
-fn told(matches: &ArgMatches<'_>) -> Option<u32>
-    ensures { ReadsTold (first_value (found_of matches.now) (codes "told")) result }
+fn number_if_given(matches: &ArgMatches<'_>, name: &str) -> Option<u32>
+    ensures { MayRead (first_value (found_of matches.now) name.now) result }
 {
-    match matches.get_str("told") {
+    match matches.get_str(name) {
         Some(text) => Some(text.parse::<u32>().unwrap_or(0)),
         None => None,
     }
@@ -121,18 +121,30 @@ fn replay_options<'a>(matches: &ArgMatches<'a>) -> ReplayOptions<'a>
         tail: tail(matches),
         replies: replies(matches),
         log: matches.get_str("log"),
-        told: told(matches),
+        told: number_if_given(matches, "told"),
         vehicles: vehicles(matches),
+    }
+}
+
+/// How many turns there are where no number is given.
+fn default_turns(every: Option<u32>) -> u32
+    ensures { result ≡ default_turns every }
+{
+    match every {
+        Some(_) => 100_000,
+        None => 64,
     }
 }
 
 fn live_options(matches: &ArgMatches<'_>) -> LiveOptions
     ensures { ReadsLive (first_value (found_of matches.now)) result }
 {
+    let every = number_if_given(matches, "every");
     LiveOptions {
         fleet: fleet(matches),
-        turns: number(matches, "turns", 64),
+        turns: number(matches, "turns", default_turns(every)),
         journal: number(matches, "journal", 10_000),
+        every,
     }
 }
 

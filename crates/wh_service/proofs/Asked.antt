@@ -148,7 +148,7 @@ split_left P (x ∷ xs) ys all = let rest = split_left P xs ys all.1 in ((all.0,
 abbrev pub ReceiptKeeps : ℕ × Entry → Type 0
 ReceiptKeeps x = EventKeeps 8 x.1.event
 
-receipts_keep : (receipts : List (ℕ × Entry)) → AllByRecursion CommandKeeps (commands_of receipts) → AllByRecursion SpareKeeps (spares_told receipts)
+pub receipts_keep : (receipts : List (ℕ × Entry)) → AllByRecursion CommandKeeps (commands_of receipts) → AllByRecursion SpareKeeps (spares_told receipts)
     → AllByRecursion ReceiptKeeps receipts
 receipts_keep [] asked told = tt
 receipts_keep (x ∷ receipts) asked told =
@@ -184,12 +184,12 @@ pub record WorkKeeps {X : Type 0} (count : X → ℕ) (work : Work X) : Type 0 w
   pub commands : AllByRecursion CommandKeeps work.commands.items
   pub spares : All (CountKeeps count) work.spares.items
 
--- what workers did who had nothing before is in range, where their works are
-pub worked_keeps : {X : Type 0} (fits : X → Floor → Bool) (count : X → ℕ) (origin : Origin) (works : List (Work X)) (journal : ℕ) (history : List Entry) (state : State)
-    → length works ≤ 64 → AllByRecursion (WorkKeeps count) works → WorkedFrom fits count origin works journal history state → All IsAskedInRange history
-worked_keeps {X} fits count origin works journal history state few keep worked =
+-- what one of the workers did who had nothing before is in range, where their works are
+pub worker_keeps : {X : Type 0} (fits : X → Floor → Bool) (count : X → ℕ) (origin : Origin) (works : List (Work X)) (callers journal : ℕ) (history : List Entry) (state : State)
+    → length works ≤ callers → AllByRecursion (WorkKeeps count) works → WorkedFrom fits count origin works callers journal history state
+    → (caller : ℕ) → caller < length works → AllByRecursion ReceiptKeeps (entries_of history caller)
+worker_keeps {X} fits count origin works callers journal history state within keep worked caller less =
     let all = All-from_recursion (WorkKeeps count) works keep in
-    let each : (caller : ℕ) → caller < length works → AllByRecursion ReceiptKeeps (entries_of history caller) = λ caller less.
     let many = worked.worked.one_each in
     let count_is = worked.in_order.count in
     (elim works as (λ ws. ws ≡ works → AllByRecursion ReceiptKeeps (entries_of history caller)) [
@@ -206,5 +206,11 @@ worked_keeps {X} fits count origin works journal history state few keep worked =
           subst (AllByRecursion ReceiptKeeps) (sym goes)
           (receipts_keep seen.received (sublist_keeps CommandKeeps (commands_of seen.received) w.commands.items seen.in_order good.commands)
           (lent_keeps fits count origin.site.grid w.spares.items (spares_told seen.received) good.spares seen.lent))
-    ]) refl in
-    All-from_recursion IsAskedInRange history (history_keeps 0 history (length works) few worked.callers each)
+    ]) refl
+
+-- what all callers did is in range, where each did so
+pub crew_keeps : {X : Type 0} (fits : X → Floor → Bool) (count : X → ℕ) (origin : Origin) (works : List (Work X)) (callers journal : ℕ) (history : List Entry) (state : State)
+    → callers ≤ 64 → WorkedFrom fits count origin works callers journal history state → ((caller : ℕ) → caller < callers → AllByRecursion ReceiptKeeps (entries_of history caller))
+    → All IsAskedInRange history
+crew_keeps fits count origin works callers journal history state few worked each =
+    All-from_recursion IsAskedInRange history (history_keeps 0 history callers few worked.by_callers each)

@@ -1,7 +1,7 @@
 -- What a run of `live` came to.
-use Rattle.std.proofs.Common.{◌≡◌, ◌+◌, ◌≤◌, ℕ, Bool, List, [], ◌∷◌, ◌++◌, length, map, replicate, refl, sym, ap, ◌∙◌, subst, arith, inl, inr, All, Option, Result, Ok, Err, IfErr}
+use Rattle.std.proofs.Common.{◌≡◌, ◌+◌, ◌≤◌, ℕ, Bool, List, [], ◌∷◌, ◌++◌, length, map, replicate, refl, sym, ap, ◌∙◌, subst, arith, inl, inr, All, Option, None, Some, Result, Ok, Err, IfErr, option_map}
 use Prim.Native.Nat.{zero, suc}
-use Rattle.std.specs.Prelude.{OnOk, OnErr}
+use Rattle.std.specs.Prelude.{MatchOption, OnOk, OnErr}
 use Rattle.std.specs.Io.KnownBytes.{Appends, Keeps}
 use Rattle.std.proofs.lemmas.List.{length-append, length-map, length_push, map_push}
 use Rattle.std.proofs.lemmas.List.Elements.{All-push, recursion_from_All}
@@ -19,14 +19,15 @@ use Rattle.wh_options.specs.declared.chosen.Fleet.{Fleet}
 use Rattle.wh_options.specs.declared.chosen.LiveOptions.{LiveOptions}
 use Rattle.wh_replay.specs.Scripts.{WritesFront}
 use Rattle.wh_live.specs.Clients.{ClientsRead, ClientsFault}
-use Rattle.wh_live.specs.Works.{requests}
+use Rattle.wh_live.specs.Works.{AreWorks, requests}
 use Rattle.wh_live.specs.Lives.{Lives, IsWhyDead}
 use Rattle.wh_service.specs.Fleets.{IsMember, IsOfFleet, IsWhyUnclaimed, MakesPlanners}
-use Rattle.wh_service.specs.Hosts.{AreMembers, HaveSpares, IsTeam, ReadsAll, Hosts, HostsTo, IsWhyUnhosted}
+use Rattle.wh_service.specs.Hosts.{AreMembers, HaveSpares, IsTeam, ReadsAll, Hosts, HostsTo, IsWhyUnhosted, agent_threads, paced_turns}
 use Rattle.wh_core.specs.States.{opened}
 use Rattle.wh_core.proofs.Ways.{none_is_refused_a_path}
 use Rattle.wh_service.proofs.Logged.{logged}
 use Rattle.wh_service.proofs.Openings.{opening_read}
+use Rattle.wh_service.proofs.Paced.{callers_of, worked_of}
 use Rattle.wh_service.proofs.Played.{Gives, slots_each, tied_slots}
 
 -- the commands of one more client
@@ -50,27 +51,46 @@ asked_each : (turns agents : ℕ) → length (requests turns agents) ≡ agents
 asked_each turns zero = refl
 asked_each turns (suc n) = omega (arith, length_push (requests turns n) (replicate turns (Token n)), asked_each turns n)
 
--- a team has as many workers as there are clients, agents and clocks
-pub few_works : {X : Type 0} (gives : Gives X) (options : LiveOptions) (grid : Floor) (agents : ℕ) (scripts : List (List Command)) (planners : List X) (works : List (Work X))
-    → IsTeam gives options grid agents scripts planners works → length scripts + agents + 1 ≤ 64 → length works ≤ 64
-few_works {X} gives options grid agents scripts planners works team few =
-    let commands : Work X → List Command = λ w. w.commands.items in
-    let joined = team.works_are in
-    let size : length works ≡ length team.clients + length joined.others = ap length joined.works_are ∙ length-append team.clients joined.others in
-    let others = sym (length-map joined.others commands) ∙ ap length joined.commands_are ∙ length_push (requests options.turns agents) (replicate options.turns Tick) in
-    let clients = sym (length-map team.clients commands) ∙ ap length team.scripts_are in
-    omega (arith, size, others, asked_each options.turns agents, clients, few)
+-- a team has as many workers as there are clients, agents and clocks, or as there are clients beside the one worker
+pub few_callers : {X : Type 0} (gives : Gives X) (options : LiveOptions) (grid : Floor) (agents : ℕ) (scripts : List (List Command)) (planners : List X) (works : List (Work X))
+    → IsTeam gives options grid agents scripts planners works → length scripts + agent_threads options.every agents + 1 ≤ 64 → callers_of (paced_turns options) (length works) ≤ 64
+few_callers {X} gives options grid agents scripts planners works team few = go options.every team.works_are few
+  where
+    commands : Work X → List Command
+    commands w = w.commands.items
+
+    clients : length team.clients ≡ length scripts
+    clients = sym (length-map team.clients commands) ∙ ap length team.scripts_are
+
+    go : (every : Option ℕ) → MatchOption every (AreWorks agents options.turns team.clients works) (λ n. works ≡ team.clients) → length scripts + agent_threads every agents + 1 ≤ 64
+        → callers_of (option_map (λ n. options.turns) every) (length works) ≤ 64
+    go None joined room =
+        let size : length works ≡ length team.clients + length joined.others = ap length joined.works_are ∙ length-append team.clients joined.others in
+        let others = sym (length-map joined.others commands) ∙ ap length joined.commands_are ∙ length_push (requests options.turns agents) (replicate options.turns Tick) in
+        omega (arith, size, others, asked_each options.turns agents, clients, room)
+    go (Some every) same room = omega (arith, ap length same, clients, room)
+
+few_of : (turns : Option ℕ) (works : ℕ) → callers_of turns works ≤ 64 → works ≤ 64
+few_of None works few = few
+few_of (Some turns) works few = omega arith
+
+-- they are at most 64 threads
+pub few_works : {X : Type 0} (gives : Gives X) (options : LiveOptions) (grid : Floor) (agents threads : ℕ) (between new : Input) (scripts : List (List Command)) (planners : List X) (works : List (Work X))
+    → IsTeam gives options grid agents scripts planners works → ClientsRead threads between new scripts → threads ≡ agent_threads options.every agents → length works ≤ 64
+few_works gives options grid agents threads between new scripts planners works team read room =
+    few_of (paced_turns options) (length works)
+    (few_callers gives options grid agents scripts planners works team (subst (λ (n : ℕ). length scripts + n + 1 ≤ 64) room read.few))
 
 -- what a team's run came to: each planner has the fleet's slots
 pub hosts : {X : Type 0} (fits : X → Floor → Bool) (count : X → ℕ) (gives : Gives X) (options : LiveOptions) (site : Site) (scripts : List (List Command)) (planners : List X) (works : List (Work X)) (old new : Input) (text : List ℕ)
-    → ReadsAll old new site scripts → MakesPlanners fits count gives → IsOfFleet options.fleet → IsTeam gives options site.grid (length site.layout.agents) scripts planners works
-    → Lives fits count site planners works options.journal text → Hosts fits count gives options old new text
+    → ReadsAll options.every old new site scripts → MakesPlanners fits count gives → IsOfFleet options.fleet → IsTeam gives options site.grid (length site.layout.agents) scripts planners works
+    → Lives fits count site planners works (paced_turns options) options.journal text → Hosts fits count gives options old new text
 hosts fits count gives options site scripts planners works old new text reads makes range team lives =
     let each = recursion_from_All (IsMember gives options.fleet site.grid team.bank) planners team.planners_are.members in
     let slots_are =
     tied_slots count planners lives.slots lives.tied.seats lives.tied.counts
     ∙ slots_each fits count gives options.fleet site.grid team.bank planners (length site.layout.agents) makes range team.planners_are.many_is each in
-    let few = few_works gives options site.grid (length site.layout.agents) scripts planners works team reads.clients_read.few in
+    let few = few_callers gives options site.grid (length site.layout.agents) scripts planners works team reads.clients_read.few in
     let begins = opening_read old reads.between site lives.slots reads.site_read (sym lives.tied.seats ∙ team.planners_are.many_is) in
     record {
       site = site;
@@ -81,18 +101,19 @@ hosts fits count gives options site scripts planners works old new text reads ma
       team = team;
       lives = lives;
       is_opening = begins;
-      served = λ formed. none_is_refused_a_path site lives.history lives.state formed (record { opening = opened site.layout 0 lives.slots; is_opening = begins; run = lives.worked.run });
+      served = λ formed. none_is_refused_a_path site lives.history lives.state formed (record { opening = opened site.layout 0 lives.slots; is_opening = begins; run = (worked_of fits count works (paced_turns options) options.journal _ lives.history lives.state lives.worked).run });
       slots = slots_are;
       is_log = logged fits count gives options site scripts planners works old new text reads makes range team few lives slots_are;
     }
 
 -- a site and its clients, in other words
-pub reads_all : (old between new : Input) (floor grid : Floor) (layout : Layout) (agents : ℕ) (scripts : List (List Command)) → grid ≡ floor → agents ≡ length layout.agents
-    → SiteRead old between floor layout → ClientsRead agents between new scripts → ReadsAll old new (record { grid = grid; layout = layout }) scripts
-reads_all old between new floor grid layout agents scripts same seats at read = record {
+pub reads_all : (every : Option ℕ) (old between new : Input) (floor grid : Floor) (layout : Layout) (agents threads : ℕ) (scripts : List (List Command)) → grid ≡ floor → agents ≡ length layout.agents
+    → threads ≡ agent_threads every agents → SiteRead old between floor layout → ClientsRead threads between new scripts
+    → ReadsAll every old new (record { grid = grid; layout = layout }) scripts
+reads_all every old between new floor grid layout agents threads scripts same seats room at read = record {
   between = between;
   site_read = subst (λ (f : Floor). SiteRead old between f layout) (sym same) at;
-  clients_read = subst (λ (n : ℕ). ClientsRead n between new scripts) seats read;
+  clients_read = subst (λ (n : ℕ). ClientsRead n between new scripts) (room ∙ ap (agent_threads every) seats) read;
 }
 
 -- the same of so many agents in other words
@@ -100,20 +121,28 @@ pub team_at : {X : Type 0} (gives : Gives X) (options : LiveOptions) (grid : Flo
     → agents ≡ seats → IsTeam gives options grid agents scripts planners works → IsTeam gives options grid seats scripts planners works
 team_at gives options grid agents seats scripts planners works same team = subst (λ (n : ℕ). IsTeam gives options grid n scripts planners works) same team
 
+-- the same of the turns and the text in other words
+pub lives_at : {X : Type 0} (fits : X → Floor → Bool) (count : X → ℕ) (site : Site) (planners : List X) (works : List (Work X)) (turns told : Option ℕ) (journal : ℕ) (text written : List ℕ)
+    → turns ≡ told → text ≡ written → Lives fits count site planners works turns journal text → Lives fits count site planners works told journal written
+lives_at fits count site planners works turns told journal text written same is lives =
+    subst (λ (t : List ℕ). Lives fits count site planners works told journal t) is (subst (λ (n : Option ℕ). Lives fits count site planners works n journal text) same lives)
+
 -- ---- why there is no log
 
-pub at_clients : {X : Type 0} (fits : X → Floor → Bool) (count : X → ℕ) (gives : Gives X) (options : LiveOptions) (told : Trouble) (old between new : Input) (site : Site) (agents : ℕ) (had has : Option (List ℕ))
-    → agents ≡ length site.layout.agents → SiteRead old between site.grid site.layout → ClientsFault told agents between new → Keeps had has → IsWhyUnhosted fits count gives options told old new had has
-at_clients fits count gives options told old between new site agents had has same at fault kept =
-    inr (inl (record { between = between; site = site; site_read = at; fault = subst (λ (n : ℕ). ClientsFault told n between new) same fault }, kept))
+pub at_clients : {X : Type 0} (fits : X → Floor → Bool) (count : X → ℕ) (gives : Gives X) (options : LiveOptions) (told : Trouble) (old between new : Input) (site : Site) (agents threads : ℕ) (had has : Option (List ℕ))
+    → agents ≡ length site.layout.agents → threads ≡ agent_threads options.every agents → SiteRead old between site.grid site.layout → ClientsFault told threads between new → Keeps had has
+    → IsWhyUnhosted fits count gives options told old new had has
+at_clients fits count gives options told old between new site agents threads had has same room at fault kept =
+    let read = subst (λ (n : ℕ). ClientsFault told n between new) (room ∙ ap (agent_threads options.every) same) fault in
+    inr (inl (record { between = between; site = site; site_read = at; fault = read }, kept))
 
 pub at_team : {X : Type 0} (fits : X → Floor → Bool) (count : X → ℕ) (gives : Gives X) (options : LiveOptions) (told : Trouble) (old new : Input) (site : Site) (scripts : List (List Command)) (had has : Option (List ℕ))
-    → ReadsAll old new site scripts → IsWhyUnclaimed options.fleet.slots told → Keeps had has → IsWhyUnhosted fits count gives options told old new had has
+    → ReadsAll options.every old new site scripts → IsWhyUnclaimed options.fleet.slots told → Keeps had has → IsWhyUnhosted fits count gives options told old new had has
 at_team fits count gives options told old new site scripts had has reads why kept =
     inr (inr (inl (record { site = site; scripts = scripts; reads = reads; why = why }, kept)))
 
 pub at_run : {X : Type 0} (fits : X → Floor → Bool) (count : X → ℕ) (gives : Gives X) (options : LiveOptions) (told : Trouble) (old new : Input) (site : Site) (scripts : List (List Command)) (planners : List X) (works : List (Work X)) (had has : Option (List ℕ))
-    → ReadsAll old new site scripts → IsTeam gives options site.grid (length site.layout.agents) scripts planners works → IsWhyDead told → Keeps had has
+    → ReadsAll options.every old new site scripts → IsTeam gives options site.grid (length site.layout.agents) scripts planners works → IsWhyDead told → Keeps had has
     → IsWhyUnhosted fits count gives options told old new had has
 at_run fits count gives options told old new site scripts planners works had has reads team why kept =
     inr (inr (inr (inl (record { site = site; scripts = scripts; reads = reads; planners = planners; works = works; team = team; why = why }, kept))))

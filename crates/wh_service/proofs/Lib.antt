@@ -5,6 +5,7 @@ pub mod Unverified
 pub mod Hosted
 pub mod InRange
 pub mod Asked
+pub mod Paced
 pub mod Teams
 mod Lasting
 pub mod Starved

@@ -13,27 +13,28 @@ use Rattle.wh_edge.specs.declared.work.Work.{Work}
 use Rattle.wh_options.specs.declared.chosen.LiveOptions.{LiveOptions}
 use Rattle.wh_live.specs.Lives.{Lives}
 use Rattle.wh_service.specs.Fleets.{IsOfFleet, MakesPlanners}
-use Rattle.wh_service.specs.Hosts.{IsTeam, ReadsAll}
-use Rattle.wh_service.proofs.Asked.{worked_keeps}
+use Rattle.wh_service.specs.Hosts.{IsTeam, ReadsAll, paced_turns}
 use Rattle.wh_service.proofs.InRange.{in_range}
 use Rattle.wh_service.proofs.Openings.{run_of, slots_keep}
+use Rattle.wh_service.proofs.Paced.{by_keeps, callers_of, worked_of}
 use Rattle.wh_service.proofs.Played.{Gives}
 use Rattle.wh_service.proofs.Teams.{team_keeps}
 
 -- the text of a team's run is a log
 pub logged : {X : Type 0} (fits : X → Floor → Bool) (count : X → ℕ) (gives : Gives X) (options : LiveOptions) (site : Site) (scripts : List (List Command)) (planners : List X) (works : List (Work X)) (old new : Input) (text : List ℕ)
-    → ReadsAll old new site scripts → MakesPlanners fits count gives → IsOfFleet options.fleet → IsTeam gives options site.grid (length site.layout.agents) scripts planners works
-    → length works ≤ 64 → (lives : Lives fits count site planners works options.journal text) → lives.slots ≡ replicate (length site.layout.agents) options.fleet.slots
+    → ReadsAll options.every old new site scripts → MakesPlanners fits count gives → IsOfFleet options.fleet → IsTeam gives options site.grid (length site.layout.agents) scripts planners works
+    → callers_of (paced_turns options) (length works) ≤ 64 → (lives : Lives fits count site planners works (paced_turns options) options.journal text) → lives.slots ≡ replicate (length site.layout.agents) options.fleet.slots
     → options.journal < 10 ^ 9 → IsLogText (record { clock = 0; slots = lives.slots; entries = lives.history }) text
 logged {X} fits count gives options site scripts planners works old new text reads makes range team few lives slots_are short =
     let content : Content = record { clock = 0; slots = lives.slots; entries = lives.history } in
+    let worked = worked_of fits count works (paced_turns options) options.journal _ lives.history lives.state lives.worked in
     let at = in_range old reads.between site reads.site_read in
     let seats : length lives.slots ≡ length site.layout.agents = ap length slots_are ∙ length-replicate (length site.layout.agents) options.fleet.slots in
-    let told = run_of old reads.between site lives.slots lives.history reads.site_read seats lives.state lives.worked.run in
+    let told = run_of old reads.between site lives.slots lives.history reads.site_read seats lives.state worked.run in
     let slots = subst (AllByRecursion IsSlots) (sym slots_are) (slots_keep (length site.layout.agents) options.fleet.slots range.0 range.1) in
     let keep = team_keeps fits count gives options site.grid (length site.layout.agents) reads.between new scripts planners works at.few makes range reads.clients_read.in_turn team in
-    let asked = worked_keeps fits count _ works options.journal lives.history lives.state few keep lives.worked in
-    let within = lives.worked.within in
+    let asked = by_keeps fits count _ works (paced_turns options) options.journal lives.history lives.state few at.few keep lives.worked in
+    let within = worked.within in
     record {
       version = Two;
       fits = runs_are_logs site content at told slots asked (omega arith);

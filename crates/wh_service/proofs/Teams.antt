@@ -1,5 +1,6 @@
 -- What a team asks is in the ranges of a log.
-use Rattle.std.proofs.Common.{◌≡◌, ◌≤◌, ℕ, List, [], ◌∷◌, Bool, get_or, map, replicate, sym, subst, arith, All}
+use Rattle.std.proofs.Common.{◌≡◌, ◌≤◌, ℕ, List, [], ◌∷◌, Bool, get_or, map, replicate, sym, subst, arith, All, Option, None, Some}
+use Rattle.std.specs.Prelude.{MatchOption}
 use Rattle.std.specs.List.{AllByRecursion}
 use Rattle.std.proofs.lemmas.List.Elements.{All-nil, recursion_from_All}
 use Rattle.wh_lines.specs.Input.{Input}
@@ -10,7 +11,7 @@ use Rattle.wh_edge.specs.declared.work.Work.{Work}
 use Rattle.wh_options.specs.declared.chosen.Fleet.{Fleet}
 use Rattle.wh_options.specs.declared.chosen.LiveOptions.{LiveOptions}
 use Rattle.wh_live.specs.Clients.{ReadInTurn}
-use Rattle.wh_live.specs.Works.{requests}
+use Rattle.wh_live.specs.Works.{AreWorks, requests}
 use Rattle.wh_service.specs.Fleets.{IsOfFleet, MakesPlanners}
 use Rattle.wh_service.specs.Hosts.{HaveSpares, IsTeam}
 use Rattle.wh_service.proofs.Asked.{CommandKeeps, CountKeeps, WorkKeeps, clients_keep, keeps_append, replicate_keeps, requests_keep}
@@ -44,8 +45,12 @@ pub team_keeps : {X : Type 0} (fits : X → Floor → Bool) (count : X → ℕ) 
     → agents ≤ 256 → MakesPlanners fits count gives → IsOfFleet options.fleet → ReadInTurn old new scripts → IsTeam gives options grid agents scripts planners works
     → AllByRecursion (WorkKeeps count) works
 team_keeps {X} fits count gives options grid agents old new scripts planners works few makes range turns team =
-    let joined = team.works_are in
     let clients = works_keep count team.clients scripts team.scripts_are (clients_keep old new scripts turns) (member_spares fits count gives options.fleet grid team.bank team.clients makes range team.spares_are) in
-    let asked = keeps_append (AllByRecursion CommandKeeps) (requests options.turns agents) (replicate options.turns Command.Tick ∷ []) (requests_keep options.turns agents few) (replicate_keeps options.turns Command.Tick tt, tt) in
-    let others = works_keep count joined.others _ joined.commands_are asked (no_spares count joined.others (recursion_from_All (λ (work : Work X). work.spares.items ≡ []) joined.others joined.spares)) in
-    subst (AllByRecursion (WorkKeeps count)) (sym joined.works_are) (keeps_append (WorkKeeps count) team.clients joined.others clients others)
+    go clients options.every team.works_are
+  where
+    go : AllByRecursion (WorkKeeps count) team.clients → (every : Option ℕ) → MatchOption every (AreWorks agents options.turns team.clients works) (λ n. works ≡ team.clients) → AllByRecursion (WorkKeeps count) works
+    go clients None joined =
+        let asked = keeps_append (AllByRecursion CommandKeeps) (requests options.turns agents) (replicate options.turns Command.Tick ∷ []) (requests_keep options.turns agents few) (replicate_keeps options.turns Command.Tick tt, tt) in
+        let others = works_keep count joined.others _ joined.commands_are asked (no_spares count joined.others (recursion_from_All (λ (work : Work X). work.spares.items ≡ []) joined.others joined.spares)) in
+        subst (AllByRecursion (WorkKeeps count)) (sym joined.works_are) (keeps_append (WorkKeeps count) team.clients joined.others clients others)
+    go clients (Some every) same = subst (AllByRecursion (WorkKeeps count)) (sym same) clients

@@ -1,5 +1,5 @@
 -- What a whole run of `live` does.
-use Rattle.std.specs.Prelude.{◌≡◌, ◌⊎◌, ◌<◌, ◌^◌, ℕ, Bool, List, length, map, replicate, All, Option, Result}
+use Rattle.std.specs.Prelude.{◌≡◌, ◌⊎◌, ◌<◌, ◌^◌, ℕ, Bool, List, length, map, option_map, replicate, All, MatchOption, None, Option, Result, Some}
 use Rattle.std.specs.declared.alloc.AllocError.{AllocError}
 use Rattle.std.specs.Io.KnownBytes.{Appends, Keeps}
 use Rattle.wh_lines.specs.Input.{Input}
@@ -35,6 +35,20 @@ pub record AreMembers {X : Type 0} (gives : PlannerParts → Result X AllocError
 abbrev pub HaveSpares : {X : Type 0} → (PlannerParts → Result X AllocError → Type 0) → Fleet → Floor → Bank → List (Work X) → Type 0
 HaveSpares gives fleet grid bank clients = All (λ work. AreMembers gives fleet grid bank fleet.spares work.spares.items) clients
 
+-- for how many threads of agents there is to be room: for one each, or for none where one worker is there for all of them
+abbrev pub agent_threads : Option ℕ → ℕ → ℕ
+agent_threads None agents = agents
+agent_threads (Some every) agents = 0
+
+-- how many turns the worker for all agents and the clock may take, if there is one
+abbrev pub paced_turns : LiveOptions → Option ℕ
+paced_turns options = option_map (λ every. options.turns) options.every
+
+-- the workers in threads: the clients, and where no worker is there for all, the agents and the clock
+abbrev pub AreWorkers : {X : Type 0} → LiveOptions → ℕ → List (Work X) → List (Work X) → Type 0
+AreWorkers options agents clients works =
+    MatchOption options.every (AreWorks agents options.turns clients works) (λ every. works ≡ clients)
+
 -- The planners of so many agents, and the workers: the clients with these scripts and with spares of their own, the agents,
 -- the clock. All planners have their claims on one bank, which has as many slots in all as the options name.
 pub record IsTeam {X : Type 0} (gives : PlannerParts → Result X AllocError → Type 0) (options : LiveOptions) (grid : Floor) (agents : ℕ)
@@ -45,13 +59,13 @@ pub record IsTeam {X : Type 0} (gives : PlannerParts → Result X AllocError →
   pub clients : List (Work X)
   pub scripts_are : map (λ work. work.commands.items) clients ≡ scripts
   pub spares_are : HaveSpares gives options.fleet grid bank clients
-  pub works_are : AreWorks agents options.turns clients works
+  pub works_are : AreWorkers options agents clients works
 
 -- a site was read, and then the clients, up to the end of the input, with these scripts
-pub record ReadsAll (old new : Input) (site : Site) (scripts : List (List Command)) : Type 0 where
+pub record ReadsAll (every : Option ℕ) (old new : Input) (site : Site) (scripts : List (List Command)) : Type 0 where
   pub between : Input
   pub site_read : SiteRead old between site.grid site.layout
-  pub clients_read : ClientsRead (length site.layout.agents) between new scripts
+  pub clients_read : ClientsRead (agent_threads every (length site.layout.agents)) between new scripts
 
 -- A site and its clients were read, and the team did its works; each agent's planner had the fleet's slots at the opening.
 -- The text is the log of all that was done: it has no more entries than the journal of the options has positions, and
@@ -61,11 +75,11 @@ pub record Hosts {X : Type 0} (fits : X → Floor → Bool) (count : X → ℕ) 
     (old new : Input) (text : List ℕ) : Type 0 where
   pub site : Site
   pub scripts : List (List Command)
-  pub reads : ReadsAll old new site scripts
+  pub reads : ReadsAll options.every old new site scripts
   pub planners : List X
   pub works : List (Work X)
   pub team : IsTeam gives options site.grid (length site.layout.agents) scripts planners works
-  pub lives : Lives fits count site planners works options.journal text
+  pub lives : Lives fits count site planners works (paced_turns options) options.journal text
   pub is_opening : IsOpening site (opened site.layout 0 lives.slots)
   pub served : IsFormed site → AllServed lives.history
   pub slots : lives.slots ≡ replicate (length site.layout.agents) options.fleet.slots
@@ -79,24 +93,24 @@ pub record HostsTo {X : Type 0} (fits : X → Floor → Bool) (count : X → ℕ
   pub appends : Appends had has text
 
 -- a site was read, and there or at the clients this was wrong
-pub record EndsAtClients (told : Trouble) (old new : Input) : Type 0 where
+pub record EndsAtClients (every : Option ℕ) (told : Trouble) (old new : Input) : Type 0 where
   pub between : Input
   pub site : Site
   pub site_read : SiteRead old between site.grid site.layout
-  pub fault : ClientsFault told (length site.layout.agents) between new
+  pub fault : ClientsFault told (agent_threads every (length site.layout.agents)) between new
 
 -- all was read, and there it ended: a planner got no slots, or memory was wanting
 pub record EndsAtTeam (options : LiveOptions) (told : Trouble) (old new : Input) : Type 0 where
   pub site : Site
   pub scripts : List (List Command)
-  pub reads : ReadsAll old new site scripts
+  pub reads : ReadsAll options.every old new site scripts
   pub why : IsWhyUnclaimed options.fleet.slots told
 
 -- all was read, a team stood, and its run came to no history
 pub record EndsAtRun {X : Type 0} (gives : PlannerParts → Result X AllocError → Type 0) (options : LiveOptions) (told : Trouble) (old new : Input) : Type 0 where
   pub site : Site
   pub scripts : List (List Command)
-  pub reads : ReadsAll old new site scripts
+  pub reads : ReadsAll options.every old new site scripts
   pub planners : List X
   pub works : List (Work X)
   pub team : IsTeam gives options site.grid (length site.layout.agents) scripts planners works
@@ -114,7 +128,7 @@ pub record EndsUnwritten {X : Type 0} (fits : X → Floor → Bool) (count : X �
 abbrev pub IsWhyUnhosted : {X : Type 0} → (X → Floor → Bool) → (X → ℕ) → (PlannerParts → Result X AllocError → Type 0) → LiveOptions → Trouble → Input → Input → Option (List ℕ) → Option (List ℕ) → Type 0
 IsWhyUnhosted fits count gives options told old new had has =
     (SiteFault told old new × Keeps had has)
-    ⊎ (EndsAtClients told old new × Keeps had has)
+    ⊎ (EndsAtClients options.every told old new × Keeps had has)
     ⊎ (EndsAtTeam options told old new × Keeps had has)
     ⊎ (EndsAtRun gives options told old new × Keeps had has)
     ⊎ EndsUnwritten fits count gives options told old new had has

@@ -1,10 +1,11 @@
 //! What `live` does.
 
-ghost use Rattle.std.specs.Prelude.{◌≡◌, ◌≤◌, IfErr, IfOk, OnOk, map};
+ghost use Rattle.std.specs.Prelude.{◌≡◌, ◌≤◌, ◌*◌, IfErr, IfOk, IfSome, MatchOption, None, OnOk, map, option_map};
 ghost use Rattle.std.specs.Arc.{arc_value};
+ghost use Rattle.std.specs.Duration.{as_nanos};
 ghost use Rattle.wh_claims.specs.Bank.{Belongs};
 ghost use Rattle.wh_service.specs.Fleets.{IsOfFleet, IsWhyUnclaimed, MakesPlanners};
-ghost use Rattle.wh_service.specs.Hosts.{HaveSpares, HostsTo, IsTeam, IsWhyUnhosted};
+ghost use Rattle.wh_service.specs.Hosts.{AreWorkers, HaveSpares, HostsTo, IsTeam, IsWhyUnhosted, agent_threads, paced_turns};
 
 use crate::fleet::members;
 use crate::parts::PlannerParts;
@@ -13,13 +14,56 @@ use std::alloc::{AllocError, Global};
 use std::io::{Read, Write};
 use std::sync::{Arc, Wait};
 use std::thread::Threads;
+use std::time::{Clock, Duration};
 use wh_claims::{Bank, BankSeat};
 use wh_edge::{Site, Trouble, Work, read_site};
 use wh_grid::Grid;
 use wh_lines::Lines;
-use wh_live::{read_clients, run_crew, works_of};
+use wh_live::{Pace, read_clients, run_crew, works_of};
 use wh_options::{Fleet, LiveOptions};
 use wh_planner::Planner;
+
+/// For how many threads of agents there is to be room: for one each, or for none where one worker is there for all of them.
+fn agent_threads(every: Option<u32>, agents: usize) -> usize
+    ensures value { result ≡ agent_threads every agents }
+    ensures few { result ≤ agents }
+{
+    match every {
+        Some(_) => 0,
+        None => agents,
+    }
+}
+
+/// How the worker for all agents and the clock goes on, if there is one: until it has taken its turns, or nothing is open or
+/// under way.
+fn pace_of(options: &LiveOptions) -> Option<Pace>
+    ensures turns { option_map (λ pace. pace.turns) result ≡ paced_turns options.now }
+    ensures pause { MatchOption options.now.every (result ≡ None) (λ every. IfSome result (λ pace. as_nanos pace.pause ≡ every * 1000000)) }
+{
+    match options.every {
+        Some(every) => Some(Pace {
+            turns: options.turns,
+            ends_idle: true,
+            pause: Duration::from_millis(u64::from(every)),
+        }),
+        None => None,
+    }
+}
+
+/// The workers that are threads of the crew: the clients, and where no worker is there for all, the agents and the clock.
+fn workers<P: Planner>(
+    alloc: Global,
+    options: &LiveOptions,
+    agents: u32,
+    clients: Vec<Work<P>>,
+) -> Result<Vec<Work<P>>, AllocError>
+    ensures { IfOk result (λ works. AreWorkers options.now agents clients.items works.items) }
+{
+    match options.every {
+        Some(_) => Ok(clients),
+        None => works_of(alloc, clients, agents, options.turns),
+    }
+}
 
 /// The clients, each with as many spare planners as the options name, with their claims on the bank.
 fn with_spares<P: Planner, F: Fn(PlannerParts) -> Result<P, AllocError>>(
@@ -54,8 +98,8 @@ struct Team<P> {
     works: Vec<Work<P>>,
 }
 
-/// One planner for each of so many agents, and then the workers: the clients, to whom spares are given, the agents and
-/// the clock. The error tells why a planner got no slots, or that memory is wanting.
+/// One planner for each of so many agents, and then the workers: the clients, to whom spares are given, and where no worker
+/// is there for all, the agents and the clock. The error tells why a planner got no slots, or that memory is wanting.
 fn make_team<P: Planner, F: Fn(PlannerParts) -> Result<P, AllocError>>(
     alloc: Global,
     options: &LiveOptions,
@@ -74,20 +118,20 @@ fn make_team<P: Planner, F: Fn(PlannerParts) -> Result<P, AllocError>>(
     let (bank, mut seat) = Bank::new(alloc, fleet.bank)?;
     let planners = members(alloc, fleet, grid, &bank, &mut seat, make, agents)?;
     let clients = with_spares(alloc, fleet, grid, &bank, &mut seat, make, clients)?;
-    let works = works_of(alloc, clients, agents as u32, options.turns)?;
+    let works = workers(alloc, options, agents as u32, clients)?;
     Ok(Team { planners, works })
 }
 
 /// Reads a site and then its clients, makes one planner for each agent and then the spare ones of each client, all of the
-/// fleet's kind and with their claims on one bank, and has clients, agents and a clock work in threads, one for each. It
-/// writes the log of what they did. `make` makes one planner of its parts, and its error tells that memory is wanting.
+/// fleet's kind and with their claims on one bank, and has clients, agents and a clock work in threads, one for each; or each
+/// client in a thread, beside one worker for all agents and the clock. It writes the log of what they did. `make` makes one planner of its parts, and its error tells that memory is wanting.
 /// What can go wrong is told in this order: the site, the clients, the bank and the planners, the run, then the writer.
 pub fn host<
     R: Read,
     W: Write,
     P: Planner,
     F: Fn(PlannerParts) -> Result<P, AllocError>,
-    T: Threads + Wait + Sync,
+    T: Threads + Wait + Clock + Sync,
 >(
     rt: &T,
     alloc: Global,
@@ -104,7 +148,7 @@ pub fn host<
 {
     let Site { grid, points } = read_site(lines, alloc)?;
     let agents = points.agents().len();
-    let clients = match read_clients(lines, alloc, agents) {
+    let clients = match read_clients(lines, alloc, agent_threads(options.every, agents)) {
         Ok(clients) => clients,
         Err(trouble) => return Err(trouble),
     };
@@ -116,7 +160,17 @@ pub fn host<
         Ok(team) => team,
         Err(trouble) => return Err(trouble),
     };
-    let text = match run_crew(rt, alloc, grid, points, planners, works, options.journal) {
+    let pace = pace_of(options);
+    let text = match run_crew(
+        rt,
+        alloc,
+        grid,
+        points,
+        planners,
+        works,
+        options.journal,
+        pace,
+    ) {
         Ok(text) => text,
         Err(trouble) => return Err(trouble),
     };

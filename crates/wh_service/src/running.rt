@@ -22,6 +22,7 @@ use std::io::{Read, Write};
 use std::path::Path;
 use std::sync::Wait;
 use std::thread::Threads;
+use std::time::Clock;
 use wh_continue::{FileJournal, LogFile};
 use wh_edge::{Status, Trouble};
 use wh_lines::Lines;
@@ -107,7 +108,7 @@ fn replay<R: Read, W: Write, L: LogFile, P: Planner, F: Fn(PlannerParts) -> Resu
 
 /// Does what the options ask for, a replay over these files, or over none.
 fn obey<
-    T: Threads + Wait + Sync,
+    T: Threads + Wait + Clock + Sync,
     R: Read,
     W: Write,
     L: LogFile,
@@ -142,7 +143,7 @@ fn obey<
 #[tactic(auto, using(crate::proofs::Whole::is_some_map, crate::proofs::Starved::starved))]
 fn obey_by_name<
     'a,
-    T: Threads + Wait + Sync + Files<File = File>,
+    T: Threads + Wait + Clock + Sync + Files<File = File>,
     R: Read,
     W: Write,
     P: Planner,
@@ -251,7 +252,7 @@ pub fn end<E: Write>(errors: &mut E, came: Result<Status, Trouble>) -> Status
 #[tactic(auto, using(crate::proofs::Whole::in_range))]
 pub fn run<
     'a,
-    T: Threads + Wait + Sync + Files<File = File>,
+    T: Threads + Wait + Clock + Sync + Files<File = File>,
     S: AsStr,
     R: Read,
     W: Write,

@@ -1,27 +1,26 @@
-use Rattle.std.proofs.Common.{List, ap, length, refl, subst, sym, ℕ}
+use Rattle.std.proofs.Common.{ap, length, refl, sym}
 use Rattle.std.proofs.KnownBytes.{Keeps-refl}
 use Rattle.std.specs.Arc.{arc_value}
 use Rattle.wh_points.specs.Points.{Site}
-use Rattle.wh_live.specs.Lives.{Lives}
 use Rattle.wh_service.proofs.Played.{members_fit}
-use Rattle.wh_service.proofs.Hosted.{at_clients, at_run, at_team, few_works, hosts, reads_all, team_at, unwritten, written}
+use Rattle.wh_service.proofs.Hosted.{at_clients, at_run, at_team, few_works, hosts, lives_at, reads_all, team_at, unwritten, written}
 use Rattle.wh_service.proofs.live.host.Goals as goal
 
 pub returns-in-Err-clause-fault : goal.returns-in-Err-clause-fault
 returns-in-Err-clause-fault g c =
     let site : Site = record { grid = c.in_ok-grid.field-0.grid; layout = c.in_ok-grid.field-0.points } in
-    at_clients _ _ _ c.args.options.now _ _ _ _ site _ _ _ (ap length c.agents-agents.ensures.value) c.in_ok-grid.ensures.ok c.in-Err.ensures.fault (Keeps-refl _)
+    at_clients _ _ _ c.args.options.now _ _ _ _ site _ _ _ _ (ap length c.agents-agents.ensures.value) c.agent_threads.ensures.value c.in_ok-grid.ensures.ok c.in-Err.ensures.fault (Keeps-refl _)
 
 pub returns-in-Err-new-clause-fault : goal.returns-in-Err-new-clause-fault
 returns-in-Err-new-clause-fault g c =
     at_team _ _ _ c.args.options.now _ _ _ _ _ _ _
-    (reads_all _ _ _ c.in_ok-grid.field-0.grid _ c.in_ok-grid.field-0.points _ _ refl (ap length c.agents-agents.ensures.value) c.in_ok-grid.ensures.ok c.in-Ok.ensures.ok)
+    (reads_all _ _ _ _ c.in_ok-grid.field-0.grid _ c.in_ok-grid.field-0.points _ _ _ refl (ap length c.agents-agents.ensures.value) c.agent_threads.ensures.value c.in_ok-grid.ensures.ok c.in-Ok.ensures.ok)
     tt (Keeps-refl _)
 
 pub returns-in-Err-make_team-clause-fault : goal.returns-in-Err-make_team-clause-fault
 returns-in-Err-make_team-clause-fault g c =
     at_team _ _ _ c.args.options.now _ _ _ _ _ _ _
-    (reads_all _ _ _ c.in_ok-grid.field-0.grid _ c.in_ok-grid.field-0.points _ _ refl (ap length c.agents-agents.ensures.value) c.in_ok-grid.ensures.ok c.in-Ok.ensures.ok)
+    (reads_all _ _ _ _ c.in_ok-grid.field-0.grid _ c.in_ok-grid.field-0.points _ _ _ refl (ap length c.agents-agents.ensures.value) c.agent_threads.ensures.value c.in_ok-grid.ensures.ok c.in-Ok.ensures.ok)
     c.in-Err-make_team.ensures.fault (Keeps-refl _)
 
 pub run_crew-requires-clause-fit : goal.run_crew-requires-clause-fit
@@ -30,14 +29,15 @@ run_crew-requires-clause-fit g c κs within =
     members_fit _ _ _ c.args.options.now.fleet _ team.bank _ c.requires.makes c.requires.range team.planners_are.members
 
 pub run_crew-requires-clause-few : goal.run_crew-requires-clause-few
-run_crew-requires-clause-few g c κs within = few_works _ _ _ _ _ _ _ c.in-Ok-make_team.ensures.ok c.in-Ok.ensures.ok.few
+run_crew-requires-clause-few g c κs within =
+    few_works _ c.args.options.now _ _ _ _ _ _ _ _ c.in-Ok-make_team.ensures.ok c.in-Ok.ensures.ok c.agent_threads.ensures.value
 
 pub returns-in-Err-run_crew-clause-fault : goal.returns-in-Err-run_crew-clause-fault
 returns-in-Err-run_crew-clause-fault g c =
     let grid = arc_value c.in-Ok-new.grid in
     let seats = ap length c.agents-agents.ensures.value in
     let layout = c.in_ok-grid.field-0.points in
-    let reads = reads_all _ _ _ c.in_ok-grid.field-0.grid grid layout _ _ c.in-Ok-new.ensures.ok seats c.in_ok-grid.ensures.ok c.in-Ok.ensures.ok in
+    let reads = reads_all _ _ _ _ c.in_ok-grid.field-0.grid grid layout _ _ _ c.in-Ok-new.ensures.ok seats c.agent_threads.ensures.value c.in_ok-grid.ensures.ok c.in-Ok.ensures.ok in
     let team = team_at _ c.args.options.now grid _ _ _ _ _ seats c.in-Ok-make_team.ensures.ok in
     at_run _ _ _ c.args.options.now _ _ _ (record { grid = grid; layout = layout }) _ _ _ _ _ reads team c.in-Err-run_crew.ensures.fault (Keeps-refl _)
 
@@ -48,10 +48,10 @@ returns-clause-ok g c =
     let seats = ap length c.agents-agents.ensures.value in
     let layout = c.in_ok-grid.field-0.points in
     let site : Site = record { grid = grid; layout = layout } in
-    let reads = reads_all _ _ _ c.in_ok-grid.field-0.grid grid layout _ _ c.in-Ok-new.ensures.ok seats c.in_ok-grid.ensures.ok c.in-Ok.ensures.ok in
+    let reads = reads_all _ _ _ _ c.in_ok-grid.field-0.grid grid layout _ _ _ c.in-Ok-new.ensures.ok seats c.agent_threads.ensures.value c.in_ok-grid.ensures.ok c.in-Ok.ensures.ok in
     let team = team_at _ c.args.options.now grid _ _ _ _ _ seats c.in-Ok-make_team.ensures.ok in
     let made = c.in-Ok-make_team.team in
-    let lives = subst (λ (text : List ℕ). Lives g.P.Planner.fits_map g.P.Planner.slot_count site made.planners.items made.works.items c.args.options.now.journal text) (sym c.as_slice.ensures.value) c.in-Ok-run_crew.ensures.ok in
+    let lives = lives_at g.P.Planner.fits_map g.P.Planner.slot_count site made.planners.items made.works.items _ _ c.args.options.now.journal _ _ c.pace_of-pace.ensures.turns (sym c.as_slice.ensures.value) c.in-Ok-run_crew.ensures.ok in
     written _ _ _ c.args.options.now _ _ _ _ _ c.write_text.result
     (hosts _ _ _ c.args.options.now site _ made.planners.items made.works.items _ _ c.as_slice.result.now reads c.requires.makes c.requires.range team lives)
     c.write_text.ensures.ok
@@ -62,10 +62,10 @@ returns-clause-fault g c =
     let seats = ap length c.agents-agents.ensures.value in
     let layout = c.in_ok-grid.field-0.points in
     let site : Site = record { grid = grid; layout = layout } in
-    let reads = reads_all _ _ _ c.in_ok-grid.field-0.grid grid layout _ _ c.in-Ok-new.ensures.ok seats c.in_ok-grid.ensures.ok c.in-Ok.ensures.ok in
+    let reads = reads_all _ _ _ _ c.in_ok-grid.field-0.grid grid layout _ _ _ c.in-Ok-new.ensures.ok seats c.agent_threads.ensures.value c.in_ok-grid.ensures.ok c.in-Ok.ensures.ok in
     let team = team_at _ c.args.options.now grid _ _ _ _ _ seats c.in-Ok-make_team.ensures.ok in
     let made = c.in-Ok-make_team.team in
-    let lives = subst (λ (text : List ℕ). Lives g.P.Planner.fits_map g.P.Planner.slot_count site made.planners.items made.works.items c.args.options.now.journal text) (sym c.as_slice.ensures.value) c.in-Ok-run_crew.ensures.ok in
+    let lives = lives_at g.P.Planner.fits_map g.P.Planner.slot_count site made.planners.items made.works.items _ _ c.args.options.now.journal _ _ c.pace_of-pace.ensures.turns (sym c.as_slice.ensures.value) c.in-Ok-run_crew.ensures.ok in
     unwritten _ _ _ c.args.options.now _ _ _ _ _ c.write_text.result
     (hosts _ _ _ c.args.options.now site _ made.planners.items made.works.items _ _ c.as_slice.result.now reads c.requires.makes c.requires.range team lives)
     c.write_text.ensures.fault c.write_text.ensures.front
