@@ -1,5 +1,5 @@
 -- What a crew did from the opening of a warehouse, and the log of it.
-use Rattle.std.specs.Prelude.{◌≡◌, ℕ, ◌+◌, ◌<◌, ◌≤◌, Bool, List, length, All, MatchOption, Option, Result, Some, slice_get}
+use Rattle.std.specs.Prelude.{◌≡◌, ℕ, ◌+◌, ◌<◌, ◌≤◌, Bool, List, length, All, IfErr, MatchOption, Option, Result, Some, slice_get}
 use Rattle.wh_words.specs.Lines.{text_of}
 use Rattle.wh_grid.specs.Grids.{Floor}
 use Rattle.wh_points.specs.Points.{Site}
@@ -14,7 +14,7 @@ use Rattle.wh_edge.specs.declared.work.Work.{Work}
 use Rattle.wh_crew.specs.Pasts.{Origin}
 use Rattle.wh_crew.specs.Lists.{Received}
 use Rattle.wh_crew.specs.Calls.{AllEmpty, InOrder, NoneWantsPath}
-use Rattle.wh_crew.specs.Turns.{TurnsIn}
+use Rattle.wh_crew.specs.Turns.{IsWhyStopped, TurnsIn}
 use Rattle.wh_crew.specs.Work.{AllWorked, MissedWithCause}
 use Rattle.wh_desk.specs.declared.answer.DeskFault.{DeskFault}
 use Rattle.wh_crew.specs.declared.worker.Missed.{Missed}
@@ -41,7 +41,8 @@ pub record WorkedFrom {X : Type 0} (fits : X → Floor → Bool) (count : X → 
   pub worked : AllWorked fits count origin.site.grid journal works passes history missed
   pub with_cause : MissedWithCause journal history missed
 
--- Behind these workers comes one for all agents and the clock: what it has in the history are the answers to its turns.
+-- Behind these workers comes one for all agents and the clock: what it has in the history are the answers to its turns. Where
+-- the desk refused one of its calls, the journal was full, or memory was wanting.
 pub record PacedFrom {X : Type 0} (fits : X → Floor → Bool) (count : X → ℕ) (origin : Origin) (works : List (Work X)) (turns journal : ℕ)
     (history : List Entry) (state : State) : Type 0 where
   pub worked : WorkedFrom fits count origin works (length works + 1) journal history state
@@ -49,6 +50,7 @@ pub record PacedFrom {X : Type 0} (fits : X → Floor → Bool) (count : X → �
   pub own_is : slice_get worked.passes (length works) ≡ Some own
   pub taken : Result ℕ DeskFault
   pub turns_in : TurnsIn journal turns origin history own taken
+  pub stopped : IfErr taken (IsWhyStopped journal history)
 
 -- what the workers did, alone, or beside a worker for all agents and the clock, where it is told how many turns that may take
 abbrev pub WorkedBy : {X : Type 0} → (X → Floor → Bool) → (X → ℕ) → List (Work X) → Option ℕ → ℕ → Origin → List Entry → State → Type 0

@@ -29,4 +29,5 @@ returns-in-Ok-clause-ok g c =
       own_is = own.1;
       taken = c.in-Ok.crewed.taken;
       turns_in = done.agents own.0 own.1;
+      stopped = done.stopped;
     }
