@@ -1,5 +1,5 @@
 -- What the reports of the threads say of the whole history.
-use Rattle.std.proofs.Common.{◌≡◌, ℕ, zero, suc, ◌<◌, List, [], ◌∷◌, length, map, Some, slice_get, refl, ap, sym, ◌∙◌, subst, arith, Result, Ok, Err, Option, Bool}
+use Rattle.std.proofs.Common.{◌≡◌, ℕ, zero, suc, ◌<◌, List, [], ◌∷◌, length, map, Some, slice_get, refl, ap, sym, ◌∙◌, subst, arith}
 use Rattle.std.specs.List.{All}
 use Rattle.std.proofs.lemmas.List.{length-map}
 use Rattle.std.proofs.lemmas.List.Elements.{All-head, All-tail}
@@ -8,20 +8,7 @@ use Rattle.wh_event.specs.declared.entry.Entry.{Entry}
 use Rattle.wh_desk.specs.Lists.{AllAt, entries_of, Received}
 use mathlib.Core.List.{IsPrefix}
 use Rattle.wh_desk.specs.Calls.{InOrder, AllBegin}
-use Rattle.wh_replay.specs.declared.script.ReplayFault.{ReplayFault}
-use Rattle.std.specs.Prelude.{IfOk, IfErr}
-use Rattle.std.specs.Io.KnownBytes.{Keeps}
-use Rattle.std.proofs.KnownBytes.{Appends-kept}
-use Rattle.wh_replay.specs.Answers.{text_of}
-use Rattle.wh_replay.proofs.Until.{until_left}
-use Rattle.wh_serve.specs.Sessions.{ServesAll, Stops}
-use Rattle.wh_serve.specs.Hosting.{IsDue, ReportAt, Fared, Session, AllServed}
-use Rattle.wh_serve.specs.declared.allowance.Allowance.{Allowance}
-use Rattle.wh_serve.specs.declared.client.Served.{Served}
-use Rattle.wh_serve.specs.declared.threads.Ended.{Ended}
-use Rattle.wh_serve.specs.declared.threads.Client.{Client}
-use Rattle.wh_lines.specs.Input.{Input}
-use Rattle.wh_grid.specs.Grids.{Floor}
+use Rattle.wh_serve.specs.Hosting.{IsDue, ReportAt, AllServed}
 
 -- below the length there is an element
 pub get_some : {A : Type 0} (xs : List A) (k : ℕ) → k < length xs → (x : A) × (slice_get xs k ≡ Some x)
@@ -45,48 +32,48 @@ all_at P (y ∷ xs) all zero x at = subst P (same_Some _ _ at) (All-head P y xs 
 all_at P (y ∷ xs) all (suc k) x at = all_at P xs (All-tail P y xs all) k x at
 
 -- each report keeps the promise at its place, so its client was served with the pass there
-pub reported : {C W H Y : Type 0} (serves : C → Received → Received → W → Result Served ReplayFault → Type 0) (asked : H → C) (had : H → Received) (pass : Y → Received) (writer : Y → W) (ended : Y → Result Served ReplayFault)
+pub reported : {C H Y : Type 0} (serves : C → Received → Received → ℕ → Type 0) (asked : H → C) (had : H → Received) (pass : Y → Received) (times : Y → ℕ)
     (clients : List C) (passes : List Received) (hs : List H) (rs : List Y)
     → length rs ≡ length hs → AllAt (λ i h. IsDue clients passes i (asked h) (had h)) hs
-    → AllAt (λ i r. (h : H) → slice_get hs i ≡ Some h → serves (asked h) (had h) (pass r) (writer r) (ended r)) rs
-    → AllAt (λ i r. ReportAt serves clients passes i (pass r) (writer r) (ended r)) rs
-reported {C} serves asked had pass writer ended clients passes hs rs count due kept i r at client before client_at pass_at =
+    → AllAt (λ i r. (h : H) → slice_get hs i ≡ Some h → serves (asked h) (had h) (pass r) (times r)) rs
+    → AllAt (λ i r. ReportAt serves clients passes i (pass r) (times r)) rs
+reported {C} serves asked had pass times clients passes hs rs count due kept i r at client before client_at pass_at =
     let h = get_some hs i (omega (arith, count, slice_get_within rs i r at)) in
     let is = due i h.0 h.1 in
-    subst (λ (d : C). serves d before (pass r) (writer r) (ended r)) (same_Some _ _ (sym is.client_is ∙ client_at))
-    (subst (λ (p : Received). serves (asked h.0) p (pass r) (writer r) (ended r)) (same_Some _ _ (sym is.had_is ∙ pass_at)) (kept i r at h.0 h.1))
+    subst (λ (d : C). serves d before (pass r) (times r)) (same_Some _ _ (sym is.client_is ∙ client_at))
+    (subst (λ (p : Received). serves (asked h.0) p (pass r) (times r)) (same_Some _ _ (sym is.had_is ∙ pass_at)) (kept i r at h.0 h.1))
 
 -- what is served keeps the caller
-abbrev pub KeepsCaller : {C W : Type 0} → (C → Received → Received → W → Result Served ReplayFault → Type 0) → Type 0
-KeepsCaller {C} {W} serves = (client : C) (had has : Received) (writer : W) (ended : Result Served ReplayFault) → serves client had has writer ended → has.caller ≡ had.caller
+abbrev pub KeepsCaller : {C : Type 0} → (C → Received → Received → ℕ → Type 0) → Type 0
+KeepsCaller {C} serves = (client : C) (had has : Received) (times : ℕ) → serves client had has times → has.caller ≡ had.caller
 
-pub ended_order : {C W Y : Type 0} (serves : C → Received → Received → W → Result Served ReplayFault → Type 0) (keeps : KeepsCaller serves) (pass : Y → Received) (writer : Y → W) (ended : Y → Result Served ReplayFault)
+pub ended_order : {C Y : Type 0} (serves : C → Received → Received → ℕ → Type 0) (keeps : KeepsCaller serves) (pass : Y → Received) (times : Y → ℕ)
     (clients : List C) (passes : List Received) (rs : List Y) (callers : ℕ)
     → InOrder callers passes → length clients ≡ length passes → length rs ≡ length passes
-    → AllAt (λ i r. ReportAt serves clients passes i (pass r) (writer r) (ended r)) rs → InOrder callers (map pass rs)
-ended_order serves keeps pass writer ended clients passes rs callers order same count reports = record {
+    → AllAt (λ i r. ReportAt serves clients passes i (pass r) (times r)) rs → InOrder callers (map pass rs)
+ended_order serves keeps pass times clients passes rs callers order same count reports = record {
   count = length-map rs pass ∙ count ∙ order.count;
   each = λ k p at.
       let r = map_at pass rs k p at in
       let within = slice_get_within rs k r.0 r.1 in
       let before = get_some passes k (omega (arith, count, within)) in
       let client = get_some clients k (omega (arith, count, same, within)) in
-      ap (λ (q : Received). q.caller) (sym r.2) ∙ keeps client.0 before.0 (pass r.0) (writer r.0) (ended r.0) (reports k r.0 r.1 client.0 before.0 client.1 before.1) ∙ order.each k before.0 before.1;
+      ap (λ (q : Received). q.caller) (sym r.2) ∙ keeps client.0 before.0 (pass r.0) (times r.0) (reports k r.0 r.1 client.0 before.0 client.1 before.1) ∙ order.each k before.0 before.1;
 }
 
-pub all_served : {C W Y : Type 0} (serves : C → Received → Received → W → Result Served ReplayFault → Type 0) (keeps : KeepsCaller serves) (pass : Y → Received) (ended : Y → Ended W)
+pub all_served : {C Y : Type 0} (serves : C → Received → Received → ℕ → Type 0) (keeps : KeepsCaller serves) (pass : Y → Received) (times : Y → ℕ)
     (clients : List C) (passes : List Received) (rs : List Y) (callers : ℕ) (history : List Entry)
     → InOrder callers passes → length clients ≡ length passes → length rs ≡ length passes
-    → AllAt (λ i r. ReportAt serves clients passes i (pass r) (ended r).writer (ended r).outcome) rs
+    → AllAt (λ i r. ReportAt serves clients passes i (pass r) (times r)) rs
     → All (λ p. p.list ≡ entries_of history p.caller) (map pass rs) → AllBegin history (map pass rs)
-    → AllServed serves clients passes history (map ended rs)
-all_served {C} {W} serves keeps pass ended clients passes rs callers history order same count reports lists begins = record {
-  one_each = length-map rs ended ∙ count ∙ sym same;
-  each = λ i client had end client_at pass_at end_at.
-      let r = map_at ended rs i end end_at in
+    → AllServed serves clients passes history (map times rs)
+all_served {C} serves keeps pass times clients passes rs callers history order same count reports lists begins = record {
+  one_each = length-map rs times ∙ count ∙ sym same;
+  each = λ i client had n client_at pass_at n_at.
+      let r = map_at times rs i n n_at in
       let s = reports i r.0 r.1 client had client_at pass_at in
       let mine : had.caller ≡ i = order.each i had pass_at in
-      let kept = keeps client had (pass r.0) (ended r.0).writer (ended r.0).outcome s in
+      let kept = keeps client had (pass r.0) (times r.0) s in
       let place : slice_get (map pass rs) i ≡ Some (pass r.0) = map_get pass rs i r.0 r.1 in
       let whole : (pass r.0).list ≡ entries_of history (pass r.0).caller = all_at (λ (p : Received). p.list ≡ entries_of history p.caller) (map pass rs) lists i (pass r.0) place in
       record {
@@ -94,48 +81,6 @@ all_served {C} {W} serves keeps pass ended clients passes rs callers history ord
         caller_is = kept ∙ mine;
         list_is = whole ∙ ap (entries_of history) (kept ∙ mine);
         knows = all_at (λ (p : Received). IsPrefix p.known history) (map pass rs) begins i (pass r.0) place;
-        served = subst (λ (e : Ended W). serves client had (pass r.0) e.writer e.outcome) r.2 s;
+        served = subst (λ (m : ℕ). serves client had (pass r.0) m) r.2 s;
       };
-}
-
--- a session keeps the caller
-fared_caller : {X : Type 0} (may : Allowance) (cells : ℕ) (fits : X → Floor → Bool) (count : X → ℕ) (grid : Floor) (text : ℕ × Entry → List ℕ) (ended : Result Served ReplayFault) (before after : Input) (old : Received) (spares : List X) (new : Received) (rest : List X) (had has : Option (List ℕ))
-    → Fared may cells fits count grid text ended before after old spares new rest had has → new.caller ≡ old.caller
-fared_caller may cells fits count grid text (Ok served) before after old spares new rest had has f = f.output.caller_is
-fared_caller may cells fits count grid text (Err fault) before after old spares new rest had has f = f.output.caller_is
-
-pub session_caller : {R W X : Type 0} (cells : ℕ) (fits : X → Floor → Bool) (count : X → ℕ) (grid : Floor) (text : ℕ × Entry → List ℕ) (remaining : R → Option (List ℕ)) (contents : W → Option (List ℕ))
-    → KeepsCaller (λ (d : Client R W X) had has w e. Session cells fits count grid text remaining contents d had has w e)
-session_caller cells fits count grid text remaining contents client had has writer ended s =
-    fared_caller client.allowance cells fits count grid text ended s.before s.after had client.spares.items has s.rest (contents client.writer) (contents writer) s.fared
-
--- ---- a client that was left
-
-pub fared_left : {X : Type 0} (may : Allowance) (cells : ℕ) (fits : X → Floor → Bool) (count : X → ℕ) (grid : Floor) (text : ℕ × Entry → List ℕ) (ended : Result Served ReplayFault) (before after : Input) (old : Received) (spares : List X) (new : Received) (rest : List X) (had mid has : Option (List ℕ))
-    → IfOk ended (λ r. ServesAll may cells fits count grid text before after old spares new rest had mid r.replies r.is_torn)
-    → IfErr ended (λ fault. Stops may cells fits count grid text fault before after old spares new rest had mid)
-    → Keeps mid has → Fared may cells fits count grid text ended before after old spares new rest had has
-fared_left may cells fits count grid text (Ok served) before after old spares new rest had mid has s t kept = record {
-  read = s.read;
-  begun = s.begun;
-  takes = s.takes;
-  whole = s.whole;
-  part = s.part;
-  torn = s.torn;
-  ended = s.ended;
-  replies = s.replies;
-  output = s.output;
-  appends = Appends-kept had mid has (text_of s.replies) s.appends kept;
-  written_is = s.written_is;
-}
-fared_left may cells fits count grid text (Err fault) before after old spares new rest had mid has s t kept = record {
-  read = t.read;
-  begun = t.begun;
-  takes = t.takes;
-  part = t.part;
-  whole = t.whole;
-  replies = t.replies;
-  output = t.output;
-  writes = until_left fault had mid has t.replies t.writes kept;
-  cause = t.cause;
 }

@@ -1,8 +1,8 @@
 -- What a client's entries are, by what it may do.
-use Rattle.std.proofs.Common.{◌≡◌, ◌≤◌, ◌+◌, ℕ, List, [], ◌∷◌, ◌++◌, length, true, refl, sym, ap, ◌∙◌, arith, subst, Option, Some, slice_get, Result, Ok, Err, Bool}
+use Rattle.std.proofs.Common.{◌≡◌, ◌≤◌, ◌+◌, ℕ, List, [], ◌∷◌, ◌++◌, ◌⊎◌, length, true, refl, sym, ap, ◌∙◌, arith, subst, Option, Some, slice_get, Result, Ok, Err, Bool, inl, inr}
 use Rattle.std.specs.List.{All}
 use Rattle.std.proofs.lemmas.List.{length-append}
-use Rattle.std.proofs.lemmas.List.Elements.{All-cons, All-nil}
+use Rattle.std.proofs.lemmas.List.Elements.{All-append, All-cons, All-nil}
 use Rattle.std.proofs.lemmas.Option.{slice_get_within}
 use Rattle.wh_grid.specs.Grids.{Floor}
 use Rattle.wh_lines.specs.Input.{Input}
@@ -11,14 +11,14 @@ use Rattle.wh_event.specs.declared.entry.Entry.{Entry}
 use Rattle.wh_desk.specs.Lists.{Received, entries_of}
 use Rattle.wh_desk.specs.Calls.{InOrder, AllEmpty}
 use Rattle.wh_crew.specs.Work.{command_of}
-use Rattle.wh_replay.specs.declared.script.ReplayFault.{ReplayFault}
 use Rattle.wh_serve.specs.Allowances.{allows, KeepsTo}
 use Rattle.wh_serve.specs.Outcomes.{Outcome, receipts_of, Made, Gives}
-use Rattle.wh_serve.specs.Hosting.{Fared, Session, AllServed}
+use Rattle.wh_serve.specs.Rows.{Fared, Session, Visit, Row, Attended}
+use Rattle.wh_serve.specs.Hosting.{AllServed}
 use Rattle.wh_serve.specs.declared.allowance.Allowance.{Allowance}
-use Rattle.wh_serve.specs.declared.client.Served.{Served}
+use Rattle.wh_serve.specs.declared.served.Served.{Served}
+use Rattle.wh_serve.specs.declared.served.ServeFault.{ServeFault}
 use Rattle.wh_serve.specs.declared.threads.Client.{Client}
-use Rattle.wh_serve.specs.declared.threads.Ended.{Ended}
 use Rattle.wh_serve.proofs.Hosts.{get_some, all_at}
 
 -- the client has the right to a receipt's command
@@ -44,34 +44,49 @@ made_few may fits count grid held (c ∷ cs) (Err why ∷ os) spares rest p few 
 made_few may fits count grid held [] (o ∷ os) spares rest p few = absurd p
 made_few may fits count grid held (c ∷ cs) [] spares rest p few = absurd p
 
--- a client that had nothing keeps to it
+-- one that kept to it does so still
 gives_keeps : {X : Type 0} (may : Allowance) (cells : ℕ) (fits : X → Floor → Bool) (count : X → ℕ) (grid : Floor) (commands : List Command) (told : List Outcome → List (List ℕ))
-    (old : Received) (spares : List X) (new : Received) (rest : List X) (replies : List (List ℕ)) → old.list ≡ [] → Gives may cells fits count grid commands told old spares new rest replies → KeepsTo may new.list
-gives_keeps may cells fits count grid commands told old spares new rest replies none g =
-    let gained : new.list ≡ receipts_of g.outcomes = g.gained ∙ ap (λ (l : List (ℕ × Entry)). l ++ receipts_of g.outcomes) none in
-    record {
-      allowed = subst (λ (l : List (ℕ × Entry)). All (Allowed may) l) (sym gained) (made_allowed may fits count grid (length old.list) commands g.outcomes spares rest g.made);
-      few =
-          let few = made_few may fits count grid (length old.list) commands g.outcomes spares rest g.made (omega (arith, ap length none)) in
-          omega (arith, few, ap length none, ap length gained);
-    }
+    (old : Received) (spares : List X) (new : Received) (rest : List X) (replies : List (List ℕ)) → KeepsTo may old.list → Gives may cells fits count grid commands told old spares new rest replies → KeepsTo may new.list
+gives_keeps may cells fits count grid commands told old spares new rest replies kept g = record {
+  allowed = subst (λ (l : List (ℕ × Entry)). All (Allowed may) l) (sym g.gained)
+      (All-append (Allowed may) old.list (receipts_of g.outcomes) kept.allowed (made_allowed may fits count grid (length old.list) commands g.outcomes spares rest g.made));
+  few =
+      let few = made_few may fits count grid (length old.list) commands g.outcomes spares rest g.made kept.few in
+      omega (arith, few, ap length g.gained, length-append old.list (receipts_of g.outcomes));
+}
 
-fared_keeps : {X : Type 0} (may : Allowance) (cells : ℕ) (fits : X → Floor → Bool) (count : X → ℕ) (grid : Floor) (text : ℕ × Entry → List ℕ) (ended : Result Served ReplayFault) (before after : Input)
-    (old : Received) (spares : List X) (new : Received) (rest : List X) (had has : Option (List ℕ)) → old.list ≡ [] → Fared may cells fits count grid text ended before after old spares new rest had has → KeepsTo may new.list
-fared_keeps may cells fits count grid text (Ok served) before after old spares new rest had has none f = gives_keeps may cells fits count grid _ _ old spares new rest _ none f.output
-fared_keeps may cells fits count grid text (Err fault) before after old spares new rest had has none f = gives_keeps may cells fits count grid _ _ old spares new rest _ none f.output
+fared_keeps : {X : Type 0} (may : Allowance) (cells : ℕ) (fits : X → Floor → Bool) (count : X → ℕ) (grid : Floor) (text : ℕ × Entry → List ℕ) (outcome : Result Served ServeFault) (before after : Input)
+    (old : Received) (spares : List X) (new : Received) (rest : List X) (had has : Option (List ℕ)) → KeepsTo may old.list → Fared may cells fits count grid text outcome before after old spares new rest had has → KeepsTo may new.list
+fared_keeps may cells fits count grid text (Ok served) before after old spares new rest had has kept f = gives_keeps may cells fits count grid _ _ old spares new rest _ kept f.output
+fared_keeps may cells fits count grid text (Err fault) before after old spares new rest had has kept f = gives_keeps may cells fits count grid _ _ old spares new rest _ kept f.output
+
+module _ {R W X : Type 0} (may : Allowance) (cells : ℕ) (fits : X → Floor → Bool) (count : X → ℕ) (grid : Floor) (text : ℕ × Entry → List ℕ) (remaining : R → Option (List ℕ)) (contents : W → Option (List ℕ)) where
+  session_keeps : (reader : R) (writer : W) (outcome : Result Served ServeFault) (left : W) (had : Received) (spares : List X) (has : Received) (rest : List X) → KeepsTo may had.list
+      → Session may cells fits count grid text remaining contents reader writer outcome left had spares has rest → KeepsTo may has.list
+  session_keeps reader writer outcome left had spares has rest kept (inl s) =
+      fared_keeps may cells fits count grid text outcome s.before s.after had spares has rest s.told (contents left) kept s.fared
+  session_keeps reader writer outcome left had spares has rest kept (inr s) = subst (λ (p : Received). KeepsTo may p.list) (sym s.same) kept
+
+  row_keeps : (visits : List (Visit R W X)) (had : Received) (spares : List X) (has : Received) (rest : List X) → KeepsTo may had.list
+      → Row may cells fits count grid text remaining contents had spares visits has rest → KeepsTo may has.list
+  row_keeps [] had spares has rest kept r = subst (λ (p : Received). KeepsTo may p.list) (sym r.0) kept
+  row_keeps (v ∷ vs) had spares has rest kept r =
+      row_keeps vs v.has v.rest has rest (session_keeps v.reader v.writer v.outcome v.left had spares v.has v.rest kept r.0) r.1
+
+-- who has nothing keeps to it
+nothing_keeps : (may : Allowance) (entries : List (ℕ × Entry)) → entries ≡ [] → KeepsTo may entries
+nothing_keeps may entries none = subst (KeepsTo may) (sym none) (record { allowed = All-nil (Allowed may); few = omega arith })
 
 -- what is each client's in the history, where each had nothing before
 pub all_keep : {R W X : Type 0} (cells : ℕ) (fits : X → Floor → Bool) (count : X → ℕ) (grid : Floor) (text : ℕ × Entry → List ℕ) (remaining : R → Option (List ℕ)) (contents : W → Option (List ℕ))
-    (clients : List (Client R W X)) (passes : List Received) (history : List Entry) (ends : List (Ended W)) → length clients ≡ length passes → AllEmpty passes
-    → AllServed (λ d had has w e. Session cells fits count grid text remaining contents d had has w e) clients passes history ends
-    → (i : ℕ) (client : Client R W X) → slice_get clients i ≡ Some client → KeepsTo client.allowance (entries_of history i)
-all_keep cells fits count grid text remaining contents clients passes history ends same empty served i client client_at =
+    (clients : List (Client X)) (passes : List Received) (history : List Entry) (connections : List ℕ) → length clients ≡ length passes → AllEmpty passes
+    → AllServed (λ c had has n. Attended cells fits count grid text remaining contents c had has n) clients passes history connections
+    → (i : ℕ) (client : Client X) → slice_get clients i ≡ Some client → KeepsTo client.allowance (entries_of history i)
+all_keep cells fits count grid text remaining contents clients passes history connections same empty served i client client_at =
     let within = slice_get_within clients i client client_at in
     let had = get_some passes i (omega (arith, same, within)) in
-    let end = get_some ends i (omega (arith, served.one_each, within)) in
-    let by = served.each i client had.0 end.0 client_at had.1 end.1 in
-    let s = by.served in
+    let times = get_some connections i (omega (arith, served.one_each, within)) in
+    let by = served.each i client had.0 times.0 client_at had.1 times.1 in
     let none = all_at (λ (p : Received). p.list ≡ []) passes empty i had.0 had.1 in
     subst (KeepsTo client.allowance) by.list_is
-    (fared_keeps client.allowance cells fits count grid text end.0.outcome s.before s.after had.0 client.spares.items by.has s.rest (contents client.writer) (contents end.0.writer) none s.fared)
+    (row_keeps client.allowance cells fits count grid text remaining contents by.served.visits.visits had.0 client.spares.items by.has by.served.rest (nothing_keeps client.allowance had.0.list none) by.served.visits.row)

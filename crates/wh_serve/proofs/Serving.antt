@@ -1,7 +1,7 @@
 -- A client that is served line by line.
-use Rattle.std.proofs.Common.{◌≡◌, ◌+◌, ◌≤◌, ◌<◌, ℕ, List, [], ◌∷◌, ◌++◌, length, refl, sym, ap, ◌∙◌, inl, inr, arith, subst, Option, append_assoc, append-nil, Bool, true, false, Result}
+use Rattle.std.proofs.Common.{◌≡◌, ◌+◌, ◌≤◌, ◌<◌, ℕ, List, [], ◌∷◌, ◌++◌, length, refl, sym, ap, ◌∙◌, arith, subst, Option, Some, None, append_assoc, append-nil, Bool, true, Result}
 use Rattle.std.proofs.lemmas.List.{length-append}
-use Rattle.std.specs.Prelude.{IfSome, IsTrue, ◌↔◌}
+use Rattle.std.specs.Prelude.{IfSome}
 use Rattle.std.specs.Io.KnownBytes.{Appends, Keeps, Consumes, IsAtEnd}
 use Rattle.std.proofs.KnownBytes.{Consumes-whole, Keeps-refl, Consumes-nil, Consumes-trans, Appends-nil, Appends-trans, Appends-kept}
 use Rattle.wh_text.specs.Lines.{lines_of, without_cr}
@@ -19,17 +19,16 @@ use Rattle.wh_event.specs.declared.fault.LineFault.{LineFault}
 use Rattle.wh_replay.specs.declared.script.ReplayFault.{ReplayFault}
 use Rattle.wh_replay.specs.declared.script.ReplayFault.TheVariants.{Unwritten}
 use Rattle.wh_replay.specs.Answers.{asked, reply_line, text_of, said}
-use Rattle.wh_replay.specs.Scripts.{HasCause}
+use Rattle.wh_serve.specs.declared.served.End.{End as Ending}
+use Rattle.wh_serve.specs.declared.served.End.TheVariants as ended
+use Rattle.wh_serve.specs.declared.served.ServeFault.{ServeFault}
+use Rattle.wh_serve.specs.declared.served.ServeFault.TheVariants.{Cut, Unjournaled}
 use Rattle.wh_serve.specs.declared.allowance.Allowance.{Allowance}
 use Rattle.wh_serve.specs.Outcomes.{Gives, IsOutputOf, answers}
-use Rattle.wh_serve.specs.Sessions.{Serves, ServesUnwritten, Follows, ServesAll, Outputs, Stops}
+use Rattle.wh_serve.specs.Sessions.{Serves, ServesUnwritten, Follows, IsUnserved, IsReadTo, ServesAll, StandsBehind, Outputs, HasCause, Stops}
 use Rattle.wh_replay.proofs.Returns.{said_is}
 use Rattle.wh_replay.proofs.Until.{written_to_last, until_all, cause_failed}
 use Rattle.wh_serve.proofs.Giving.{gives_nothing, output_push}
-
--- a reader that tells its bytes has given them all
-Consumes-is : (a b : Option (List ℕ)) (bs : List ℕ) → Consumes a b bs → IsAtEnd b → (P : List ℕ → Type 0) → ((script : List ℕ) → script ≡ bs → P script) → IfSome a P
-Consumes-is a b bs takes ended P f = Consumes-whole a b bs P takes ended (f bs refl)
 
 text_append : (xs ys : List (List ℕ)) → text_of (xs ++ ys) ≡ text_of xs ++ text_of ys
 text_append [] ys = refl
@@ -100,14 +99,14 @@ module _ {X : Type 0} (may : Allowance) (cells : ℕ) (fits : X → Floor → Bo
           reads = omega (arith, before, now);
         }
 
-    pub stops_line : Gathered Whole j k kept → ServesUnwritten may cells fits count grid text (said (short_line kept)) mid held new rest c d → Stops may cells fits count grid text Unwritten i k old spares new rest a d
+    pub stops_line : Gathered Whole j k kept → ServesUnwritten may cells fits count grid text (said (short_line kept)) mid held new rest c d → Stops may cells fits count grid text (Cut Unwritten) i k old spares new rest a d
     stops_line g s =
         let bytes = g.raw ++ 10 ∷ [] in
         record {
           read = f.read ++ bytes;
-          begun = [];
+          behind = [];
           takes = subst (λ l. Takes i k l) (sym (append-nil (f.read ++ bytes))) (Consumes-trans (left i) (left j) (left k) f.read bytes f.takes g.ends);
-          part = tt;
+          lost = tt;
           whole = whole_next f.read g.raw f.whole g.plain;
           replies = f.replies ++ s.replies;
           output = output_line bytes g.raw s.replies (lines-feed g.raw [] g.plain) g.says s.gives;
@@ -117,35 +116,37 @@ module _ {X : Type 0} (may : Allowance) (cells : ℕ) (fits : X → Floor → Bo
 
   module _ (i j k : Input) (old : Received) (spares : List X) (mid : Received) (held : List X) (a b c : Option (List ℕ)) (n : ℕ)
       (f : Follows may cells fits count grid text i j old spares mid held a b n) (flushed : Keeps b c) where
-    -- the input ended with what was served, or within a line more
-    served_to : (raw : List ℕ) (is_torn : Bool) → IsPlain raw → (IsTrue is_torn ↔ (0 < length raw)) → Takes j k raw → IsAtEnd (left k) → ServesAll may cells fits count grid text i k old spares mid held a c n is_torn
-    served_to raw is_torn plain torn takes ended = record {
+    -- the connection ended with what was served, and no more than a line was taken behind it
+    served_to : (raw : List ℕ) (end : Ending) → IsUnserved end raw → IsReadTo end k → Takes j k raw → ServesAll may cells fits count grid text i k old spares mid held a c n end
+    served_to raw end unserved read_to takes = record {
       read = f.read;
-      begun = raw;
+      behind = raw;
       takes = Consumes-trans (left i) (left j) (left k) f.read raw f.takes takes;
       whole = f.whole;
-      part = plain;
-      torn = torn;
-      ended = ended;
+      unserved = unserved;
+      read_to = read_to;
       replies = f.replies;
       output = f.output;
       appends = Appends-kept a b c (text_of f.replies) f.appends flushed;
       written_is = f.written_is;
     }
 
-    pub served_end : (kept : List ℕ) → Gathered End j k kept → ServesAll may cells fits count grid text i k old spares mid held a c n false
-    served_end kept g = served_to g.raw false g.plain ((λ is. absurd (cc (is))), (λ some. absurd (omega (arith, some, ap length g.ends.1)))) g.ends.0 g.ends.2
+    pub served_end : (kept : List ℕ) → Gathered End j k kept → ServesAll may cells fits count grid text i k old spares mid held a c n ended.Input
+    served_end kept g = served_to g.raw ended.Input g.ends.1 g.ends.2 g.ends.0
 
-    pub served_last : (kept : List ℕ) → Gathered Last j k kept → ServesAll may cells fits count grid text i k old spares mid held a c n true
-    served_last kept g = served_to g.raw true g.plain ((λ is. g.ends.1), (λ some. refl)) g.ends.0 g.ends.2
+    pub served_last : (kept : List ℕ) → Gathered Last j k kept → ServesAll may cells fits count grid text i k old spares mid held a c n ended.Torn
+    served_last kept g = served_to g.raw ended.Torn (g.plain, g.ends.1) g.ends.2 g.ends.0
+
+    pub served_over : (kept : List ℕ) → Gathered Whole j k kept → ServesAll may cells fits count grid text i k old spares mid held a c n ended.Over
+    served_over kept g = served_to (g.raw ++ 10 ∷ []) ended.Over (g.raw, g.plain, refl) tt g.ends
 
     -- no next line
-    pub stops_between : (fault : ReplayFault) → Taken j k → HasCause fault i k (length (lines_of f.read)) → Stops may cells fits count grid text fault i k old spares mid held a c
+    pub stops_between : (fault : ReplayFault) → Taken j k → HasCause (Cut fault) i k (length (lines_of f.read)) → Stops may cells fits count grid text (Cut fault) i k old spares mid held a c
     stops_between fault t cause = record {
       read = f.read;
-      begun = t.bytes;
+      behind = t.bytes;
       takes = Consumes-trans (left i) (left j) (left k) f.read t.bytes f.takes t.takes;
-      part = t.plain;
+      lost = t.plain;
       whole = f.whole;
       replies = f.replies;
       output = f.output;
@@ -155,29 +156,62 @@ module _ {X : Type 0} (may : Allowance) (cells : ℕ) (fits : X → Floor → Bo
 
   -- nothing more was taken
   pub stops_now : (i j : Input) (old : Received) (spares : List X) (mid : Received) (held : List X) (a b : Option (List ℕ)) (n : ℕ) (fault : ReplayFault)
-      (f : Follows may cells fits count grid text i j old spares mid held a b n) → HasCause fault i j (length (lines_of f.read)) → Stops may cells fits count grid text fault i j old spares mid held a b
+      (f : Follows may cells fits count grid text i j old spares mid held a b n) → HasCause (Cut fault) i j (length (lines_of f.read)) → Stops may cells fits count grid text (Cut fault) i j old spares mid held a b
   stops_now i j old spares mid held a b n fault f cause =
       stops_between i j j old spares mid held a b b n f (Keeps-refl b) fault (record { bytes = []; plain = tt; takes = Consumes-nil (left j) }) cause
 
   -- the reader is told to have failed
-  pub stops_failed : (i j k : Input) (old : Received) (spares : List X) (new : Received) (rest : List X) (had has : Option (List ℕ)) (fault : ReplayFault)
+  cause_still : (fault : ServeFault) (before after : Input) (lines : ℕ) → HasCause fault before after lines → HasCause fault before (with_failed after true) lines
+  cause_still (Cut fault) before after lines cause = cause_failed fault before after lines cause
+  cause_still Unjournaled before after lines cause = cause
+
+  pub stops_failed : (i j k : Input) (old : Received) (spares : List X) (new : Received) (rest : List X) (had has : Option (List ℕ)) (fault : ServeFault)
       → k ≡ with_failed j true → Stops may cells fits count grid text fault i j old spares new rest had has → Stops may cells fits count grid text fault i k old spares new rest had has
   stops_failed i j k old spares new rest had has fault failed s =
       subst (λ (x : Input). Stops may cells fits count grid text fault i x old spares new rest had has) (sym failed) (record {
         read = s.read;
-        begun = s.begun;
+        behind = s.behind;
         takes = s.takes;
-        part = s.part;
+        lost = s.lost;
         whole = s.whole;
         replies = s.replies;
         output = s.output;
         writes = s.writes;
-        cause = cause_failed fault i j (length (lines_of s.read)) s.cause;
+        cause = cause_still fault i j (length (lines_of s.read)) s.cause;
       })
 
-  -- a reader that tells its bytes has given them all
-  pub outputs_of : (i j : Input) (old : Received) (spares : List X) (new : Received) (rest : List X) (had has : Option (List ℕ)) (n : ℕ) (is_torn : Bool)
-      → ServesAll may cells fits count grid text i j old spares new rest had has n is_torn → IfSome (left i) (λ script. Outputs may cells fits count grid text script old spares new rest had has n)
-  outputs_of i j old spares new rest had has n is_torn r =
-      Consumes-is (left i) (left j) (r.read ++ r.begun) r.takes r.ended (λ script. Outputs may cells fits count grid text script old spares new rest had has n)
-      (λ script is. record { read = r.read; begun = r.begun; parts = is; whole = r.whole; part = r.part; replies = r.replies; output = r.output; appends = r.appends; written_is = r.written_is })
+  -- ---- a reader that tells its bytes
+
+  -- of the bytes that it gave these are the first, and all but where the service was over before
+  taken_of : (a b : Option (List ℕ)) (bs : List ℕ) → Consumes a b bs → IfSome a (λ script. (more : List ℕ) × (script ≡ bs ++ more) × (b ≡ Some more))
+  taken_of None b bs t = tt
+  taken_of (Some xs) None bs t = absurd t
+  taken_of (Some xs) (Some ys) bs t = (ys, t, refl)
+
+  none_left : (j : Input) (more : List ℕ) → IsAtEnd (left j) → left j ≡ Some more → more ≡ []
+  none_left j more none e = subst IsAtEnd e none
+
+  stands : (end : Ending) (j : Input) (behind more : List ℕ) → IsUnserved end behind → IsReadTo end j → left j ≡ Some more → StandsBehind end (behind ++ more)
+  stands ended.Input j behind more unserved at e = ap (λ (l : List ℕ). behind ++ l) (none_left j more at e) ∙ append-nil behind ∙ unserved
+  stands ended.Torn j behind more unserved at e =
+      subst (IsUnserved ended.Torn) (sym (ap (λ (l : List ℕ). behind ++ l) (none_left j more at e) ∙ append-nil behind)) unserved
+  stands ended.Over j behind more unserved at e = (behind, more, unserved, refl)
+
+  if_some : {P Q : List ℕ → Type 0} (a : Option (List ℕ)) → IfSome a P → ((script : List ℕ) → P script → Q script) → IfSome a Q
+  if_some None p f = tt
+  if_some (Some xs) p f = f xs p
+
+  pub outputs_of : (i j : Input) (old : Received) (spares : List X) (new : Received) (rest : List X) (had has : Option (List ℕ)) (n : ℕ) (end : Ending)
+      → ServesAll may cells fits count grid text i j old spares new rest had has n end → IfSome (left i) (λ script. Outputs may cells fits count grid text script old spares new rest had has n end)
+  outputs_of i j old spares new rest had has n end r =
+      if_some (left i) (taken_of (left i) (left j) (r.read ++ r.behind) r.takes) (λ script t. record {
+        read = r.read;
+        behind = r.behind ++ t.0;
+        parts = t.1 ∙ append_assoc r.read r.behind t.0;
+        whole = r.whole;
+        stands = stands end j r.behind t.0 r.unserved r.read_to t.2;
+        replies = r.replies;
+        output = r.output;
+        appends = r.appends;
+        written_is = r.written_is;
+      })

@@ -1,6 +1,6 @@
 //! A run that serves clients: a warehouse behind a desk, the clients over it, and the log of what they did.
 
-ghost use Rattle.std.specs.Prelude.{◌≡◌, ◌<◌, ◌≤◌, ◌^◌, [], IfOk, length};
+ghost use Rattle.std.specs.Prelude.{◌≡◌, ◌<◌, ◌≤◌, ◌^◌, [], IfErr, IfOk, length};
 ghost use Rattle.wh_words.specs.Lines.{text_of};
 ghost use Rattle.wh_points.specs.Points.{IsLayout};
 ghost use Rattle.wh_log.specs.Logs.{log_lines};
@@ -8,11 +8,11 @@ ghost use Rattle.wh_log.specs.declared.version.Version.TheVariants.{Two};
 ghost use Rattle.wh_desk.specs.Fleet.{AllFit};
 ghost use Rattle.wh_desk.specs.Pasts.{origin_of, past_of};
 ghost use Rattle.wh_serve.specs.Texts.{receipt_text};
-ghost use Rattle.wh_serve.specs.Runs.{ServedFrom, Hosts};
+ghost use Rattle.wh_serve.specs.Runs.{ServedFrom, Hosts, IsWhyUnserved, trouble_of};
 
+use crate::doors::Doors;
 use crate::form::Form;
-use crate::leave::Leave;
-use crate::threads::{Client, Ended, Hosted, serve_clients};
+use crate::threads::{Client, Hosted, serve_clients};
 use std::alloc::{AllocError, Global};
 use std::io::{Read, Write};
 use std::marker::Brand;
@@ -27,7 +27,10 @@ use wh_planner::Planner;
 use wh_points::Points;
 
 /// What is told of clients that came to no history.
-fn trouble_of(fault: CrewFault) -> Trouble {
+fn trouble_of(fault: CrewFault) -> Trouble
+    ensures value { result ≡ trouble_of fault }
+    ensures why { IsWhyUnserved result }
+{
     match fault {
         CrewFault::NoThread => Trouble::NoThread,
         CrewFault::NoMemory => Trouble::NoMemory,
@@ -43,7 +46,7 @@ fn over_desk<
     X: Threads + Wait + Sync,
     R: Read + Send + Drop,
     W: Write + Send + Drop,
-    G: Leave<W>,
+    D: Doors<R, W>,
 >(
     rt: &X,
     alloc: Global,
@@ -51,9 +54,9 @@ fn over_desk<
     warehouse: Warehouse<P>,
     cells: Cells,
     publisher: Publisher<H>,
-    clients: Vec<Client<R, W, P>>,
-    leave: &G,
-) -> Result<Hosted<W, P>, Trouble>
+    clients: Vec<Client<P>>,
+    doors: &D,
+) -> Result<Hosted<P>, Trouble>
     requires origin { origin_of warehouse.book ≡ N.origin }
     requires history { warehouse.book.history ≡ [] }
     requires cells { cells ≡ N.cells }
@@ -63,21 +66,22 @@ fn over_desk<
     requires callers { length clients.items ≡ N.callers }
     requires few { length clients.items ≤ 64 }
     ensures ok { IfOk result (λ c. ServedFrom P.fits_map P.slot_count (receipt_text form) (λ x. R.remaining x) (λ x. W.contents x) N.origin clients.items (length N.cells)
-        c.history.warehouse.book.history c.history.warehouse.book.state c.ends.items) }
+        c.history.warehouse.book.history c.history.warehouse.book.state c.connections.items) }
+    ensures fault { IfErr result IsWhyUnserved }
 {
     let callers = clients.len() as u32;
     let (desk, passes) = Desk::<N, H, P>::open(alloc, warehouse, cells, publisher, callers)?;
-    match serve_clients(rt, alloc, form, desk, passes, clients, leave) {
+    match serve_clients(rt, alloc, form, desk, passes, clients, doors) {
         Ok(hosted) => Ok(hosted),
         Err(fault) => Err(trouble_of(fault)),
     }
 }
 
-/// The log of a run, and how each client ended, in their order.
+/// The log of a run, and over how many connections each client was served, in their order.
 #[derive(Drop)]
-pub struct Logged<W> {
+pub struct Logged {
     pub text: Vec<u8>,
-    pub ends: Vec<Ended<W>>,
+    pub connections: Vec<u64>,
 }
 
 /// What a desk round a warehouse is made of beside it: the cells of its receipts, and the publisher of its board. With them
@@ -112,17 +116,17 @@ fn furnish<H: Wait + Drop, P: Planner>(
 }
 
 /// The log of what the clients left.
-fn write_log<W: Drop, P: Planner>(
-    alloc: Global,
-    slots: &[u32],
-    hosted: Hosted<W, P>,
-) -> Result<Logged<W>, Trouble>
-    ensures ends { IfOk result (λ r. r.ends ≡ hosted.ends) }
+fn write_log<P: Planner>(alloc: Global, slots: &[u32], hosted: Hosted<P>) -> Result<Logged, Trouble>
+    ensures connections { IfOk result (λ r. r.connections ≡ hosted.connections) }
+    ensures fault { IfErr result IsWhyUnserved }
     ensures text { IfOk result (λ r. r.text.items ≡ text_of (log_lines Two (record { clock = 0; slots = slots.now; entries = hosted.history.warehouse.book.history }))) }
 {
-    let Hosted { history, ends } = hosted;
+    let Hosted {
+        history,
+        connections,
+    } = hosted;
     match log_text(alloc, 0, slots, history.warehouse.history()) {
-        Ok(text) => Ok(Logged { text, ends }),
+        Ok(text) => Ok(Logged { text, connections }),
         Err(NoMemory) => Err(Trouble::NoMemory),
     }
 }
@@ -135,7 +139,7 @@ pub fn run_clients<
     X: Threads + Wait + Sync,
     R: Read + Send + Drop,
     W: Write + Send + Drop,
-    G: Leave<W>,
+    D: Doors<R, W>,
 >(
     rt: &X,
     alloc: Global,
@@ -143,16 +147,18 @@ pub fn run_clients<
     grid: Arc<Grid>,
     points: Points,
     planners: Vec<P>,
-    clients: Vec<Client<R, W, P>>,
+    clients: Vec<Client<P>>,
     journal: u32,
-    leave: &G,
-) -> Result<Logged<W>, Trouble>
+    doors: &D,
+) -> Result<Logged, Trouble>
     requires layout { IsLayout grid.value points }
     requires count { length planners.items ≡ length points.agents }
     requires fit { AllFit P.fits_map grid.value planners.items }
     requires few { length clients.items ≤ 64 }
     ensures ok { IfOk result (λ r. Hosts P.fits_map P.slot_count (receipt_text form) (λ x. R.remaining x) (λ x. W.contents x) (record { grid = grid.value; layout = points })
-        planners.items clients.items journal r.ends.items r.text.items) }
+        planners.items clients.items journal r.connections.items r.text.items) }
+    // No thread could be started, no memory was left, or a pass has not all that its caller did.
+    ensures fault { IfErr result IsWhyUnserved }
 {
     let warehouse = match Warehouse::open(alloc, grid, points, planners, 0) {
         Ok(warehouse) => warehouse,
@@ -165,7 +171,7 @@ pub fn run_clients<
         publisher,
     } = furnish(rt, alloc, &warehouse, journal)?;
     let hosted = over_desk::<Brand, _, _, _, _, _, _>(
-        rt, alloc, form, warehouse, cells, publisher, clients, leave,
+        rt, alloc, form, warehouse, cells, publisher, clients, doors,
     )?;
     write_log(alloc, &slots, hosted)
 }

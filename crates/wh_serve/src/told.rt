@@ -5,18 +5,19 @@ ghost use Rattle.std.specs.Io.KnownBytes.{Appends};
 ghost use Rattle.wh_lines.specs.Text.{short_line};
 ghost use Rattle.wh_replay.specs.Answers.{asked, said, text_of};
 ghost use Rattle.wh_replay.specs.Scripts.{WritesFront};
-ghost use Rattle.wh_serve.specs.Texts.{fault_text, receipt_text, without_text};
+ghost use Rattle.wh_serve.specs.Texts.{entries_text, fault_text, receipt_text, without_text};
 ghost use Rattle.wh_serve.specs.Outcomes.{Gives, answers, line_text};
-ghost use Rattle.wh_serve.specs.Tellings.{texts};
+ghost use Rattle.wh_serve.specs.Tellings.{closes, texts};
 
 use crate::allowance::Allowance;
 use crate::call::{NoReceipt, call_allowed};
 use crate::form::{Form, tell};
+use arrayvec::ArrayVec;
 use std::alloc::Global;
 use std::io::Write;
 use std::sync::Wait;
 use wh_desk::{Desk, DeskFault, DeskName, Pass, Receipt};
-use wh_event::{Command, LineFault, read_line};
+use wh_event::{Command, LineFault, Reply, put_number, read_line};
 use wh_lines::CommandLine;
 use wh_planner::Planner;
 use wh_replay::{WriteFault, write_all};
@@ -32,6 +33,16 @@ pub(crate) enum Told {
     Without(NoReceipt),
     /// The receipt of the call.
     Received(Receipt),
+}
+
+/// Whether it tells that the warehouse was closed.
+pub(crate) fn closes(told: &Told) -> bool
+    ensures { result ≡ closes told.now }
+{
+    match told {
+        Told::Received(receipt) => matches!(receipt.entry.reply, Reply::Closed),
+        Told::Nothing | Told::NoCommand(_) | Told::Without(_) => false,
+    }
 }
 
 /// What a line says, of which a front is kept.
@@ -122,6 +133,19 @@ fn write_line<W: Write>(writer: &mut W, reply: &[u8]) -> Result<u64, WriteFault>
             Ok(count) => Ok(count),
             Err(fault) => Err(fault),
         },
+        Err(fault) => Err(fault),
+    }
+}
+
+/// Writes how many entries a client has, with a line feed.
+pub(crate) fn write_entries<W: Write>(writer: &mut W, count: u64) -> Result<(), WriteFault>
+    ensures ok { OnOk result (Appends (W.contents writer.old) (W.contents writer.new) (text_of (entries_text count ∷ []))) }
+    ensures err { OnErr result (WritesFront (W.contents writer.old) (W.contents writer.new) (text_of (entries_text count ∷ []))) }
+{
+    let mut line = ArrayVec::new();
+    put_number(&mut line, b"entries ", count);
+    match write_line(writer, line.as_slice()) {
+        Ok(_) => Ok(()),
         Err(fault) => Err(fault),
     }
 }

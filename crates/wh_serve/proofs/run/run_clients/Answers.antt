@@ -1,5 +1,6 @@
 use Rattle.std.proofs.Common.{◌≡◌, ℕ, List, Result, Ok, Err, IfOk, ap, ◌∙◌, subst}
 use Rattle.wh_words.specs.Lines.{text_of}
+use Rattle.std.proofs.lemmas.Result.{err_from_is_err_and}
 use Rattle.wh_points.specs.Points.{Site}
 use Rattle.wh_core.specs.States.{State}
 use Rattle.wh_desk.specs.Fleet.{IsTied}
@@ -14,8 +15,8 @@ if_ok : {A E : Type 0} {P Q R : A → Type 0} (r : Result A E) → IfOk r P → 
 if_ok (Ok a) p q f = f a p q
 if_ok (Err e) p q f = p
 
-pub returns : goal.returns
-returns g c =
+pub returns-clause-ok : goal.returns-clause-ok
+returns-clause-ok g c =
     let fits = g.P.Planner.fits_map in
     let count : g.row.P.Denot → ℕ = g.P.Planner.slot_count in
     let book = c.in-Ok.warehouse.book in
@@ -25,16 +26,19 @@ returns g c =
     let slots = opened.opening.0 in
     let copied : c.deref.result.now ≡ book.opening.slots = c.deref.ensures.value ∙ c.in_ok-slots.ensures.slots in
     let tied = subst (λ (n : List ℕ). IsTied fits count c.args.grid.value c.in-Ok.warehouse.planners n) (ap (λ (s : State). s.slots) (opened.opening.2 ∙ opened.opening.1)) opened.tied in
-    let ran = subst (λ (n : ℕ). ServedFrom fits count (receipt_text c.args.form) (λ x. g.R.Read.remaining x) (λ x. g.W.Write.contents x) (record { site = book.site; opening = book.opening }) c.args.clients.items n left.history left.state hosted.ends.items) c.in_ok-slots.ensures.cells c.in_ok-hosted.ensures.ok in
-    let sited = subst (λ (s : Site). ServedFrom fits count (receipt_text c.args.form) (λ x. g.R.Read.remaining x) (λ x. g.W.Write.contents x) (record { site = s; opening = book.opening }) c.args.clients.items c.args.journal left.history left.state hosted.ends.items) opened.site ran in
-    let served = subst (λ (o : State). ServedFrom fits count (receipt_text c.args.form) (λ x. g.R.Read.remaining x) (λ x. g.W.Write.contents x) (record { site = record { grid = c.args.grid.value; layout = c.args.points }; opening = o }) c.args.clients.items c.args.journal left.history left.state hosted.ends.items) opened.opening.1 sited in
-    record {
-      ok = if_ok c.write_log.result c.write_log.ensures.ends c.write_log.ensures.text (λ r ends text. record {
-        slots = slots;
-        tied = subst (λ row. IsTied fits count c.args.grid.value row slots) opened.planners tied;
-        history = left.history;
-        state = left.state;
-        served = rw ends served;
-        log_is = text ∙ ap (λ (n : List ℕ). text_of (log_lines Two (record { clock = 0; slots = n; entries = left.history }))) (copied ∙ ap (λ (s : State). s.slots) opened.opening.1);
-      });
-    }
+    let ran = subst (λ (n : ℕ). ServedFrom fits count (receipt_text c.args.form) (λ x. g.R.Read.remaining x) (λ x. g.W.Write.contents x) (record { site = book.site; opening = book.opening }) c.args.clients.items n left.history left.state hosted.connections.items) c.in_ok-slots.ensures.cells c.in_ok-hosted.ensures.ok in
+    let sited = subst (λ (s : Site). ServedFrom fits count (receipt_text c.args.form) (λ x. g.R.Read.remaining x) (λ x. g.W.Write.contents x) (record { site = s; opening = book.opening }) c.args.clients.items c.args.journal left.history left.state hosted.connections.items) opened.site ran in
+    let served = subst (λ (o : State). ServedFrom fits count (receipt_text c.args.form) (λ x. g.R.Read.remaining x) (λ x. g.W.Write.contents x) (record { site = record { grid = c.args.grid.value; layout = c.args.points }; opening = o }) c.args.clients.items c.args.journal left.history left.state hosted.connections.items) opened.opening.1 sited in
+    if_ok c.write_log.result c.write_log.ensures.connections c.write_log.ensures.text (λ r same text. record {
+      slots = slots;
+      tied = subst (λ row. IsTied fits count c.args.grid.value row slots) opened.planners tied;
+      history = left.history;
+      state = left.state;
+      served = rw same served;
+      log_is = text ∙ ap (λ (n : List ℕ). text_of (log_lines Two (record { clock = 0; slots = n; entries = left.history }))) (copied ∙ ap (λ (s : State). s.slots) opened.opening.1);
+    })
+
+pub returns-in_err-slots-clause-fault : goal.returns-in_err-slots-clause-fault
+returns-in_err-slots-clause-fault g c =
+    let came = err_from_is_err_and c.from_residual.result c.from_residual.ensures.1 in
+    rw (came.1, came.2) tt

@@ -1,0 +1,110 @@
+//! A client over one connection after another.
+
+ghost use Rattle.std.specs.Prelude.{length};
+ghost use Rattle.wh_serve.specs.Texts.{receipt_text};
+ghost use Rattle.wh_serve.specs.Rows.{Session, Visits};
+
+use crate::allowance::Allowance;
+use crate::client::serve_client;
+use crate::doors::{Connection, Doors};
+use crate::form::Form;
+use crate::served::{ServeFault, Served};
+use crate::told::write_entries;
+use std::alloc::Global;
+use std::io::{Read, Write};
+use std::sync::Wait;
+use wh_desk::{Desk, DeskName, Pass};
+use wh_lines::Lines;
+use wh_planner::Planner;
+use wh_replay::ReplayFault;
+
+/// A connection that is over.
+struct Visited<W> {
+    outcome: Result<Served, ServeFault>,
+    writer: W,
+}
+
+/// Serves one connection: its first line is how many entries the client has, so that a client that comes again knows whether its
+/// last command stands.
+fn serve_connection<
+    N: DeskName,
+    H: Wait + Drop,
+    P: Planner,
+    X: Wait,
+    R: Read + Drop,
+    W: Write + Drop,
+    D: Doors<R, W>,
+>(
+    rt: &X,
+    alloc: Global,
+    form: Form,
+    may: Allowance,
+    connection: Connection<R, W>,
+    desk: &Desk<N, H, P>,
+    pass: &mut Pass<N>,
+    spares: &mut Vec<P>,
+    doors: &D,
+) -> Visited<W>
+    ensures { Session may (length N.cells) P.fits_map P.slot_count N.origin.site.grid (receipt_text form) (λ x. R.remaining x) (λ x. W.contents x) connection.reader connection.writer result.outcome result.writer pass.old spares.old.items pass.new spares.new.items }
+{
+    let Connection { reader, mut writer } = connection;
+    match write_entries(&mut writer, pass.len()) {
+        Ok(()) => {
+            let mut lines = Lines::new(reader);
+            let outcome = serve_client(
+                rt,
+                alloc,
+                form,
+                may,
+                &mut lines,
+                &mut writer,
+                desk,
+                pass,
+                spares,
+                doors,
+            );
+            Visited { outcome, writer }
+        }
+        Err(_) => Visited {
+            outcome: Err(ServeFault::Cut(ReplayFault::Unwritten)),
+            writer,
+        },
+    }
+}
+
+/// Serves one connection after another with the same pass and spares, until no more are to come or the service is over. How many
+/// there were.
+pub(crate) fn serve_visits<
+    N: DeskName,
+    H: Wait + Drop,
+    P: Planner,
+    X: Wait,
+    R: Read + Drop,
+    W: Write + Drop,
+    D: Doors<R, W>,
+>(
+    rt: &X,
+    alloc: Global,
+    form: Form,
+    may: Allowance,
+    desk: &Desk<N, H, P>,
+    pass: &mut Pass<N>,
+    spares: &mut Vec<P>,
+    doors: &D,
+    client: u32,
+) -> u64
+    ensures { Visits may (length N.cells) P.fits_map P.slot_count N.origin.site.grid (receipt_text form) (λ x. R.remaining x) (λ x. W.contents x) pass.old spares.old.items pass.new spares.new.items result }
+{
+    for connections in 0..u64::MAX {
+        if doors.is_over() {
+            return connections;
+        }
+        let Some(connection) = doors.open(client) else {
+            return connections;
+        };
+        let visited = serve_connection(rt, alloc, form, may, connection, desk, pass, spares, doors);
+        let Visited { outcome, writer } = visited;
+        doors.leave(client, &outcome, writer);
+    }
+    u64::MAX
+}
