@@ -14,6 +14,8 @@ mod gates;
 #[cfg(test)]
 mod parts;
 #[cfg(test)]
+mod serving;
+#[cfg(test)]
 mod stage;
 #[cfg(test)]
 mod swaps;

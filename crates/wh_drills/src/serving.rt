@@ -1,0 +1,283 @@
+//! Two clients that are served over bytes, one of them over two connections.
+#![tactic(auto)]
+
+ghost use Rattle.std.specs.Prelude.{◌≡◌, [], IfOk, length};
+ghost use Rattle.wh_board.specs.Pasts.{origin_of, past_of};
+
+use super::gates::hold;
+use super::parts::{Parts, staffed};
+use std::alloc::{AllocError, Global};
+use std::marker::Brand;
+use std::process::Abort;
+use std::sync::atomic::AtomicU64;
+use std::sync::atomic::Ordering::SeqCst;
+use std::sync::{Mutex, Wait};
+use std::test::*;
+use std::thread::Threads;
+use wh_board::Publisher;
+use wh_desk::{Cells, Desk, DeskName, Warehouse};
+use wh_event::{Entry, Reply};
+use wh_planner::Planner;
+use wh_planners::Patient;
+use wh_serve::{
+    Allowance, Client, Connection, Doors, End, Form, Rights, ServeFault, Served, serve_clients,
+};
+
+/// What client 0 sends first: the line that was begun is no command.
+const FIRST: &[u8] = b"submit x A B\ntoken 1";
+
+/// What client 1 sends, when client 0 has left for the first time. It has no right to tokens.
+const OTHER: &[u8] = b"submit y D C\n# nothing\n\ntoken 0\nsubmit\n";
+
+/// What client 0 sends when client 1 comes no more. Behind the close nothing is served.
+const SECOND: &[u8] = b"token 0\nclose\ntick\n";
+
+/// A connection that was left.
+#[derive(Drop)]
+struct Left {
+    client: u32,
+    outcome: Result<Served, ServeFault>,
+    told: Vec<u8>,
+}
+
+/// The doors of the two, in turn.
+#[derive(Drop)]
+struct Bytes<'a, X: Wait> {
+    rt: &'a X,
+    alloc: Global,
+    opened: AtomicU64,
+    refused: AtomicU64,
+    gone: AtomicU64,
+    over: AtomicU64,
+    limits: AtomicU64,
+    left: Mutex<Vec<Left>>,
+}
+
+impl<'a, X: Wait> Bytes<'a, X> {
+    /// The client's next connection, in the order of all.
+    fn next(&self, client: u32) -> Option<&'static [u8]> {
+        let opened = self.opened.fetch_add(1, SeqCst);
+        match (client, opened) {
+            (0, 0) => Some(FIRST),
+            (1, 1) => Some(OTHER),
+            (0, 3) => Some(SECOND),
+            _ => None,
+        }
+    }
+}
+
+impl<'a, X: Wait + Sync> Doors<&'static [u8], Vec<u8>> for Bytes<'a, X> {
+    fn open(&self, client: u32) -> Option<Connection<&'static [u8], Vec<u8>>> {
+        if client == 1 {
+            hold(&self.gone, 1, &self.limits);
+        } else if self.gone.load(SeqCst) > 0 {
+            hold(&self.refused, 1, &self.limits);
+        }
+        match self.next(client) {
+            Some(reader) => Some(Connection {
+                reader,
+                writer: Vec::new(self.alloc),
+            }),
+            None => {
+                self.refused.fetch_add(1, SeqCst);
+                None
+            }
+        }
+    }
+
+    fn is_over(&self) -> bool {
+        self.over.load(SeqCst) > 0
+    }
+
+    fn end(&self) {
+        self.over.fetch_add(1, SeqCst);
+    }
+
+    fn leave(&self, client: u32, outcome: &Result<Served, ServeFault>, writer: Vec<u8>) {
+        let left = Left {
+            client,
+            outcome: *outcome,
+            told: writer,
+        };
+        if self.left.lock(self.rt).push(left).is_err() {
+            self.limits.fetch_add(1, SeqCst);
+        }
+        self.gone.fetch_add(1, SeqCst);
+    }
+}
+
+/// What the two left.
+#[derive(Drop)]
+struct Kept {
+    entries: Vec<Entry>,
+    connections: Vec<u64>,
+}
+
+/// A client without spares.
+fn client<P: Planner>(alloc: Global, rights: Rights) -> Client<P> {
+    Client {
+        spares: Vec::new(alloc),
+        allowance: Allowance { rights, entries: 3 },
+    }
+}
+
+fn clients<P: Planner>(alloc: Global) -> Result<Vec<Client<P>>, Fail>
+    ensures { IfOk result (λ r. length r.items ≡ 2) }
+{
+    let submits = Rights {
+        submit: true,
+        ..Rights::default()
+    };
+    let mut clients = Vec::new(alloc);
+    clients.push(client(alloc, Rights::all()))?;
+    clients.push(client(alloc, submits))?;
+    Ok(clients)
+}
+
+/// The same entries.
+fn copies(alloc: Global, entries: &[Entry]) -> Result<Vec<Entry>, Fail> {
+    let mut copies = Vec::with_capacity(alloc, entries.len())?;
+    for entry in entries {
+        copies.push(entry.copy(alloc)?)?;
+    }
+    Ok(copies)
+}
+
+/// Opens a desk with two callers, and serves them.
+fn serve<
+    N: DeskName + Send + Sync,
+    H: Wait + Send + Sync + Drop,
+    P: Planner,
+    X: Threads + Wait + Sync,
+    D: Doors<&'static [u8], Vec<u8>>,
+>(
+    rt: &X,
+    alloc: Global,
+    warehouse: Warehouse<P>,
+    cells: Cells,
+    publisher: Publisher<H>,
+    clients: Vec<Client<P>>,
+    doors: &D,
+) -> Result<Kept, Fail>
+    requires origin { origin_of warehouse.book ≡ N.origin }
+    requires history { warehouse.book.history ≡ [] }
+    requires cells { cells ≡ N.cells }
+    requires book { publisher.book ≡ N.book }
+    requires added { publisher.added ≡ past_of warehouse.book }
+    requires shown { publisher.shown ≡ past_of warehouse.book }
+    requires callers { N.callers ≡ length clients.items }
+    requires two { length clients.items ≡ 2 }
+{
+    let (desk, passes) = Desk::<N, H, P>::open(alloc, warehouse, cells, publisher, 2)?;
+    match serve_clients(rt, alloc, Form::Short, desk, passes, clients, doors) {
+        Ok(hosted) => Ok(Kept {
+            entries: copies(alloc, hosted.history.warehouse.history())?,
+            connections: hosted.connections,
+        }),
+        Err(_) => Err("two threads, and memory".into()),
+    }
+}
+
+/// The same with planners that are made by `make`.
+fn serve_made<
+    P: Planner,
+    F: Fn(Parts) -> Result<P, AllocError>,
+    X: Threads + Wait + Sync,
+    D: Doors<&'static [u8], Vec<u8>>,
+>(rt: &X, alloc: Global, doors: &D, make: &F) -> Result<Kept, Fail>
+    requires { F.IsAlwaysCallable make.now }
+{
+    let warehouse = staffed(alloc, make)?;
+    let cells = Cells::new(alloc, 10)?;
+    let publisher = Publisher::new(alloc, rt, warehouse.book())?;
+    let clients = clients(alloc)?;
+    serve::<Brand, _, _, _, _>(rt, alloc, warehouse, cells, publisher, clients, doors)
+}
+
+/// The same with patient planners.
+fn serve_two<X: Threads + Wait + Sync, D: Doors<&'static [u8], Vec<u8>>>(
+    rt: &X,
+    alloc: Global,
+    doors: &D,
+) -> Result<Kept, Fail> {
+    let make = |parts: Parts| -> Result<Patient, AllocError> {
+        Ok(Patient::new(parts.grid, parts.claim))
+    };
+    serve_made(rt, alloc, doors, &make)
+}
+
+/// What is told over each connection, in the order in which they are left.
+const TOLD: [(u32, Served, &[u8]); 3] = [
+    (
+        0,
+        Served {
+            replies: 1,
+            end: End::Torn,
+        },
+        b"entries 0\naccepted 0\n",
+    ),
+    (
+        1,
+        Served {
+            replies: 3,
+            end: End::Input,
+        },
+        b"entries 0\naccepted 1\nrefused C3\nrefused C1\n",
+    ),
+    (
+        0,
+        Served {
+            replies: 2,
+            end: End::Over,
+        },
+        b"entries 1\ntook 0 end 6\nclosed\n",
+    ),
+];
+
+/// Whether these were left as the table says.
+fn as_told(left: &[Left]) -> bool {
+    left.len() == TOLD.len()
+        && left.iter().zip(TOLD.iter()).all(|(left, told)| {
+            left.client == told.0 && left.outcome == Ok(told.1) && left.told.as_slice() == told.2
+        })
+}
+
+#[test]
+fn client_comes_again(rt: HostRuntime) -> Result<(), Fail> {
+    let doors = Bytes {
+        rt: &rt,
+        alloc: rt.alloc(),
+        opened: AtomicU64::new(0),
+        refused: AtomicU64::new(0),
+        gone: AtomicU64::new(0),
+        over: AtomicU64::new(0),
+        limits: AtomicU64::new(0),
+        left: Mutex::new(Vec::new(rt.alloc())),
+    };
+    let kept = serve_two(&rt, rt.alloc(), &doors)?;
+    assert_eq!(rt; doors.limits.load(SeqCst), 0);
+    assert!(rt; as_told(doors.left.lock(&rt).as_slice()));
+    // Client 0 was asked for twice and client 1 twice, in vain once; and the close ended it, once.
+    let counts = (
+        doors.opened.load(SeqCst),
+        doors.refused.load(SeqCst),
+        doors.over.load(SeqCst),
+    );
+    assert_eq!(rt; counts, (4, 1, 1));
+    assert_eq!(rt; kept.connections.as_slice(), [2, 1].as_slice());
+    four_entries(&rt, kept.entries.as_slice());
+    Ok(())
+}
+
+/// Each client's task, then client 0's token and its close.
+fn four_entries<X: Abort>(rt: &X, entries: &[Entry]) {
+    assert_eq!(rt; entries.len(), 4);
+    let callers = (
+        entries[0].caller,
+        entries[1].caller,
+        entries[2].caller,
+        entries[3].caller,
+    );
+    assert_eq!(rt; callers, (0, 1, 0, 0));
+    assert!(rt; matches!(entries[3].reply, Reply::Closed));
+}
