@@ -1,5 +1,7 @@
 //! Boards in a real file: shown where they have changed, whole, in place of what stood there.
 
+ghost use Rattle.std.specs.Prelude.{◌≡◌, [], IfOk};
+
 use super::files::{holds, make_folder};
 use super::tests::{grid, planners, points};
 use std::alloc::Global;
@@ -16,7 +18,10 @@ use wh_planners::Patient;
 const FIRST: &[u8] =
     b"wboard 1\nentries 0\nclock 0\nopen 0\nassigned 0\ncarried 0\ndone 0\n0,1 0 none\n4,1 0 none\n";
 
-fn opened(alloc: Global) -> Result<Warehouse<Patient>, Fail> {
+/// The warehouse with no entry yet.
+pub fn opened(alloc: Global) -> Result<Warehouse<Patient>, Fail>
+    ensures { IfOk result (λ w. w.book.history ≡ []) }
+{
     let map = grid(alloc)?;
     let crew = planners(alloc, &map, [4, 4].as_slice())?;
     let places = points(alloc, &map)?;
