@@ -7,6 +7,7 @@ ghost use Rattle.wh_board.specs.Pasts.{origin_of, past_of};
 use super::gates::hold;
 use super::parts::{Parts, staffed};
 use std::alloc::{AllocError, Global};
+use std::io::{Read, Write};
 use std::marker::Brand;
 use std::process::Abort;
 use std::sync::atomic::AtomicU64;
@@ -149,7 +150,9 @@ fn serve<
     H: Wait + Send + Sync + Drop,
     P: Planner,
     X: Threads + Wait + Sync,
-    D: Doors<&'static [u8], Vec<u8>>,
+    R: Read + Send + Drop,
+    W: Write + Send + Drop,
+    D: Doors<R, W>,
 >(
     rt: &X,
     alloc: Global,
@@ -169,7 +172,15 @@ fn serve<
     requires two { length clients.items ≡ 2 }
 {
     let (desk, passes) = Desk::<N, H, P>::open(alloc, warehouse, cells, publisher, 2)?;
-    match serve_clients(rt, alloc, Form::Short, desk, passes, clients, doors) {
+    match serve_clients::<_, _, _, _, R, W, _>(
+        rt,
+        alloc,
+        Form::Short,
+        desk,
+        passes,
+        clients,
+        doors,
+    ) {
         Ok(hosted) => Ok(Kept {
             entries: copies(alloc, hosted.history.warehouse.history())?,
             connections: hosted.connections,
@@ -183,7 +194,9 @@ fn serve_made<
     P: Planner,
     F: Fn(Parts) -> Result<P, AllocError>,
     X: Threads + Wait + Sync,
-    D: Doors<&'static [u8], Vec<u8>>,
+    R: Read + Send + Drop,
+    W: Write + Send + Drop,
+    D: Doors<R, W>,
 >(rt: &X, alloc: Global, doors: &D, make: &F) -> Result<Kept, Fail>
     requires { F.IsAlwaysCallable make.now }
 {
@@ -191,19 +204,20 @@ fn serve_made<
     let cells = Cells::new(alloc, 10)?;
     let publisher = Publisher::new(alloc, rt, warehouse.book())?;
     let clients = clients(alloc)?;
-    serve::<Brand, _, _, _, _>(rt, alloc, warehouse, cells, publisher, clients, doors)
+    serve::<Brand, _, _, _, R, W, _>(rt, alloc, warehouse, cells, publisher, clients, doors)
 }
 
 /// The same with patient planners.
-fn serve_two<X: Threads + Wait + Sync, D: Doors<&'static [u8], Vec<u8>>>(
-    rt: &X,
-    alloc: Global,
-    doors: &D,
-) -> Result<Kept, Fail> {
+fn serve_two<
+    X: Threads + Wait + Sync,
+    R: Read + Send + Drop,
+    W: Write + Send + Drop,
+    D: Doors<R, W>,
+>(rt: &X, alloc: Global, doors: &D) -> Result<Kept, Fail> {
     let make = |parts: Parts| -> Result<Patient, AllocError> {
         Ok(Patient::new(parts.grid, parts.claim))
     };
-    serve_made(rt, alloc, doors, &make)
+    serve_made::<_, _, _, R, W, _>(rt, alloc, doors, &make)
 }
 
 /// What is told over each connection, in the order in which they are left.
@@ -254,7 +268,7 @@ fn client_comes_again(rt: HostRuntime) -> Result<(), Fail> {
         limits: AtomicU64::new(0),
         left: Mutex::new(Vec::new(rt.alloc())),
     };
-    let kept = serve_two(&rt, rt.alloc(), &doors)?;
+    let kept = serve_two::<_, &'static [u8], Vec<u8>, _>(&rt, rt.alloc(), &doors)?;
     assert_eq!(rt; doors.limits.load(SeqCst), 0);
     assert!(rt; as_told(doors.left.lock(&rt).as_slice()));
     // Client 0 was asked for twice and client 1 twice, in vain once; and the close ended it, once.
