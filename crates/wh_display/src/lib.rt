@@ -4,7 +4,9 @@
 mod file_screen;
 mod screen;
 mod text;
+mod watching;
 
 pub use file_screen::FileScreen;
-pub use screen::{Screen, ShowFault, refresh};
+pub use screen::{Screen, ShowFault, refresh, renew};
 pub use text::text_of_board;
+pub use watching::{Bell, Watched, watch};

@@ -3,7 +3,7 @@
 
 ghost use Rattle.std.specs.Prelude.{◌≡◌, ◌∷◌, [], IfOk, OnOk, OnErr};
 ghost use Rattle.wh_board.specs.Pasts.{Extends};
-ghost use Rattle.wh_display.specs.Screens.{Refreshes, Shows};
+ghost use Rattle.wh_display.specs.Screens.{Refreshes, Renews, Shows};
 ghost use Rattle.wh_display.specs.Texts.{board_text};
 
 use crate::text::text_of_board;
@@ -44,6 +44,22 @@ fn show_board<S: Screen>(alloc: Global, screen: &mut S, board: &Board) -> Result
     }
 }
 
+/// Shows the board, if it has not as many entries as were seen before. On a fault nothing was shown.
+pub fn renew<S: Screen>(
+    alloc: Global,
+    screen: &mut S,
+    board: &Board,
+    seen: Option<u64>,
+) -> Result<(), ShowFault>
+    ensures ok { OnOk result (Renews seen board.now (S.shown screen.old) (S.shown screen.new)) }
+    ensures err { OnErr result (Shows (S.shown screen.old) (S.shown screen.new) []) }
+{
+    if seen == Some(board.entries) {
+        return Ok(());
+    }
+    show_board(alloc, screen, board)
+}
+
 /// Looks at the board, and shows it if it has not as many entries as were seen before. How many it has. It waits for no
 /// caller of the desk, and holds none up. On a fault nothing was shown.
 pub fn refresh<S: Screen>(
@@ -58,12 +74,8 @@ pub fn refresh<S: Screen>(
     ensures book { viewer.new.book ≡ viewer.old.book }
 {
     let board = viewer.look();
-    let entries = board.entries;
-    if seen == Some(entries) {
-        return Ok(entries);
-    }
-    match show_board(alloc, screen, &board) {
-        Ok(()) => Ok(entries),
+    match renew(alloc, screen, &board, seen) {
+        Ok(()) => Ok(board.entries),
         Err(fault) => Err(fault),
     }
 }
