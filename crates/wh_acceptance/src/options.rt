@@ -246,6 +246,8 @@ fn other_subcommands(rt: HostRuntime) {
         turns: 64,
         journal: 10_000,
         every: None,
+        board: None,
+        board_every: 100,
     };
     assert!(rt; gives(alloc, &["warehouse", "live"], Options::Live(live)));
     let paced = LiveOptions {
@@ -253,6 +255,8 @@ fn other_subcommands(rt: HostRuntime) {
         turns: 100_000,
         journal: 10_000,
         every: Some(10),
+        board: None,
+        board_every: 100,
     };
     assert!(rt;
         gives(
@@ -289,6 +293,8 @@ fn every_option_of_live(rt: HostRuntime) {
         turns: 7,
         journal: 1_000_000,
         every: Some(60_000),
+        board: None,
+        board_every: 100,
     };
     assert!(rt; gives(rt.alloc(), words.as_slice(), Options::Live(live)));
 }
