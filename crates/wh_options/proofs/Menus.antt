@@ -256,6 +256,8 @@ live_means p t r q rest (Live o) says planners reads = (
       (first_of (codes "journal") (rows_after (leaf_at 3 p t r q).rules [] rest)) (says.first (codes "journal")) reads.1.journal,
   may_given (leaf_at 3 p t r q).rules says.settings (codes "every") 1 60000 o.every (lit< tt) says.taken (filled (number_rule (codes "every") 1 60000)) refl refl refl
       (first_of (codes "every") (rows_after (leaf_at 3 p t r q).rules [] rest)) (says.first (codes "every")) reads.1.every,
+  reads.1.board,
+  reads.1.board_every,
 )
 
 -- ---- the whole line

@@ -278,7 +278,7 @@ means_once name told xs ys (Live o) (Live p) is agree m n =
     let other : GivesNumber ys (codes "turns") (default_turns o.every) 1 100000 p.turns = subst (λ e. GivesNumber ys (codes "turns") (default_turns e) 1 100000 p.turns) (sym every) n.3 in
     let turns = number_once xs ys (codes "turns") (default_turns o.every) 1 100000 o.turns p.turns agree m.3 other in
     let journal = number_once xs ys (codes "journal") 10000 1 1000000 o.journal p.journal agree m.4 n.4 in
-    λ i. Live (record { fleet = fleet i; turns = turns i; journal = journal i; every = every i })
+    (fleet, turns, journal, every, m.6 ∙ sym n.6, m.7 ∙ sym n.7)
 
 -- words give at most one set of options
 pub given_once : (words : List Text) (o p : Options) → WordsGive words o → WordsGive words p → AreSame o p

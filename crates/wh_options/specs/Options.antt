@@ -13,6 +13,7 @@ use Rattle.wh_options.specs.declared.chosen.Replies.TheVariants.{Short, Full, Pl
 use Rattle.wh_options.specs.declared.chosen.Fleet.{Fleet}
 use Rattle.wh_options.specs.declared.chosen.VehicleOptions.{VehicleOptions}
 use Rattle.wh_options.specs.declared.chosen.ReplayOptions.{ReplayOptions}
+use Rattle.wh_options.specs.declared.chosen.LiveOptions.{LiveOptions}
 use Rattle.wh_options.specs.declared.chosen.Options.{Options}
 use Rattle.wh_options.specs.declared.chosen.Options.TheVariants.{Check, Replay, Verify, Live}
 
@@ -58,6 +59,9 @@ GivesReplies settings replies = MatchOption (value_of (codes "replies") settings
 -- the text of the file's name
 abbrev pub log_of : ReplayOptions → Option Text
 log_of o = option_map (λ s. s.now) o.log
+
+abbrev pub board_of : LiveOptions → Option Text
+board_of o = option_map (λ s. s.now) o.board
 
 -- the file named, if one is, by a name that is not empty
 pub record GivesLog (settings : List Setting) (log : Option Text) : Type 0 where
@@ -137,6 +141,7 @@ Means name settings (Live o) = (name ≡ codes "live") × HasOnly live_names set
     × GivesNumber settings (codes "turns") (default_turns o.every) 1 100000 o.turns
     × GivesNumber settings (codes "journal") 10000 1 1000000 o.journal
     × MayGive settings (codes "every") 1 60000 o.every
+    × (board_of o ≡ None) × (o.board_every ≡ 100)
 
 -- the words give these options
 abbrev pub WordsGive : List Text → Options → Type 0
@@ -155,4 +160,6 @@ pub record IsAmiss (Is : (Text → Option Text) → Type 0) (words : List Text) 
 abbrev pub AreSame : Options → Options → Type 0
 AreSame (Replay o) (Replay p) = (o.fleet ≡ p.fleet) × (o.tail ≡ p.tail) × (o.replies ≡ p.replies)
     × (log_of o ≡ log_of p) × (o.told ≡ p.told) × (o.vehicles ≡ p.vehicles)
+AreSame (Live o) (Live p) = (o.fleet ≡ p.fleet) × (o.turns ≡ p.turns) × (o.journal ≡ p.journal) × (o.every ≡ p.every)
+    × (board_of o ≡ board_of p) × (o.board_every ≡ p.board_every)
 AreSame o p = o ≡ p

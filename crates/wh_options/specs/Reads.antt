@@ -3,7 +3,7 @@ use Rattle.std.specs.Prelude.{◌≡◌, ◌≢◌, ◌<◌, ◌^◌, ℕ, Optio
 use Rattle.std.specs.Str.{bytes_eq}
 use Rattle.std.specs.Str.Parse.{IsNumeral, digits_value, without_leading_plus}
 use Rattle.clap.specs.Words.{Text}
-use Rattle.wh_options.specs.Options.{LacksAny, default_turns, log_of}
+use Rattle.wh_options.specs.Options.{LacksAny, board_of, default_turns, log_of}
 use Rattle.wh_options.specs.declared.mistake.Mistake.{Mistake}
 use Rattle.wh_options.specs.declared.chosen.PlannerKind.{PlannerKind}
 use Rattle.wh_options.specs.declared.chosen.PlannerKind.TheVariants.{Near, Patient}
@@ -71,6 +71,8 @@ pub record ReadsLive (given : Text → Option Text) (o : LiveOptions) : Type 0 w
   pub turns : ReadsNumber (given (codes "turns")) (default_turns o.every) o.turns
   pub journal : ReadsNumber (given (codes "journal")) 10000 o.journal
   pub every : MayRead (given (codes "every")) o.every
+  pub board : board_of o ≡ None
+  pub board_every : o.board_every ≡ 100
 
 -- the subcommand and what was found for its arguments, as options
 abbrev pub Reads : Text → (Text → Option Text) → Options → Type 0

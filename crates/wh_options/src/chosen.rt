@@ -72,7 +72,7 @@ pub struct ReplayOptions<'a> {
 
 /// The options of `live`.
 #[derive(Clone, Copy, Debug, PartialEq, Eq)]
-pub struct LiveOptions {
+pub struct LiveOptions<'a> {
     /// The planners of the run; each client has its own `spares`.
     pub fleet: Fleet,
     /// How many requests each agent makes, and how many ticks the clock; with `every`, at most how many turns their worker
@@ -83,6 +83,10 @@ pub struct LiveOptions {
     /// How many milliseconds the worker of all agents and the clock rests behind each turn, 1 to 60000, if there is one in
     /// place of a thread for each.
     pub every: Option<u32>,
+    /// The name of the file that shows the board meanwhile, if one is to; never empty.
+    pub board: Option<&'a str>,
+    /// How many milliseconds the file is left as it is at least, 1 to 60000.
+    pub board_every: u32,
 }
 
 /// A subcommand with its options.
@@ -95,5 +99,5 @@ pub enum Options<'a> {
     /// `verify`: whether a log is a run.
     Verify,
     /// `live`: clients, agents and a clock in threads.
-    Live(LiveOptions),
+    Live(LiveOptions<'a>),
 }

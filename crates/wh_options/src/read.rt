@@ -136,7 +136,7 @@ fn default_turns(every: Option<u32>) -> u32
     }
 }
 
-fn live_options(matches: &ArgMatches<'_>) -> LiveOptions
+fn live_options<'a>(matches: &ArgMatches<'a>) -> LiveOptions<'a>
     ensures { ReadsLive (first_value (found_of matches.now)) result }
 {
     let every = number_if_given(matches, "every");
@@ -145,6 +145,8 @@ fn live_options(matches: &ArgMatches<'_>) -> LiveOptions
         turns: number(matches, "turns", default_turns(every)),
         journal: number(matches, "journal", 10_000),
         every,
+        board: None,
+        board_every: 100,
     }
 }
 
