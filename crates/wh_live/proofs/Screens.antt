@@ -1,5 +1,5 @@
 -- Boards beside a run, up to the one of all that was done.
-use Rattle.std.proofs.Common.{◌≡◌, ℕ, List, [], ◌∷◌, Option, None, Some, Result, Ok, Err}
+use Rattle.std.proofs.Common.{◌≡◌, ℕ, List, [], ◌∷◌, Option, None, Some, Result, Ok, Err, ◌∙◌, subst}
 use Rattle.std.specs.Prelude.{OnOk, OnErr}
 use Rattle.wh_event.specs.declared.entry.Entry.{Entry}
 use Rattle.wh_board.specs.Pasts.{Extends, Origin, Past}
@@ -8,7 +8,7 @@ use Rattle.wh_display.specs.Texts.{board_text}
 use Rattle.wh_display.specs.declared.screen.ShowFault.{ShowFault}
 use Rattle.wh_display.specs.declared.watching.Watched.{Watched}
 use Rattle.wh_display.proofs.Sights.{Watching, shows_more, watching_fails, watching_renews}
-use Rattle.wh_live.specs.Displays.{FirstShown, ShownBeside, ShowsLast}
+use Rattle.wh_live.specs.Displays.{BoardsShown, FirstShown, ShownBeside, ShowsLast}
 use Rattle.wh_edge.specs.declared.trouble.Trouble.{Trouble}
 use Rattle.wh_edge.specs.declared.trouble.Trouble.TheVariants as trouble
 use Rattle.wh_live.specs.Lives.{IsWhyDead, IsWhyUnlived, IsWhyUnshown}
@@ -48,6 +48,18 @@ shown_beside origin history known watched had first mid has last begin watches m
           last_is = tt;
         }
 
+-- the same of a run whose opening and whole past are told otherwise
+pub shown_of_run : (origin : Origin) (history : List Entry) (opening whole before known : Past) (watched : Watched) (had first mid has : Option (List (List ℕ))) (last : Result Unit ShowFault)
+    → opening ≡ record { origin = origin; history = [] } → whole ≡ record { origin = origin; history = history } → before ≡ opening
+    → FirstShown opening had first → Watches before known watched first mid → Extends known whole → ShowsLast whole watched.shown last mid has
+    → ShownBeside origin history last had has
+shown_of_run origin history opening whole before known watched had first mid has last begun done stood begin watches more ends =
+    shown_beside origin history known watched had first mid has last
+    (subst (λ (p : Past). FirstShown p had first) begun begin)
+    (subst (λ (p : Past). Watches p known watched first mid) (stood ∙ begun) watches)
+    (subst (λ (p : Past). Extends known p) done more)
+    (subst (λ (p : Past). ShowsLast p watched.shown last mid has) done ends)
+
 -- ---- why there is no log
 
 pub dead_unshown : (told : Trouble) → IsWhyDead told → IsWhyUnshown told
@@ -59,3 +71,12 @@ dead_unshown _ why = absurd why
 pub dead_unlived : {D : Type 0} (display : Option D) (told : Trouble) → IsWhyDead told → IsWhyUnlived display told
 dead_unlived None told why = why
 dead_unlived (Some display) told why = dead_unshown told why
+
+-- for want of memory there is no log, in any case
+pub memory_unlived : {D : Type 0} (display : Option D) → IsWhyUnlived display trouble.NoMemory
+memory_unlived display = dead_unlived display trouble.NoMemory tt
+
+-- the same boards, of an opening that is the same
+pub boards_along : (from to : Origin) → from ≡ to → (history : List Entry) (last : Result Unit ShowFault) (had has : Option (Option (List (List ℕ))))
+    → BoardsShown from history last had has → BoardsShown to history last had has
+boards_along from to same history last had has shown = subst (λ (o : Origin). BoardsShown o history last had has) same shown
