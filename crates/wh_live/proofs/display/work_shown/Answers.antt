@@ -1,7 +1,7 @@
-use Rattle.std.proofs.Common.{◌≡◌, List, [], ap, refl}
+use Rattle.std.proofs.Common.{List, [], ap}
 use Rattle.std.proofs.lemmas.Result.{IfOk-at_ok}
 use Rattle.wh_event.specs.declared.entry.Entry.{Entry}
-use Rattle.wh_board.specs.Pasts.{Origin, Past}
+use Rattle.wh_board.specs.Pasts.{Origin}
 use Rattle.wh_crew.specs.Pasts.{origin_of, past_of}
 use Rattle.wh_live.proofs.Screens.{shown_of_run}
 use Rattle.wh_live.proofs.display.work_shown.Goals as goal
