@@ -1,4 +1,4 @@
-use Rattle.std.proofs.Common.{List, [], ap}
+use Rattle.std.proofs.Common.{List, ap}
 use Rattle.std.proofs.lemmas.Result.{IfOk-at_ok}
 use Rattle.wh_event.specs.declared.entry.Entry.{Entry}
 use Rattle.wh_board.specs.Pasts.{Origin}
