@@ -129,6 +129,14 @@ impl<N: DeskName> Pass<N> {
         self.front.meets(history);
     }
 
+    /// What it knows of the history. It can be compared with what another pass or a viewer of this desk knows.
+    pub fn front(&self) -> &Front
+        ensures book { result.now.book ≡ N.book }
+        ensures history { result.now.past.history ≡ self.now.known }
+    {
+        &self.front
+    }
+
     /// The receipts of both passes stand in one run, which one of them knows. So those of one position have the same entry.
     /// It takes no lock.
     pub fn agree(&self, other: &Pass<N>)
