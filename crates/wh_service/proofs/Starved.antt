@@ -31,11 +31,11 @@ module _ {X : Type 0} (fits : X → Floor → Bool) (count : X → ℕ) (gives :
   starved Check = (None, refl, (tt, Keeps-refl had))
   starved Verify = (None, refl, Keeps-refl had)
   starved (Live o) = (None, refl, (silent o, inl (tt, Keeps-refl had)))
+  starved (Replay o) = over o o.log
 
   -- memory was wanting for the name of the file beside the board
   pub starved_live : (o : LiveOptions) → Lived fits count gives o (Err trouble.NoMemory) input input had had
   starved_live o = (silent o, inl (tt, Keeps-refl had))
-  starved (Replay o) = over o o.log
 
   -- the same with vehicles
   late_over : {N : Type 0} (o : ReplayOptions) (pace : VehicleOptions) (log : Option N) →
