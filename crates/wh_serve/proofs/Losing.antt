@@ -1,5 +1,5 @@
 -- A line that is answered nothing, since the journal has failed.
-use Rattle.std.proofs.Common.{◌≡◌, ◌≤◌, ℕ, List, [], ◌∷◌, ◌++◌, length, refl, sym, ap, ◌∙◌, inl, inr, arith, subst, Option, Some, append-nil, Bool, Result, Ok}
+use Rattle.std.proofs.Common.{◌≡◌, ℕ, List, [], ◌∷◌, ◌++◌, refl, sym, inl, inr, arith, subst, Option, Some, append-nil, Bool, Result, Ok}
 use Rattle.std.specs.Io.KnownBytes.{Keeps}
 use Rattle.std.proofs.KnownBytes.{Consumes-trans, Appends-kept}
 use Rattle.wh_text.specs.Lines.{lines_of}
@@ -16,6 +16,7 @@ use Rattle.wh_desk.specs.Lists.{Received}
 use Rattle.wh_replay.specs.Answers.{said, text_of}
 use Rattle.wh_serve.specs.Calls.{Comes}
 use Rattle.wh_serve.specs.Losses.{Loses, Unserves, unserved_fault}
+use Rattle.wh_serve.specs.Outcomes.{IsOutputOf}
 use Rattle.wh_serve.specs.Sessions.{Follows, Stops}
 use Rattle.wh_serve.specs.declared.allowance.Allowance.{Allowance}
 use Rattle.wh_serve.specs.declared.call.Lost.{Lost}
@@ -46,7 +47,9 @@ module _ {X : Type 0} (may : Allowance) (cells : ℕ) (fits : X → Floor → Bo
     lost = inr (g.raw, g.plain, refl);
     whole = f.whole;
     replies = f.replies;
-    output = rw same f.output;
+    output =
+        subst (λ (p : Received). IsOutputOf may cells fits count grid text (lines_of f.read) old spares p rest f.replies) (sym same.0)
+        (subst (λ (xs : List X). IsOutputOf may cells fits count grid text (lines_of f.read) old spares mid xs f.replies) (sym same.1) f.output);
     writes = record {
       told = f.replies;
       last = [];

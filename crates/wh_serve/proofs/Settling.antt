@@ -1,5 +1,5 @@
 -- What the journal holds of the history that the clients left.
-use Rattle.std.proofs.Common.{◌≡◌, ℕ, zero, suc, ◌<◌, ◌≤◌, List, [], ◌∷◌, ◌++◌, length, take, drop, refl, ap, sym, ◌∙◌, inl, inr, arith, subst, Option, Bool, true, false}
+use Rattle.std.proofs.Common.{◌≡◌, ℕ, zero, suc, ◌<◌, ◌≤◌, List, [], ◌∷◌, ◌++◌, length, take, drop, refl, ap, sym, ◌∙◌, inl, arith, subst, Option, Bool, true, false}
 use Rattle.std.proofs.lemmas.List.{take_all, length-append}
 use Rattle.std.specs.Io.KnownBytes.{Appends}
 use mathlib.Core.List.{IsPrefix}
@@ -8,7 +8,7 @@ use Rattle.wh_lines.specs.Output.{WritesFront}
 use Rattle.wh_lines.proofs.Written.{front_first}
 use Rattle.wh_journal.specs.Journals.{lines_for}
 use Rattle.wh_journal.proofs.Rounded.{lines_append}
-use Rattle.wh_scribe.specs.Keeping.{Holds, HoldsFront}
+use Rattle.wh_scribe.specs.Keeping.{Holds}
 use Rattle.wh_scribe.proofs.Keeping.{same_take}
 use Rattle.wh_serve.specs.Runs.{IsJournalOf}
 

@@ -1,4 +1,4 @@
-use Rattle.std.proofs.Common.{◌≡◌, ℕ, List, Result, Ok, Err, IfOk, ap, ◌∙◌, subst}
+use Rattle.std.proofs.Common.{ℕ, List, Result, Ok, Err, IfOk, ap, ◌∙◌, subst}
 use Rattle.std.proofs.lemmas.Result.{err_from_is_err_and}
 use Rattle.wh_points.specs.Points.{Site}
 use Rattle.wh_core.specs.States.{State}

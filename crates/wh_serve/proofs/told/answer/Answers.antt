@@ -3,7 +3,6 @@ use Rattle.wh_lines.specs.Text.{short_line}
 use Rattle.wh_replay.specs.Answers.{said}
 use Rattle.wh_serve.specs.Texts.{receipt_text}
 use Rattle.wh_serve.specs.Calls.{Comes}
-use Rattle.wh_serve.specs.Losses.{Loses}
 use Rattle.wh_serve.specs.declared.call.Came.{Came}
 use Rattle.wh_serve.proofs.Giving.{answered_nothing, answered_fault, answered_receipt, answered_without}
 use Rattle.wh_serve.proofs.Losing.{loses_of}
