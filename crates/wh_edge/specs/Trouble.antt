@@ -55,6 +55,8 @@ told trouble.NoThread = codes "E93"
 told trouble.Differs = codes "E95"
 told (trouble.Log number) = placed (codes "L1") number
 told trouble.Unkept = codes "X5"
+told (trouble.NoPipes client) = codes "X5 " ++ decimal client
+told trouble.Unshown = codes "X6"
 told trouble.MayFollow = codes "V4"
 told trouble.NoMemory = codes "E90"
 
@@ -86,5 +88,7 @@ status_of trouble.NoThread = status.Failed
 status_of trouble.Differs = status.Failed
 status_of (trouble.Log number) = status.Refused
 status_of trouble.Unkept = status.Failed
+status_of (trouble.NoPipes client) = status.Failed
+status_of trouble.Unshown = status.Failed
 status_of trouble.MayFollow = status.Refused
 status_of trouble.NoMemory = status.NoMemory

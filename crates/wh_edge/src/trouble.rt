@@ -72,6 +72,10 @@ pub enum Trouble {
     Log { line: u64 },
     /// The log file cannot be opened, read, written or synced, or another program has it.
     Unkept,
+    /// A running client's two pipes are not there, are no pipes, or are another client's.
+    NoPipes { client: u32 },
+    /// The file of the board cannot be written.
+    Unshown,
     /// The points let agents follow each other: vehicles that follow in a ring would stand still for ever.
     MayFollow,
     /// Memory was wanting.
@@ -172,6 +176,8 @@ impl Trouble {
             Trouble::Differs => put(&mut line, b"E95"),
             Trouble::Log { line: number } => put_place(&mut line, b"L1", number),
             Trouble::Unkept => put(&mut line, b"X5"),
+            Trouble::NoPipes { client } => put_number(&mut line, b"X5 ", u64::from(client)),
+            Trouble::Unshown => put(&mut line, b"X6"),
             Trouble::MayFollow => put(&mut line, b"V4"),
             Trouble::NoMemory => put(&mut line, b"E90"),
         }
@@ -190,7 +196,7 @@ impl Trouble {
             Trouble::Log { .. } | Trouble::MayFollow => Status::Refused,
             Trouble::Broken | Trouble::Endless | Trouble::Unwritten => Status::Failed,
             Trouble::NoThread | Trouble::Differs => Status::Failed,
-            Trouble::Unkept => Status::Failed,
+            Trouble::Unkept | Trouble::NoPipes { .. } | Trouble::Unshown => Status::Failed,
             Trouble::NoMemory => Status::NoMemory,
         }
     }

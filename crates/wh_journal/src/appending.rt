@@ -155,11 +155,8 @@ fn put_entries<J: Journal>(
     Ok(())
 }
 
-/// Appends the lines of entries.
-pub(crate) fn append_entries<J: Journal>(
-    journal: &mut J,
-    entries: &[Entry],
-) -> Result<(), JournalFault>
+/// Appends the lines of entries. On a fault a front of them may stand at the journal's end.
+pub fn append_entries<J: Journal>(journal: &mut J, entries: &[Entry]) -> Result<(), JournalFault>
     ensures ok { OnOk result (Appends (J.contents journal.old) (J.contents journal.new) (lines_for entries.now)) }
     ensures err { OnErr result (WritesFront (J.contents journal.old) (J.contents journal.new) (lines_for entries.now)) }
     ensures synced { Keeps (J.synced journal.old) (J.synced journal.new) }
