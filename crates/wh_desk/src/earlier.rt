@@ -131,6 +131,7 @@ pub(crate) fn recall(
     callers: u32,
 ) -> Result<Earlier, Unopened>
     ensures ok { IfOk result (Recalls cells callers history.now) }
+    ensures room { IfOk result (λ _. length history.now ≤ length cells) }
     ensures fault { IfErr result (IsWhyUnopened (length cells) callers history.now) }
 {
     if cells.len() < history.len() as u64 {

@@ -1,42 +1,48 @@
-use Rattle.std.proofs.Common.{rules, ◌≡◌, ◌≢◌, ◌<◌, ◌≤◌, ◌↔◌, [], length, true, IfOk, IfErr, IfSome, IsTrue, IsSome, MatchResult, All, ℕ, ◌+◌, ◌-◌, ◌*◌, ◌/◌, ◌%◌, Bool, false, nat_eq, nat_lt, List, ◌∷◌, ◌++◌, slice_index_or, slice_set, bit_and, bit_or, Fits, w8, w32, w64, Bor, MutBor}
-use Rattle.std.specs.List.{sum_by}
-use Rattle.wh_points.specs.Formed.{IsFormed}
-use Rattle.wh_event.specs.declared.event.Command.{Command as Asked}
-use Rattle.wh_event.specs.declared.reply.Reply.{Reply as Answered}
-use Rattle.wh_event.specs.declared.reply.Refusal.{Refusal as Reason}
-use Rattle.wh_core.specs.Laws.{IsOpening}
-use Rattle.wh_core.specs.Steps.{Run}
-use Rattle.wh_token.specs.Fleet.{TellsFor, replaced_agent}
-use Rattle.wh_board.specs.Pasts.{Extends, origin_of, past_of}
-use Rattle.wh_desk.specs.Earlier.{IsWhyUnopened}
-use Rattle.wh_desk.specs.Lists.{entries_of}
-use Rattle.wh_desk.specs.Calls.{AllBegin, AllEmpty, Called, HandsBack, InOrder, IsClockAt, NoneWantsPath, Refuses, TellsReceipt, Together}
+use Rattle.std.proofs.Common.{◌≡◌, ◌≤◌, ◌<◌, ℕ, List, length, ap, sym, ◌∙◌, subst, arith}
+use Rattle.std.specs.List.{All}
+use Rattle.once_cell.specs.declared.race.note.Note.{Note}
+use Rattle.wh_event.specs.declared.entry.Entry.{Entry}
+use Rattle.wh_board.specs.Pasts.{Past}
+use Rattle.wh_desk.specs.declared.earlier.Own.{Own}
+use Rattle.wh_desk.specs.Lists.{AllAt, Received, entries_of}
+use Rattle.wh_desk.specs.Kept.{NoteAt}
+use Rattle.wh_desk.specs.Earlier.{OwnOf, Recalls}
 use Rattle.wh_desk.proofs.desk.Desk.resume.Goals as goal
 
--- src/desk.rt:93:22
 pub passes_of-requires-clause-owns : goal.passes_of-requires-clause-owns
-passes_of-requires-clause-owns g c = ?
+passes_of-requires-clause-owns g c = λ k x at.
+    let front : c.front.result.now.past.history ≡ c.args.warehouse.book.history = ap (λ (p : Past). p.history) (c.front.ensures.past ∙ c.requires.added) in
+    let own : OwnOf c.args.cells (entries_of c.args.warehouse.book.history k) x = subst (λ (l : List Entry). OwnOf c.args.cells (entries_of l k) x) c.history-history.ensures.value (c.in_ok-cells.ensures.ok.owns_are k x at) in
+    subst (λ (names : List ℕ). OwnOf names (entries_of c.front.result.now.past.history k) x) c.requires.named
+    (subst (λ (l : List Entry). OwnOf c.args.cells (entries_of l k) x) (sym front) own)
 
--- src/desk.rt:94:13
 pub over-journal-requires-clause-room : goal.over-journal-requires-clause-room
-over-journal-requires-clause-room g c κs within = ?
+over-journal-requires-clause-room g c κs within =
+    omega (arith, c.in_ok-cells.ensures.room, ap (λ (l : List Entry). length l) c.history-history.ensures.value, c.len-capacity.ensures)
 
--- src/desk.rt:94:13
 pub over-journal-requires-clause-callers : goal.over-journal-requires-clause-callers
-over-journal-requires-clause-callers g c κs within = ?
+over-journal-requires-clause-callers g c κs within =
+    subst (λ (n : ℕ). All (λ (e : Entry). e.caller < n) c.args.warehouse.book.history) c.requires.callers
+    (subst (λ (l : List Entry). All (λ (e : Entry). e.caller < c.args.callers) l) c.history-history.ensures.value c.in_ok-cells.ensures.ok.callers_within)
 
--- src/desk.rt:94:13
 pub over-journal-requires-clause-rows : goal.over-journal-requires-clause-rows
-over-journal-requires-clause-rows g c κs within = ?
+over-journal-requires-clause-rows g c κs within =
+    let h = c.args.warehouse.book.history in
+    let owns : AllAt (λ caller own. OwnOf c.args.cells (entries_of h caller) own) c.in_ok-cells.field-0.owns.items =
+        subst (λ (l : List Entry). AllAt (λ caller own. OwnOf c.args.cells (entries_of l caller) own) c.in_ok-cells.field-0.owns.items) c.history-history.ensures.value c.in_ok-cells.ensures.ok.owns_are in
+    c.in_ok-rows.ensures.rows c.args.cells h (subst (λ (l : List Own). AllAt (λ caller own. OwnOf c.args.cells (entries_of h caller) own) l) (sym c.as_slice.ensures.value) owns)
 
--- src/desk.rt:94:13
 pub over-journal-requires-clause-notes : goal.over-journal-requires-clause-notes
-over-journal-requires-clause-notes g c κs within = ?
+over-journal-requires-clause-notes g c κs within =
+    subst (λ (names : List ℕ). AllAt (NoteAt names c.args.warehouse.book.history) c.in_ok-cells.field-0.notes.items) c.requires.named
+    (subst (λ (l : List Entry). AllAt (NoteAt c.args.cells l) c.in_ok-cells.field-0.notes.items) c.history-history.ensures.value c.in_ok-cells.ensures.ok.notes_are)
 
--- src/desk.rt:70:5
 pub returns-clause-lists : goal.returns-clause-lists
-returns-clause-lists g c = ?
+returns-clause-lists g c =
+    subst (λ (l : List Entry). All (λ (p : Received). p.list ≡ entries_of l p.caller) c.in_ok-passes.passes.items)
+    (ap (λ (p : Past). p.history) (c.front.ensures.past ∙ c.requires.added)) c.in_ok-passes.ensures.lists
 
--- src/desk.rt:70:5
 pub returns-clause-known : goal.returns-clause-known
-returns-clause-known g c = ?
+returns-clause-known g c =
+    subst (λ (l : List Entry). All (λ (p : Received). p.known ≡ l) c.in_ok-passes.passes.items)
+    (ap (λ (p : Past). p.history) (c.front.ensures.past ∙ c.requires.added)) c.in_ok-passes.ensures.known
