@@ -332,8 +332,9 @@ fn looks_see_fronts_of_the_history(rt: HostRuntime) -> Result<(), Fail> {
         assert!(rt; before < Some(glimpse.entries));
         before = Some(glimpse.entries);
     }
-    // How late the last board is nothing tells: a look that takes long holds the room in which later ones would be shown
-    // (`Receipt::shown`). The two calls that came second were held until the display had seen one that came first.
+    // A look that began two calls before the last holds the room in which the last board would be shown (`Receipt::shown`).
+    assert!(rt; before == Some(3) || before == Some(4));
+    // The two calls that came second were held until the display had seen one that came first.
     let between = |glimpse: &Glimpse| glimpse.entries == 1 || glimpse.entries == 2;
     assert!(rt; left.seen.as_slice().iter().any(between));
     Ok(())
