@@ -1,14 +1,18 @@
 -- Words give at most one set of options.
-use Rattle.std.proofs.Common.{◌≡◌, ◌≤◌, ℕ, List, [], ◌∷◌, ◌++◌, drop, refl, sym, ap, ap₂, ◌∙◌, Bool, true, false, cond, None, Some, Option, subst, inl, inr, codes, ◌||◌, not, true≢false, option_map, append_assoc}
-use Rattle.std.specs.Prelude.{MatchOption, find}
-use Rattle.std.specs.List.{AllByRecursion, after_first, before_first, flat_map, list_all, list_any}
+use Rattle.std.proofs.Common.{◌≡◌, ◌≤◌, ℕ, List, [], ◌∷◌, ◌++◌, drop, refl, sym, ap, ap₂, ◌∙◌, Bool, true, false, cond, None, Some, Option, subst, inl, inr, codes, not, true≢false, append_assoc}
+use Rattle.std.specs.Prelude.{MatchOption, filter, map, slice_get}
+use Rattle.std.specs.List.{AllByRecursion, AllZip, after_first, before_first, flat_map}
 use Rattle.std.specs.Str.{bytes_eq}
-use Rattle.clap.proofs.WalkLemmas.{both}
 use Rattle.clap.specs.Lexer.{has_byte}
-use Rattle.wh_options.specs.Setting.{Closes, IsInPlace, IsLine, Setting, Spelling, StandsBy, Text, alone, apart, is_switch, joined, spelled, spelled_by, value_of}
-use Rattle.wh_options.specs.Options.{AreSame, GivesFleet, GivesNumber, GivesPlanner, GivesReplies, GivesTail, MayGive, GivesVehicles, HasOnly, IsWritten, Means, WordsGive, default_turns, live_names, planner_text, replay_names, replies_text, tail_text}
+use Rattle.wh_options.specs.Setting.{Closes, IsInPlace, IsLine, Setting, Spelling, StandsBy, Text, alone, apart, is_switch, joined, spelled, spelled_by, value_of, values_of}
+use Rattle.wh_options.specs.Options.{AreSame, EachGives, GivesAttend, GivesFleet, GivesLive, GivesNumber, GivesPlanner, GivesReplay, GivesReplies, GivesTail, MayGive, GivesVehicles, IsWritten, WordsGive, default_turns, planner_text, replies_text, tail_text}
 use Rattle.wh_options.specs.declared.chosen.Options.{Options}
-use Rattle.wh_options.specs.declared.chosen.Options.TheVariants.{Check, Replay, Verify, Live}
+use Rattle.wh_options.specs.declared.chosen.Options.TheVariants.{Attend, Check, Replay, Verify, Live}
+use Rattle.wh_options.specs.declared.chosen.AttendOptions.{AttendOptions}
+use Rattle.wh_options.specs.declared.chosen.LiveOptions.{LiveOptions}
+use Rattle.wh_options.specs.declared.chosen.ReplayOptions.{ReplayOptions}
+use Rattle.wh_client.specs.Clients.{GivesClient}
+use Rattle.wh_client.proofs.Listed.{clients_once}
 use Rattle.wh_options.specs.declared.chosen.Fleet.{Fleet}
 use Rattle.wh_options.specs.declared.chosen.VehicleOptions.{VehicleOptions}
 use Rattle.wh_options.specs.declared.chosen.PlannerKind.{PlannerKind}
@@ -17,16 +21,14 @@ use Rattle.wh_options.specs.declared.chosen.Tail.{Tail}
 use Rattle.wh_options.specs.declared.chosen.Tail.TheVariants.{Nothing, Log, Ledger}
 use Rattle.wh_options.specs.declared.chosen.Replies.{Replies}
 use Rattle.wh_options.specs.declared.chosen.Replies.TheVariants.{Short, Full, Placed}
-use Rattle.wh_options.proofs.Shapes.{bytes_same, is_equals}
+use Rattle.wh_options.proofs.Shapes.{is_equals}
 use Rattle.wh_options.proofs.Spells.{cut_at_equals, has_equals}
-use Rattle.wh_options.proofs.Menus.{other_word}
+use Rattle.wh_options.proofs.Rows.{first_value}
+use Rattle.wh_options.proofs.Values.{some_same}
+use Rattle.wh_options.proofs.Attending.{has_client, no_client}
+use Rattle.wh_options.proofs.Names.{Named, gives_named, other_word, plain_name}
 
 -- ---- one setting
-
--- a name of an option: not empty, and without `=`
-abbrev pub plain_name : Text → Bool
-plain_name [] = false
-plain_name (b ∷ bs) = not (has_byte 61 (b ∷ bs))
 
 no_equals : (n : Text) → plain_name n ≡ true → has_byte 61 n ≡ false
 no_equals [] e = cc
@@ -99,28 +101,31 @@ no_setting rest m w alone b (inr one) p e = no_name m p (ap first_or (sym one �
 
 -- ---- many settings
 
-abbrev pub Named : List Setting → Type 0
-Named = AllByRecursion (λ (x : Setting). plain_name x.name ≡ true)
-
 abbrev pub AreInPlace : List Setting → Type 0
 AreInPlace = AllByRecursion IsInPlace
+
+abbrev pub AllAgree : List Setting → List Setting → Type 0
+AllAgree xs ys = (id : Text) → values_of id xs ≡ values_of id ys
 
 abbrev pub Agree : List Setting → List Setting → Type 0
 Agree xs ys = (id : Text) → value_of id xs ≡ value_of id ys
 
-value_step : (id : Text) (x : Setting) (xs : List Setting) (b : Bool) → option_map (λ (s : Setting). s.value) (cond b (Some x) (find (λ (s : Setting). bytes_eq s.name id) xs))
-    ≡ cond b (Some x.value) (value_of id xs)
+pub all_agree : (xs ys : List Setting) → AllAgree xs ys → Agree xs ys
+all_agree xs ys all = λ id. sym (first_value id xs) ∙ ap (λ vs. slice_get vs 0) (all id) ∙ first_value id ys
+
+value_step : (id : Text) (x : Setting) (xs : List Setting) (b : Bool)
+    → map (λ (s : Setting). s.value) (cond b (x ∷ filter (λ (s : Setting). bytes_eq s.name id) xs) (filter (λ (s : Setting). bytes_eq s.name id) xs)) ≡ cond b (x.value ∷ values_of id xs) (values_of id xs)
 value_step id x xs true = refl
 value_step id x xs false = refl
 
-agree_cons : (x y : Setting) (xs ys : List Setting) → x.name ≡ y.name → x.value ≡ y.value → Agree xs ys → Agree (x ∷ xs) (y ∷ ys)
+agree_cons : (x y : Setting) (xs ys : List Setting) → x.name ≡ y.name → x.value ≡ y.value → AllAgree xs ys → AllAgree (x ∷ xs) (y ∷ ys)
 agree_cons x y xs ys name value rest = λ id.
     value_step id x xs (bytes_eq x.name id)
-    ∙ ap₂ (λ b v. cond b (Some v) (value_of id xs)) (ap (λ n. bytes_eq n id) name) value
-    ∙ ap (cond (bytes_eq y.name id) (Some y.value)) (rest id)
+    ∙ ap₂ (λ b v. cond b (v ∷ values_of id xs) (values_of id xs)) (ap (λ n. bytes_eq n id) name) value
+    ∙ ap (λ vs. cond (bytes_eq y.name id) (y.value ∷ vs) vs) (rest id)
     ∙ sym (value_step id y ys (bytes_eq y.name id))
 
-one_list : (xs ys : List Setting) (a b : List Text) → Named xs → Named ys → AreInPlace xs → AreInPlace ys → Closes a → Closes b → flat_map spelled xs ++ a ≡ flat_map spelled ys ++ b → Agree xs ys
+one_list : (xs ys : List Setting) (a b : List Text) → Named xs → Named ys → AreInPlace xs → AreInPlace ys → Closes a → Closes b → flat_map spelled xs ++ a ≡ flat_map spelled ys ++ b → AllAgree xs ys
 one_list [] [] a b p q s t c d e = λ id. refl
 one_list [] (y ∷ ys) a b p q s t c d e = absurd (no_setting a y.name y.value y.way (flat_map spelled ys ++ b) c q.0 (e ∙ append_assoc (spelled y) (flat_map spelled ys) b))
 one_list (x ∷ xs) [] a b p q s t c d e = absurd (no_setting b x.name x.value x.way (flat_map spelled xs ++ a) d p.0 (sym e ∙ append_assoc (spelled x) (flat_map spelled xs) a))
@@ -130,33 +135,12 @@ one_list (x ∷ xs) (y ∷ ys) a b p q s t c d e =
     agree_cons x y xs ys same.0 same.1 (one_list xs ys a b p.1 q.1 s.1 t.1 c d same.2)
 
 -- two readings of one line agree in the subcommand and in each value
-pub one_line : (words : List Text) (m n : Text) (xs ys : List Setting) → Named xs → Named ys → IsLine words m xs → IsLine words n ys → (m ≡ n) × Agree xs ys
+pub one_line : (words : List Text) (m n : Text) (xs ys : List Setting) → Named xs → Named ys → IsLine words m xs → IsLine words n ys → (m ≡ n) × AllAgree xs ys
 one_line words m n xs ys p q a b =
     let heads : a.program ∷ m ∷ a.after ≡ b.program ∷ n ∷ b.after = sym a.words_are ∙ b.words_are in
     let after : a.after ≡ b.after = ap (drop 2) heads in
     let spells = sym a.spelling.words_are ∙ after ∙ b.spelling.words_are in
     (ap (λ ws. first_or (drop 1 ws)) heads, one_list xs ys a.spelling.rest b.spelling.rest p q a.spelling.in_place b.spelling.in_place a.spelling.closes b.spelling.closes spells)
-
--- ---- names
-
-listed_step : (test : Text → Bool) (n m : Text) (ms : List Text) (b : Bool) → bytes_eq n m ≡ b → test m ≡ true → (b || list_any (bytes_eq n) ms) ≡ true
-    → (list_any (bytes_eq n) ms ≡ true → test n ≡ true) → test n ≡ true
-listed_step test n m ms true e here f rest = ap test (bytes_same n m e) ∙ here
-listed_step test n m ms false e here f rest = rest f
-
-listed_passes : (test : Text → Bool) (n : Text) (names : List Text) → list_all test names ≡ true → list_any (bytes_eq n) names ≡ true → test n ≡ true
-listed_passes test n [] all any = cc
-listed_passes test n (m ∷ ms) all any = listed_step test n m ms (bytes_eq n m) refl (both _ _ all).0 any (listed_passes test n ms (both _ _ all).1)
-
-pub only_named : (names : List Text) (xs : List Setting) → list_all plain_name names ≡ true → HasOnly names xs → Named xs
-only_named names [] all only = tt
-only_named names (x ∷ xs) all only = (listed_passes plain_name x.name names all only.0, only_named names xs all only.1)
-
-pub means_named : (name : Text) (xs : List Setting) (o : Options) → Means name xs o → Named xs
-means_named name xs Check m = subst Named (sym m.1) tt
-means_named name xs Verify m = subst Named (sym m.1) tt
-means_named name xs (Replay o) m = only_named replay_names xs refl m.1.only
-means_named name xs (Live o) m = only_named live_names xs refl m.1
 
 -- ---- meanings
 
@@ -251,37 +235,70 @@ fleet_once xs ys f g agree a b =
     let spares = number_once xs ys (codes "spares") 0 0 16 f.spares g.spares agree a.spares b.spares in
     λ i. record { planner = planner i; slots = slots i; bank = bank i; spares = spares i }
 
-means_once : (name told : Text) (xs ys : List Setting) (o p : Options) → name ≡ told → Agree xs ys → Means name xs o → Means told ys p → AreSame o p
-means_once name told xs ys Check Check is agree m n = refl
-means_once name told xs ys Check (Replay p) is agree m n = absurd (other_word (codes "check") (codes "replay") refl (sym m.0 ∙ is ∙ n.0))
-means_once name told xs ys Check Verify is agree m n = absurd (other_word (codes "check") (codes "verify") refl (sym m.0 ∙ is ∙ n.0))
-means_once name told xs ys Check (Live p) is agree m n = absurd (other_word (codes "check") (codes "live") refl (sym m.0 ∙ is ∙ n.0))
-means_once name told xs ys (Replay o) Check is agree m n = absurd (other_word (codes "replay") (codes "check") refl (sym m.0 ∙ is ∙ n.0))
-means_once name told xs ys (Replay o) (Replay p) is agree m n =
-    let fleet = fleet_once xs ys o.fleet p.fleet agree m.1.fleet n.1.fleet in
-    let tail = tail_once xs ys o.tail p.tail agree m.1.tail n.1.tail in
-    let replies = replies_once xs ys o.replies p.replies agree m.1.replies n.1.replies in
-    let told = may_once xs ys (codes "told") 0 999999999 o.told p.told agree m.1.told n.1.told in
-    (fleet, tail, replies, m.1.log.is ∙ agree (codes "log") ∙ sym n.1.log.is, told, vehicles_once xs ys o.vehicles p.vehicles agree m.1.vehicles n.1.vehicles)
-means_once name told xs ys (Replay o) Verify is agree m n = absurd (other_word (codes "replay") (codes "verify") refl (sym m.0 ∙ is ∙ n.0))
-means_once name told xs ys (Replay o) (Live p) is agree m n = absurd (other_word (codes "replay") (codes "live") refl (sym m.0 ∙ is ∙ n.0))
-means_once name told xs ys Verify Check is agree m n = absurd (other_word (codes "verify") (codes "check") refl (sym m.0 ∙ is ∙ n.0))
-means_once name told xs ys Verify (Replay p) is agree m n = absurd (other_word (codes "verify") (codes "replay") refl (sym m.0 ∙ is ∙ n.0))
-means_once name told xs ys Verify Verify is agree m n = refl
-means_once name told xs ys Verify (Live p) is agree m n = absurd (other_word (codes "verify") (codes "live") refl (sym m.0 ∙ is ∙ n.0))
-means_once name told xs ys (Live o) Check is agree m n = absurd (other_word (codes "live") (codes "check") refl (sym m.0 ∙ is ∙ n.0))
-means_once name told xs ys (Live o) (Replay p) is agree m n = absurd (other_word (codes "live") (codes "replay") refl (sym m.0 ∙ is ∙ n.0))
-means_once name told xs ys (Live o) Verify is agree m n = absurd (other_word (codes "live") (codes "verify") refl (sym m.0 ∙ is ∙ n.0))
-means_once name told xs ys (Live o) (Live p) is agree m n =
-    let fleet = fleet_once xs ys o.fleet p.fleet agree m.2 n.2 in
-    let every = may_once xs ys (codes "every") 1 60000 o.every p.every agree m.5 n.5 in
-    let other : GivesNumber ys (codes "turns") (default_turns o.every) 1 100000 p.turns = subst (λ e. GivesNumber ys (codes "turns") (default_turns e) 1 100000 p.turns) (sym every) n.3 in
-    let turns = number_once xs ys (codes "turns") (default_turns o.every) 1 100000 o.turns p.turns agree m.3 other in
-    let journal = number_once xs ys (codes "journal") 10000 1 1000000 o.journal p.journal agree m.4 n.4 in
-    λ i. Live (record { fleet = fleet i; turns = turns i; journal = journal i; every = every i })
+replay_once : (xs ys : List Setting) (o p : ReplayOptions) → Agree xs ys → GivesReplay xs o → GivesReplay ys p → AreSame (Replay o) (Replay p)
+replay_once xs ys o p agree m n =
+    let fleet = fleet_once xs ys o.fleet p.fleet agree m.fleet n.fleet in
+    let tail = tail_once xs ys o.tail p.tail agree m.tail n.tail in
+    let replies = replies_once xs ys o.replies p.replies agree m.replies n.replies in
+    let told = may_once xs ys (codes "told") 0 999999999 o.told p.told agree m.told n.told in
+    (fleet, tail, replies, m.log.is ∙ agree (codes "log") ∙ sym n.log.is, told, vehicles_once xs ys o.vehicles p.vehicles agree m.vehicles n.vehicles)
+
+live_once : (xs ys : List Setting) (o p : LiveOptions) → Agree xs ys → GivesLive xs o → GivesLive ys p → AreSame (Live o) (Live p)
+live_once xs ys o p agree m n =
+    let fleet = fleet_once xs ys o.fleet p.fleet agree m.fleet n.fleet in
+    let every = may_once xs ys (codes "every") 1 60000 o.every p.every agree m.every n.every in
+    let other : GivesNumber ys (codes "turns") (default_turns o.every) 1 100000 p.turns = subst (λ e. GivesNumber ys (codes "turns") (default_turns e) 1 100000 p.turns) (sym every) n.turns in
+    let turns = number_once xs ys (codes "turns") (default_turns o.every) 1 100000 o.turns p.turns agree m.turns other in
+    let journal = number_once xs ys (codes "journal") 10000 1 1000000 o.journal p.journal agree m.journal n.journal in
+    let board_every = number_once xs ys (codes "board-every") 100 1 60000 o.board_every p.board_every agree m.board_every n.board_every in
+    (fleet, turns, journal, every, m.board.is ∙ agree (codes "board") ∙ sym n.board.is, board_every)
+
+attend_once : (xs ys : List Setting) (o p : AttendOptions) → AllAgree xs ys → GivesAttend xs o → GivesAttend ys p → AreSame (Attend o) (Attend p)
+attend_once xs ys o p all m n =
+    let agree = all_agree xs ys all in
+    let fleet = fleet_once xs ys o.fleet p.fleet agree m.fleet n.fleet in
+    let journal = number_once xs ys (codes "journal") 10000 1 1000000 o.journal p.journal agree m.journal n.journal in
+    let replies = replies_once xs ys o.replies p.replies agree m.replies n.replies in
+    let log : Some o.log.now ≡ Some p.log.now = m.log.is ∙ agree (codes "log") ∙ sym n.log.is in
+    let other : AllZip GivesClient (values_of (codes "client") xs) p.clients.items = subst (λ ts. AllZip GivesClient ts p.clients.items) (sym (all (codes "client"))) n.clients.each in
+    (fleet, journal, replies, some_same o.log.now p.log.now log, clients_once (values_of (codes "client") xs) o.clients.items p.clients.items m.clients.each other)
+
+-- settings do not give options of running clients and options without
+not_both_ways : (xs ys : List Setting) (o : LiveOptions) (p : AttendOptions) → Agree xs ys → GivesLive xs o → GivesAttend ys p → ⊥
+not_both_ways xs ys o p agree m n = has_client ys p n (sym (agree (codes "client")) ∙ no_client xs o m)
+
+apart_so : (name told one other : Text) → name ≡ told → bytes_eq one other ≡ false → name ≡ one → told ≡ other → ⊥
+apart_so name told one other is differs m n = other_word one other differs (sym m ∙ is ∙ n)
+
+gives_once : (name told : Text) (xs ys : List Setting) (o p : Options) → name ≡ told → AllAgree xs ys → EachGives name xs o → EachGives told ys p → AreSame o p
+gives_once name told xs ys Check Check is all m n = refl
+gives_once name told xs ys Check (Replay p) is all m n = absurd (apart_so name told (codes "check") (codes "replay") is refl m.0 n.0)
+gives_once name told xs ys Check Verify is all m n = absurd (apart_so name told (codes "check") (codes "verify") is refl m.0 n.0)
+gives_once name told xs ys Check (Live p) is all m n = absurd (apart_so name told (codes "check") (codes "live") is refl m.0 n.0)
+gives_once name told xs ys Check (Attend p) is all m n = absurd (apart_so name told (codes "check") (codes "live") is refl m.0 n.0)
+gives_once name told xs ys (Replay o) Check is all m n = absurd (apart_so name told (codes "replay") (codes "check") is refl m.0 n.0)
+gives_once name told xs ys (Replay o) (Replay p) is all m n = replay_once xs ys o p (all_agree xs ys all) m.1 n.1
+gives_once name told xs ys (Replay o) Verify is all m n = absurd (apart_so name told (codes "replay") (codes "verify") is refl m.0 n.0)
+gives_once name told xs ys (Replay o) (Live p) is all m n = absurd (apart_so name told (codes "replay") (codes "live") is refl m.0 n.0)
+gives_once name told xs ys (Replay o) (Attend p) is all m n = absurd (apart_so name told (codes "replay") (codes "live") is refl m.0 n.0)
+gives_once name told xs ys Verify Check is all m n = absurd (apart_so name told (codes "verify") (codes "check") is refl m.0 n.0)
+gives_once name told xs ys Verify (Replay p) is all m n = absurd (apart_so name told (codes "verify") (codes "replay") is refl m.0 n.0)
+gives_once name told xs ys Verify Verify is all m n = refl
+gives_once name told xs ys Verify (Live p) is all m n = absurd (apart_so name told (codes "verify") (codes "live") is refl m.0 n.0)
+gives_once name told xs ys Verify (Attend p) is all m n = absurd (apart_so name told (codes "verify") (codes "live") is refl m.0 n.0)
+gives_once name told xs ys (Live o) Check is all m n = absurd (apart_so name told (codes "live") (codes "check") is refl m.0 n.0)
+gives_once name told xs ys (Live o) (Replay p) is all m n = absurd (apart_so name told (codes "live") (codes "replay") is refl m.0 n.0)
+gives_once name told xs ys (Live o) Verify is all m n = absurd (apart_so name told (codes "live") (codes "verify") is refl m.0 n.0)
+gives_once name told xs ys (Live o) (Live p) is all m n = live_once xs ys o p (all_agree xs ys all) m.1 n.1
+gives_once name told xs ys (Live o) (Attend p) is all m n = absurd (not_both_ways xs ys o p (all_agree xs ys all) m.1 n.1)
+gives_once name told xs ys (Attend o) Check is all m n = absurd (apart_so name told (codes "live") (codes "check") is refl m.0 n.0)
+gives_once name told xs ys (Attend o) (Replay p) is all m n = absurd (apart_so name told (codes "live") (codes "replay") is refl m.0 n.0)
+gives_once name told xs ys (Attend o) Verify is all m n = absurd (apart_so name told (codes "live") (codes "verify") is refl m.0 n.0)
+gives_once name told xs ys (Attend o) (Live p) is all m n = absurd (not_both_ways ys xs p o (λ id. sym (all_agree xs ys all id)) n.1 m.1)
+gives_once name told xs ys (Attend o) (Attend p) is all m n = attend_once xs ys o p all m.1 n.1
 
 -- words give at most one set of options
 pub given_once : (words : List Text) (o p : Options) → WordsGive words o → WordsGive words p → AreSame o p
 given_once words o p a b =
-    let line = one_line words a.0 b.0 a.1 b.1 (means_named a.0 a.1 o a.3) (means_named b.0 b.1 p b.3) a.2 b.2 in
-    means_once a.0 b.0 a.1 b.1 o p line.0 line.1 a.3 b.3
+    let line = one_line words a.0 b.0 a.1 b.1 (gives_named a.0 a.1 o a.3.0) (gives_named b.0 b.1 p b.3.0) a.2 b.2 in
+    gives_once a.0 b.0 a.1 b.1 o p line.0 line.1 a.3.0 b.3.0

@@ -1,4 +1,5 @@
 //! What a command line asks for: a subcommand with its options.
+use wh_client::ClientOptions;
 
 /// Which kind of planner drives the agents.
 #[derive(Clone, Copy, Debug, PartialEq, Eq)]
@@ -70,9 +71,9 @@ pub struct ReplayOptions<'a> {
     pub vehicles: Option<VehicleOptions>,
 }
 
-/// The options of `live`.
+/// The options of `live`. They keep a text of the words that gave them.
 #[derive(Clone, Copy, Debug, PartialEq, Eq)]
-pub struct LiveOptions {
+pub struct LiveOptions<'a> {
     /// The planners of the run; each client has its own `spares`.
     pub fleet: Fleet,
     /// How many requests each agent makes, and how many ticks the clock; with `every`, at most how many turns their worker
@@ -83,10 +84,29 @@ pub struct LiveOptions {
     /// How many milliseconds the worker of all agents and the clock rests behind each turn, 1 to 60000, if there is one in
     /// place of a thread for each.
     pub every: Option<u32>,
+    /// The name of the file that shows the board while the run lasts, if one is to; never empty.
+    pub board: Option<&'a str>,
+    /// How many milliseconds at least lie between two looks at the board, 1 to 60000.
+    pub board_every: u32,
+}
+
+/// The options of `live` with running clients, who come in over named pipes. They keep a text of the words that gave them.
+#[derive(Debug, PartialEq, Eq, Drop)]
+pub struct AttendOptions<'a> {
+    /// The planners of the run; each client has its own `spares`.
+    pub fleet: Fleet,
+    /// How many entries more the history may have, 1 to 1000000; the clients share them equally.
+    pub journal: u32,
+    /// How the replies are told.
+    pub replies: Replies,
+    /// The name of the file that keeps the run's log; never empty.
+    pub log: &'a str,
+    /// The clients, 1 to 62; no two have one number or one folder.
+    pub clients: Vec<ClientOptions<'a>>,
 }
 
 /// A subcommand with its options.
-#[derive(Clone, Copy, Debug, PartialEq, Eq)]
+#[derive(Debug, PartialEq, Eq, Drop)]
 pub enum Options<'a> {
     /// `check`: whether the warehouse is well-formed.
     Check,
@@ -95,5 +115,7 @@ pub enum Options<'a> {
     /// `verify`: whether a log is a run.
     Verify,
     /// `live`: clients, agents and a clock in threads.
-    Live(LiveOptions),
+    Live(LiveOptions<'a>),
+    /// `live` with running clients.
+    Attend(AttendOptions<'a>),
 }
