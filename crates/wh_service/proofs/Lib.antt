@@ -7,11 +7,9 @@ pub mod InRange
 pub mod Asked
 pub mod Paced
 pub mod Teams
-mod Lasting
-pub mod Starved
+pub mod Lasting
 pub mod Logged
 pub mod Openings
 pub mod Replayed
-pub mod Whole
 pub mod Drove
 mod Convoyed

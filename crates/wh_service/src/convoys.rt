@@ -46,7 +46,7 @@ pub enum DriveTrouble {
 
 impl DriveTrouble {
     /// The line that tells of it, with its line feed.
-    pub(crate) fn text(&self) -> ArrayVec<u8, 64>
+    pub fn text(&self) -> ArrayVec<u8, 64>
         ensures { result.items ≡ drive_text self.now }
     {
         let mut line = ArrayVec::new();
@@ -64,7 +64,7 @@ impl DriveTrouble {
     }
 
     /// The status with which the program ends.
-    pub(crate) fn status(&self) -> Status
+    pub fn status(&self) -> Status
         ensures { result ≡ drive_status self.now }
     {
         match self {
@@ -159,7 +159,9 @@ fn start_convoy<L: LogFile, P: Planner, F: Fn(PlannerParts) -> Result<P, AllocEr
     ensures same_beside { L.contents beside.new ≡ L.contents beside.old }
     ensures same_arrivals { L.contents arrivals.new ≡ L.contents arrivals.old }
 {
-    let (start, found) = match start_aside(alloc, file, beside, text, grid, points, options) {
+    let fleet = &options.fleet;
+    let again = options.told;
+    let (start, found) = match start_aside(alloc, file, beside, text, grid, points, fleet, again) {
         Ok(started) => started,
         Err(trouble) => return Err(DriveTrouble::Plain(trouble)),
     };
@@ -167,7 +169,7 @@ fn start_convoy<L: LogFile, P: Planner, F: Fn(PlannerParts) -> Result<P, AllocEr
         Ok(stood) => stood,
         Err(trouble) => return Err(trouble),
     };
-    match equip_for(alloc, &options.fleet, grid, start.book.slots(), make) {
+    match equip_for(alloc, fleet, grid, start.book.slots(), make) {
         Ok(equipped) => Ok((start, found, stood, equipped)),
         Err(trouble) => Err(DriveTrouble::Plain(trouble)),
     }

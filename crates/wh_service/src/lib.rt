@@ -10,7 +10,6 @@ mod kept;
 mod live;
 mod parts;
 mod program;
-mod running;
 mod tail;
 mod vehicles;
 mod verdict;
@@ -18,18 +17,20 @@ mod verified;
 mod writing;
 
 pub use convoys::{DriveTrouble, serve_convoy};
-pub use fleet::{claim, equip};
-pub use kept::serve_kept;
+pub use fleet::{claim, equip, members, seated};
+pub use kept::{keep_trouble, serve_kept, start_aside};
 pub use live::host;
 pub use parts::PlannerParts;
 pub use program::{ended, play, serve};
-pub use running::{end, run};
 pub use vehicles::serve_late;
 pub use verdict::judge;
 pub use verified::judge_log;
+pub use writing::write_text;
 
 // handed on, for callers: what the items below take, return and speak of
 pub use wh_continue::{FileJournal, LogFile};
-pub use wh_live::{Cells, Desk, DeskFault, DeskName, Pass, Publisher, Receipt, Viewer};
+pub use wh_live::{
+    Cells, Desk, DeskFault, DeskName, Pass, Publisher, Receipt, Screen, ShowFault, Viewer,
+};
 pub use wh_replay::{Committed, Form, NoMemory, OpenFault, ReplayFault, Warehouse, replay};
 pub use wh_verify::{Book, Verified, verify};
