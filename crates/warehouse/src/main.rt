@@ -10,7 +10,6 @@ ghost use Rattle.wh_claims.specs.Claim.{claim_amount};
 
 use std::alloc::AllocError;
 use std::env;
-use std::fs::{File, Files};
 use std::io::{self, BufWriter, ErrorKind, Write};
 use std::process::ExitCode;
 use std::sync::Wait;
@@ -21,7 +20,7 @@ use wh_lines::Lines;
 use wh_options::PlannerKind;
 use wh_planner::Planner;
 use wh_planners::{Patient, Sharing};
-use wh_service::{PlannerParts, end, run};
+use wh_program::{PlannerParts, end, run};
 
 /// How many bytes of output are written at a time.
 const OUTPUT_BUFFER: usize = 65_536;
@@ -50,11 +49,12 @@ fn words<R: AllocGlobal + env::Env, E: Write>(
 }
 
 /// Does what the words ask for, over the process's streams. All planners are made here.
-fn obey<
-    'w,
-    R: AllocGlobal + Print + Input + Files<File = File> + Threads + Wait + Clock + Sync,
-    E: Write,
->(rt: &'w R, words: &'w [String], errors: &mut E) -> Status {
+fn obey<'w, R: AllocGlobal + Print + Input + Threads + Wait + Clock + Sync, E: Write>(
+    rt: &R,
+    files: &'w HostRuntime,
+    words: &'w [String],
+    errors: &mut E,
+) -> Status {
     let alloc = rt.alloc();
     let make = |parts: PlannerParts| -> Result<Box<dyn Planner>, AllocError>
         ensures on_grid { IfOk result (λ b. fits_map b parts.grid.value ≡ true) }
@@ -77,13 +77,22 @@ fn obey<
     let Ok(mut output) = BufWriter::with_capacity(alloc, OUTPUT_BUFFER, io::writer(rt)) else {
         return starved(errors);
     };
-    run(rt, alloc, words, &mut lines, &mut output, errors, make)
+    run(
+        rt,
+        files,
+        alloc,
+        words,
+        &mut lines,
+        &mut output,
+        errors,
+        make,
+    )
 }
 
 fn main(rt: HostRuntime) -> ExitCode {
     let mut errors = rt.stderr();
     let status = match words(&rt, &mut errors) {
-        Ok(words) => obey(&rt, words.as_slice(), &mut errors),
+        Ok(words) => obey(&rt, &rt, words.as_slice(), &mut errors),
         Err(status) => status,
     };
     ExitCode::from(status.number())

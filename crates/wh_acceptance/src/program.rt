@@ -6,7 +6,8 @@ ghost use Rattle.wh_claims.specs.Claim.{claim_amount};
 
 use crate::answers::{AGENTS, MAP, POINTS};
 use std::alloc::{AllocError, AllocGlobal};
-use std::fs::{File, Files};
+use std::fs;
+use std::path::Path;
 use std::sync::Wait;
 use std::test::*;
 use std::thread::Threads;
@@ -15,7 +16,11 @@ use wh_lines::Lines;
 use wh_options::PlannerKind;
 use wh_planner::Planner;
 use wh_planners::{Patient, Sharing};
-use wh_service::{PlannerParts, run};
+use wh_program::{PlannerParts, run};
+
+/// The board of two agents at rest, after a request of each, and a tick.
+const LAST: &[u8] =
+    b"wboard 1\nentries 3\nclock 1\nopen 0\nassigned 0\ncarried 0\ndone 0\n0,1 0 none\n4,1 0 none\n";
 
 /// What a call of the program shows.
 #[derive(Drop)]
@@ -26,8 +31,9 @@ struct Shown {
 }
 
 /// Calls the program with these words behind its name.
-fn call<R: AllocGlobal + Threads + Wait + Clock + Sync + Files<File = File>>(
+fn call<R: AllocGlobal + Threads + Wait + Clock + Sync>(
     rt: &R,
+    files: &HostRuntime,
     words: &[&str],
     input: &[u8],
 ) -> Result<Shown, Fail> {
@@ -52,7 +58,16 @@ fn call<R: AllocGlobal + Threads + Wait + Clock + Sync + Files<File = File>>(
     let mut lines = Lines::new(input);
     let mut output = Vec::new(alloc);
     let mut errors = Vec::new(alloc);
-    let status = run(rt, alloc, words, &mut lines, &mut output, &mut errors, make);
+    let status = run(
+        rt,
+        files,
+        alloc,
+        words,
+        &mut lines,
+        &mut output,
+        &mut errors,
+        make,
+    );
     Ok(Shown {
         status: status.number(),
         output,
@@ -254,7 +269,7 @@ fn each_subcommand(rt: HostRuntime) -> Result<(), Fail> {
     for row in ROWS.iter() {
         let (points, rest) = (row.points, row.rest);
         let input = format!(in rt.alloc(); "{MAP}%%\n{points}{AGENTS}%%\n{rest}")?;
-        let shown = call(&rt, row.words, input.as_bytes())?;
+        let shown = call(&rt, &rt, row.words, input.as_bytes())?;
         assert!(rt; shown.status == row.status, "{}", row.output);
         assert!(rt;
             shown.output.as_slice() == row.output.as_bytes(),
@@ -274,7 +289,7 @@ fn each_subcommand(rt: HostRuntime) -> Result<(), Fail> {
 #[test]
 fn mistaken_words(rt: HostRuntime) -> Result<(), Fail> {
     for word in ["fly", "--fast", "live-two"] {
-        let shown = call(&rt, ["warehouse", word].as_slice(), b"")?;
+        let shown = call(&rt, &rt, ["warehouse", word].as_slice(), b"")?;
         assert!(rt; shown.status == 2, "{word}");
         assert!(rt; shown.output.is_empty(), "{word}");
         assert!(rt; !shown.errors.is_empty(), "{word}");
@@ -302,14 +317,33 @@ fn a_live_log_is_verified(rt: HostRuntime) -> Result<(), Fail> {
             "run 6\n",
         ),
     ] {
-        let lived = call(&rt, words.as_slice(), input.as_bytes())?;
+        let lived = call(&rt, &rt, words.as_slice(), input.as_bytes())?;
         assert!(rt; lived.status == 0 && lived.errors.is_empty(), "{wanted}");
         let mut log = Vec::from_slice(rt.alloc(), site.as_bytes())?;
         log.extend_from_slice(lived.output.as_slice())?;
-        let verified = call(&rt, ["warehouse", "verify"].as_slice(), log.as_slice())?;
+        let verified = call(&rt, &rt, ["warehouse", "verify"].as_slice(), log.as_slice())?;
         assert!(rt; verified.status == 0, "{wanted}");
         assert!(rt; verified.output.as_slice() == wanted.as_bytes(), "{wanted}");
     }
+    Ok(())
+}
+
+/// The board of the whole run is left in the file that the options name, and no other one beside it. Where that can be no file,
+/// nothing is begun.
+#[test]
+fn a_board_is_left(rt: HostRuntime) -> Result<(), Fail> {
+    let input = format!(in rt.alloc(); "{MAP}%%\n{POINTS}{AGENTS}%%\n")?;
+    let board = "acceptance_board";
+    let words = ["warehouse", "live", "--every", "1", "--board", board];
+    let shown = call(&rt, &rt, words.as_slice(), input.as_bytes())?;
+    assert!(rt; shown.status == 0 && shown.errors.is_empty());
+    assert!(rt; fs::read(&rt, Path::new(board))?.as_slice() == LAST);
+    assert!(rt; !fs::exists(&rt, Path::new("acceptance_board.new"))?);
+    fs::remove_file(&rt, Path::new(board))?;
+    let words = ["warehouse", "live", "--board", "acceptance_nowhere/board"];
+    let shown = call(&rt, &rt, words.as_slice(), input.as_bytes())?;
+    assert!(rt; shown.status == 3 && shown.output.is_empty());
+    assert!(rt; shown.errors.as_slice() == b"refused X6\n".as_slice());
     Ok(())
 }
 
@@ -320,7 +354,12 @@ fn no_front_of_a_log_is_one(rt: HostRuntime) -> Result<(), Fail> {
     for length in 0..RUN.len() {
         let mut input = Vec::from_slice(rt.alloc(), site.as_bytes())?;
         input.extend_from_slice(&RUN.as_bytes()[..length])?;
-        let verified = call(&rt, ["warehouse", "verify"].as_slice(), input.as_slice())?;
+        let verified = call(
+            &rt,
+            &rt,
+            ["warehouse", "verify"].as_slice(),
+            input.as_slice(),
+        )?;
         assert!(rt; verified.status == 1, "{length}");
         assert!(rt; verified.output.starts_with(b"bad "), "{length}");
     }

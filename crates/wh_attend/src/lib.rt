@@ -1,0 +1,15 @@
+//! `warehouse live` with running clients, who come in by doors, over a log file.
+#![tactic(auto)]
+
+mod attending;
+mod clients;
+mod ending;
+mod ready;
+mod serving;
+
+pub use attending::attend;
+
+// handed on, for callers: what the item above takes and speaks of
+pub use wh_continue::{FileJournal, LogFile};
+pub use wh_pipes::Hall;
+pub use wh_serve::{Connection, Doors, End, ReplayFault, ServeFault, Served};

@@ -1,0 +1,366 @@
+//! The whole program: from its words and its input to its output and its status.
+
+ghost use Rattle.std.specs.Prelude.{◌≡◌, ◌≤◌, ◌++◌, Bool, IfOk, Option, is_some, map, option_map};
+ghost use Rattle.std.specs.String.{string_bytes};
+ghost use Rattle.wh_service.specs.Fleets.{IsOfFleet, MakesPlanners};
+ghost use Rattle.wh_program.specs.Attending.{Attended};
+ghost use Rattle.wh_program.specs.Programs.{Comes, Did, Drove, Ends, Files, HasRange, LateFiles, Lived, LivedOver, ReplayedOver, names_file};
+ghost use Rattle.wh_service.specs.Serves.{ended_by};
+
+use crate::attending::attend_by_name;
+use crate::driving::{drive_over, end_drive, late};
+use std::alloc::{AllocError, Global};
+use std::convert::AsStr;
+use std::fmt::Display;
+use std::fs::{File, Files};
+use std::io::{BufWriter, Read, Write};
+use std::path::Path;
+use std::sync::Wait;
+use std::thread::Threads;
+use std::time::Clock;
+use wh_display::{FileScreen, Screen};
+use wh_edge::{Status, Trouble};
+use wh_lines::Lines;
+use wh_options::{
+    LiveOptions, Options, Refusal, ReplayOptions, VehicleOptions, options, refusal_of,
+};
+use wh_pipes::{Inlet, Outlet};
+use wh_planner::Planner;
+use wh_service::{
+    DriveTrouble, FileJournal, LogFile, PlannerParts, ended, host, judge, judge_log, serve,
+    serve_kept, write_text,
+};
+
+/// The files that keep a run: its log, the file beside it that holds the site, and the file of arrivals.
+#[derive(Drop)]
+pub(crate) struct KeptFiles<L> {
+    pub log: L,
+    pub site: L,
+    pub arrivals: L,
+}
+
+/// The name of the log file that the options name, if they name one.
+fn log_name<'a>(options: &Options<'a>) -> Option<&'a str>
+    ensures { is_some result ≡ names_file options.now }
+{
+    match options {
+        Options::Replay(options) => options.log,
+        Options::Check | Options::Verify | Options::Live(_) | Options::Attend(_) => None,
+    }
+}
+
+/// The name of a file beside the one of this name.
+pub(crate) fn name_beside(alloc: Global, name: &str, end: &str) -> Result<String, AllocError>
+    ensures { IfOk result (λ beside. string_bytes beside ≡ name.now ++ end.now) }
+{
+    let mut beside = String::new(alloc);
+    beside.push_str(name)?;
+    beside.push_str(end)?;
+    Ok(beside)
+}
+
+/// The names of the files beside this log, of its site and of arrivals.
+fn names_beside(alloc: Global, log: &str) -> Result<(String, String), AllocError> {
+    Ok((
+        name_beside(alloc, log, ".site")?,
+        name_beside(alloc, log, ".at")?,
+    ))
+}
+
+/// The files of these names. They are not opened yet.
+fn kept_files<'a, T: Files<File = File>>(
+    rt: &'a T,
+    log: &'a str,
+    site: &'a str,
+    arrivals: &'a str,
+) -> KeptFiles<FileJournal<'a, T>> {
+    KeptFiles {
+        log: FileJournal::new(rt, Path::new(log)),
+        site: FileJournal::new(rt, Path::new(site)),
+        arrivals: FileJournal::new(rt, Path::new(arrivals)),
+    }
+}
+
+/// Replays over files, or over none.
+fn replay<R: Read, W: Write, L: LogFile, P: Planner, F: Fn(PlannerParts) -> Result<P, AllocError>>(
+    alloc: Global,
+    lines: &mut Lines<R>,
+    output: &mut W,
+    options: &ReplayOptions<'_>,
+    files: &mut Option<KeptFiles<L>>,
+    make: F,
+) -> Result<Status, Trouble>
+    requires range { IsOfFleet options.now.fleet }
+    requires callable { F.IsAlwaysCallable make }
+    requires makes { MakesPlanners P.fits_map P.slot_count (F.post make) }
+    ensures { ReplayedOver P.fits_map P.slot_count (F.post make) options.now (option_map (λ f. record { log = L.contents f.log; site = L.contents f.site }) files.old) result lines.old lines.new (W.contents output.old) (W.contents output.new) }
+{
+    match files {
+        None => match serve(alloc, lines, output, options, make) {
+            Ok(_replayed) => Ok(Status::Done),
+            Err(trouble) => Err(trouble),
+        },
+        Some(files) => {
+            let site = &mut files.site;
+            match serve_kept(alloc, lines, output, options, &mut files.log, site, make) {
+                Ok(()) => Ok(Status::Done),
+                Err(trouble) => Err(trouble),
+            }
+        }
+    }
+}
+
+/// Has clients, agents and a clock work over a screen, or over none.
+fn live_over<
+    T: Threads + Wait + Clock + Sync,
+    R: Read,
+    W: Write,
+    S: Screen + Send + Drop,
+    P: Planner,
+    F: Fn(PlannerParts) -> Result<P, AllocError>,
+>(
+    rt: &T,
+    alloc: Global,
+    lines: &mut Lines<R>,
+    output: &mut W,
+    options: &LiveOptions<'_>,
+    screen: &mut Option<S>,
+    make: F,
+) -> Result<Status, Trouble>
+    requires range { IsOfFleet options.now.fleet }
+    requires callable { F.IsAlwaysCallable make }
+    requires makes { MakesPlanners P.fits_map P.slot_count (F.post make) }
+    ensures { LivedOver P.fits_map P.slot_count (F.post make) options.now (option_map S.shown screen.old) (option_map S.shown screen.new) result lines.old lines.new (W.contents output.old) (W.contents output.new) }
+{
+    match host(rt, alloc, lines, output, options, screen, make) {
+        Ok(()) => Ok(Status::Done),
+        Err(trouble) => Err(trouble),
+    }
+}
+
+/// Has clients, agents and a clock work, and shows boards of the run in the file that the options name, if they name one.
+#[tactic(auto, using(crate::proofs::Starved::starved_live))]
+fn live_by_name<
+    'a,
+    T: Threads + Wait + Clock + Sync,
+    R: Read,
+    W: Write,
+    P: Planner,
+    F: Fn(PlannerParts) -> Result<P, AllocError>,
+>(
+    rt: &T,
+    files: &'a HostRuntime,
+    alloc: Global,
+    lines: &mut Lines<R>,
+    output: &mut W,
+    options: &LiveOptions<'a>,
+    make: F,
+) -> Result<Status, Trouble>
+    requires range { IsOfFleet options.now.fleet }
+    requires callable { F.IsAlwaysCallable make }
+    requires makes { MakesPlanners P.fits_map P.slot_count (F.post make) }
+    ensures { Lived P.fits_map P.slot_count (F.post make) options.now result lines.old lines.new (W.contents output.old) (W.contents output.new) }
+{
+    match options.board {
+        None => {
+            let mut none: Option<FileScreen<'a, HostRuntime>> = None;
+            live_over(rt, alloc, lines, output, options, &mut none, make)
+        }
+        Some(board) => match name_beside(alloc, board, ".new") {
+            Ok(beside) => {
+                let mut screen = Some(FileScreen::new(files, board, beside));
+                live_over(rt, alloc, lines, output, options, &mut screen, make)
+            }
+            Err(_) => Err(Trouble::NoMemory),
+        },
+    }
+}
+
+/// Does what the options ask for, a replay over these files, or over none.
+fn obey<
+    'a,
+    T: Threads + Wait + Clock + Sync,
+    R: Read,
+    W: Write,
+    L: LogFile,
+    P: Planner,
+    F: Fn(PlannerParts) -> Result<P, AllocError>,
+>(
+    rt: &T,
+    files: &'a HostRuntime,
+    alloc: Global,
+    lines: &mut Lines<R>,
+    output: &mut W,
+    options: &Options<'a>,
+    kept: &mut Option<KeptFiles<L>>,
+    make: F,
+) -> Result<Status, Trouble>
+    requires range { HasRange options.now }
+    requires callable { F.IsAlwaysCallable make }
+    requires makes { MakesPlanners P.fits_map P.slot_count (F.post make) }
+    ensures { Did P.fits_map P.slot_count (F.post make) (Attended P.fits_map P.slot_count (F.post make) ⟦<Inlet<'a, HostRuntime> as Read>⟧.remaining ⟦<BufWriter<Outlet> as Write>⟧.contents) options.now (option_map (λ f. record { log = L.contents f.log; site = L.contents f.site }) kept.old) result lines.old lines.new (W.contents output.old) (W.contents output.new) }
+{
+    match options {
+        Options::Check => judge(rt, alloc, lines, output),
+        Options::Verify => judge_log(alloc, lines, output),
+        Options::Replay(options) => replay(alloc, lines, output, options, kept, make),
+        Options::Live(options) => live_by_name(rt, files, alloc, lines, output, options, make),
+        Options::Attend(options) => {
+            attend_by_name(rt, files, alloc, lines, output, options, make)
+        }
+    }
+}
+
+/// Does what the options ask for, a replay over the files that they name, or over none.
+#[tactic(auto, using(crate::proofs::Whole::is_some_map, crate::proofs::Starved::starved))]
+fn obey_by_name<
+    'a,
+    T: Threads + Wait + Clock + Sync,
+    R: Read,
+    W: Write,
+    P: Planner,
+    F: Fn(PlannerParts) -> Result<P, AllocError>,
+>(
+    rt: &T,
+    files: &'a HostRuntime,
+    alloc: Global,
+    lines: &mut Lines<R>,
+    output: &mut W,
+    options: &Options<'a>,
+    make: F,
+) -> Result<Status, Trouble>
+    requires range { HasRange options.now }
+    requires callable { F.IsAlwaysCallable make }
+    requires makes { MakesPlanners P.fits_map P.slot_count (F.post make) }
+    ensures { (files : Option Files) × (is_some files ≡ names_file options.now) × Did P.fits_map P.slot_count (F.post make) (Attended P.fits_map P.slot_count (F.post make) ⟦<Inlet<'a, HostRuntime> as Read>⟧.remaining ⟦<BufWriter<Outlet> as Write>⟧.contents) options.now files result lines.old lines.new (W.contents output.old) (W.contents output.new) }
+{
+    let Some(log) = log_name(options) else {
+        let mut none: Option<KeptFiles<FileJournal<'a, HostRuntime>>> = None;
+        return obey(rt, files, alloc, lines, output, options, &mut none, make);
+    };
+    match names_beside(alloc, log) {
+        Ok((site, arrivals)) => {
+            let mut kept = Some(kept_files(files, log, site.as_str(), arrivals.as_str()));
+            obey(rt, files, alloc, lines, output, options, &mut kept, make)
+        }
+        Err(_) => Err(Trouble::NoMemory),
+    }
+}
+
+/// Replays with vehicles over the files that the options name, or over none. How many of them are on their way at the end.
+#[tactic(auto, using(crate::proofs::Starved::starved_late))]
+fn drive_by_name<
+    'a,
+    T: Files<File = File>,
+    R: Read,
+    W: Write,
+    P: Planner,
+    F: Fn(PlannerParts) -> Result<P, AllocError>,
+>(
+    rt: &'a T,
+    alloc: Global,
+    lines: &mut Lines<R>,
+    output: &mut W,
+    options: &ReplayOptions<'a>,
+    pace: VehicleOptions,
+    make: F,
+) -> Result<u32, DriveTrouble>
+    requires range { IsOfFleet options.now.fleet }
+    requires ahead { 1 ≤ pace.ahead }
+    requires callable { F.IsAlwaysCallable make }
+    requires makes { MakesPlanners P.fits_map P.slot_count (F.post make) }
+    ensures { (files : Option LateFiles) × (is_some files ≡ is_some options.now.log) × Drove P.fits_map P.slot_count (F.post make) options.now pace files result lines.old lines.new (W.contents output.old) (W.contents output.new) }
+{
+    let Some(log) = options.log else {
+        let mut none: Option<KeptFiles<FileJournal<'a, T>>> = None;
+        return drive_over(alloc, lines, output, options, pace, &mut none, make);
+    };
+    match names_beside(alloc, log) {
+        Ok((site, arrivals)) => {
+            let mut files = Some(kept_files(rt, log, site.as_str(), arrivals.as_str()));
+            drive_over(alloc, lines, output, options, pace, &mut files, make)
+        }
+        Err(_) => Err(DriveTrouble::Plain(Trouble::NoMemory)),
+    }
+}
+
+/// Whether a text was shown.
+fn show<W: Write, X: Display>(writer: &mut W, text: &X) -> bool {
+    write!(writer, "{text}").is_ok() && writer.flush().is_ok()
+}
+
+/// Shows the text of words that give no options where it belongs, and tells how the program ends.
+fn decline<W: Write, E: Write, X: Display>(
+    output: &mut W,
+    errors: &mut E,
+    refusal: Refusal,
+    text: &X,
+) -> Result<Status, Trouble>
+    ensures { (is_shown : Bool) × (result ≡ ended_by refusal is_shown) }
+{
+    let is_shown = match refusal {
+        Refusal::Asked => show(output, text),
+        Refusal::Mistake => show(errors, text),
+        Refusal::NoMemory => false,
+    };
+    ended(refusal, is_shown)
+}
+
+/// The status that tells what the program came to. A trouble is told by a line on standard error, as far as that takes it.
+pub fn end<E: Write>(errors: &mut E, came: Result<Status, Trouble>) -> Status
+    ensures { Ends came result (E.contents errors.old) (E.contents errors.new) }
+{
+    match came {
+        Ok(status) => status,
+        Err(trouble) => {
+            let _shown = write_text(errors, trouble.text().as_slice());
+            trouble.status()
+        }
+    }
+}
+
+/// Does what the words ask for, over this input: the first word is the program's name. `make` makes one planner of its parts, and
+/// its error tells that memory is wanting. The answer is the status with which the program ends; one line on standard error
+/// tells what stopped it. All files and pipes lie where `files` finds them: it is the process's own, since of what is handed to threads
+/// nothing may rest on a bound that is assumed of the caller's thread alone.
+#[tactic(auto, using(crate::proofs::Whole::in_range))]
+pub fn run<
+    'a,
+    T: Threads + Wait + Clock + Sync,
+    A: AsStr,
+    R: Read,
+    W: Write,
+    E: Write,
+    P: Planner,
+    F: Fn(PlannerParts) -> Result<P, AllocError>,
+>(
+    rt: &T,
+    files: &'a HostRuntime,
+    alloc: Global,
+    words: &'a [A],
+    lines: &mut Lines<R>,
+    output: &mut W,
+    errors: &mut E,
+    make: F,
+) -> Status
+    requires callable { F.IsAlwaysCallable make }
+    requires makes { MakesPlanners P.fits_map P.slot_count (F.post make) }
+    ensures { Comes P.fits_map P.slot_count (F.post make) (Attended P.fits_map P.slot_count (F.post make) ⟦<Inlet<'a, HostRuntime> as Read>⟧.remaining ⟦<BufWriter<Outlet> as Write>⟧.contents) (map A.text words.now) result lines.old lines.new (W.contents output.old) (W.contents output.new) (E.contents errors.old) (E.contents errors.new) }
+{
+    match options(alloc, words) {
+        Ok(options) => match late(&options) {
+            Some((replay, pace)) => {
+                let came = drive_by_name(files, alloc, lines, output, &replay, pace, make);
+                end_drive(errors, came)
+            }
+            None => {
+                let came = obey_by_name(rt, files, alloc, lines, output, &options, make);
+                end(errors, came)
+            }
+        },
+        Err(error) => {
+            let came = decline(output, errors, refusal_of(&error), &error);
+            end(errors, came)
+        }
+    }
+}
