@@ -140,7 +140,7 @@ const REPLAYS: [(&[&str], ReplayOptions<'static>); 17] = [
 ];
 
 /// Words that are refused, and the kind of the error.
-const MISTAKES: [(&[&str], ErrorKind); 27] = [
+const MISTAKES: [(&[&str], ErrorKind); 34] = [
     (&["replay", "--log"], ErrorKind::InvalidValue),
     (&["replay", "--log="], ErrorKind::InvalidValue),
     (&["replay", "--log", ""], ErrorKind::InvalidValue),
@@ -198,6 +198,22 @@ const MISTAKES: [(&[&str], ErrorKind); 27] = [
     (&["live", "--every", "0"], ErrorKind::ValueValidation),
     (&["live", "--every=60001"], ErrorKind::ValueValidation),
     (&["replay", "--every", "1"], ErrorKind::UnknownArgument),
+    (
+        &["live", "--board-every=100"],
+        ErrorKind::MissingRequiredArgument,
+    ),
+    (&["live", "--board"], ErrorKind::InvalidValue),
+    (&["live", "--board="], ErrorKind::InvalidValue),
+    (
+        &["live", "--board=b", "--board-every=0"],
+        ErrorKind::ValueValidation,
+    ),
+    (
+        &["live", "--board=b", "--board-every=60001"],
+        ErrorKind::ValueValidation,
+    ),
+    (&["live", "--board=b", "--board=b"], ErrorKind::ArgumentConflict),
+    (&["replay", "--board=b"], ErrorKind::UnknownArgument),
 ];
 
 /// The program's name, with these words behind it.
@@ -246,6 +262,8 @@ fn other_subcommands(rt: HostRuntime) {
         turns: 64,
         journal: 10_000,
         every: None,
+        board: None,
+        board_every: 100,
     };
     assert!(rt; gives(alloc, &["warehouse", "live"], Options::Live(live)));
     let paced = LiveOptions {
@@ -253,6 +271,8 @@ fn other_subcommands(rt: HostRuntime) {
         turns: 100_000,
         journal: 10_000,
         every: Some(10),
+        board: None,
+        board_every: 100,
     };
     assert!(rt;
         gives(
@@ -278,6 +298,10 @@ fn every_option_of_live(rt: HostRuntime) {
         "65536",
         "--spares=16",
         "--every=60000",
+        "--board-every",
+        "1",
+        "--board",
+        "shown/a b",
     ];
     let live = LiveOptions {
         fleet: Fleet {
@@ -289,6 +313,8 @@ fn every_option_of_live(rt: HostRuntime) {
         turns: 7,
         journal: 1_000_000,
         every: Some(60_000),
+        board: Some("shown/a b"),
+        board_every: 1,
     };
     assert!(rt; gives(rt.alloc(), words.as_slice(), Options::Live(live)));
 }

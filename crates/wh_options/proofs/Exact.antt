@@ -17,7 +17,7 @@ use Rattle.clap.specs.Faults.{action_fault, built_fault, check_fault, default_fa
 use Rattle.clap.specs.Simple.{App, Shape, built, entered, filled, label_of, names_of}
 use Rattle.clap.specs.declared.builder.value_parser.ValueParser.TheVariants as vp
 use Rattle.wh_options.specs.Setting.{IsInPlace, IsLine, Setting, Spelling, StandsBy, alone, apart, has_some, is_switch, joined, spelled, value_of}
-use Rattle.wh_options.specs.Options.{GivesFleet, GivesLog, GivesNumber, GivesPlanner, GivesReplay, GivesReplies, GivesTail, MayGive, IsWritten, WordsGive, default_turns, live_names, log_of, planner_text, replay_names, replies_text, tail_text}
+use Rattle.wh_options.specs.Options.{EachGives, GivesFleet, GivesFile, GivesLive, GivesNumber, GivesPlanner, GivesReplay, GivesReplies, GivesTail, MayGive, IsWritten, WordsGive, board_of, default_turns, live_names, log_of, planner_text, replay_names, replies_text, tail_text}
 use Rattle.wh_options.specs.Menu.{Choices, IsMenu, choice_rule, file_rule, menu, number_rule, planner_words, replies_words, switch_rule, tail_words}
 use Rattle.wh_options.specs.declared.chosen.Options.{Options}
 use Rattle.wh_options.specs.declared.chosen.Options.TheVariants.{Check, Replay, Verify, Live}
@@ -349,11 +349,11 @@ valid_replies s settings x choices replies is value found words gives =
     (word_taken choices replies_words x.value words (subst (λ t. list_any (λ w. bytes_eq w t) replies_words ≡ true) (sym given) (replies_listed replies)))
     value.1
 
-valid_log : (s : Shape) (settings : List Setting) (x : Setting) (log : Option Text) → x.name ≡ codes "log" → IsGiven settings x
-    → arg_by_long s.rules (codes "log") ≡ Some (filled (file_rule (codes "log"))) → GivesLog settings log → IsValid s x
-valid_log s settings x log is value found gives =
-    let given : log ≡ Some x.value = gives.is ∙ value_at settings x (codes "log") is value.0 in
-    valid_setting s x (codes "log") (filled (file_rule (codes "log"))) is found (file_option (codes "log")) refl refl refl
+valid_file : (s : Shape) (settings : List Setting) (x : Setting) (name : Text) (file : Option Text) → x.name ≡ name → IsGiven settings x
+    → arg_by_long s.rules name ≡ Some (filled (file_rule name)) → has_some name ≡ true → has_byte 61 name ≡ false → is_switch name ≡ false → GivesFile settings name file → IsValid s x
+valid_file s settings x name file is value found some plain no_switch gives =
+    let given : file ≡ Some x.value = gives.is ∙ value_at settings x name is value.0 in
+    valid_setting s x name (filled (file_rule name)) is found (file_option name) some plain no_switch
     (name_taken x.value (λ empty. gives.named (given ∙ empty))) value.1
 
 valid_may : (s : Shape) (settings : List Setting) (x : Setting) (name : Text) (least most : ℕ) (read : Option ℕ) → x.name ≡ name → IsGiven settings x
@@ -414,7 +414,7 @@ replay_valid p t r q settings o planners tails words gives x listed value =
       | inr f ↦ elim (either_true _ _ f) [
         | inl is ↦ valid_replies (leaf_at 1 p t r q) settings x r o.replies (bytes_same _ _ is) value refl words gives.replies
         | inr g ↦ elim (either_true _ _ g) [
-          | inl is ↦ valid_log (leaf_at 1 p t r q) settings x (log_of o) (bytes_same _ _ is) value refl gives.log
+          | inl is ↦ valid_file (leaf_at 1 p t r q) settings x (codes "log") (log_of o) (bytes_same _ _ is) value refl refl refl refl gives.log
           | inr h ↦ elim (either_true _ _ h) [
             | inl is ↦ valid_may (leaf_at 1 p t r q) settings x (codes "told") 0 999999999 o.told (bytes_same _ _ is) value refl refl refl refl (lit< tt) gives.told
             | inr i ↦ vehicles_valid p t r q settings o gives x value i
@@ -423,18 +423,27 @@ replay_valid p t r q settings o planners tails words gives x listed value =
       ]
     ]) listed
 
-live_valid : (p t r q : Choices) (settings : List Setting) (o : LiveOptions) → texts q.now ≡ planner_words → GivesFleet settings o.fleet
-    → GivesNumber settings (codes "turns") (default_turns o.every) 1 100000 o.turns → GivesNumber settings (codes "journal") 10000 1 1000000 o.journal → MayGive settings (codes "every") 1 60000 o.every
+board_valid : (p t r q : Choices) (settings : List Setting) (o : LiveOptions) → GivesLive settings o
+    → (x : Setting) → IsGiven settings x → list_any (bytes_eq x.name) (drop 7 live_names) ≡ true → IsValid (leaf_at 3 p t r q) x
+board_valid p t r q settings o gives x value e = elim (either_true _ _ e) [
+  | inl is ↦ valid_file (leaf_at 3 p t r q) settings x (codes "board") (board_of o) (bytes_same _ _ is) value refl refl refl refl gives.board
+  | inr f ↦ elim (either_true _ _ f) [
+    | inl is ↦ valid_number (leaf_at 3 p t r q) settings x (codes "board-every") 1 60000 100 o.board_every (bytes_same _ _ is) value refl refl refl refl (lit< tt) gives.board_every
+    | inr none ↦ absurd (true≢false (sym none))
+  ]
+]
+
+live_valid : (p t r q : Choices) (settings : List Setting) (o : LiveOptions) → texts q.now ≡ planner_words → GivesLive settings o
     → (x : Setting) → list_any (bytes_eq x.name) live_names ≡ true → IsGiven settings x → IsValid (leaf_at 3 p t r q) x
-live_valid p t r q settings o planners fleet turns journal every x listed value =
-    fleet_valid (leaf_at 3 p t r q) settings q o.fleet (codes "turns" ∷ codes "journal" ∷ codes "every" ∷ []) planners fleet refl refl refl refl x value
+live_valid p t r q settings o planners gives x listed value =
+    fleet_valid (leaf_at 3 p t r q) settings q o.fleet (drop 4 live_names) planners gives.fleet refl refl refl refl x value
     (λ e. elim (either_true _ _ e) [
-      | inl is ↦ valid_number (leaf_at 3 p t r q) settings x (codes "turns") 1 100000 (default_turns o.every) o.turns (bytes_same _ _ is) value refl refl refl refl (lit< tt) turns
+      | inl is ↦ valid_number (leaf_at 3 p t r q) settings x (codes "turns") 1 100000 (default_turns o.every) o.turns (bytes_same _ _ is) value refl refl refl refl (lit< tt) gives.turns
       | inr f ↦ elim (either_true _ _ f) [
-        | inl is ↦ valid_number (leaf_at 3 p t r q) settings x (codes "journal") 1 1000000 10000 o.journal (bytes_same _ _ is) value refl refl refl refl (lit< tt) journal
+        | inl is ↦ valid_number (leaf_at 3 p t r q) settings x (codes "journal") 1 1000000 10000 o.journal (bytes_same _ _ is) value refl refl refl refl (lit< tt) gives.journal
         | inr g ↦ elim (either_true _ _ g) [
-          | inl is ↦ valid_may (leaf_at 3 p t r q) settings x (codes "every") 1 60000 o.every (bytes_same _ _ is) value refl refl refl refl (lit< tt) every
-          | inr none ↦ absurd (true≢false (sym none))
+          | inl is ↦ valid_may (leaf_at 3 p t r q) settings x (codes "every") 1 60000 o.every (bytes_same _ _ is) value refl refl refl refl (lit< tt) gives.every
+          | inr h ↦ board_valid p t r q settings o gives x value h
         ]
       ]
     ]) listed
@@ -451,7 +460,6 @@ line_fine p t r q words name told settings leaf is enters all checks taken line 
     let built_fine : fault_of (menu p t r q) (line.program ∷ name ∷ line.after) ≡ [] = top_fine (built (menu p t r q)) name leaf line.after enters (level_fine leaf line.after all checks fine_after) in
     subst (λ ws. fault_of (menu p t r q) ws ≡ []) (sym whole) built_fine
 
--- also where the options do not go together
 replay_fine : (p t r q : Choices) (words : List Text) (name : Text) (settings : List Setting) (o : ReplayOptions) → texts p.now ≡ planner_words → texts t.now ≡ tail_words → texts r.now ≡ replies_words
     → name ≡ codes "replay" → IsLine words name settings → GivesReplay settings o → fault_of (menu p t r q) words ≡ []
 replay_fine p t r q words name settings o planners tails replies is line gives =
@@ -459,27 +467,33 @@ replay_fine p t r q words name settings o planners tails replies is line gives =
     line_fine p t r q words (codes "replay") name settings (leaf_at 1 p t r q) is (replay_enters p t r q) (replay_plain p t r q) (λ rows. refl)
     (valid_taken (leaf_at 1 p t r q) settings [] (replay_plain p t r q) refl valid (none_fresh settings) line.once) line
 
-menu_fine : (p t r q : Choices) (words : List Text) (o : Options) → texts p.now ≡ planner_words → texts t.now ≡ tail_words → texts r.now ≡ replies_words → texts q.now ≡ planner_words → WordsGive words o → fault_of (menu p t r q) words ≡ []
-menu_fine p t r q words Check planners tails replies others gives =
-    line_fine p t r q words (codes "check") gives.0 gives.1 (leaf_at 0 p t r q) gives.3.0 (check_enters p t r q) asking_plain (λ rows. refl)
-    (subst (λ xs. AllTaken (leaf_at 0 p t r q) xs []) (sym gives.3.1) tt) gives.2
-menu_fine p t r q words Verify planners tails replies others gives =
-    line_fine p t r q words (codes "verify") gives.0 gives.1 (leaf_at 2 p t r q) gives.3.0 (verify_enters p t r q) asking_plain (λ rows. refl)
-    (subst (λ xs. AllTaken (leaf_at 2 p t r q) xs []) (sym gives.3.1) tt) gives.2
-menu_fine p t r q words (Replay o) planners tails replies others gives =
-    replay_fine p t r q words gives.0 gives.1 o planners tails replies gives.3.0 gives.2 gives.3.1
-menu_fine p t r q words (Live o) planners tails replies others gives =
-    let valid = all_zip _ _ _ (live_valid p t r q gives.1 o others gives.3.2 gives.3.3 gives.3.4 gives.3.5) gives.1 gives.3.1 (each_given gives.1 gives.2.once gives.2.spelling.in_place) in
-    line_fine p t r q words (codes "live") gives.0 gives.1 (leaf_at 3 p t r q) gives.3.0 (live_enters p t r q) (live_plain p t r q) (λ rows. refl)
-    (valid_taken (leaf_at 3 p t r q) gives.1 [] (live_plain p t r q) refl valid (none_fresh gives.1) gives.2.once) gives.2
+live_fine : (p t r q : Choices) (words : List Text) (name : Text) (settings : List Setting) (o : LiveOptions) → texts q.now ≡ planner_words
+    → name ≡ codes "live" → IsLine words name settings → GivesLive settings o → fault_of (menu p t r q) words ≡ []
+live_fine p t r q words name settings o planners is line gives =
+    let valid = all_zip _ _ _ (live_valid p t r q settings o planners gives) settings gives.only (each_given settings line.once line.spelling.in_place) in
+    line_fine p t r q words (codes "live") name settings (leaf_at 3 p t r q) is (live_enters p t r q) (live_plain p t r q) (λ rows. refl)
+    (valid_taken (leaf_at 3 p t r q) settings [] (live_plain p t r q) refl valid (none_fresh settings) line.once) line
+
+-- also where the options do not go together
+menu_fine : (p t r q : Choices) (words : List Text) (name : Text) (settings : List Setting) (o : Options) → texts p.now ≡ planner_words → texts t.now ≡ tail_words → texts r.now ≡ replies_words → texts q.now ≡ planner_words
+    → IsLine words name settings → EachGives name settings o → fault_of (menu p t r q) words ≡ []
+menu_fine p t r q words name settings Check planners tails replies others line gives =
+    line_fine p t r q words (codes "check") name settings (leaf_at 0 p t r q) gives.0 (check_enters p t r q) asking_plain (λ rows. refl)
+    (subst (λ xs. AllTaken (leaf_at 0 p t r q) xs []) (sym gives.1) tt) line
+menu_fine p t r q words name settings Verify planners tails replies others line gives =
+    line_fine p t r q words (codes "verify") name settings (leaf_at 2 p t r q) gives.0 (verify_enters p t r q) asking_plain (λ rows. refl)
+    (subst (λ xs. AllTaken (leaf_at 2 p t r q) xs []) (sym gives.1) tt) line
+menu_fine p t r q words name settings (Replay o) planners tails replies others line gives =
+    replay_fine p t r q words name settings o planners tails replies gives.0 line gives.1
+menu_fine p t r q words name settings (Live o) planners tails replies others line gives =
+    live_fine p t r q words name settings o others gives.0 line gives.1
+
+-- words whose options each say something are not refused
+pub each_is_taken : (a : App) (words : List Text) (name : Text) (settings : List Setting) (o : Options) → IsMenu a → IsLine words name settings → EachGives name settings o → fault_of a words ≡ []
+each_is_taken a words name settings o m line gives =
+    subst (λ (x : App). fault_of x words ≡ []) (sym m.is)
+    (menu_fine m.planners m.tails m.replies m.others words name settings o m.planner_texts m.tail_texts m.replies_texts m.other_texts line gives)
 
 -- words that give options are not refused
 pub given_is_taken : (a : App) (words : List Text) (o : Options) → IsMenu a → WordsGive words o → fault_of a words ≡ []
-given_is_taken a words o m gives =
-    subst (λ (x : App). fault_of x words ≡ []) (sym m.is) (menu_fine m.planners m.tails m.replies m.others words o m.planner_texts m.tail_texts m.replies_texts m.other_texts gives)
-
--- nor are words whose options each say something
-pub each_is_taken : (a : App) (words : List Text) (settings : List Setting) (o : ReplayOptions) → IsMenu a → IsLine words (codes "replay") settings → GivesReplay settings o → fault_of a words ≡ []
-each_is_taken a words settings o m line gives =
-    subst (λ (x : App). fault_of x words ≡ []) (sym m.is)
-    (replay_fine m.planners m.tails m.replies m.others words (codes "replay") settings o m.planner_texts m.tail_texts m.replies_texts refl line gives)
+given_is_taken a words o m gives = each_is_taken a words gives.0 gives.1 o m gives.2 gives.3.0

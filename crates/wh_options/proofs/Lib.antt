@@ -7,6 +7,7 @@ pub mod Words
 pub mod Rows
 pub mod Top
 pub mod Values
+pub mod Names
 pub mod Menus
 pub mod Spells
 pub mod Exact

@@ -1,5 +1,5 @@
 -- The words that the program's command takes, and what they mean.
-use Rattle.std.proofs.Common.{◌≡◌, ◌⊎◌, ℕ, List, [], ◌∷◌, map, refl, sym, ap, ◌∙◌, Bool, true, false, cond, None, Some, Option, subst, inl, inr, codes, lit<, true≢false, not, is_some, ◌&&◌}
+use Rattle.std.proofs.Common.{◌≡◌, ◌⊎◌, ℕ, List, [], ◌∷◌, map, refl, sym, ap, ◌∙◌, Bool, true, false, cond, None, Some, Option, subst, inl, inr, codes, lit<, not, is_some, ◌&&◌}
 use Rattle.std.specs.Prelude.{drop, find, slice_get, unwrap_or}
 use Rattle.std.specs.List.{AllByRecursion, IsDistinct}
 use Rattle.std.specs.Str.{bytes_eq}
@@ -8,7 +8,7 @@ use Rattle.clap.specs.Simple.{App, Shape, built, filled, help_rule, is_simple, l
 use Rattle.clap.specs.declared.builder.action.ArgAction.TheVariants.{Set, Help, Version}
 use Rattle.clap.specs.Walk.{Row, Rule, Text, action_of, answers_to, arg_by_long, first_of, nothing_held, rows_after, settled, texts, walk, has_long}
 use Rattle.wh_options.specs.Setting.{IsLine, IsSpelled, Setting, is_switch, value_of}
-use Rattle.wh_options.specs.Options.{GivesFleet, HasOnly, LacksAny, Means, WordsGive, default_turns, log_of, replay_names}
+use Rattle.wh_options.specs.Options.{GivesFleet, LacksAny, LiveLacks, Means, ReplayLacks, WordsGive, board_of, default_turns, live_names, log_of, replay_names}
 use Rattle.wh_options.specs.Reads.{Reads, ReadsFleet}
 use Rattle.wh_options.specs.Menu.{Choices, IsMenu, choice_rule, file_rule, menu, number_rule, planner_words, replies_words, switch_rule, tail_words}
 use Rattle.clap.specs.declared.builder.value_parser.ValueParser.TheVariants as vp
@@ -17,10 +17,11 @@ use Rattle.wh_options.specs.declared.chosen.Options.TheVariants.{Check, Replay, 
 use Rattle.wh_options.specs.declared.chosen.Fleet.{Fleet}
 use Rattle.wh_options.proofs.Shapes.{find_in}
 use Rattle.wh_options.proofs.Leaf.{ArePlain, IsAsking, IsOption, IsPlainRule, IsSetting}
-use Rattle.wh_options.proofs.Words.{self_same, words_said}
+use Rattle.wh_options.proofs.Words.{words_said}
 use Rattle.wh_options.proofs.Rows.{IsTaken, first_given, no_defaults, results}
 use Rattle.wh_options.proofs.Top.{IsMenuApp, level_parts, menu_entered}
-use Rattle.wh_options.proofs.Values.{some_same, log_given, no_settings, number_given, only_names, planner_given, replies_given, tail_given, may_given, vehicles_given}
+use Rattle.wh_options.proofs.Names.{Named, only_named, other_word}
+use Rattle.wh_options.proofs.Values.{some_same, file_given, no_settings, number_given, only_names, planner_given, replies_given, tail_given, may_given, vehicles_given}
 
 -- ---- any subcommand
 
@@ -163,14 +164,25 @@ live_fleet p t r q = record {
   spares = (filled (number_rule (codes "spares") 0 16), refl, refl, refl);
 }
 
-pub other_word : (a b : Text) → bytes_eq a b ≡ false → a ≡ b → ⊥
-other_word a b differ e =
-    let same : bytes_eq a b ≡ true = subst (λ c. bytes_eq a c ≡ true) e (self_same a) in
-    true≢false (sym same ∙ differ)
+-- what is found and what the settings give are amiss alike
+pub lacks_as : (Lack : (Text → Option Text) → Type 0) (f g : Text → Option Text) → ((id : Text) → f id ≡ g id) → Lack f → Lack g
+lacks_as Lack f g same lacks = subst Lack (λ i id. same id i) lacks
+
+none_lacks : (name : Text) (given : Text → Option Text) → bytes_eq name (codes "replay") ≡ false → bytes_eq name (codes "live") ≡ false → LacksAny name given → ⊥
+none_lacks name given no_replay no_live (inl lacks) = other_word name (codes "replay") no_replay lacks.0
+none_lacks name given no_replay no_live (inr lacks) = other_word name (codes "live") no_live lacks.0
+
+replay_lacks : (given found : Text → Option Text) → ((id : Text) → found id ≡ given id) → (ReplayLacks found → ⊥) → LacksAny (codes "replay") given → ⊥
+replay_lacks given found same never (inl lacks) = never (lacks_as ReplayLacks given found (λ id. sym (same id)) lacks.1)
+replay_lacks given found same never (inr lacks) = other_word (codes "replay") (codes "live") refl lacks.0
+
+live_lacks : (given found : Text → Option Text) → ((id : Text) → found id ≡ given id) → (LiveLacks found → ⊥) → LacksAny (codes "live") given → ⊥
+live_lacks given found same never (inl lacks) = other_word (codes "live") (codes "replay") refl lacks.0
+live_lacks given found same never (inr lacks) = never (lacks_as LiveLacks given found (λ id. sym (same id)) lacks.1)
 
 check_means : (p t r q : Choices) (rest : List Text) (o : Options) (says : LeafSays (leaf_at 0 p t r q) rest)
     → Reads (codes "check") (λ id. first_of id (rows_after (leaf_at 0 p t r q).rules [] rest)) o → Means (codes "check") says.settings o
-check_means p t r q rest Check says reads = (refl, no_settings (leaf_at 0 p t r q).rules says.settings (is_asking (leaf_at 0 p t r q).rules asking) says.taken)
+check_means p t r q rest Check says reads = ((refl, no_settings (leaf_at 0 p t r q).rules says.settings (is_asking (leaf_at 0 p t r q).rules asking) says.taken), none_lacks (codes "check") (λ id. value_of id says.settings) refl refl)
 check_means p t r q rest (Replay o) says reads = absurd (other_word (codes "check") (codes "replay") refl reads.0)
 check_means p t r q rest Verify says reads = absurd (other_word (codes "check") (codes "verify") refl reads)
 check_means p t r q rest (Live o) says reads = absurd (other_word (codes "check") (codes "live") refl reads.0)
@@ -179,7 +191,7 @@ verify_means : (p t r q : Choices) (rest : List Text) (o : Options) (says : Leaf
     → Reads (codes "verify") (λ id. first_of id (rows_after (leaf_at 2 p t r q).rules [] rest)) o → Means (codes "verify") says.settings o
 verify_means p t r q rest Check says reads = absurd (reads.2 refl)
 verify_means p t r q rest (Replay o) says reads = absurd (other_word (codes "verify") (codes "replay") refl reads.0)
-verify_means p t r q rest Verify says reads = (refl, no_settings (leaf_at 2 p t r q).rules says.settings (is_asking (leaf_at 2 p t r q).rules asking) says.taken)
+verify_means p t r q rest Verify says reads = ((refl, no_settings (leaf_at 2 p t r q).rules says.settings (is_asking (leaf_at 2 p t r q).rules asking) says.taken), none_lacks (codes "verify") (λ id. value_of id says.settings) refl refl)
 verify_means p t r q rest (Live o) says reads = absurd (other_word (codes "verify") (codes "live") refl reads.0)
 
 option_plain : (r : Rule) → r.long ≡ Some r.id → r.aliases ≡ [] → r.index ≡ None → r.defaults ≡ [] → IsOption r → is_switch r.id ≡ false → IsPlainRule r
@@ -210,33 +222,31 @@ pub replay_plain : (p t r q : Choices) → ArePlain (leaf_at 1 p t r q).rules
 replay_plain p t r q = (choice_plain (codes "planner") p refl, (number_plain (codes "slots") 2 64 refl, (number_plain (codes "bank") 2 65536 refl, (number_plain (codes "spares") 0 16 refl, (choice_plain (codes "tail") t refl, (choice_plain (codes "replies") r refl, (file_plain (codes "log") refl, (number_plain (codes "told") 0 999999999 refl, vehicles_plain Flags asking_plain))))))))
 
 pub live_plain : (p t r q : Choices) → ArePlain (leaf_at 3 p t r q).rules
-live_plain p t r q = (choice_plain (codes "planner") q refl, (number_plain (codes "slots") 2 64 refl, (number_plain (codes "bank") 2 65536 refl, (number_plain (codes "spares") 0 16 refl, (number_plain (codes "turns") 1 100000 refl, (number_plain (codes "journal") 1 1000000 refl, (number_plain (codes "every") 1 60000 refl, asking_plain)))))))
-
--- what is found and what the settings give are amiss alike
-pub lacks_as : (f g : Text → Option Text) → ((id : Text) → f id ≡ g id) → LacksAny f → LacksAny g
-lacks_as f g same lacks = subst LacksAny (λ i id. same id i) lacks
+live_plain p t r q = (choice_plain (codes "planner") q refl, (number_plain (codes "slots") 2 64 refl, (number_plain (codes "bank") 2 65536 refl, (number_plain (codes "spares") 0 16 refl, (number_plain (codes "turns") 1 100000 refl, (number_plain (codes "journal") 1 1000000 refl, (number_plain (codes "every") 1 60000 refl, (file_plain (codes "board") refl, (number_plain (codes "board-every") 1 60000 refl, asking_plain)))))))))
 
 replay_means : (p t r q : Choices) (rest : List Text) (o : Options) (says : LeafSays (leaf_at 1 p t r q) rest) → texts p.now ≡ planner_words → texts t.now ≡ tail_words → texts r.now ≡ replies_words
     → Reads (codes "replay") (λ id. first_of id (rows_after (leaf_at 1 p t r q).rules [] rest)) o → Means (codes "replay") says.settings o
 replay_means p t r q rest Check says planners tails replies reads = absurd (reads.0 refl)
 replay_means p t r q rest (Replay o) says planners tails replies reads = (
-  refl,
-  record {
-    only = only_names (leaf_at 1 p t r q).rules says.settings (replay_plain p t r q) says.taken;
-    fleet = fleet_given (leaf_at 1 p t r q) rest p o.fleet (replay_fleet p t r q) planners says reads.1.fleet;
-    tail = tail_given (leaf_at 1 p t r q).rules says.settings o.tail says.taken t tails (filled (choice_rule (codes "tail") t)) refl refl refl
-        (first_of (codes "tail") (rows_after (leaf_at 1 p t r q).rules [] rest)) (says.first (codes "tail")) reads.1.tail;
-    replies = replies_given (leaf_at 1 p t r q).rules says.settings o.replies says.taken r replies (filled (choice_rule (codes "replies") r)) refl refl refl
-        (first_of (codes "replies") (rows_after (leaf_at 1 p t r q).rules [] rest)) (says.first (codes "replies")) reads.1.replies;
-    log = log_given (leaf_at 1 p t r q).rules says.settings (log_of o) says.taken (filled (file_rule (codes "log"))) refl refl
-        (first_of (codes "log") (rows_after (leaf_at 1 p t r q).rules [] rest)) (says.first (codes "log")) reads.1.log;
-    told = may_given (leaf_at 1 p t r q).rules says.settings (codes "told") 0 999999999 o.told (lit< tt) says.taken (filled (number_rule (codes "told") 0 999999999)) refl refl refl
-        (first_of (codes "told") (rows_after (leaf_at 1 p t r q).rules [] rest)) (says.first (codes "told")) reads.1.told;
-    vehicles = vehicles_given (leaf_at 1 p t r q).rules says.settings o.vehicles says.taken
-        (filled (number_rule (codes "behind") 1 1000)) refl refl refl (filled (number_rule (codes "ahead") 1 1000)) refl refl refl
-        (λ id. first_of id (rows_after (leaf_at 1 p t r q).rules [] rest)) says.first reads.1.vehicles;
-  },
-  λ lacks. reads.2 (lacks_as (λ id. value_of id says.settings) _ (λ id. sym (says.first id)) lacks),
+  (
+    refl,
+    record {
+      only = only_names (leaf_at 1 p t r q).rules says.settings (replay_plain p t r q) says.taken;
+      fleet = fleet_given (leaf_at 1 p t r q) rest p o.fleet (replay_fleet p t r q) planners says reads.1.fleet;
+      tail = tail_given (leaf_at 1 p t r q).rules says.settings o.tail says.taken t tails (filled (choice_rule (codes "tail") t)) refl refl refl
+          (first_of (codes "tail") (rows_after (leaf_at 1 p t r q).rules [] rest)) (says.first (codes "tail")) reads.1.tail;
+      replies = replies_given (leaf_at 1 p t r q).rules says.settings o.replies says.taken r replies (filled (choice_rule (codes "replies") r)) refl refl refl
+          (first_of (codes "replies") (rows_after (leaf_at 1 p t r q).rules [] rest)) (says.first (codes "replies")) reads.1.replies;
+      log = file_given (leaf_at 1 p t r q).rules says.settings (codes "log") (log_of o) says.taken (filled (file_rule (codes "log"))) refl refl
+          (first_of (codes "log") (rows_after (leaf_at 1 p t r q).rules [] rest)) (says.first (codes "log")) reads.1.log;
+      told = may_given (leaf_at 1 p t r q).rules says.settings (codes "told") 0 999999999 o.told (lit< tt) says.taken (filled (number_rule (codes "told") 0 999999999)) refl refl refl
+          (first_of (codes "told") (rows_after (leaf_at 1 p t r q).rules [] rest)) (says.first (codes "told")) reads.1.told;
+      vehicles = vehicles_given (leaf_at 1 p t r q).rules says.settings o.vehicles says.taken
+          (filled (number_rule (codes "behind") 1 1000)) refl refl refl (filled (number_rule (codes "ahead") 1 1000)) refl refl refl
+          (λ id. first_of id (rows_after (leaf_at 1 p t r q).rules [] rest)) says.first reads.1.vehicles;
+    },
+  ),
+  replay_lacks (λ id. value_of id says.settings) (λ id. first_of id (rows_after (leaf_at 1 p t r q).rules [] rest)) says.first reads.2,
 )
 replay_means p t r q rest Verify says planners tails replies reads = absurd (other_word (codes "replay") (codes "verify") refl reads)
 replay_means p t r q rest (Live o) says planners tails replies reads = absurd (other_word (codes "replay") (codes "live") refl reads.0)
@@ -247,15 +257,24 @@ live_means p t r q rest Check says planners reads = absurd (reads.1 refl)
 live_means p t r q rest (Replay o) says planners reads = absurd (other_word (codes "live") (codes "replay") refl reads.0)
 live_means p t r q rest Verify says planners reads = absurd (other_word (codes "live") (codes "verify") refl reads)
 live_means p t r q rest (Live o) says planners reads = (
-  refl,
-  only_names (leaf_at 3 p t r q).rules says.settings (live_plain p t r q) says.taken,
-  fleet_given (leaf_at 3 p t r q) rest q o.fleet (live_fleet p t r q) planners says reads.1.fleet,
-  number_given (leaf_at 3 p t r q).rules says.settings (codes "turns") 1 100000 (default_turns o.every) o.turns (lit< tt) says.taken (filled (number_rule (codes "turns") 1 100000)) refl refl refl
-      (first_of (codes "turns") (rows_after (leaf_at 3 p t r q).rules [] rest)) (says.first (codes "turns")) reads.1.turns,
-  number_given (leaf_at 3 p t r q).rules says.settings (codes "journal") 1 1000000 10000 o.journal (lit< tt) says.taken (filled (number_rule (codes "journal") 1 1000000)) refl refl refl
-      (first_of (codes "journal") (rows_after (leaf_at 3 p t r q).rules [] rest)) (says.first (codes "journal")) reads.1.journal,
-  may_given (leaf_at 3 p t r q).rules says.settings (codes "every") 1 60000 o.every (lit< tt) says.taken (filled (number_rule (codes "every") 1 60000)) refl refl refl
-      (first_of (codes "every") (rows_after (leaf_at 3 p t r q).rules [] rest)) (says.first (codes "every")) reads.1.every,
+  (
+    refl,
+    record {
+      only = only_names (leaf_at 3 p t r q).rules says.settings (live_plain p t r q) says.taken;
+      fleet = fleet_given (leaf_at 3 p t r q) rest q o.fleet (live_fleet p t r q) planners says reads.1.fleet;
+      turns = number_given (leaf_at 3 p t r q).rules says.settings (codes "turns") 1 100000 (default_turns o.every) o.turns (lit< tt) says.taken (filled (number_rule (codes "turns") 1 100000)) refl refl refl
+          (first_of (codes "turns") (rows_after (leaf_at 3 p t r q).rules [] rest)) (says.first (codes "turns")) reads.1.turns;
+      journal = number_given (leaf_at 3 p t r q).rules says.settings (codes "journal") 1 1000000 10000 o.journal (lit< tt) says.taken (filled (number_rule (codes "journal") 1 1000000)) refl refl refl
+          (first_of (codes "journal") (rows_after (leaf_at 3 p t r q).rules [] rest)) (says.first (codes "journal")) reads.1.journal;
+      every = may_given (leaf_at 3 p t r q).rules says.settings (codes "every") 1 60000 o.every (lit< tt) says.taken (filled (number_rule (codes "every") 1 60000)) refl refl refl
+          (first_of (codes "every") (rows_after (leaf_at 3 p t r q).rules [] rest)) (says.first (codes "every")) reads.1.every;
+      board = file_given (leaf_at 3 p t r q).rules says.settings (codes "board") (board_of o) says.taken (filled (file_rule (codes "board"))) refl refl
+          (first_of (codes "board") (rows_after (leaf_at 3 p t r q).rules [] rest)) (says.first (codes "board")) reads.1.board;
+      board_every = number_given (leaf_at 3 p t r q).rules says.settings (codes "board-every") 1 60000 100 o.board_every (lit< tt) says.taken (filled (number_rule (codes "board-every") 1 60000)) refl refl refl
+          (first_of (codes "board-every") (rows_after (leaf_at 3 p t r q).rules [] rest)) (says.first (codes "board-every")) reads.1.board_every;
+    },
+  ),
+  live_lacks (λ id. value_of id says.settings) (λ id. first_of id (rows_after (leaf_at 3 p t r q).rules [] rest)) says.first reads.2,
 )
 
 -- ---- the whole line
@@ -296,30 +315,48 @@ given_by p t r q words after rest program o leaf near tails replies patient whol
     let named : after ≡ codes "live" ∷ rest = subst (λ (s : Shape). after ≡ s.name ∷ rest) (sym is) first in
     (codes "live", says.settings, line_of words rest program (codes "live") after (leaf_at 3 p t r q) says whole named, live_means p t r q rest o says patient read)
 
--- what the words of `replay` say, where each is taken, and what is found of them
-pub record ReplaySays (words : List Text) (given : Text → Option Text) : Type 0 where
+-- words in which an option is found without the one that it belongs to
+pub record Mistaken (words : List Text) : Type 0 where
+  pub name : Text
   pub settings : List Setting
-  pub line : IsLine words (codes "replay") settings
-  pub only : HasOnly replay_names settings
-  pub first : (id : Text) → given id ≡ value_of id settings
+  pub line : IsLine words name settings
+  pub named : Named settings
+  pub lacks : LacksAny name (λ id. value_of id settings)
 
-other_leaf : (s leaf : Shape) (word : Text) → s ≡ leaf → s.name ≡ word → bytes_eq word (codes "replay") ≡ false → leaf.name ≡ codes "replay" → ⊥
-other_leaf s leaf word is name differ named = other_word word (codes "replay") differ (sym name ∙ ap (λ (x : Shape). x.name) is ∙ named)
+abbrev FindsLack : Shape → List Text → Type 0
+FindsLack s rest = LacksAny s.name (λ id. first_of id (rows_after s.rules [] rest))
 
-said_by : (p t r q : Choices) (words after rest : List Text) (program : Text) (leaf : Shape) → words ≡ program ∷ after → after ≡ leaf.name ∷ rest → level_fault leaf [] nothing_held rest false [] ≡ [] → leaf.name ≡ codes "replay"
-    → (leaf_at 0 p t r q ≡ leaf) ⊎ ((leaf_at 1 p t r q ≡ leaf) ⊎ ((leaf_at 2 p t r q ≡ leaf) ⊎ (leaf_at 3 p t r q ≡ leaf))) → ReplaySays words (λ id. first_of id (rows_after leaf.rules [] rest))
-said_by p t r q words after rest program leaf whole first fine named (inl is) = absurd (other_leaf (leaf_at 0 p t r q) leaf (codes "check") is refl refl named)
-said_by p t r q words after rest program leaf whole first fine named (inr (inr (inl is))) = absurd (other_leaf (leaf_at 2 p t r q) leaf (codes "verify") is refl refl named)
-said_by p t r q words after rest program leaf whole first fine named (inr (inr (inr is))) = absurd (other_leaf (leaf_at 3 p t r q) leaf (codes "live") is refl refl named)
-said_by p t r q words after rest program leaf whole first fine named (inr (inl is)) =
-    let says = leaf_says (leaf_at 1 p t r q) rest (replay_plain p t r q) refl (subst (λ (s : Shape). level_fault s [] nothing_held rest false [] ≡ []) (sym is) fine) in
-    let named_so : after ≡ codes "replay" ∷ rest = first ∙ ap (λ n. n ∷ rest) named in
+-- a subcommand without options lacks none
+never_lacks : (s leaf : Shape) (rest : List Text) (word : Text) → s ≡ leaf → s.name ≡ word → bytes_eq word (codes "replay") ≡ false → bytes_eq word (codes "live") ≡ false → FindsLack leaf rest → ⊥
+never_lacks s leaf rest word is name no_replay no_live lacks =
+    let at : FindsLack s rest = subst (λ (x : Shape). FindsLack x rest) (sym is) lacks in
+    none_lacks word (λ id. first_of id (rows_after s.rules [] rest)) no_replay no_live (subst (λ n. LacksAny n (λ id. first_of id (rows_after s.rules [] rest))) name at)
+
+lacking_by : (words after rest : List Text) (program : Text) (s leaf : Shape) → s ≡ leaf → ArePlain s.rules → s.args_override_self ≡ false
+    → ((says : LeafSays s rest) → Named says.settings)
+    → words ≡ program ∷ after → after ≡ leaf.name ∷ rest → level_fault leaf [] nothing_held rest false [] ≡ [] → FindsLack leaf rest → Mistaken words
+lacking_by words after rest program s leaf is plain never named whole first fine lacks =
+    let says = leaf_says s rest plain never (subst (λ (x : Shape). level_fault x [] nothing_held rest false [] ≡ []) (sym is) fine) in
+    let named_so : after ≡ s.name ∷ rest = subst (λ (x : Shape). after ≡ x.name ∷ rest) (sym is) first in
+    let at : FindsLack s rest = subst (λ (x : Shape). FindsLack x rest) (sym is) lacks in
     record {
+      name = s.name;
       settings = says.settings;
-      line = line_of words rest program (codes "replay") after (leaf_at 1 p t r q) says whole named_so;
-      only = only_names (leaf_at 1 p t r q).rules says.settings (replay_plain p t r q) says.taken;
-      first = subst (λ (s : Shape). (id : Text) → first_of id (rows_after s.rules [] rest) ≡ value_of id says.settings) is says.first;
+      line = line_of words rest program s.name after s says whole named_so;
+      named = named says;
+      lacks = lacks_as (LacksAny s.name) (λ id. first_of id (rows_after s.rules [] rest)) (λ id. value_of id says.settings) says.first at;
     }
+
+mistaken_by : (p t r q : Choices) (words after rest : List Text) (program : Text) (leaf : Shape) → words ≡ program ∷ after → after ≡ leaf.name ∷ rest → level_fault leaf [] nothing_held rest false [] ≡ [] → FindsLack leaf rest
+    → (leaf_at 0 p t r q ≡ leaf) ⊎ ((leaf_at 1 p t r q ≡ leaf) ⊎ ((leaf_at 2 p t r q ≡ leaf) ⊎ (leaf_at 3 p t r q ≡ leaf))) → Mistaken words
+mistaken_by p t r q words after rest program leaf whole first fine lacks (inl is) = absurd (never_lacks (leaf_at 0 p t r q) leaf rest (codes "check") is refl refl refl lacks)
+mistaken_by p t r q words after rest program leaf whole first fine lacks (inr (inr (inl is))) = absurd (never_lacks (leaf_at 2 p t r q) leaf rest (codes "verify") is refl refl refl lacks)
+mistaken_by p t r q words after rest program leaf whole first fine lacks (inr (inl is)) =
+    lacking_by words after rest program (leaf_at 1 p t r q) leaf is (replay_plain p t r q) refl
+    (λ says. only_named replay_names says.settings refl (only_names (leaf_at 1 p t r q).rules says.settings (replay_plain p t r q) says.taken)) whole first fine lacks
+mistaken_by p t r q words after rest program leaf whole first fine lacks (inr (inr (inr is))) =
+    lacking_by words after rest program (leaf_at 3 p t r q) leaf is (live_plain p t r q) refl
+    (λ says. only_named live_names says.settings refl (only_names (leaf_at 3 p t r q).rules says.settings (live_plain p t r q) says.taken)) whole first fine lacks
 
 abbrev ReadsWords : App → List Text → Options → Type 0
 ReadsWords a words o = (name : Text) (rows : List Row) → subcommand_of a words ≡ Some (name, rows) → Reads name (λ id. first_of id rows) o
@@ -345,15 +382,9 @@ words_give a words o m f reads =
     (subst (λ (x : App). fault_of x words ≡ []) m.is f)
     (subst (λ (x : App). ReadsWords x words o) m.is reads)
 
--- words of `replay` in which a mistake is found
-pub record Mistaken (words : List Text) : Type 0 where
-  pub given : Text → Option Text
-  pub says : ReplaySays words given
-  pub is : LacksAny given
-
--- what is found of the words is mistaken so
+-- what is found of the words lacks what it belongs to
 abbrev pub FindsMistake : App → List Text → Type 0
-FindsMistake a words = (name : Text) (rows : List Row) → subcommand_of a words ≡ Some (name, rows) → (name ≡ codes "replay") × LacksAny (λ id. first_of id rows)
+FindsMistake a words = (name : Text) (rows : List Row) → subcommand_of a words ≡ Some (name, rows) → LacksAny name (λ id. first_of id rows)
 
 menu_mistaken : (p t r q : Choices) (words : List Text) → fault_of (menu p t r q) words ≡ [] → FindsMistake (menu p t r q) words → Mistaken words
 menu_mistaken p t r q [] f finds =
@@ -363,12 +394,7 @@ menu_mistaken p t r q [] f finds =
 menu_mistaken p t r q (program ∷ after) f finds =
     let e = menu_entered (built (menu p t r q)) after (the_menu p t r q) f in
     let which = which_leaf p t r q (λ s. answers_to e.leaf.name (label_of s)) e.leaf e.found e.not_help in
-    let told = finds e.leaf.name (rows_after e.leaf.rules [] e.rest) e.enters in
-    record {
-      given = λ id. first_of id (rows_after e.leaf.rules [] e.rest);
-      says = said_by p t r q (program ∷ after) after e.rest program e.leaf refl e.words_are e.fine told.0 which;
-      is = told.1;
-    }
+    mistaken_by p t r q (program ∷ after) after e.rest program e.leaf refl e.words_are e.fine (finds e.leaf.name (rows_after e.leaf.rules [] e.rest) e.enters) which
 
 -- words that are not refused, and in which a mistake is found
 pub words_mistaken : (a : App) (words : List Text) → IsMenu a → fault_of a words ≡ [] → FindsMistake a words → Mistaken words

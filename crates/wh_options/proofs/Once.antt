@@ -1,12 +1,11 @@
 -- Words give at most one set of options.
-use Rattle.std.proofs.Common.{◌≡◌, ◌≤◌, ℕ, List, [], ◌∷◌, ◌++◌, drop, refl, sym, ap, ap₂, ◌∙◌, Bool, true, false, cond, None, Some, Option, subst, inl, inr, codes, ◌||◌, not, true≢false, option_map, append_assoc}
+use Rattle.std.proofs.Common.{◌≡◌, ◌≤◌, ℕ, List, [], ◌∷◌, ◌++◌, drop, refl, sym, ap, ap₂, ◌∙◌, Bool, true, false, cond, None, Some, Option, subst, inl, inr, codes, not, true≢false, option_map, append_assoc}
 use Rattle.std.specs.Prelude.{MatchOption, find}
-use Rattle.std.specs.List.{AllByRecursion, after_first, before_first, flat_map, list_all, list_any}
+use Rattle.std.specs.List.{AllByRecursion, after_first, before_first, flat_map}
 use Rattle.std.specs.Str.{bytes_eq}
-use Rattle.clap.proofs.WalkLemmas.{both}
 use Rattle.clap.specs.Lexer.{has_byte}
 use Rattle.wh_options.specs.Setting.{Closes, IsInPlace, IsLine, Setting, Spelling, StandsBy, Text, alone, apart, is_switch, joined, spelled, spelled_by, value_of}
-use Rattle.wh_options.specs.Options.{AreSame, GivesFleet, GivesNumber, GivesPlanner, GivesReplies, GivesTail, MayGive, GivesVehicles, HasOnly, IsWritten, Means, WordsGive, default_turns, live_names, planner_text, replay_names, replies_text, tail_text}
+use Rattle.wh_options.specs.Options.{AreSame, EachGives, GivesFleet, GivesNumber, GivesPlanner, GivesReplies, GivesTail, MayGive, GivesVehicles, IsWritten, WordsGive, default_turns, planner_text, replies_text, tail_text}
 use Rattle.wh_options.specs.declared.chosen.Options.{Options}
 use Rattle.wh_options.specs.declared.chosen.Options.TheVariants.{Check, Replay, Verify, Live}
 use Rattle.wh_options.specs.declared.chosen.Fleet.{Fleet}
@@ -17,16 +16,11 @@ use Rattle.wh_options.specs.declared.chosen.Tail.{Tail}
 use Rattle.wh_options.specs.declared.chosen.Tail.TheVariants.{Nothing, Log, Ledger}
 use Rattle.wh_options.specs.declared.chosen.Replies.{Replies}
 use Rattle.wh_options.specs.declared.chosen.Replies.TheVariants.{Short, Full, Placed}
-use Rattle.wh_options.proofs.Shapes.{bytes_same, is_equals}
+use Rattle.wh_options.proofs.Shapes.{is_equals}
 use Rattle.wh_options.proofs.Spells.{cut_at_equals, has_equals}
-use Rattle.wh_options.proofs.Menus.{other_word}
+use Rattle.wh_options.proofs.Names.{Named, gives_named, other_word, plain_name}
 
 -- ---- one setting
-
--- a name of an option: not empty, and without `=`
-abbrev pub plain_name : Text → Bool
-plain_name [] = false
-plain_name (b ∷ bs) = not (has_byte 61 (b ∷ bs))
 
 no_equals : (n : Text) → plain_name n ≡ true → has_byte 61 n ≡ false
 no_equals [] e = cc
@@ -99,9 +93,6 @@ no_setting rest m w alone b (inr one) p e = no_name m p (ap first_or (sym one �
 
 -- ---- many settings
 
-abbrev pub Named : List Setting → Type 0
-Named = AllByRecursion (λ (x : Setting). plain_name x.name ≡ true)
-
 abbrev pub AreInPlace : List Setting → Type 0
 AreInPlace = AllByRecursion IsInPlace
 
@@ -136,27 +127,6 @@ one_line words m n xs ys p q a b =
     let after : a.after ≡ b.after = ap (drop 2) heads in
     let spells = sym a.spelling.words_are ∙ after ∙ b.spelling.words_are in
     (ap (λ ws. first_or (drop 1 ws)) heads, one_list xs ys a.spelling.rest b.spelling.rest p q a.spelling.in_place b.spelling.in_place a.spelling.closes b.spelling.closes spells)
-
--- ---- names
-
-listed_step : (test : Text → Bool) (n m : Text) (ms : List Text) (b : Bool) → bytes_eq n m ≡ b → test m ≡ true → (b || list_any (bytes_eq n) ms) ≡ true
-    → (list_any (bytes_eq n) ms ≡ true → test n ≡ true) → test n ≡ true
-listed_step test n m ms true e here f rest = ap test (bytes_same n m e) ∙ here
-listed_step test n m ms false e here f rest = rest f
-
-listed_passes : (test : Text → Bool) (n : Text) (names : List Text) → list_all test names ≡ true → list_any (bytes_eq n) names ≡ true → test n ≡ true
-listed_passes test n [] all any = cc
-listed_passes test n (m ∷ ms) all any = listed_step test n m ms (bytes_eq n m) refl (both _ _ all).0 any (listed_passes test n ms (both _ _ all).1)
-
-pub only_named : (names : List Text) (xs : List Setting) → list_all plain_name names ≡ true → HasOnly names xs → Named xs
-only_named names [] all only = tt
-only_named names (x ∷ xs) all only = (listed_passes plain_name x.name names all only.0, only_named names xs all only.1)
-
-pub means_named : (name : Text) (xs : List Setting) (o : Options) → Means name xs o → Named xs
-means_named name xs Check m = subst Named (sym m.1) tt
-means_named name xs Verify m = subst Named (sym m.1) tt
-means_named name xs (Replay o) m = only_named replay_names xs refl m.1.only
-means_named name xs (Live o) m = only_named live_names xs refl m.1
 
 -- ---- meanings
 
@@ -251,37 +221,38 @@ fleet_once xs ys f g agree a b =
     let spares = number_once xs ys (codes "spares") 0 0 16 f.spares g.spares agree a.spares b.spares in
     λ i. record { planner = planner i; slots = slots i; bank = bank i; spares = spares i }
 
-means_once : (name told : Text) (xs ys : List Setting) (o p : Options) → name ≡ told → Agree xs ys → Means name xs o → Means told ys p → AreSame o p
-means_once name told xs ys Check Check is agree m n = refl
-means_once name told xs ys Check (Replay p) is agree m n = absurd (other_word (codes "check") (codes "replay") refl (sym m.0 ∙ is ∙ n.0))
-means_once name told xs ys Check Verify is agree m n = absurd (other_word (codes "check") (codes "verify") refl (sym m.0 ∙ is ∙ n.0))
-means_once name told xs ys Check (Live p) is agree m n = absurd (other_word (codes "check") (codes "live") refl (sym m.0 ∙ is ∙ n.0))
-means_once name told xs ys (Replay o) Check is agree m n = absurd (other_word (codes "replay") (codes "check") refl (sym m.0 ∙ is ∙ n.0))
-means_once name told xs ys (Replay o) (Replay p) is agree m n =
+gives_once : (name told : Text) (xs ys : List Setting) (o p : Options) → name ≡ told → Agree xs ys → EachGives name xs o → EachGives told ys p → AreSame o p
+gives_once name told xs ys Check Check is agree m n = refl
+gives_once name told xs ys Check (Replay p) is agree m n = absurd (other_word (codes "check") (codes "replay") refl (sym m.0 ∙ is ∙ n.0))
+gives_once name told xs ys Check Verify is agree m n = absurd (other_word (codes "check") (codes "verify") refl (sym m.0 ∙ is ∙ n.0))
+gives_once name told xs ys Check (Live p) is agree m n = absurd (other_word (codes "check") (codes "live") refl (sym m.0 ∙ is ∙ n.0))
+gives_once name told xs ys (Replay o) Check is agree m n = absurd (other_word (codes "replay") (codes "check") refl (sym m.0 ∙ is ∙ n.0))
+gives_once name told xs ys (Replay o) (Replay p) is agree m n =
     let fleet = fleet_once xs ys o.fleet p.fleet agree m.1.fleet n.1.fleet in
     let tail = tail_once xs ys o.tail p.tail agree m.1.tail n.1.tail in
     let replies = replies_once xs ys o.replies p.replies agree m.1.replies n.1.replies in
     let told = may_once xs ys (codes "told") 0 999999999 o.told p.told agree m.1.told n.1.told in
     (fleet, tail, replies, m.1.log.is ∙ agree (codes "log") ∙ sym n.1.log.is, told, vehicles_once xs ys o.vehicles p.vehicles agree m.1.vehicles n.1.vehicles)
-means_once name told xs ys (Replay o) Verify is agree m n = absurd (other_word (codes "replay") (codes "verify") refl (sym m.0 ∙ is ∙ n.0))
-means_once name told xs ys (Replay o) (Live p) is agree m n = absurd (other_word (codes "replay") (codes "live") refl (sym m.0 ∙ is ∙ n.0))
-means_once name told xs ys Verify Check is agree m n = absurd (other_word (codes "verify") (codes "check") refl (sym m.0 ∙ is ∙ n.0))
-means_once name told xs ys Verify (Replay p) is agree m n = absurd (other_word (codes "verify") (codes "replay") refl (sym m.0 ∙ is ∙ n.0))
-means_once name told xs ys Verify Verify is agree m n = refl
-means_once name told xs ys Verify (Live p) is agree m n = absurd (other_word (codes "verify") (codes "live") refl (sym m.0 ∙ is ∙ n.0))
-means_once name told xs ys (Live o) Check is agree m n = absurd (other_word (codes "live") (codes "check") refl (sym m.0 ∙ is ∙ n.0))
-means_once name told xs ys (Live o) (Replay p) is agree m n = absurd (other_word (codes "live") (codes "replay") refl (sym m.0 ∙ is ∙ n.0))
-means_once name told xs ys (Live o) Verify is agree m n = absurd (other_word (codes "live") (codes "verify") refl (sym m.0 ∙ is ∙ n.0))
-means_once name told xs ys (Live o) (Live p) is agree m n =
-    let fleet = fleet_once xs ys o.fleet p.fleet agree m.2 n.2 in
-    let every = may_once xs ys (codes "every") 1 60000 o.every p.every agree m.5 n.5 in
-    let other : GivesNumber ys (codes "turns") (default_turns o.every) 1 100000 p.turns = subst (λ e. GivesNumber ys (codes "turns") (default_turns e) 1 100000 p.turns) (sym every) n.3 in
-    let turns = number_once xs ys (codes "turns") (default_turns o.every) 1 100000 o.turns p.turns agree m.3 other in
-    let journal = number_once xs ys (codes "journal") 10000 1 1000000 o.journal p.journal agree m.4 n.4 in
-    λ i. Live (record { fleet = fleet i; turns = turns i; journal = journal i; every = every i })
+gives_once name told xs ys (Replay o) Verify is agree m n = absurd (other_word (codes "replay") (codes "verify") refl (sym m.0 ∙ is ∙ n.0))
+gives_once name told xs ys (Replay o) (Live p) is agree m n = absurd (other_word (codes "replay") (codes "live") refl (sym m.0 ∙ is ∙ n.0))
+gives_once name told xs ys Verify Check is agree m n = absurd (other_word (codes "verify") (codes "check") refl (sym m.0 ∙ is ∙ n.0))
+gives_once name told xs ys Verify (Replay p) is agree m n = absurd (other_word (codes "verify") (codes "replay") refl (sym m.0 ∙ is ∙ n.0))
+gives_once name told xs ys Verify Verify is agree m n = refl
+gives_once name told xs ys Verify (Live p) is agree m n = absurd (other_word (codes "verify") (codes "live") refl (sym m.0 ∙ is ∙ n.0))
+gives_once name told xs ys (Live o) Check is agree m n = absurd (other_word (codes "live") (codes "check") refl (sym m.0 ∙ is ∙ n.0))
+gives_once name told xs ys (Live o) (Replay p) is agree m n = absurd (other_word (codes "live") (codes "replay") refl (sym m.0 ∙ is ∙ n.0))
+gives_once name told xs ys (Live o) Verify is agree m n = absurd (other_word (codes "live") (codes "verify") refl (sym m.0 ∙ is ∙ n.0))
+gives_once name told xs ys (Live o) (Live p) is agree m n =
+    let fleet = fleet_once xs ys o.fleet p.fleet agree m.1.fleet n.1.fleet in
+    let every = may_once xs ys (codes "every") 1 60000 o.every p.every agree m.1.every n.1.every in
+    let other : GivesNumber ys (codes "turns") (default_turns o.every) 1 100000 p.turns = subst (λ e. GivesNumber ys (codes "turns") (default_turns e) 1 100000 p.turns) (sym every) n.1.turns in
+    let turns = number_once xs ys (codes "turns") (default_turns o.every) 1 100000 o.turns p.turns agree m.1.turns other in
+    let journal = number_once xs ys (codes "journal") 10000 1 1000000 o.journal p.journal agree m.1.journal n.1.journal in
+    let board_every = number_once xs ys (codes "board-every") 100 1 60000 o.board_every p.board_every agree m.1.board_every n.1.board_every in
+    (fleet, turns, journal, every, m.1.board.is ∙ agree (codes "board") ∙ sym n.1.board.is, board_every)
 
 -- words give at most one set of options
 pub given_once : (words : List Text) (o p : Options) → WordsGive words o → WordsGive words p → AreSame o p
 given_once words o p a b =
-    let line = one_line words a.0 b.0 a.1 b.1 (means_named a.0 a.1 o a.3) (means_named b.0 b.1 p b.3) a.2 b.2 in
-    means_once a.0 b.0 a.1 b.1 o p line.0 line.1 a.3 b.3
+    let line = one_line words a.0 b.0 a.1 b.1 (gives_named a.0 a.1 o a.3.0) (gives_named b.0 b.1 p b.3.0) a.2 b.2 in
+    gives_once a.0 b.0 a.1 b.1 o p line.0 line.1 a.3.0 b.3.0

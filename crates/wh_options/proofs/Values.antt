@@ -13,7 +13,7 @@ use Rattle.clap.specs.declared.builder.value_parser.ValueParser.TheVariants as v
 use Rattle.wh_options.specs.Setting.{Setting, value_of}
 use Rattle.clap.specs.declared.builder.action.ArgAction.{ArgAction}
 use Rattle.clap.specs.declared.builder.action.ArgAction.TheVariants.{Set}
-use Rattle.wh_options.specs.Options.{GivesLog, GivesNumber, GivesPlanner, GivesReplies, GivesTail, MayGive, GivesVehicles, HasOnly, IsWritten, planner_text, replies_text, tail_text}
+use Rattle.wh_options.specs.Options.{GivesFile, GivesNumber, GivesPlanner, GivesReplies, GivesTail, MayGive, GivesVehicles, HasOnly, IsWritten, planner_text, replies_text, tail_text}
 use Rattle.wh_options.specs.Reads.{MayRead, ReadsNumber, ReadsVehicles, planner_of, replies_of, tail_of}
 use Rattle.wh_options.specs.Menu.{Choices, planner_words, replies_words, tail_words}
 use Rattle.wh_options.specs.declared.chosen.PlannerKind.{PlannerKind}
@@ -222,13 +222,13 @@ replies_given c settings replies taken choices words r is case parser o same rea
 
 -- ---- a file
 
-pub log_given : (c : List Rule) (settings : List Setting) (log : Option Text) → AllByRecursion (IsTaken c) settings
-    → (r : Rule) → arg_by_long c (codes "log") ≡ Some r → r.parser ≡ Some vp.NonEmptyString
-    → (o : Option Text) → o ≡ value_of (codes "log") settings → log ≡ o → GivesLog settings log
-log_given c settings log taken r is parser o same reads = record {
+pub file_given : (c : List Rule) (settings : List Setting) (name : Text) (file : Option Text) → AllByRecursion (IsTaken c) settings
+    → (r : Rule) → arg_by_long c name ≡ Some r → r.parser ≡ Some vp.NonEmptyString
+    → (o : Option Text) → o ≡ value_of name settings → file ≡ o → GivesFile settings name file
+file_given c settings name file taken r is parser o same reads = record {
   is = reads ∙ same;
   named = λ empty.
-      let t = taken_value c settings (codes "log") [] r taken is (sym same ∙ sym reads ∙ empty) in
+      let t = taken_value c settings name [] r taken is (sym same ∙ sym reads ∙ empty) in
       let bad : false ≡ true = rw parser at t in
       cc;
 }

@@ -81,10 +81,15 @@ abbrev pub replay_app : Choices → Choices → Choices → App
 replay_app planners tails replies =
     with_vehicle_rules (with_log_rules (with_telling_rules tails replies (fleet_app (codes "replay") planners)))
 
+-- the options that say which file shows the board, and how often
+abbrev pub with_board_rules : App → App
+with_board_rules a =
+    with_rule (with_rule a (file_rule (codes "board"))) (number_rule (codes "board-every") 1 60000)
+
 abbrev pub live_app : Choices → App
-live_app planners = with_rule (with_rule (with_rule (fleet_app (codes "live") planners)
+live_app planners = with_board_rules (with_rule (with_rule (with_rule (fleet_app (codes "live") planners)
     (number_rule (codes "turns") 1 100000)) (number_rule (codes "journal") 1 1000000))
-    (number_rule (codes "every") 1 60000)
+    (number_rule (codes "every") 1 60000))
 
 -- a subcommand must follow, and each command tells the version
 abbrev pub with_settings : App → App

@@ -13,6 +13,7 @@ use Rattle.wh_options.specs.declared.chosen.Replies.TheVariants.{Short, Full, Pl
 use Rattle.wh_options.specs.declared.chosen.Fleet.{Fleet}
 use Rattle.wh_options.specs.declared.chosen.VehicleOptions.{VehicleOptions}
 use Rattle.wh_options.specs.declared.chosen.ReplayOptions.{ReplayOptions}
+use Rattle.wh_options.specs.declared.chosen.LiveOptions.{LiveOptions}
 use Rattle.wh_options.specs.declared.chosen.Options.{Options}
 use Rattle.wh_options.specs.declared.chosen.Options.TheVariants.{Check, Replay, Verify, Live}
 
@@ -55,14 +56,18 @@ abbrev pub GivesReplies : List Setting → Replies → Type 0
 GivesReplies settings replies = MatchOption (value_of (codes "replies") settings)
     (replies ≡ Short) (λ text. text ≡ replies_text replies)
 
--- the text of the file's name
+-- the text of the name of the log's file
 abbrev pub log_of : ReplayOptions → Option Text
 log_of o = option_map (λ s. s.now) o.log
 
--- the file named, if one is, by a name that is not empty
-pub record GivesLog (settings : List Setting) (log : Option Text) : Type 0 where
-  pub is : log ≡ value_of (codes "log") settings
-  pub named : log ≢ Some []
+-- the text of the name of the board's file
+abbrev pub board_of : LiveOptions → Option Text
+board_of o = option_map (λ s. s.now) o.board
+
+-- the file named by this option, if one is, by a name that is not empty
+pub record GivesFile (settings : List Setting) (option : Text) (file : Option Text) : Type 0 where
+  pub is : file ≡ value_of option settings
+  pub named : file ≢ Some []
 
 -- the number given, in its range, if one is
 abbrev pub MayGive : List Setting → Text → ℕ → ℕ → Option ℕ → Type 0
@@ -99,7 +104,7 @@ replay_names = codes "planner" ∷ codes "slots" ∷ codes "bank" ∷ codes "spa
 
 abbrev pub live_names : List Text
 live_names = codes "planner" ∷ codes "slots" ∷ codes "bank" ∷ codes "spares" ∷ codes "turns"
-    ∷ codes "journal" ∷ codes "every" ∷ []
+    ∷ codes "journal" ∷ codes "every" ∷ codes "board" ∷ codes "board-every" ∷ []
 
 -- what each setting of `replay` says by itself
 pub record GivesReplay (settings : List Setting) (o : ReplayOptions) : Type 0 where
@@ -107,52 +112,74 @@ pub record GivesReplay (settings : List Setting) (o : ReplayOptions) : Type 0 wh
   pub fleet : GivesFleet settings o.fleet
   pub tail : GivesTail settings o.tail
   pub replies : GivesReplies settings o.replies
-  pub log : GivesLog settings (log_of o)
+  pub log : GivesFile settings (codes "log") (log_of o)
   pub told : MayGive settings (codes "told") 0 999999999 o.told
   pub vehicles : GivesVehicles settings o.vehicles
-
--- one is given, and the other is not
-abbrev pub Lacks : (Text → Option Text) → Text → Text → Type 0
-Lacks given one other = (given one ≢ None) × (given other ≡ None)
-
--- an option is given without the one that it belongs to
-abbrev pub LacksAny : (Text → Option Text) → Type 0
-LacksAny given = Lacks given (codes "told") (codes "log")
-    ⊎ (Lacks given (codes "behind") (codes "vehicles")
-    ⊎ Lacks given (codes "ahead") (codes "vehicles"))
 
 -- how many turns there are where no number is given for them
 abbrev pub default_turns : Option ℕ → ℕ
 default_turns None = 64
 default_turns (Some every) = 100000
 
+-- what each setting of `live` says by itself
+pub record GivesLive (settings : List Setting) (o : LiveOptions) : Type 0 where
+  pub only : HasOnly live_names settings
+  pub fleet : GivesFleet settings o.fleet
+  pub turns : GivesNumber settings (codes "turns") (default_turns o.every) 1 100000 o.turns
+  pub journal : GivesNumber settings (codes "journal") 10000 1 1000000 o.journal
+  pub every : MayGive settings (codes "every") 1 60000 o.every
+  pub board : GivesFile settings (codes "board") (board_of o)
+  pub board_every : GivesNumber settings (codes "board-every") 100 1 60000 o.board_every
+
+-- what each setting of a subcommand says by itself
+abbrev pub EachGives : Text → List Setting → Options → Type 0
+EachGives name settings Check = (name ≡ codes "check") × (settings ≡ [])
+EachGives name settings (Replay o) = (name ≡ codes "replay") × GivesReplay settings o
+EachGives name settings Verify = (name ≡ codes "verify") × (settings ≡ [])
+EachGives name settings (Live o) = (name ≡ codes "live") × GivesLive settings o
+
+-- one is given, and the other is not
+abbrev pub Lacks : (Text → Option Text) → Text → Text → Type 0
+Lacks given one other = (given one ≢ None) × (given other ≡ None)
+
+-- an option of `replay` is given without the one that it belongs to
+abbrev pub ReplayLacks : (Text → Option Text) → Type 0
+ReplayLacks given = Lacks given (codes "told") (codes "log")
+    ⊎ (Lacks given (codes "behind") (codes "vehicles")
+    ⊎ Lacks given (codes "ahead") (codes "vehicles"))
+
+-- an option of `live` is given without the one that it belongs to
+abbrev pub LiveLacks : (Text → Option Text) → Type 0
+LiveLacks given = Lacks given (codes "board-every") (codes "board")
+
+-- an option of this subcommand is given without the one that it belongs to
+abbrev pub LacksAny : Text → (Text → Option Text) → Type 0
+LacksAny name given = ((name ≡ codes "replay") × ReplayLacks given)
+    ⊎ ((name ≡ codes "live") × LiveLacks given)
+
 -- the subcommand and its settings mean these options
 abbrev pub Means : Text → List Setting → Options → Type 0
-Means name settings Check = (name ≡ codes "check") × (settings ≡ [])
-Means name settings (Replay o) = (name ≡ codes "replay") × GivesReplay settings o
-    × (¬ LacksAny (λ id. value_of id settings))
-Means name settings Verify = (name ≡ codes "verify") × (settings ≡ [])
-Means name settings (Live o) = (name ≡ codes "live") × HasOnly live_names settings
-    × GivesFleet settings o.fleet
-    × GivesNumber settings (codes "turns") (default_turns o.every) 1 100000 o.turns
-    × GivesNumber settings (codes "journal") 10000 1 1000000 o.journal
-    × MayGive settings (codes "every") 1 60000 o.every
+Means name settings options =
+    EachGives name settings options × (¬ LacksAny name (λ id. value_of id settings))
 
 -- the words give these options
 abbrev pub WordsGive : List Text → Options → Type 0
 WordsGive words options = (name : Text) × (settings : List Setting)
     × IsLine words name settings × Means name settings options
 
--- words of `replay` whose settings each say something by itself, while together they are amiss
-pub record IsAmiss (Is : (Text → Option Text) → Type 0) (words : List Text) : Type 0 where
+-- words whose settings each say something by itself, while one lacks the other that it belongs to
+pub record IsAmiss (words : List Text) : Type 0 where
+  pub name : Text
   pub settings : List Setting
-  pub options : ReplayOptions
-  pub line : IsLine words (codes "replay") settings
-  pub each : GivesReplay settings options
-  pub amiss : Is (λ id. value_of id settings)
+  pub options : Options
+  pub line : IsLine words name settings
+  pub each : EachGives name settings options
+  pub lacks : LacksAny name (λ id. value_of id settings)
 
 -- the same options: a file's name counts by its text, wherever that text lies
 abbrev pub AreSame : Options → Options → Type 0
 AreSame (Replay o) (Replay p) = (o.fleet ≡ p.fleet) × (o.tail ≡ p.tail) × (o.replies ≡ p.replies)
     × (log_of o ≡ log_of p) × (o.told ≡ p.told) × (o.vehicles ≡ p.vehicles)
+AreSame (Live o) (Live p) = (o.fleet ≡ p.fleet) × (o.turns ≡ p.turns) × (o.journal ≡ p.journal)
+    × (o.every ≡ p.every) × (board_of o ≡ board_of p) × (o.board_every ≡ p.board_every)
 AreSame o p = o ≡ p

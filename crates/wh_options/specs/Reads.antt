@@ -3,7 +3,7 @@ use Rattle.std.specs.Prelude.{◌≡◌, ◌≢◌, ◌<◌, ◌^◌, ℕ, Optio
 use Rattle.std.specs.Str.{bytes_eq}
 use Rattle.std.specs.Str.Parse.{IsNumeral, digits_value, without_leading_plus}
 use Rattle.clap.specs.Words.{Text}
-use Rattle.wh_options.specs.Options.{LacksAny, default_turns, log_of}
+use Rattle.wh_options.specs.Options.{LiveLacks, ReplayLacks, board_of, default_turns, log_of}
 use Rattle.wh_options.specs.declared.mistake.Mistake.{Mistake}
 use Rattle.wh_options.specs.declared.chosen.PlannerKind.{PlannerKind}
 use Rattle.wh_options.specs.declared.chosen.PlannerKind.TheVariants.{Near, Patient}
@@ -71,14 +71,16 @@ pub record ReadsLive (given : Text → Option Text) (o : LiveOptions) : Type 0 w
   pub turns : ReadsNumber (given (codes "turns")) (default_turns o.every) o.turns
   pub journal : ReadsNumber (given (codes "journal")) 10000 o.journal
   pub every : MayRead (given (codes "every")) o.every
+  pub board : board_of o ≡ given (codes "board")
+  pub board_every : ReadsNumber (given (codes "board-every")) 100 o.board_every
 
 -- the subcommand and what was found for its arguments, as options
 abbrev pub Reads : Text → (Text → Option Text) → Options → Type 0
 Reads name given Check = (name ≢ codes "replay") × (name ≢ codes "live") × (name ≢ codes "verify")
-Reads name given (Replay o) = (name ≡ codes "replay") × ReadsReplay given o × (¬ LacksAny given)
+Reads name given (Replay o) = (name ≡ codes "replay") × ReadsReplay given o × (¬ ReplayLacks given)
 Reads name given Verify = name ≡ codes "verify"
-Reads name given (Live o) = (name ≡ codes "live") × ReadsLive given o
+Reads name given (Live o) = (name ≡ codes "live") × ReadsLive given o × (¬ LiveLacks given)
 
--- no option of `replay` was found without the one that it belongs to, or that is the mistake
-abbrev pub Judges : (Text → Option Text) → Option Mistake → Type 0
-Judges given found = MatchOption found (¬ LacksAny given) (λ mistake. LacksAny given)
+-- no option was found without the one that it belongs to, or that is the mistake
+abbrev pub Judges : ((Text → Option Text) → Type 0) → (Text → Option Text) → Option Mistake → Type 0
+Judges Lack given found = MatchOption found (¬ Lack given) (λ mistake. Lack given)

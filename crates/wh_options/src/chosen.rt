@@ -70,9 +70,9 @@ pub struct ReplayOptions<'a> {
     pub vehicles: Option<VehicleOptions>,
 }
 
-/// The options of `live`.
+/// The options of `live`. They keep a text of the words that gave them.
 #[derive(Clone, Copy, Debug, PartialEq, Eq)]
-pub struct LiveOptions {
+pub struct LiveOptions<'a> {
     /// The planners of the run; each client has its own `spares`.
     pub fleet: Fleet,
     /// How many requests each agent makes, and how many ticks the clock; with `every`, at most how many turns their worker
@@ -83,6 +83,10 @@ pub struct LiveOptions {
     /// How many milliseconds the worker of all agents and the clock rests behind each turn, 1 to 60000, if there is one in
     /// place of a thread for each.
     pub every: Option<u32>,
+    /// The name of the file that shows the board while the run lasts, if one is to; never empty.
+    pub board: Option<&'a str>,
+    /// How many milliseconds at least lie between two looks at the board, 1 to 60000.
+    pub board_every: u32,
 }
 
 /// A subcommand with its options.
@@ -95,5 +99,5 @@ pub enum Options<'a> {
     /// `verify`: whether a log is a run.
     Verify,
     /// `live`: clients, agents and a clock in threads.
-    Live(LiveOptions),
+    Live(LiveOptions<'a>),
 }

@@ -1,7 +1,7 @@
 //! The command line as `clap` is told of it: the subcommands, their options and the help texts.
 ghost use Rattle.std.specs.Prelude.{◌≡◌, IfOk, codes, false};
 ghost use Rattle.clap.specs.Words.{App, app_of, new_app, rule_of, with_rule, with_subcommand};
-ghost use Rattle.wh_options.specs.Menu.{AddsLive, AddsReplay, choice_rule, file_rule, number_rule, switch_rule, HasShape, IsFleetCommand, IsLiveCommand, IsMenu, IsReplayCommand, with_log_rules, with_settings, with_telling_rules, with_vehicle_rules};
+ghost use Rattle.wh_options.specs.Menu.{AddsLive, AddsReplay, choice_rule, file_rule, number_rule, switch_rule, HasShape, IsFleetCommand, IsLiveCommand, IsMenu, IsReplayCommand, with_board_rules, with_log_rules, with_settings, with_telling_rules, with_vehicle_rules};
 
 use clap::builder::ValueParser;
 use clap::{Arg, ArgAction, Command};
@@ -101,6 +101,18 @@ fn with_choice<'a>(
     command.arg(choice_arg(alloc, name, choices, help))
 }
 
+// The command with one option more, as of file_arg.
+fn with_file<'a>(
+    alloc: Global,
+    command: Command<'a>,
+    name: &'a str,
+    help: &'a str,
+) -> Result<Command<'a>, AllocError>
+    ensures { (a : App) → HasShape command.entry a → IfOk result (λ c. HasShape c (with_rule a (file_rule name.entry.now))) }
+{
+    command.arg(file_arg(alloc, name, help))
+}
+
 // A subcommand with the options of a fleet. Defaults are named in the help texts and applied by
 // the readers of the values: clap's own would count as given.
 fn fleet_command<'a>(
@@ -158,12 +170,8 @@ fn with_telling<'a>(
 fn with_log<'a>(alloc: Global, command: Command<'a>) -> Result<Command<'a>, AllocError>
     ensures { (a : App) → HasShape command.entry a → IfOk result (λ c. HasShape c (with_log_rules a)) }
 {
-    let log = file_arg(
-        alloc,
-        "log",
-        "Keeps the log of the run in FILE, and goes on from the log that FILE has",
-    );
-    let command = command.arg(log)?;
+    let help = "Keeps the log of the run in FILE, and goes on from the log that FILE has";
+    let command = with_file(alloc, command, "log", help)?;
     let help = "With --log: tells the entries of FILE again, from this one on, before the script";
     with_number(alloc, command, "told", 0, 999_999_999, help)
 }
@@ -179,7 +187,20 @@ pub(crate) fn replay_command<'a>(alloc: Global) -> Result<Command<'a>, AllocErro
     with_vehicles(alloc, command)
 }
 
-fn live_command<'a>(alloc: Global) -> Result<Command<'a>, AllocError>
+// The file that shows the board, and how often.
+fn with_board<'a>(alloc: Global, command: Command<'a>) -> Result<Command<'a>, AllocError>
+    ensures { (a : App) → HasShape command.entry a → IfOk result (λ c. HasShape c (with_board_rules a)) }
+{
+    let help =
+        "Shows the board in FILE while the run lasts: counts of tasks, and where each agent is; FILE is replaced as a whole";
+    let command = with_file(alloc, command, "board", help)?;
+    let help =
+        "With --board: rests N milliseconds at least between two looks, 1 to 60000 [default: 100]";
+    with_number(alloc, command, "board-every", 1, 60_000, help)
+}
+
+/// The subcommand `live`.
+pub(crate) fn live_command<'a>(alloc: Global) -> Result<Command<'a>, AllocError>
     ensures { IfOk result IsLiveCommand }
 {
     let about = "Runs clients, agents and a clock in threads (input: map, points, scripts)";
@@ -191,7 +212,8 @@ fn live_command<'a>(alloc: Global) -> Result<Command<'a>, AllocError>
     let command = with_number(alloc, command, "journal", 1, 1_000_000, help)?;
     let help =
         "One worker for all agents and the clock, in place of a thread for each: rests N milliseconds behind each turn, 1 to 60000; ends where no task is open or under way";
-    with_number(alloc, command, "every", 1, 60_000, help)
+    let command = with_number(alloc, command, "every", 1, 60_000, help)?;
+    with_board(alloc, command)
 }
 
 // The command with one subcommand more, which has no options.

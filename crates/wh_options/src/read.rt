@@ -9,7 +9,7 @@ use crate::chosen::{
     Fleet, LiveOptions, Options, PlannerKind, ReplayOptions, Replies, Tail, VehicleOptions,
 };
 use crate::command::warehouse_command;
-use crate::mistake::{Mistake, mistake_of};
+use crate::mistake::{Mistake, mistake_of_live, mistake_of_replay};
 use clap::error::ErrorKind;
 use clap::{ArgMatches, Error};
 use std::alloc::Global;
@@ -136,7 +136,7 @@ fn default_turns(every: Option<u32>) -> u32
     }
 }
 
-fn live_options(matches: &ArgMatches<'_>) -> LiveOptions
+fn live_options<'a>(matches: &ArgMatches<'a>) -> LiveOptions<'a>
     ensures { ReadsLive (first_value (found_of matches.now)) result }
 {
     let every = number_if_given(matches, "every");
@@ -145,6 +145,8 @@ fn live_options(matches: &ArgMatches<'_>) -> LiveOptions
         turns: number(matches, "turns", default_turns(every)),
         journal: number(matches, "journal", 10_000),
         every,
+        board: matches.get_str("board"),
+        board_every: number(matches, "board-every", 100),
     }
 }
 
@@ -155,16 +157,19 @@ fn read_options<'a>(matches: &ArgMatches<'a>) -> Result<Options<'a>, Mistake>
         → Reads name (λ id. first_of id rows) o) }
     ensures mistaken { IfErr result (λ _. (name : Text) (rows : List Row)
         → subcommand_rows_of matches.now ≡ Some (name, rows)
-        → (name ≡ codes "replay") × LacksAny (λ id. first_of id rows)) }
+        → LacksAny name (λ id. first_of id rows)) }
 {
     if let Some(replay) = matches.subcommand_matches("replay") {
-        return match mistake_of(replay) {
+        return match mistake_of_replay(replay) {
             Some(mistake) => Err(mistake),
             None => Ok(Options::Replay(replay_options(replay))),
         };
     }
     if let Some(live) = matches.subcommand_matches("live") {
-        return Ok(Options::Live(live_options(live)));
+        return match mistake_of_live(live) {
+            Some(mistake) => Err(mistake),
+            None => Ok(Options::Live(live_options(live))),
+        };
     }
     if matches.subcommand_matches("verify").is_some() {
         return Ok(Options::Verify);
@@ -188,7 +193,7 @@ pub fn options<'a, W: AsStr>(alloc: Global, words: &'a [W]) -> Result<Options<'a
     ensures refused { IfErr result (λ e. (o : Options) → WordsGive (map W.text words.now) o
         → kind_of e ≡ ErrorKind.OutOfMemory) }
     // Where an option is given without the one that it belongs to, that is told.
-    ensures lacking { IsAmiss LacksAny (map W.text words.now)
+    ensures lacking { IsAmiss (map W.text words.now)
         → IsErrAnd result (IsKind ErrorKind.MissingRequiredArgument) }
     // Words that ask for help by a flag are answered with help, whatever follows.
     ensures help { AsksBy help_flags (map W.text words.now)

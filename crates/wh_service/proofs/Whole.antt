@@ -63,12 +63,12 @@ late_range o pace range is = (range.0, subst (λ (v : Option VehicleOptions). If
 pub in_range : (words : List Text) (o : Options) → WordsGive words o → HasRange o
 in_range words Check gives = tt
 in_range words (Replay o) gives =
-    let v = gives.3.1.vehicles in (
-      ranged (value_of (codes "slots") gives.1) o.fleet.slots gives.3.1.fleet.slots,
+    let v = gives.3.0.1.vehicles in (
+      ranged (value_of (codes "slots") gives.1) o.fleet.slots gives.3.0.1.fleet.slots,
       some_ahead (value_of (codes "vehicles") gives.1) o.vehicles v.pace v.is (one_ahead (value_of (codes "ahead") gives.1) v.pace.ahead v.ahead),
     )
 in_range words Verify gives = tt
-in_range words (Live o) gives = ranged (value_of (codes "slots") gives.1) o.fleet.slots gives.3.2.slots
+in_range words (Live o) gives = ranged (value_of (codes "slots") gives.1) o.fleet.slots gives.3.0.1.fleet.slots
 
 -- Where help or the version was asked for, and where memory was wanting, nothing is told of a mistake. The three kinds of a
 -- refusal of words that are told apart are named by whoever knows them.

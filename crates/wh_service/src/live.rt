@@ -36,7 +36,7 @@ fn agent_threads(every: Option<u32>, agents: usize) -> usize
 
 /// How the worker for all agents and the clock goes on, if there is one: until it has taken its turns, or nothing is open or
 /// under way.
-fn pace_of(options: &LiveOptions) -> Option<Pace>
+fn pace_of(options: &LiveOptions<'_>) -> Option<Pace>
     ensures turns { option_map (λ pace. pace.turns) result ≡ paced_turns options.now }
     ensures pause { MatchOption options.now.every (result ≡ None) (λ every. IfSome result (λ pace. as_nanos pace.pause ≡ every * 1000000)) }
 {
@@ -53,7 +53,7 @@ fn pace_of(options: &LiveOptions) -> Option<Pace>
 /// The workers that are threads of the crew: the clients, and where no worker is there for all, the agents and the clock.
 fn workers<P: Planner>(
     alloc: Global,
-    options: &LiveOptions,
+    options: &LiveOptions<'_>,
     agents: u32,
     clients: Vec<Work<P>>,
 ) -> Result<Vec<Work<P>>, AllocError>
@@ -102,7 +102,7 @@ struct Team<P> {
 /// is there for all, the agents and the clock. The error tells why a planner got no slots, or that memory is wanting.
 fn make_team<P: Planner, F: Fn(PlannerParts) -> Result<P, AllocError>>(
     alloc: Global,
-    options: &LiveOptions,
+    options: &LiveOptions<'_>,
     grid: &Arc<Grid>,
     agents: usize,
     clients: Vec<Work<P>>,
@@ -137,7 +137,7 @@ pub fn host<
     alloc: Global,
     lines: &mut Lines<R>,
     output: &mut W,
-    options: &LiveOptions,
+    options: &LiveOptions<'_>,
     make: F,
 ) -> Result<(), Trouble>
     requires range { IsOfFleet options.now.fleet }

@@ -78,7 +78,7 @@ returns-clause-refused g c =
     let found = c.in_ok-matches.ensures in
     let wrong = words_mistaken _ (map g.W.AsStr.text c.args.words.now) menu (found.kinds simple.0)
     (λ name rows e. c.in-Err.ensures.mistaken name rows ((found.matches simple.1).1 ∙ e)) in
-    λ o gives. absurd (mistaken_never (map g.W.AsStr.text c.args.words.now) wrong.given wrong.says wrong.is o gives)
+    λ o gives. absurd (mistaken_never (map g.W.AsStr.text c.args.words.now) wrong o gives)
 
 pub returns-clause-lacking : goal.returns-clause-lacking
 returns-clause-lacking g c =
@@ -140,6 +140,6 @@ returns-in_err-matches-clause-lacking g c =
     let simple = menu_is_simple _ menu in
     let came = err_from_is_err_and c.from_residual-in_err-matches.result c.from_residual-in_err-matches.ensures.1 in
     rw came.1 (λ amiss.
-    let fine = each_is_taken _ (map g.W.AsStr.text c.args.words.now) amiss.settings amiss.options menu amiss.line amiss.each in
+    let fine = each_is_taken _ (map g.W.AsStr.text c.args.words.now) amiss.name amiss.settings amiss.options menu amiss.line amiss.each in
     same_kind MissingRequiredArgument c.in_err-matches.field-0.0 came.0 came.2
     (inr (only_memory _ c.in_err-matches.field-0.0 (c.in_err-matches.ensures.kinds simple.0) fine)))
