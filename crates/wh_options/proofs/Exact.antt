@@ -1,5 +1,5 @@
 -- Words that give options are not refused.
-use Rattle.std.proofs.Common.{◌≡◌, ◌⊎◌, ◌≤◌, ◌<◌, ◌^◌, ℕ, List, [], ◌∷◌, ◌++◌, drop, length, map, refl, sym, ap, ◌∙◌, Bool, true, false, cond, None, Some, Option, subst, inl, inr, codes, arith, ◌==◌, ◌||◌, ◌&&◌, nat_lt, lt-ltb, le-leb, lit<, true≢false, is_some, option_map}
+use Rattle.std.proofs.Common.{◌≡◌, ◌⊎◌, ◌≤◌, ◌<◌, ◌^◌, ℕ, List, [], ◌∷◌, ◌++◌, drop, length, refl, sym, ap, ◌∙◌, Bool, true, false, cond, None, Some, Option, subst, inl, inr, codes, arith, ◌==◌, ◌||◌, ◌&&◌, nat_lt, lt-ltb, le-leb, lit<, true≢false, is_some, not, option_map}
 use Rattle.std.specs.Prelude.{◌≢◌, MatchOption, find, fold}
 use Rattle.std.specs.List.{AllByRecursion, IsDistinct, flat_map, list_all, list_any}
 use Rattle.std.specs.Char.{digit_value}
@@ -15,8 +15,9 @@ use Rattle.clap.specs.ValueTests.{accepts}
 use Rattle.clap.specs.Walk.{Held, Names, Row, Rule, Text, Walk, action_of, answers_to, arg_by_long, finished, has_row, nothing_held, reading_by, settled, stop_after, texts, used, walk, walk_from, walked, with_default}
 use Rattle.clap.specs.Faults.{action_fault, built_fault, check_fault, default_fault, defaults_fault, entered_fault, fault_of, level_fault, repeat_fault, set_fault, settle_fault, turn_fault, use_fault, values_fault, walk_fault}
 use Rattle.clap.specs.Simple.{App, Shape, built, entered, filled, label_of, names_of}
+use Rattle.clap.specs.declared.builder.action.ArgAction.TheVariants.{Append, Set}
 use Rattle.clap.specs.declared.builder.value_parser.ValueParser.TheVariants as vp
-use Rattle.wh_options.specs.Setting.{IsInPlace, IsLine, Setting, Spelling, StandsBy, alone, apart, has_some, is_switch, joined, spelled, value_of}
+use Rattle.wh_options.specs.Setting.{IsInPlace, IsLine, Setting, Spelling, StandsBy, alone, apart, has_some, is_switch, joined, may_repeat, single_names, spelled, value_of}
 use Rattle.wh_options.specs.Options.{EachGives, GivesFleet, GivesFile, GivesLive, GivesNumber, GivesPlanner, GivesReplay, GivesReplies, GivesTail, MayGive, IsWritten, WordsGive, board_of, default_turns, live_names, log_of, planner_text, replay_names, replies_text, tail_text}
 use Rattle.wh_options.specs.Menu.{Choices, IsMenu, choice_rule, file_rule, menu, number_rule, planner_words, replies_words, switch_rule, tail_words}
 use Rattle.wh_options.specs.declared.chosen.Options.{Options}
@@ -34,7 +35,8 @@ use Rattle.wh_options.proofs.Shapes.{bytes_same}
 use Rattle.wh_options.proofs.Leaf.{ArePlain, IsOption, IsSwitch, Suits, held_by, long_plain, option_suits, switch_suits}
 use Rattle.wh_options.proofs.Turns.{idle_at}
 use Rattle.wh_options.proofs.Words.{IsFine, self_same}
-use Rattle.wh_options.proofs.Rows.{either_false, row, use_is}
+use Rattle.wh_options.proofs.Rows.{rows_more, use_is, with_value_of}
+use Rattle.wh_options.proofs.Singles.{choice_option, file_option, is_single, number_option, single_parts, switch_is}
 use Rattle.wh_options.proofs.Spells.{AllTaken, none_both, settings_fine}
 use Rattle.wh_options.proofs.Top.{stopped_walk}
 use Rattle.wh_options.proofs.Menus.{asking_plain, leaf_at, live_plain, replay_plain}
@@ -54,12 +56,15 @@ value_fine a v e = go (accepts a.ignore_case (parser_of_value a.parser) v) e
 once_fine : (again : Bool) (id : Text) (rows : List Row) → has_row id rows ≡ false → repeat_fault again id rows ≡ []
 once_fine again id rows e = rw e refl
 
-option_passes : (again : Bool) (a : Rule) (v : Text) (rows : List Row) → IsOption a → has_row a.id rows ≡ false → accepts a.ignore_case (parser_of_value a.parser) v ≡ true
+option_passes : (again : Bool) (a : Rule) (v : Text) (rows : List Row) → IsOption a → (may_repeat a.id ≡ false → has_row a.id rows ≡ false) → accepts a.ignore_case (parser_of_value a.parser) v ≡ true
     → use_fault again a (v ∷ []) rows ≡ []
-option_passes again a v rows opt new taken =
-    let setting : set_fault again a (v ∷ []) rows ≡ [] = none_both _ _ (once_fine again a.id rows new) (value_fine a v taken) in
-    let acted : action_fault (action_of a) again a (v ∷ []) rows ≡ [] = subst (λ x. action_fault x again a (v ∷ []) rows ≡ []) (sym opt.action) setting in
-    none_both _ _ (range_fine _ _ opt.least opt.most) acted
+option_passes again a v rows opt new taken = none_both _ _ (range_fine _ _ opt.least opt.most) (go (may_repeat a.id) refl opt.action)
+  where
+    go : (b : Bool) → may_repeat a.id ≡ b → action_of a ≡ cond b Append Set → action_fault (action_of a) again a (v ∷ []) rows ≡ []
+    go true many action = subst (λ x. action_fault x again a (v ∷ []) rows ≡ []) (sym action) (value_fine a v taken)
+    go false once action =
+        let setting : set_fault again a (v ∷ []) rows ≡ [] = none_both _ _ (once_fine again a.id rows (new once)) (value_fine a v taken) in
+        subst (λ x. action_fault x again a (v ∷ []) rows ≡ []) (sym action) setting
 
 no_range : (least most : ℕ) → least ≡ 0 → most ≡ 0 → range_kinds least most 0 ≡ []
 no_range least most low high = subst (λ k. range_kinds k most 0 ≡ []) (sym low) (subst (λ k. range_kinds 0 k 0 ≡ []) (sym high) refl)
@@ -73,11 +78,11 @@ switch_passes again a v rows switch is new taken =
     let acted : action_fault (action_of a) again a a.missing rows ≡ [] = subst (λ x. action_fault x again a a.missing rows ≡ []) (sym switch.action) missing in
     none_both _ _ (no_range _ _ switch.least switch.most) acted
 
-use_passes : (again : Bool) (a : Rule) (way : Spelling) (name v : Text) (rows : List Row) → Suits way a → StandsBy way name v → has_row a.id rows ≡ false
+use_passes : (again : Bool) (a : Rule) (way : Spelling) (name v : Text) (rows : List Row) → Suits way a → StandsBy way name v → (may_repeat a.id ≡ false → has_row a.id rows ≡ false)
     → accepts a.ignore_case (parser_of_value a.parser) v ≡ true → use_fault again a (held_by way v) rows ≡ []
 use_passes again a joined name v rows suits stands new taken = option_passes again a v rows suits new taken
 use_passes again a apart name v rows suits stands new taken = option_passes again a v rows suits new taken
-use_passes again a alone name v rows suits stands new taken = switch_passes again a v rows suits stands.1 new taken
+use_passes again a alone name v rows suits stands new taken = switch_passes again a v rows suits stands.1 (new suits.once) taken
 
 -- ---- many uses
 
@@ -93,31 +98,61 @@ pub record IsValid (s : Shape) (x : Setting) : Type 0 where
   pub in_place : IsInPlace x
 
 abbrev Fresh : List Row → List Setting → Type 0
-Fresh rows = AllByRecursion (λ (x : Setting). has_row x.name rows ≡ false)
+Fresh rows = AllByRecursion (λ (x : Setting). may_repeat x.name ≡ false → has_row x.name rows ≡ false)
 
-has_row_join : (id : Text) (rows : List Row) (r : Row) → has_row id rows ≡ false → bytes_eq r.id id ≡ false → has_row id (rows ++ r ∷ []) ≡ false
-has_row_join id [] r e f = rw f refl
-has_row_join id (q ∷ qs) r e f =
-    let both = either_false (bytes_eq q.id id) (has_row id qs) e in
-    rw (both.0, has_row_join id qs r both.1 f) refl
+neither : (a b : Bool) → a ≡ false → b ≡ false → (a || b) ≡ false
+neither a b p q = rw (p, q) refl
 
-fresh_join : (rows : List Row) (r : Row) (xs : List Setting) → Fresh rows xs → AllByRecursion (λ y. bytes_eq r.id y ≡ false) (map (λ (x : Setting). x.name) xs) → Fresh (rows ++ r ∷ []) xs
-fresh_join rows r [] all away = tt
-fresh_join rows r (x ∷ xs) all away = (has_row_join x.name rows r all.0 away.0, fresh_join rows r xs all.1 away.1)
+-- a setting that may be given once at most has another name than those before it
+apart_from : (n m : Text) → (may_repeat n ≡ false → bytes_eq n m ≡ false) → may_repeat m ≡ false → bytes_eq n m ≡ false
+apart_from n m differs once = go (bytes_eq n m) refl
+  where
+    go : (b : Bool) → bytes_eq n m ≡ b → bytes_eq n m ≡ false
+    go true is = differs (ap may_repeat (bytes_same n m is) ∙ once)
+    go false is = is
+
+-- what the names of many settings say of the first of them, and of the others
+away_step : (n m : Text) (xs : List Setting) (b : Bool) → may_repeat m ≡ b → AllByRecursion (λ y. bytes_eq n y ≡ false) (cond (not b) (m ∷ single_names xs) (single_names xs))
+    → (may_repeat m ≡ false → bytes_eq n m ≡ false) × AllByRecursion (λ y. bytes_eq n y ≡ false) (single_names xs)
+away_step n m xs true is rest = ((λ once. absurd (true≢false (sym is ∙ once))), rest)
+away_step n m xs false is rest = ((λ once. rest.0), rest.1)
+
+once_parts : (x : Setting) (xs : List Setting) → IsDistinct bytes_eq (single_names (x ∷ xs))
+    → (may_repeat x.name ≡ false → AllByRecursion (λ y. bytes_eq x.name y ≡ false) (single_names xs)) × IsDistinct bytes_eq (single_names xs)
+unfolding IsDistinct
+once_parts x xs once = go (may_repeat x.name) refl once
+  where
+    go : (b : Bool) → may_repeat x.name ≡ b → IsDistinct bytes_eq (cond (not b) (x.name ∷ single_names xs) (single_names xs))
+        → (may_repeat x.name ≡ false → AllByRecursion (λ y. bytes_eq x.name y ≡ false) (single_names xs)) × IsDistinct bytes_eq (single_names xs)
+    go true is rest = ((λ single. absurd (true≢false (sym is ∙ single))), rest)
+    go false is rest = ((λ single. rest.0), rest.1)
+
+fresh_more : (a : Rule) (v : Text) (rows : List Row) (xs : List Setting) → Fresh rows xs → AllByRecursion (λ (y : Setting). may_repeat y.name ≡ false → bytes_eq a.id y.name ≡ false) xs → Fresh (with_value_of a v rows) xs
+fresh_more a v rows [] all away = tt
+fresh_more a v rows (x ∷ xs) all away =
+    ((λ once. rows_more a.id x.name v (reading_by a) rows ∙ neither (has_row x.name rows) (bytes_eq a.id x.name) (all.0 once) (away.0 once)), fresh_more a v rows xs all.1 away.1)
+
+-- the names of the others are apart from the first one's
+all_apart : (n : Text) (xs : List Setting) → (may_repeat n ≡ false → AllByRecursion (λ y. bytes_eq n y ≡ false) (single_names xs)) → AllByRecursion (λ (y : Setting). may_repeat y.name ≡ false → bytes_eq n y.name ≡ false) xs
+all_apart n [] all = tt
+all_apart n (x ∷ xs) all = (
+  (λ once. apart_from n x.name (λ single. (away_step n x.name xs (may_repeat x.name) refl (all single)).0 once) once),
+  all_apart n xs (λ single. (away_step n x.name xs (may_repeat x.name) refl (all single)).1),
+)
 
 valid_taken : (s : Shape) (settings : List Setting) (rows : List Row) → ArePlain s.rules → s.args_override_self ≡ false → AllByRecursion (IsValid s) settings → Fresh rows settings
-    → IsDistinct bytes_eq (map (λ (x : Setting). x.name) settings) → AllTaken s settings rows
-unfolding IsDistinct
+    → IsDistinct bytes_eq (single_names settings) → AllTaken s settings rows
 valid_taken s [] rows all never valid fresh once = tt
 valid_taken s (x ∷ xs) rows all never valid fresh once =
     let v = valid.0 in
+    let parts = once_parts x xs once in
     let id = (long_plain s.rules x.name v.rule all v.found).1 in
-    let new : has_row v.rule.id rows ≡ false = subst (λ n. has_row n rows ≡ false) (sym id) fresh.0 in
+    let new : may_repeat v.rule.id ≡ false → has_row v.rule.id rows ≡ false = subst (λ n. may_repeat n ≡ false → has_row n rows ≡ false) (sym id) fresh.0 in
     let passes = use_passes s.args_override_self v.rule x.way x.name x.value rows v.suits v.in_place new v.accepted in
-    let r = row v.rule.id (reading_by v.rule) x.value in
-    let makes : used v.rule (held_by x.way x.value) rows ≡ rows ++ r ∷ [] = (use_is s.args_override_self v.rule x.way x.name x.value rows never v.suits v.in_place passes).makes in
-    let away : AllByRecursion (λ y. bytes_eq r.id y ≡ false) (map (λ (x : Setting). x.name) xs) = subst (λ n. AllByRecursion (λ y. bytes_eq n y ≡ false) (map (λ (x : Setting). x.name) xs)) (sym id) once.0 in
-    let more : AllTaken s xs (rows ++ r ∷ []) = valid_taken s xs (rows ++ r ∷ []) all never valid.1 (fresh_join rows r xs fresh.1 away) once.1 in
+    let makes : used v.rule (held_by x.way x.value) rows ≡ with_value_of v.rule x.value rows = (use_is s.args_override_self v.rule x.way x.name x.value rows never v.suits v.in_place passes).makes in
+    let away : AllByRecursion (λ (y : Setting). may_repeat y.name ≡ false → bytes_eq v.rule.id y.name ≡ false) xs =
+    subst (λ n. AllByRecursion (λ (y : Setting). may_repeat y.name ≡ false → bytes_eq n y.name ≡ false) xs) (sym id) (all_apart x.name xs parts.0) in
+    let more : AllTaken s xs (with_value_of v.rule x.value rows) = valid_taken s xs (with_value_of v.rule x.value rows) all never valid.1 (fresh_more v.rule x.value rows xs fresh.1 away) parts.1 in
     record {
       now = record { rule = v.rule; found = v.found; suits = v.suits; passes = passes; first = v.first; others = v.others; named = v.named; no_equals = v.no_equals; in_place = v.in_place };
       later = subst (AllTaken s xs) (sym makes) more;
@@ -125,7 +160,7 @@ valid_taken s (x ∷ xs) rows all never valid fresh once =
 
 none_fresh : (xs : List Setting) → Fresh [] xs
 none_fresh [] = tt
-none_fresh (x ∷ xs) = (refl, none_fresh xs)
+none_fresh (x ∷ xs) = ((λ once. refl), none_fresh xs)
 
 -- ---- levels
 
@@ -201,20 +236,24 @@ cond_skip : (b : Bool) (x : Setting) (o : Option Setting) → b ≡ false → co
 cond_skip true x o e = cc
 cond_skip false x o e = refl
 
-later_value : (x : Setting) (xs ys : List Setting) → AllByRecursion (λ y. bytes_eq x.name y ≡ false) (map (λ (s : Setting). s.name) ys)
-    → AllByRecursion (λ (y : Setting). value_of y.name xs ≡ Some y.value) ys → AllByRecursion (λ (y : Setting). value_of y.name (x ∷ xs) ≡ Some y.value) ys
+-- what may be given once at most has the value that its name gives
+abbrev IsValueOf : List Setting → Setting → Type 0
+IsValueOf settings x = may_repeat x.name ≡ false → value_of x.name settings ≡ Some x.value
+
+later_value : (x : Setting) (xs ys : List Setting) → AllByRecursion (λ (y : Setting). may_repeat y.name ≡ false → bytes_eq x.name y.name ≡ false) ys
+    → AllByRecursion (IsValueOf xs) ys → AllByRecursion (IsValueOf (x ∷ xs)) ys
 later_value x xs [] away all = tt
 later_value x xs (y ∷ ys) away all =
-    (ap (option_map (λ (s : Setting). s.value)) (cond_skip (bytes_eq x.name y.name) x (find (λ (s : Setting). bytes_eq s.name y.name) xs) away.0) ∙ all.0, later_value x xs ys away.1 all.1)
+    ((λ once. ap (option_map (λ (s : Setting). s.value)) (cond_skip (bytes_eq x.name y.name) x (find (λ (s : Setting). bytes_eq s.name y.name) xs) (away.0 once)) ∙ all.0 once), later_value x xs ys away.1 all.1)
 
-first_value : (x : Setting) (xs : List Setting) → value_of x.name (x ∷ xs) ≡ Some x.value
-first_value x xs = ap (λ b. option_map (λ (s : Setting). s.value) (cond b (Some x) (find (λ (s : Setting). bytes_eq s.name x.name) xs))) (self_same x.name)
+own_value : (x : Setting) (xs : List Setting) → value_of x.name (x ∷ xs) ≡ Some x.value
+own_value x xs = ap (λ b. option_map (λ (s : Setting). s.value) (cond b (Some x) (find (λ (s : Setting). bytes_eq s.name x.name) xs))) (self_same x.name)
 
--- where no two settings have one name, each is the one that its name gives
-each_value : (settings : List Setting) → IsDistinct bytes_eq (map (λ (x : Setting). x.name) settings) → AllByRecursion (λ (x : Setting). value_of x.name settings ≡ Some x.value) settings
-unfolding IsDistinct
+each_value : (settings : List Setting) → IsDistinct bytes_eq (single_names settings) → AllByRecursion (IsValueOf settings) settings
 each_value [] once = tt
-each_value (x ∷ xs) once = (first_value x xs, later_value x xs xs once.0 (each_value xs once.1))
+each_value (x ∷ xs) once =
+    let parts = once_parts x xs once in
+    ((λ single. own_value x xs), later_value x xs xs (all_apart x.name xs parts.0) (each_value xs parts.1))
 
 all_zip : (P Q R : Setting → Type 0) → ((x : Setting) → P x → Q x → R x) → (xs : List Setting) → AllByRecursion P xs → AllByRecursion Q xs → AllByRecursion R xs
 all_zip P Q R f [] p q = tt
@@ -289,80 +328,68 @@ valid_setting : (s : Shape) (x : Setting) (name : Text) (r : Rule) → x.name �
 valid_setting s x name r is found opt some plain no_switch taken stands =
     valid_argument s x name r is found (option_suits x.way x.name x.value r stands (ap is_switch is ∙ no_switch) opt) some plain taken stands
 
-switch_is : (name : Text) → IsSwitch (filled (switch_rule name))
-switch_is name = record { short = refl; short_aliases = refl; action = refl; least = refl; most = refl; missing = refl }
-
 -- a setting of a known switch
-valid_switch : (s : Shape) (x : Setting) (name : Text) → x.name ≡ name → arg_by_long s.rules name ≡ Some (filled (switch_rule name)) → has_some name ≡ true → has_byte 61 name ≡ false → is_switch name ≡ true
+valid_switch : (s : Shape) (x : Setting) (name : Text) → x.name ≡ name → arg_by_long s.rules name ≡ Some (filled (switch_rule name)) → has_some name ≡ true → has_byte 61 name ≡ false → is_switch name ≡ true → may_repeat name ≡ false
     → IsInPlace x → IsValid s x
-valid_switch s x name is found some plain is_one stands =
-    valid_argument s x name (filled (switch_rule name)) is found (switch_suits x.way x.name x.value (filled (switch_rule name)) stands (ap is_switch is ∙ is_one) (switch_is name)) some plain refl stands
-
-number_option : (name : Text) (least most : ℕ) → IsOption (filled (number_rule name least most))
-number_option name least most = record { short = refl; short_aliases = refl; action = refl; least = refl; most = refl; missing = refl }
-
-choice_option : (name : Text) (choices : Choices) → IsOption (filled (choice_rule name choices))
-choice_option name choices = record { short = refl; short_aliases = refl; action = refl; least = refl; most = refl; missing = refl }
-
-file_option : (name : Text) → IsOption (filled (file_rule name))
-file_option name = record { short = refl; short_aliases = refl; action = refl; least = refl; most = refl; missing = refl }
+valid_switch s x name is found some plain is_one once stands =
+    valid_argument s x name (filled (switch_rule name)) is found (switch_suits x.way x.name x.value (filled (switch_rule name)) stands (ap is_switch is ∙ is_one) (switch_is name once)) some plain refl stands
 
 -- the setting is the one that its name gives
 abbrev IsGiven : List Setting → Setting → Type 0
-IsGiven settings x = (value_of x.name settings ≡ Some x.value) × IsInPlace x
+IsGiven settings x = IsValueOf settings x × IsInPlace x
 
-each_given : (settings : List Setting) → IsDistinct bytes_eq (map (λ (x : Setting). x.name) settings) → AllByRecursion IsInPlace settings → AllByRecursion (IsGiven settings) settings
+each_given : (settings : List Setting) → IsDistinct bytes_eq (single_names settings) → AllByRecursion IsInPlace settings → AllByRecursion (IsGiven settings) settings
 each_given settings once free = all_zip _ _ _ (λ x value stands. (value, stands)) settings (each_value settings once) free
 
-value_at : (settings : List Setting) (x : Setting) (name : Text) → x.name ≡ name → value_of x.name settings ≡ Some x.value → value_of name settings ≡ Some x.value
-value_at settings x name is e = ap (λ n. value_of n settings) (sym is) ∙ e
+value_at : (settings : List Setting) (x : Setting) (name : Text) → is_single name ≡ true → x.name ≡ name → IsValueOf settings x → value_of name settings ≡ Some x.value
+value_at settings x name single is value = ap (λ n. value_of n settings) (sym is) ∙ value (ap may_repeat is ∙ (single_parts name single).1)
 
 valid_number : (s : Shape) (settings : List Setting) (x : Setting) (name : Text) (least most default n : ℕ) → x.name ≡ name → IsGiven settings x
-    → arg_by_long s.rules name ≡ Some (filled (number_rule name least most)) → has_some name ≡ true → has_byte 61 name ≡ false → is_switch name ≡ false → most < 2 ^ 32
+    → arg_by_long s.rules name ≡ Some (filled (number_rule name least most)) → has_some name ≡ true → has_byte 61 name ≡ false → is_single name ≡ true → most < 2 ^ 32
     → GivesNumber settings name default least most n → IsValid s x
-valid_number s settings x name least most default n is value found some plain no_switch fits gives =
-    let given : IsWritten n x.value × (least ≤ n) × (n ≤ most) = subst (λ o. MatchOption o (n ≡ default) (λ text. IsWritten n text × (least ≤ n) × (n ≤ most))) (value_at settings x name is value.0) gives in
-    valid_setting s x name (filled (number_rule name least most)) is found (number_option name least most) some plain no_switch
+valid_number s settings x name least most default n is value found some plain single fits gives =
+    let given : IsWritten n x.value × (least ≤ n) × (n ≤ most) = subst (λ o. MatchOption o (n ≡ default) (λ text. IsWritten n text × (least ≤ n) × (n ≤ most))) (value_at settings x name single is value.0) gives in
+    valid_setting s x name (filled (number_rule name least most)) is found (number_option name least most single) some plain (single_parts name single).0
     (number_taken x.value least most n fits given.0 given.1 given.2) value.1
 
 valid_planner : (s : Shape) (settings : List Setting) (x : Setting) (choices : Choices) (planner : PlannerKind) → x.name ≡ codes "planner" → IsGiven settings x
     → arg_by_long s.rules (codes "planner") ≡ Some (filled (choice_rule (codes "planner") choices)) → texts choices.now ≡ planner_words → GivesPlanner settings planner → IsValid s x
 valid_planner s settings x choices planner is value found words gives =
-    let given : x.value ≡ planner_text planner = subst (λ o. MatchOption o (planner ≡ Near) (λ text. text ≡ planner_text planner)) (value_at settings x (codes "planner") is value.0) gives in
-    valid_setting s x (codes "planner") (filled (choice_rule (codes "planner") choices)) is found (choice_option (codes "planner") choices) refl refl refl
+    let given : x.value ≡ planner_text planner = subst (λ o. MatchOption o (planner ≡ Near) (λ text. text ≡ planner_text planner)) (value_at settings x (codes "planner") refl is value.0) gives in
+    valid_setting s x (codes "planner") (filled (choice_rule (codes "planner") choices)) is found (choice_option (codes "planner") choices refl) refl refl refl
     (word_taken choices planner_words x.value words (subst (λ t. list_any (λ w. bytes_eq w t) planner_words ≡ true) (sym given) (planner_listed planner)))
     value.1
 
 valid_tail : (s : Shape) (settings : List Setting) (x : Setting) (choices : Choices) (tail : Tail) → x.name ≡ codes "tail" → IsGiven settings x
     → arg_by_long s.rules (codes "tail") ≡ Some (filled (choice_rule (codes "tail") choices)) → texts choices.now ≡ tail_words → GivesTail settings tail → IsValid s x
 valid_tail s settings x choices tail is value found words gives =
-    let given : x.value ≡ tail_text tail = subst (λ o. MatchOption o (tail ≡ Nothing) (λ text. text ≡ tail_text tail)) (value_at settings x (codes "tail") is value.0) gives in
-    valid_setting s x (codes "tail") (filled (choice_rule (codes "tail") choices)) is found (choice_option (codes "tail") choices) refl refl refl
+    let given : x.value ≡ tail_text tail = subst (λ o. MatchOption o (tail ≡ Nothing) (λ text. text ≡ tail_text tail)) (value_at settings x (codes "tail") refl is value.0) gives in
+    valid_setting s x (codes "tail") (filled (choice_rule (codes "tail") choices)) is found (choice_option (codes "tail") choices refl) refl refl refl
     (word_taken choices tail_words x.value words (subst (λ t. list_any (λ w. bytes_eq w t) tail_words ≡ true) (sym given) (tail_listed tail)))
     value.1
 
 valid_replies : (s : Shape) (settings : List Setting) (x : Setting) (choices : Choices) (replies : Replies) → x.name ≡ codes "replies" → IsGiven settings x
     → arg_by_long s.rules (codes "replies") ≡ Some (filled (choice_rule (codes "replies") choices)) → texts choices.now ≡ replies_words → GivesReplies settings replies → IsValid s x
 valid_replies s settings x choices replies is value found words gives =
-    let given : x.value ≡ replies_text replies = subst (λ o. MatchOption o (replies ≡ Short) (λ text. text ≡ replies_text replies)) (value_at settings x (codes "replies") is value.0) gives in
-    valid_setting s x (codes "replies") (filled (choice_rule (codes "replies") choices)) is found (choice_option (codes "replies") choices) refl refl refl
+    let given : x.value ≡ replies_text replies = subst (λ o. MatchOption o (replies ≡ Short) (λ text. text ≡ replies_text replies)) (value_at settings x (codes "replies") refl is value.0) gives in
+    valid_setting s x (codes "replies") (filled (choice_rule (codes "replies") choices)) is found (choice_option (codes "replies") choices refl) refl refl refl
     (word_taken choices replies_words x.value words (subst (λ t. list_any (λ w. bytes_eq w t) replies_words ≡ true) (sym given) (replies_listed replies)))
     value.1
 
 valid_file : (s : Shape) (settings : List Setting) (x : Setting) (name : Text) (file : Option Text) → x.name ≡ name → IsGiven settings x
-    → arg_by_long s.rules name ≡ Some (filled (file_rule name)) → has_some name ≡ true → has_byte 61 name ≡ false → is_switch name ≡ false → GivesFile settings name file → IsValid s x
-valid_file s settings x name file is value found some plain no_switch gives =
-    let given : file ≡ Some x.value = gives.is ∙ value_at settings x name is value.0 in
-    valid_setting s x name (filled (file_rule name)) is found (file_option name) some plain no_switch
+    → arg_by_long s.rules name ≡ Some (filled (file_rule name)) → has_some name ≡ true → has_byte 61 name ≡ false → is_single name ≡ true → GivesFile settings name file → IsValid s x
+valid_file s settings x name file is value found some plain single gives =
+    let given : file ≡ Some x.value = gives.is ∙ value_at settings x name single is value.0 in
+    valid_setting s x name (filled (file_rule name)) is found (file_option name single) some plain (single_parts name single).0
     (name_taken x.value (λ empty. gives.named (given ∙ empty))) value.1
 
 valid_may : (s : Shape) (settings : List Setting) (x : Setting) (name : Text) (least most : ℕ) (read : Option ℕ) → x.name ≡ name → IsGiven settings x
-    → arg_by_long s.rules name ≡ Some (filled (number_rule name least most)) → has_some name ≡ true → has_byte 61 name ≡ false → is_switch name ≡ false → most < 2 ^ 32
+    → arg_by_long s.rules name ≡ Some (filled (number_rule name least most)) → has_some name ≡ true → has_byte 61 name ≡ false → is_single name ≡ true → most < 2 ^ 32
     → MayGive settings name least most read → IsValid s x
-valid_may s settings x name least most read is value found some plain no_switch fits gives =
+valid_may s settings x name least most read is value found some plain single fits gives =
     let given : (n : ℕ) × (read ≡ Some n) × IsWritten n x.value × (least ≤ n) × (n ≤ most) =
-    subst (λ o. MatchOption o (read ≡ None) (λ text. (n : ℕ) × (read ≡ Some n) × IsWritten n text × (least ≤ n) × (n ≤ most))) (value_at settings x name is value.0) gives in
-    valid_setting s x name (filled (number_rule name least most)) is found (number_option name least most) some plain no_switch
+    subst (λ o. MatchOption o (read ≡ None) (λ text. (n : ℕ) × (read ≡ Some n) × IsWritten n text × (least ≤ n) × (n ≤ most))) (value_at settings x name single is value.0) gives in
+    valid_setting s x name (filled (number_rule name least most)) is found (number_option name least most single) some plain (single_parts name single).0
     (number_taken x.value least most given.0 fits given.2 given.3 given.4) value.1
 
 -- ---- the settings of a subcommand
@@ -395,7 +422,7 @@ fleet_valid s settings choices fleet others words gives planner slots bank spare
 vehicles_valid : (p t r q : Choices) (settings : List Setting) (o : ReplayOptions) → GivesReplay settings o
     → (x : Setting) → IsGiven settings x → list_any (bytes_eq x.name) (drop 8 replay_names) ≡ true → IsValid (leaf_at 1 p t r q) x
 vehicles_valid p t r q settings o gives x value e = elim (either_true _ _ e) [
-  | inl is ↦ valid_switch (leaf_at 1 p t r q) x (codes "vehicles") (bytes_same _ _ is) refl refl refl refl value.1
+  | inl is ↦ valid_switch (leaf_at 1 p t r q) x (codes "vehicles") (bytes_same _ _ is) refl refl refl refl refl value.1
   | inr f ↦ elim (either_true _ _ f) [
     | inl is ↦ valid_number (leaf_at 1 p t r q) settings x (codes "behind") 1 1000 8 gives.vehicles.pace.behind (bytes_same _ _ is) value refl refl refl refl (lit< tt) gives.vehicles.behind
     | inr g ↦ elim (either_true _ _ g) [

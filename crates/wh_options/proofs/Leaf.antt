@@ -6,15 +6,17 @@ use Rattle.std.specs.Str.{bytes_eq}
 use Rattle.clap.specs.Facts.{unwrap_or_range}
 use Rattle.clap.specs.Kinds.{Kinds, or_else}
 use Rattle.clap.specs.Walk.{Rule, Text, action_of, arg_by_id, arg_by_index, arg_by_long, arg_by_short, has_long, has_short, most_values}
-use Rattle.clap.specs.declared.builder.action.ArgAction.TheVariants.{Set, Help, Version}
-use Rattle.wh_options.specs.Setting.{Spelling, StandsBy, alone, apart, is_switch, joined}
+use Rattle.clap.specs.declared.builder.action.ArgAction.{ArgAction}
+use Rattle.clap.specs.declared.builder.action.ArgAction.TheVariants.{Append, Set, Help, Version}
+use Rattle.wh_options.specs.Setting.{Spelling, StandsBy, alone, apart, is_switch, joined, may_repeat}
 use Rattle.wh_options.proofs.Shapes.{find_in, bytes_same}
 
--- an option of one value, with a long name alone
+-- an option of one value, which may be given once at most, or of one value each time that it is given, with a long name
+-- alone
 pub record IsOption (a : Rule) : Type 0 where
   pub short : a.short ≡ None
   pub short_aliases : a.short_aliases ≡ []
-  pub action : action_of a ≡ Set
+  pub action : action_of a ≡ cond (may_repeat a.id) Append Set
   pub least : (unwrap_or_range a.range).start_inclusive ≡ 1
   pub most : most_values a ≡ 1
   pub missing : a.missing ≡ []
@@ -24,6 +26,7 @@ pub record IsSwitch (a : Rule) : Type 0 where
   pub short : a.short ≡ None
   pub short_aliases : a.short_aliases ≡ []
   pub action : action_of a ≡ Set
+  pub once : may_repeat a.id ≡ false
   pub least : (unwrap_or_range a.range).start_inclusive ≡ 0
   pub most : most_values a ≡ 0
   pub missing : a.missing ≡ codes "true" ∷ []
@@ -124,10 +127,23 @@ held_by joined v = v ∷ []
 held_by apart v = v ∷ []
 held_by alone v = []
 
-pub suits_set : (way : Spelling) (a : Rule) → Suits way a → action_of a ≡ Set
-suits_set joined a p = p.action
-suits_set apart a p = p.action
-suits_set alone a p = p.action
+-- the actions of options and switches
+abbrev pub is_set : ArgAction → Bool
+is_set Set = true
+is_set Append = true
+is_set _ = false
+
+either_set : (b : Bool) → is_set (cond b Append Set) ≡ true
+either_set true = refl
+either_set false = refl
+
+pub option_set : (a : Rule) → IsOption a → is_set (action_of a) ≡ true
+option_set a p = ap is_set p.action ∙ either_set (may_repeat a.id)
+
+pub suits_set : (way : Spelling) (a : Rule) → Suits way a → is_set (action_of a) ≡ true
+suits_set joined a p = option_set a p
+suits_set apart a p = option_set a p
+suits_set alone a p = ap is_set p.action
 
 pub suits_setting : (way : Spelling) (a : Rule) → Suits way a → IsSetting a
 suits_setting joined a p = inl p

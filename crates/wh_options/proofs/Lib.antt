@@ -8,6 +8,7 @@ pub mod Rows
 pub mod Top
 pub mod Values
 pub mod Names
+pub mod Singles
 pub mod Menus
 pub mod Spells
 pub mod Exact

@@ -1,13 +1,12 @@
 -- The words that the program's command takes, and what they mean.
-use Rattle.std.proofs.Common.{◌≡◌, ◌⊎◌, ℕ, List, [], ◌∷◌, map, refl, sym, ap, ◌∙◌, Bool, true, false, cond, None, Some, Option, subst, inl, inr, codes, lit<, not, is_some, ◌&&◌}
+use Rattle.std.proofs.Common.{◌≡◌, ◌⊎◌, ℕ, List, [], ◌∷◌, refl, sym, ap, ◌∙◌, Bool, true, false, cond, None, Some, Option, subst, inl, inr, codes, lit<, not, is_some, ◌&&◌, true≢false}
 use Rattle.std.specs.Prelude.{drop, find, slice_get, unwrap_or}
 use Rattle.std.specs.List.{AllByRecursion, IsDistinct}
 use Rattle.std.specs.Str.{bytes_eq}
 use Rattle.clap.specs.Faults.{fault_of, is_simple_and_free, level_fault}
 use Rattle.clap.specs.Simple.{App, Shape, built, filled, help_rule, is_simple, label_of, new_shape, subcommand_of, version_rule}
-use Rattle.clap.specs.declared.builder.action.ArgAction.TheVariants.{Set, Help, Version}
 use Rattle.clap.specs.Walk.{Row, Rule, Text, action_of, answers_to, arg_by_long, first_of, nothing_held, rows_after, settled, texts, walk, has_long}
-use Rattle.wh_options.specs.Setting.{IsLine, IsSpelled, Setting, is_switch, value_of}
+use Rattle.wh_options.specs.Setting.{IsLine, IsSpelled, Setting, is_switch, may_repeat, single_names, value_of, values_of}
 use Rattle.wh_options.specs.Options.{GivesFleet, LacksAny, LiveLacks, Means, ReplayLacks, WordsGive, board_of, default_turns, live_names, log_of, replay_names}
 use Rattle.wh_options.specs.Reads.{Reads, ReadsFleet}
 use Rattle.wh_options.specs.Menu.{Choices, IsMenu, choice_rule, file_rule, menu, number_rule, planner_words, replies_words, switch_rule, tail_words}
@@ -16,10 +15,11 @@ use Rattle.wh_options.specs.declared.chosen.Options.{Options}
 use Rattle.wh_options.specs.declared.chosen.Options.TheVariants.{Check, Replay, Verify, Live}
 use Rattle.wh_options.specs.declared.chosen.Fleet.{Fleet}
 use Rattle.wh_options.proofs.Shapes.{find_in}
-use Rattle.wh_options.proofs.Leaf.{ArePlain, IsAsking, IsOption, IsPlainRule, IsSetting}
+use Rattle.wh_options.proofs.Leaf.{ArePlain, is_set, option_set, IsAsking, IsOption, IsPlainRule, IsSetting}
 use Rattle.wh_options.proofs.Words.{words_said}
-use Rattle.wh_options.proofs.Rows.{IsTaken, first_given, no_defaults, results}
+use Rattle.wh_options.proofs.Rows.{IsTaken, first_in, first_value, no_defaults, results, values_in}
 use Rattle.wh_options.proofs.Top.{IsMenuApp, level_parts, menu_entered}
+use Rattle.wh_options.proofs.Singles.{choice_option, file_option, is_single, number_option, single_parts, switch_is}
 use Rattle.wh_options.proofs.Names.{Named, only_named, other_word}
 use Rattle.wh_options.proofs.Values.{some_same, file_given, no_settings, number_given, only_names, planner_given, replies_given, tail_given, may_given, vehicles_given}
 
@@ -29,8 +29,9 @@ use Rattle.wh_options.proofs.Values.{some_same, file_given, no_settings, number_
 pub record LeafSays (s : Shape) (rest : List Text) : Type 0 where
   pub settings : List Setting
   pub spelling : IsSpelled rest settings
-  pub once : IsDistinct bytes_eq (map (λ (x : Setting). x.name) settings)
+  pub once : IsDistinct bytes_eq (single_names settings)
   pub taken : AllByRecursion (IsTaken s.rules) settings
+  pub values : (id : Text) → values_in id (rows_after s.rules [] rest) ≡ values_of id settings
   pub first : (id : Text) → first_of id (rows_after s.rules [] rest) ≡ value_of id settings
 
 leaf_says : (s : Shape) (rest : List Text) → ArePlain s.rules → s.args_override_self ≡ false → level_fault s [] nothing_held rest false [] ≡ [] → LeafSays s rest
@@ -38,33 +39,31 @@ leaf_says s rest all never f =
     let p = level_parts s [] nothing_held rest false [] f in
     let said = words_said s rest all (record { walks = p.walks; ends = p.settles }) in
     let r = results s said.settings [] _ never said.applied in
-    let rows_are : rows_after s.rules [] rest ≡ r.added = no_defaults s.rules (settled s.rules (walk s.rules [] nothing_held rest).held).rows all ∙ r.last_is in
+    let rows_are = no_defaults s.rules (settled s.rules (walk s.rules [] nothing_held rest).held).rows all in
+    let values : (id : Text) → values_in id (rows_after s.rules [] rest) ≡ values_of id said.settings = λ id. ap (values_in id) rows_are ∙ r.values id in
     record {
       settings = said.settings;
       spelling = said.spelling;
       once = r.once;
       taken = r.taken;
-      first = λ id. ap (first_of id) rows_are ∙ first_given id said.settings r.added r.as_rows;
+      values = values;
+      first = λ id. first_in id (rows_after s.rules [] rest) ∙ ap (λ vs. slice_get vs 0) (values id) ∙ first_value id said.settings;
     }
 
 -- ---- the program's command
 
-not_set : (a : Rule) → IsAsking a → action_of a ≡ Set → ⊥
+not_set : (a : Rule) → IsAsking a → is_set (action_of a) ≡ true → ⊥
 not_set a h set = elim h.action [
-  | inl help ↦
-      let bad : Help ≡ Set = sym help ∙ set in
-      cc
-  | inr version ↦
-      let bad : Version ≡ Set = sym version ∙ set in
-      cc
+  | inl help ↦ true≢false (sym set ∙ ap is_set help)
+  | inr version ↦ true≢false (sym set ∙ ap is_set version)
 ]
 
 is_asking : (c : List Rule) → AllByRecursion IsAsking c → (name : Text) (a : Rule) → arg_by_long c name ≡ Some a → IsSetting a → ⊥
 is_asking c all name a found setting =
     let h = find_in IsAsking (λ r. not (is_some r.index) && has_long r name) c a all found in
     elim setting [
-      | inl o ↦ not_set a h.0 o.action
-      | inr w ↦ not_set a h.0 w.action
+      | inl o ↦ not_set a h.0 (option_set a o)
+      | inr w ↦ not_set a h.0 (ap is_set w.action)
     ]
 
 -- the flags that each command is given beside its own
@@ -197,26 +196,20 @@ verify_means p t r q rest (Live o) says reads = absurd (other_word (codes "verif
 option_plain : (r : Rule) → r.long ≡ Some r.id → r.aliases ≡ [] → r.index ≡ None → r.defaults ≡ [] → IsOption r → is_switch r.id ≡ false → IsPlainRule r
 option_plain r long aliases index defaults opt no_switch = record { long = long; aliases = aliases; index = index; defaults = defaults; kind = inl (opt, no_switch) }
 
-number_plain : (name : Text) (least most : ℕ) → is_switch name ≡ false → IsPlainRule (filled (number_rule name least most))
-number_plain name least most = option_plain _ refl refl refl refl (record { short = refl; short_aliases = refl; action = refl; least = refl; most = refl; missing = refl })
+number_plain : (name : Text) (least most : ℕ) → is_single name ≡ true → IsPlainRule (filled (number_rule name least most))
+number_plain name least most single = option_plain _ refl refl refl refl (number_option name least most single) (single_parts name single).0
 
-choice_plain : (name : Text) (choices : Choices) → is_switch name ≡ false → IsPlainRule (filled (choice_rule name choices))
-choice_plain name choices = option_plain _ refl refl refl refl (record { short = refl; short_aliases = refl; action = refl; least = refl; most = refl; missing = refl })
+choice_plain : (name : Text) (choices : Choices) → is_single name ≡ true → IsPlainRule (filled (choice_rule name choices))
+choice_plain name choices single = option_plain _ refl refl refl refl (choice_option name choices single) (single_parts name single).0
 
-file_plain : (name : Text) → is_switch name ≡ false → IsPlainRule (filled (file_rule name))
-file_plain name = option_plain _ refl refl refl refl (record { short = refl; short_aliases = refl; action = refl; least = refl; most = refl; missing = refl })
+file_plain : (name : Text) → is_single name ≡ true → IsPlainRule (filled (file_rule name))
+file_plain name single = option_plain _ refl refl refl refl (file_option name single) (single_parts name single).0
 
-switch_plain : (name : Text) → is_switch name ≡ true → IsPlainRule (filled (switch_rule name))
-switch_plain name is_one = record {
-  long = refl;
-  aliases = refl;
-  index = refl;
-  defaults = refl;
-  kind = inr (inl (record { short = refl; short_aliases = refl; action = refl; least = refl; most = refl; missing = refl }, is_one));
-}
+switch_plain : (name : Text) → is_switch name ≡ true → may_repeat name ≡ false → IsPlainRule (filled (switch_rule name))
+switch_plain name is_one once = record { long = refl; aliases = refl; index = refl; defaults = refl; kind = inr (inl (switch_is name once, is_one)) }
 
 vehicles_plain : (r : List Rule) → ArePlain r → ArePlain (filled (switch_rule (codes "vehicles")) ∷ filled (number_rule (codes "behind") 1 1000) ∷ filled (number_rule (codes "ahead") 1 1000) ∷ r)
-vehicles_plain r rest = (switch_plain (codes "vehicles") refl, (number_plain (codes "behind") 1 1000 refl, (number_plain (codes "ahead") 1 1000 refl, rest)))
+vehicles_plain r rest = (switch_plain (codes "vehicles") refl refl, (number_plain (codes "behind") 1 1000 refl, (number_plain (codes "ahead") 1 1000 refl, rest)))
 
 pub replay_plain : (p t r q : Choices) → ArePlain (leaf_at 1 p t r q).rules
 replay_plain p t r q = (choice_plain (codes "planner") p refl, (number_plain (codes "slots") 2 64 refl, (number_plain (codes "bank") 2 65536 refl, (number_plain (codes "spares") 0 16 refl, (choice_plain (codes "tail") t refl, (choice_plain (codes "replies") r refl, (file_plain (codes "log") refl, (number_plain (codes "told") 0 999999999 refl, vehicles_plain Flags asking_plain))))))))

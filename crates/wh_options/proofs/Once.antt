@@ -1,10 +1,10 @@
 -- Words give at most one set of options.
-use Rattle.std.proofs.Common.{◌≡◌, ◌≤◌, ℕ, List, [], ◌∷◌, ◌++◌, drop, refl, sym, ap, ap₂, ◌∙◌, Bool, true, false, cond, None, Some, Option, subst, inl, inr, codes, not, true≢false, option_map, append_assoc}
-use Rattle.std.specs.Prelude.{MatchOption, find}
+use Rattle.std.proofs.Common.{◌≡◌, ◌≤◌, ℕ, List, [], ◌∷◌, ◌++◌, drop, refl, sym, ap, ap₂, ◌∙◌, Bool, true, false, cond, None, Some, Option, subst, inl, inr, codes, not, true≢false, append_assoc}
+use Rattle.std.specs.Prelude.{MatchOption, filter, map, slice_get}
 use Rattle.std.specs.List.{AllByRecursion, after_first, before_first, flat_map}
 use Rattle.std.specs.Str.{bytes_eq}
 use Rattle.clap.specs.Lexer.{has_byte}
-use Rattle.wh_options.specs.Setting.{Closes, IsInPlace, IsLine, Setting, Spelling, StandsBy, Text, alone, apart, is_switch, joined, spelled, spelled_by, value_of}
+use Rattle.wh_options.specs.Setting.{Closes, IsInPlace, IsLine, Setting, Spelling, StandsBy, Text, alone, apart, is_switch, joined, spelled, spelled_by, value_of, values_of}
 use Rattle.wh_options.specs.Options.{AreSame, EachGives, GivesFleet, GivesNumber, GivesPlanner, GivesReplies, GivesTail, MayGive, GivesVehicles, IsWritten, WordsGive, default_turns, planner_text, replies_text, tail_text}
 use Rattle.wh_options.specs.declared.chosen.Options.{Options}
 use Rattle.wh_options.specs.declared.chosen.Options.TheVariants.{Check, Replay, Verify, Live}
@@ -18,6 +18,7 @@ use Rattle.wh_options.specs.declared.chosen.Replies.{Replies}
 use Rattle.wh_options.specs.declared.chosen.Replies.TheVariants.{Short, Full, Placed}
 use Rattle.wh_options.proofs.Shapes.{is_equals}
 use Rattle.wh_options.proofs.Spells.{cut_at_equals, has_equals}
+use Rattle.wh_options.proofs.Rows.{first_value}
 use Rattle.wh_options.proofs.Names.{Named, gives_named, other_word, plain_name}
 
 -- ---- one setting
@@ -96,22 +97,28 @@ no_setting rest m w alone b (inr one) p e = no_name m p (ap first_or (sym one �
 abbrev pub AreInPlace : List Setting → Type 0
 AreInPlace = AllByRecursion IsInPlace
 
+abbrev pub AllAgree : List Setting → List Setting → Type 0
+AllAgree xs ys = (id : Text) → values_of id xs ≡ values_of id ys
+
 abbrev pub Agree : List Setting → List Setting → Type 0
 Agree xs ys = (id : Text) → value_of id xs ≡ value_of id ys
 
-value_step : (id : Text) (x : Setting) (xs : List Setting) (b : Bool) → option_map (λ (s : Setting). s.value) (cond b (Some x) (find (λ (s : Setting). bytes_eq s.name id) xs))
-    ≡ cond b (Some x.value) (value_of id xs)
+pub all_agree : (xs ys : List Setting) → AllAgree xs ys → Agree xs ys
+all_agree xs ys all = λ id. sym (first_value id xs) ∙ ap (λ vs. slice_get vs 0) (all id) ∙ first_value id ys
+
+value_step : (id : Text) (x : Setting) (xs : List Setting) (b : Bool)
+    → map (λ (s : Setting). s.value) (cond b (x ∷ filter (λ (s : Setting). bytes_eq s.name id) xs) (filter (λ (s : Setting). bytes_eq s.name id) xs)) ≡ cond b (x.value ∷ values_of id xs) (values_of id xs)
 value_step id x xs true = refl
 value_step id x xs false = refl
 
-agree_cons : (x y : Setting) (xs ys : List Setting) → x.name ≡ y.name → x.value ≡ y.value → Agree xs ys → Agree (x ∷ xs) (y ∷ ys)
+agree_cons : (x y : Setting) (xs ys : List Setting) → x.name ≡ y.name → x.value ≡ y.value → AllAgree xs ys → AllAgree (x ∷ xs) (y ∷ ys)
 agree_cons x y xs ys name value rest = λ id.
     value_step id x xs (bytes_eq x.name id)
-    ∙ ap₂ (λ b v. cond b (Some v) (value_of id xs)) (ap (λ n. bytes_eq n id) name) value
-    ∙ ap (cond (bytes_eq y.name id) (Some y.value)) (rest id)
+    ∙ ap₂ (λ b v. cond b (v ∷ values_of id xs) (values_of id xs)) (ap (λ n. bytes_eq n id) name) value
+    ∙ ap (λ vs. cond (bytes_eq y.name id) (y.value ∷ vs) vs) (rest id)
     ∙ sym (value_step id y ys (bytes_eq y.name id))
 
-one_list : (xs ys : List Setting) (a b : List Text) → Named xs → Named ys → AreInPlace xs → AreInPlace ys → Closes a → Closes b → flat_map spelled xs ++ a ≡ flat_map spelled ys ++ b → Agree xs ys
+one_list : (xs ys : List Setting) (a b : List Text) → Named xs → Named ys → AreInPlace xs → AreInPlace ys → Closes a → Closes b → flat_map spelled xs ++ a ≡ flat_map spelled ys ++ b → AllAgree xs ys
 one_list [] [] a b p q s t c d e = λ id. refl
 one_list [] (y ∷ ys) a b p q s t c d e = absurd (no_setting a y.name y.value y.way (flat_map spelled ys ++ b) c q.0 (e ∙ append_assoc (spelled y) (flat_map spelled ys) b))
 one_list (x ∷ xs) [] a b p q s t c d e = absurd (no_setting b x.name x.value x.way (flat_map spelled xs ++ a) d p.0 (sym e ∙ append_assoc (spelled x) (flat_map spelled xs) a))
@@ -121,7 +128,7 @@ one_list (x ∷ xs) (y ∷ ys) a b p q s t c d e =
     agree_cons x y xs ys same.0 same.1 (one_list xs ys a b p.1 q.1 s.1 t.1 c d same.2)
 
 -- two readings of one line agree in the subcommand and in each value
-pub one_line : (words : List Text) (m n : Text) (xs ys : List Setting) → Named xs → Named ys → IsLine words m xs → IsLine words n ys → (m ≡ n) × Agree xs ys
+pub one_line : (words : List Text) (m n : Text) (xs ys : List Setting) → Named xs → Named ys → IsLine words m xs → IsLine words n ys → (m ≡ n) × AllAgree xs ys
 one_line words m n xs ys p q a b =
     let heads : a.program ∷ m ∷ a.after ≡ b.program ∷ n ∷ b.after = sym a.words_are ∙ b.words_are in
     let after : a.after ≡ b.after = ap (drop 2) heads in
@@ -255,4 +262,4 @@ gives_once name told xs ys (Live o) (Live p) is agree m n =
 pub given_once : (words : List Text) (o p : Options) → WordsGive words o → WordsGive words p → AreSame o p
 given_once words o p a b =
     let line = one_line words a.0 b.0 a.1 b.1 (gives_named a.0 a.1 o a.3.0) (gives_named b.0 b.1 p b.3.0) a.2 b.2 in
-    gives_once a.0 b.0 a.1 b.1 o p line.0 line.1 a.3.0 b.3.0
+    gives_once a.0 b.0 a.1 b.1 o p line.0 (all_agree a.1 b.1 line.1) a.3.0 b.3.0

@@ -11,8 +11,6 @@ use Rattle.clap.specs.ValueTests.{accepts}
 use Rattle.clap.specs.Walk.{Rule, Text, action_of, arg_by_long, has_long, texts}
 use Rattle.clap.specs.declared.builder.value_parser.ValueParser.TheVariants as vp
 use Rattle.wh_options.specs.Setting.{Setting, value_of}
-use Rattle.clap.specs.declared.builder.action.ArgAction.{ArgAction}
-use Rattle.clap.specs.declared.builder.action.ArgAction.TheVariants.{Set}
 use Rattle.wh_options.specs.Options.{GivesFile, GivesNumber, GivesPlanner, GivesReplies, GivesTail, MayGive, GivesVehicles, HasOnly, IsWritten, planner_text, replies_text, tail_text}
 use Rattle.wh_options.specs.Reads.{MayRead, ReadsNumber, ReadsVehicles, planner_of, replies_of, tail_of}
 use Rattle.wh_options.specs.Menu.{Choices, planner_words, replies_words, tail_words}
@@ -24,7 +22,7 @@ use Rattle.wh_options.specs.declared.chosen.Replies.{Replies}
 use Rattle.wh_options.specs.declared.chosen.Replies.TheVariants.{Short}
 use Rattle.wh_options.proofs.Shapes.{bytes_same, find_in}
 use Rattle.wh_options.specs.declared.chosen.VehicleOptions.{VehicleOptions}
-use Rattle.wh_options.proofs.Leaf.{ArePlain, IsSetting, long_plain, suits_set, suits_setting}
+use Rattle.wh_options.proofs.Leaf.{ArePlain, IsSetting, is_set, long_plain, suits_set, suits_setting}
 use Rattle.wh_options.proofs.Words.{self_same}
 use Rattle.wh_options.proofs.Rows.{IsTaken}
 
@@ -32,10 +30,6 @@ pub some_same : {X : Type 0} (x y : X) → ◌≡◌ {A = Option X} (Some x) (So
 some_same x y e = cc
 
 -- ---- the names that a command takes
-
-abbrev is_set : ArgAction → Bool
-is_set Set = true
-is_set _ = false
 
 -- the ids of the options and switches
 abbrev pub option_ids : List Rule → List Text
@@ -50,17 +44,17 @@ more_ids name id true ids e = go (bytes_eq name id)
     go false = e
 more_ids name id false ids e = e
 
-listed_step : (name : Text) (r a : Rule) (rs : List Rule) (b : Bool) → action_of a ≡ Set → a.id ≡ name → cond b (Some r) (arg_by_long rs name) ≡ Some a
+listed_step : (name : Text) (r a : Rule) (rs : List Rule) (b : Bool) → is_set (action_of a) ≡ true → a.id ≡ name → cond b (Some r) (arg_by_long rs name) ≡ Some a
     → (arg_by_long rs name ≡ Some a → list_any (bytes_eq name) (option_ids rs) ≡ true)
     → list_any (bytes_eq name) (option_ids (r ∷ rs)) ≡ true
 listed_step name r a rs true opt id e ih =
     let is : r ≡ a = some_same r a e in
-    let takes : is_set (action_of r) ≡ true = ap (λ (x : Rule). is_set (action_of x)) is ∙ ap is_set opt in
+    let takes : is_set (action_of r) ≡ true = ap (λ (x : Rule). is_set (action_of x)) is ∙ opt in
     let same : bytes_eq name r.id ≡ true = subst (λ n. bytes_eq name n ≡ true) (sym (ap (λ (x : Rule). x.id) is ∙ id)) (self_same name) in
     rw (takes, same) refl
 listed_step name r a rs false opt id e ih = more_ids name r.id (is_set (action_of r)) (option_ids rs) (ih e)
 
-listed : (c : List Rule) (name : Text) (a : Rule) → action_of a ≡ Set → a.id ≡ name → arg_by_long c name ≡ Some a → list_any (bytes_eq name) (option_ids c) ≡ true
+listed : (c : List Rule) (name : Text) (a : Rule) → is_set (action_of a) ≡ true → a.id ≡ name → arg_by_long c name ≡ Some a → list_any (bytes_eq name) (option_ids c) ≡ true
 listed [] name a opt id e = cc
 listed (r ∷ rs) name a opt id e = listed_step name r a rs (not (is_some r.index) && has_long r name) opt id e (listed rs name a opt id)
 
