@@ -116,5 +116,75 @@ for every in 0 60001; do
     said=$(refused "$scratch/small" --every "$every")
     judge "--every $every" "${said%%|*}|${said##*|}" '|2'
 done
+
+# a file that shows the board
+"$warehouse" live --every 1 --board "$scratch/board" < "$scratch/no_client" > "$scratch/log"
+judge 'the board behind one turn' "$(cat -- "$scratch/board"; echo .)" 'wboard 1
+entries 3
+clock 1
+open 0
+assigned 0
+carried 0
+done 0
+0,1 0 none
+4,1 0 none
+.'
+judge 'no file beside it is left' "$(ls -- "$scratch"/board*)" "$scratch/board"
+cat -- "$scratch/small" "$scratch/two" > "$scratch/whole"
+for words in '' '--every 1'; do
+    said=$(refused "$scratch/third_line" --board "$scratch/none" $words)
+    judge "no board where nothing is begun $words" "$said $(ls -- "$scratch/none" 2> /dev/null)" '|refused C1 line 3|1 '
+    judge "a board in no folder $words" "$(refused "$scratch/whole" --board "$scratch/nowhere/board" $words)" '|refused X6|3'
+    # it holds nobody up
+    timeout 30 "$warehouse" live $words --board "$scratch/board" --board-every 60000 < "$scratch/whole" > "$scratch/log"
+    judge "a rest of a minute $words" "$? $(sed -n 2p "$scratch/board")" "0 entries $(grep -c ' = ' "$scratch/log")"
+done
+for every in 0 60001; do
+    said=$(refused "$scratch/small" --board "$scratch/board" --board-every "$every")
+    judge "--board-every $every" "${said%%|*}|${said##*|}" '|2'
+done
+said=$(refused "$scratch/small" --board '')
+judge 'a board without a name' "${said%%|*}|${said##*|}" '|2'
+
+# Reads the board again and again while it is shown, and tells how many differed, or what is wrong with one of them: each has
+# its first line, six counts, and a line for each of 20 agents, and no fewer entries than the one before.
+watched() {
+    python3 - "$1" "$2" << 'END'
+import os, re, sys, time
+path, ended = sys.argv[1:]
+counts = ["entries", "clock", "open", "assigned", "carried", "done"]
+line = re.compile(r"\d+,\d+ \d+ (none|fetching \d+|carrying \d+ \d+)")
+shown, entries, limit = 0, -1, time.time() + 120
+while time.time() < limit:
+    is_last = os.path.exists(ended)
+    try:
+        with open(path, encoding="ascii") as file:
+            text = file.read()
+    except FileNotFoundError:
+        continue
+    rows = text.split("\n")
+    words = [row.split(" ") for row in rows[1:7]]
+    if rows[0] != "wboard 1" or [row[0] for row in words] != counts or len(rows) != 28 or rows[27] != "":
+        sys.exit(print("a board that is not whole:", text))
+    if not all(line.fullmatch(row) for row in rows[7:27]):
+        sys.exit(print("an agent that is not told:", text))
+    now = int(words[0][1])
+    if now < entries:
+        sys.exit(print(f"{now} entries behind {entries}"))
+    shown += now != entries
+    entries = now
+    if is_last:
+        break
+print("many" if shown > 10 else shown, entries)
+END
+}
+cat -- "$scratch/shelves" "$scratch/three" > "$scratch/whole"
+rm -f -- "$scratch/board" "$scratch/ended"
+watched "$scratch/board" "$scratch/ended" > "$scratch/watched" &
+"$warehouse" live --every 2 --journal 100000 --board "$scratch/board" --board-every 5 < "$scratch/whole" > "$scratch/log"
+: > "$scratch/ended"
+wait
+judge 'boards while it runs' "$(cat -- "$scratch/watched")" "many $(grep -c ' = ' "$scratch/log")"
+judge 'all is done on the last one' "$(sed -n '4,7p' "$scratch/board" | tr '\n' ' ')" 'open 0 assigned 0 carried 0 done 200 '
 echo "$passed passed, $failed failed"
 ((failed == 0))

@@ -5,6 +5,8 @@
 #[cfg(test)]
 mod answers;
 #[cfg(test)]
+mod boards;
+#[cfg(test)]
 mod devices;
 #[cfg(test)]
 mod last_values;

@@ -5,7 +5,7 @@ ghost use Rattle.std.specs.Prelude.{◌≡◌, ◌+◌, ◌<◌, ◌≤◌, ◌�
 ghost use Rattle.wh_core.specs.Laws.{IsOpening};
 ghost use Rattle.wh_core.specs.Steps.{Run};
 ghost use Rattle.wh_board.specs.Pasts.{Extends};
-ghost use Rattle.wh_desk.specs.Pasts.{origin_of};
+ghost use Rattle.wh_desk.specs.Pasts.{origin_of, past_of};
 ghost use Rattle.wh_desk.specs.Lists.{AllAt, Received};
 ghost use Rattle.wh_desk.specs.Calls.{InOrder, NoneWantsPath};
 ghost use Rattle.wh_desk.specs.declared.answer.DeskFault.{DeskFault};
@@ -218,6 +218,8 @@ pub fn crew_at_pace<
     ensures workers { IfOk result (λ c. AllWorked P.fits_map P.slot_count N.origin.site.grid (length N.cells) works.items passes.items c.history.warehouse.book.history c.missed.items) }
     ensures agents { IfOk result (λ c. (own : Received) → slice_get passes.items (length works.items) ≡ Some own → TurnsIn (length N.cells) turns N.origin c.history.warehouse.book.history own c.taken) }
     ensures stopped { IfOk result (λ c. IfErr c.taken (IsWhyStopped (length N.cells) c.history.warehouse.book.history)) }
+    ensures book { IfOk result (λ c. c.history.front.book ≡ N.book) }
+    ensures past { IfOk result (λ c. c.history.front.past ≡ past_of c.history.warehouse.book) }
 {
     let Ok(viewer) = desk.viewer(rt) else {
         return Err(CrewFault::NoMemory);

@@ -4,7 +4,7 @@
 ghost use Rattle.std.specs.Prelude.{◌≡◌, ◌<◌, ◌≤◌, [], ℕ, true, false, All, IfOk, length, map, vec_len, vec_capacity, Some, slice_get};
 ghost use Rattle.wh_core.specs.Laws.{IsOpening};
 ghost use Rattle.wh_core.specs.Steps.{Run};
-ghost use Rattle.wh_desk.specs.Pasts.{origin_of};
+ghost use Rattle.wh_desk.specs.Pasts.{origin_of, past_of};
 ghost use Rattle.wh_desk.specs.Lists.{AllAt};
 ghost use Rattle.wh_desk.specs.Calls.{InOrder, NoneWantsPath};
 ghost use Rattle.wh_crew.specs.Work.{AllWorked, IsDue, MissedWithCause, ReportAt, Worked};
@@ -262,6 +262,8 @@ pub fn crew<
     ensures served { IfOk result (λ c. NoneWantsPath N.origin c.history.warehouse.book.history) }
     ensures cause { IfOk result (λ c. MissedWithCause (length N.cells) c.history.warehouse.book.history c.missed.items) }
     ensures workers { IfOk result (λ c. AllWorked P.fits_map P.slot_count N.origin.site.grid (length N.cells) works.items passes.items c.history.warehouse.book.history c.missed.items) }
+    ensures book { IfOk result (λ c. c.history.front.book ≡ N.book) }
+    ensures past { IfOk result (λ c. c.history.front.past ≡ past_of c.history.warehouse.book) }
 {
     let Ok(room) = make_room(alloc, passes.len()) else {
         return Err(CrewFault::NoMemory);

@@ -1,3 +1,5 @@
 pub mod Turns
 pub mod Joining
 pub mod Places
+pub mod Viewing
+pub mod Screens

@@ -1,5 +1,6 @@
 pub mod Clients
 pub mod Works
+pub mod Displays
 pub mod Lives
 -- handed on, for the crates above
 pub use Rattle.wh_crew.specs.Calls
@@ -7,3 +8,5 @@ pub use Rattle.wh_crew.specs.Lists
 pub use Rattle.wh_crew.specs.Pasts
 pub use Rattle.wh_crew.specs.Turns
 pub use Rattle.wh_crew.specs.Work
+pub use Rattle.wh_display.specs.Screens
+pub use Rattle.wh_display.specs.Texts

@@ -1,5 +1,5 @@
 -- What a crew did from the opening of a warehouse, and the log of it.
-use Rattle.std.specs.Prelude.{◌≡◌, ℕ, ◌+◌, ◌<◌, ◌≤◌, Bool, List, length, All, IfErr, MatchOption, Option, Result, Some, slice_get}
+use Rattle.std.specs.Prelude.{◌≡◌, ℕ, ◌+◌, ◌<◌, ◌≤◌, Bool, List, length, All, IfErr, MatchOption, None, Option, Result, Some, slice_get}
 use Rattle.wh_words.specs.Lines.{text_of}
 use Rattle.wh_grid.specs.Grids.{Floor}
 use Rattle.wh_points.specs.Points.{Site}
@@ -20,6 +20,8 @@ use Rattle.wh_desk.specs.declared.answer.DeskFault.{DeskFault}
 use Rattle.wh_crew.specs.declared.worker.Missed.{Missed}
 use Rattle.wh_crew.specs.declared.threads.CrewFault.{CrewFault}
 use Rattle.wh_crew.specs.declared.threads.CrewFault.TheVariants as crew
+use Rattle.wh_display.specs.declared.screen.ShowFault.{ShowFault}
+use Rattle.wh_live.specs.Displays.{BoardsShown}
 use Rattle.wh_edge.specs.declared.trouble.Trouble.{Trouble}
 use Rattle.wh_edge.specs.declared.trouble.Trouble.TheVariants as trouble
 
@@ -69,6 +71,12 @@ pub record Lives {X : Type 0} (fits : X → Floor → Bool) (count : X → ℕ) 
   pub worked : WorkedBy fits count works turns journal (record { site = site; opening = opened site.layout 0 slots }) history state
   pub text_is : text ≡ text_of (log_lines Two (record { clock = 0; slots = slots; entries = history }))
 
+-- so, and beside it boards of the run were shown, where there is a screen
+pub record LivesShown {X : Type 0} (fits : X → Floor → Bool) (count : X → ℕ) (site : Site) (planners : List X) (works : List (Work X)) (turns : Option ℕ) (journal : ℕ)
+    (text : List ℕ) (last : Result Unit ShowFault) (had has : Option (Option (List (List ℕ)))) : Type 0 where
+  pub lives : Lives fits count site planners works turns journal text
+  pub boards : BoardsShown (record { site = site; opening = opened site.layout 0 lives.slots }) lives.history last had has
+
 -- what is told of a crew that came to no history
 abbrev pub trouble_of : CrewFault → Trouble
 trouble_of crew.NoThread = trouble.NoThread
@@ -81,3 +89,13 @@ IsWhyDead trouble.NoThread = Unit {0}
 IsWhyDead trouble.Differs = Unit {0}
 IsWhyDead trouble.NoMemory = Unit {0}
 IsWhyDead _ = ⊥
+
+-- why there is no log where boards were to be shown: the first could not be, and no work was begun; or one of these
+abbrev pub IsWhyUnshown : Trouble → Type 0
+IsWhyUnshown trouble.Unshown = Unit {0}
+IsWhyUnshown told = IsWhyDead told
+
+-- why there is no log of a run whose boards were to be shown, or not
+abbrev pub IsWhyUnlived : {D : Type 0} → Option D → Trouble → Type 0
+IsWhyUnlived None told = IsWhyDead told
+IsWhyUnlived (Some display) told = IsWhyUnshown told

@@ -14,15 +14,15 @@ use Rattle.wh_event.specs.declared.event.Command.TheVariants.{Tick, Token}
 use Rattle.wh_edge.specs.Site.{SiteRead}
 use Rattle.wh_edge.specs.declared.work.Work.{Work}
 use Rattle.wh_edge.specs.declared.trouble.Trouble.{Trouble}
-use Rattle.wh_edge.specs.declared.trouble.Trouble.TheVariants as trouble
 use Rattle.wh_options.specs.declared.chosen.Fleet.{Fleet}
 use Rattle.wh_options.specs.declared.chosen.LiveOptions.{LiveOptions}
 use Rattle.wh_replay.specs.Scripts.{WritesFront}
 use Rattle.wh_live.specs.Clients.{ClientsRead, ClientsFault}
 use Rattle.wh_live.specs.Works.{AreWorks, requests}
-use Rattle.wh_live.specs.Lives.{Lives, IsWhyDead}
+use Rattle.wh_live.specs.Lives.{Lives, LivesShown, IsWhyUnlived}
+use Rattle.wh_display.specs.declared.screen.ShowFault.{ShowFault}
 use Rattle.wh_service.specs.Fleets.{IsMember, IsOfFleet, IsWhyUnclaimed, MakesPlanners}
-use Rattle.wh_service.specs.Hosts.{AreMembers, HaveSpares, IsTeam, ReadsAll, Hosts, HostsTo, IsWhyUnhosted, agent_threads, paced_turns}
+use Rattle.wh_service.specs.Hosts.{AreMembers, HaveSpares, IsTeam, ReadsAll, Hosts, HostsTo, IsWhyUnhosted, ShowsBoards, Tells, agent_threads, paced_turns}
 use Rattle.wh_core.specs.States.{opened}
 use Rattle.wh_core.proofs.Ways.{none_is_refused_a_path}
 use Rattle.wh_service.proofs.Logged.{logged}
@@ -121,42 +121,72 @@ pub team_at : {X : Type 0} (gives : Gives X) (options : LiveOptions) (grid : Flo
     → agents ≡ seats → IsTeam gives options grid agents scripts planners works → IsTeam gives options grid seats scripts planners works
 team_at gives options grid agents seats scripts planners works same team = subst (λ (n : ℕ). IsTeam gives options grid n scripts planners works) same team
 
--- the same of the turns and the text in other words
-pub lives_at : {X : Type 0} (fits : X → Floor → Bool) (count : X → ℕ) (site : Site) (planners : List X) (works : List (Work X)) (turns told : Option ℕ) (journal : ℕ) (text written : List ℕ)
-    → turns ≡ told → text ≡ written → Lives fits count site planners works turns journal text → Lives fits count site planners works told journal written
-lives_at fits count site planners works turns told journal text written same is lives =
-    subst (λ (t : List ℕ). Lives fits count site planners works told journal t) is (subst (λ (n : Option ℕ). Lives fits count site planners works n journal text) same lives)
+-- the same of the turns, the text and what screens tell in other words
+pub shown_at : {X : Type 0} (fits : X → Floor → Bool) (count : X → ℕ) (site : Site) (planners : List X) (works : List (Work X)) (turns told : Option ℕ) (journal : ℕ) (text written : List ℕ) (last : Result Unit ShowFault) (had showed has : Option (Option (List (List ℕ))))
+    → turns ≡ told → text ≡ written → had ≡ showed → LivesShown fits count site planners works turns journal text last had has → LivesShown fits count site planners works told journal written last showed has
+shown_at fits count site planners works turns told journal text written last had showed has same is screen lives =
+    subst (λ (s : Option (Option (List (List ℕ)))). LivesShown fits count site planners works told journal written last s has) screen
+    (subst (λ (t : List ℕ). LivesShown fits count site planners works told journal t last had has) is (subst (λ (n : Option ℕ). LivesShown fits count site planners works n journal text last had has) same lives))
+
+-- what a team's run came to, with the boards that were shown of it
+pub hosts_shown : {X : Type 0} (fits : X → Floor → Bool) (count : X → ℕ) (gives : Gives X) (options : LiveOptions) (site : Site) (scripts : List (List Command)) (planners : List X) (works : List (Work X)) (old new : Input) (text : List ℕ)
+    (last : Result Unit ShowFault) (showed shows : Option (Option (List (List ℕ))))
+    → ReadsAll options.every old new site scripts → MakesPlanners fits count gives → IsOfFleet options.fleet → IsTeam gives options site.grid (length site.layout.agents) scripts planners works
+    → LivesShown fits count site planners works (paced_turns options) options.journal text last showed shows
+    → (h : Hosts fits count gives options old new text) × ShowsBoards fits count gives options old new text h last showed shows
+unfolding hosts
+hosts_shown fits count gives options site scripts planners works old new text last showed shows reads makes range team lives =
+    (hosts fits count gives options site scripts planners works old new text reads makes range team lives.lives, lives.boards)
+
+-- ---- the screen
+
+-- what screens tell, of what was taken out of a display
+pub told_by : {D S T : Type 0} (tells : S → T) (of : D → S) (display : Option D) (screen : Option S) → option_map of display ≡ screen → option_map (λ d. tells (of d)) display ≡ option_map tells screen
+told_by tells of None screen is = ap (option_map tells) is
+told_by tells of (Some d) screen is = ap (option_map tells) is
+
+pub unlived_by : {D T : Type 0} (display : Option D) (of : D → T) (screen : Option T) (told : Trouble) → option_map of display ≡ screen → IsWhyUnlived display told → IsWhyUnlived screen told
+unlived_by {D} {T} None of screen told is why = subst (λ (s : Option T). IsWhyUnlived s told) is why
+unlived_by {D} {T} (Some d) of screen told is why = subst (λ (s : Option T). IsWhyUnlived s told) is why
 
 -- ---- why there is no log
 
-pub at_clients : {X : Type 0} (fits : X → Floor → Bool) (count : X → ℕ) (gives : Gives X) (options : LiveOptions) (told : Trouble) (old between new : Input) (site : Site) (agents threads : ℕ) (had has : Option (List ℕ))
+pub at_clients : {X : Type 0} (fits : X → Floor → Bool) (count : X → ℕ) (gives : Gives X) (options : LiveOptions) (told : Trouble) (old between new : Input) (site : Site) (agents threads : ℕ) (had has : Option (List ℕ)) (showed shows : Option (Option (List (List ℕ))))
     → agents ≡ length site.layout.agents → threads ≡ agent_threads options.every agents → SiteRead old between site.grid site.layout → ClientsFault told threads between new → Keeps had has
-    → IsWhyUnhosted fits count gives options told old new had has
-at_clients fits count gives options told old between new site agents threads had has same room at fault kept =
+    → IsWhyUnhosted fits count gives options told old new had has showed shows
+at_clients fits count gives options told old between new site agents threads had has showed shows same room at fault kept =
     let read = subst (λ (n : ℕ). ClientsFault told n between new) (room ∙ ap (agent_threads options.every) same) fault in
     inr (inl (record { between = between; site = site; site_read = at; fault = read }, kept))
 
-pub at_team : {X : Type 0} (fits : X → Floor → Bool) (count : X → ℕ) (gives : Gives X) (options : LiveOptions) (told : Trouble) (old new : Input) (site : Site) (scripts : List (List Command)) (had has : Option (List ℕ))
-    → ReadsAll options.every old new site scripts → IsWhyUnclaimed options.fleet.slots told → Keeps had has → IsWhyUnhosted fits count gives options told old new had has
-at_team fits count gives options told old new site scripts had has reads why kept =
+pub at_team : {X : Type 0} (fits : X → Floor → Bool) (count : X → ℕ) (gives : Gives X) (options : LiveOptions) (told : Trouble) (old new : Input) (site : Site) (scripts : List (List Command)) (had has : Option (List ℕ)) (showed shows : Option (Option (List (List ℕ))))
+    → ReadsAll options.every old new site scripts → IsWhyUnclaimed options.fleet.slots told → Keeps had has → IsWhyUnhosted fits count gives options told old new had has showed shows
+at_team fits count gives options told old new site scripts had has showed shows reads why kept =
     inr (inr (inl (record { site = site; scripts = scripts; reads = reads; why = why }, kept)))
 
-pub at_run : {X : Type 0} (fits : X → Floor → Bool) (count : X → ℕ) (gives : Gives X) (options : LiveOptions) (told : Trouble) (old new : Input) (site : Site) (scripts : List (List Command)) (planners : List X) (works : List (Work X)) (had has : Option (List ℕ))
-    → ReadsAll options.every old new site scripts → IsTeam gives options site.grid (length site.layout.agents) scripts planners works → IsWhyDead told → Keeps had has
-    → IsWhyUnhosted fits count gives options told old new had has
-at_run fits count gives options told old new site scripts planners works had has reads team why kept =
+pub at_run : {X : Type 0} (fits : X → Floor → Bool) (count : X → ℕ) (gives : Gives X) (options : LiveOptions) (told : Trouble) (old new : Input) (site : Site) (scripts : List (List Command)) (planners : List X) (works : List (Work X)) (had has : Option (List ℕ)) (showed shows : Option (Option (List (List ℕ))))
+    → ReadsAll options.every old new site scripts → IsTeam gives options site.grid (length site.layout.agents) scripts planners works → IsWhyUnlived showed told → Keeps had has
+    → IsWhyUnhosted fits count gives options told old new had has showed shows
+at_run fits count gives options told old new site scripts planners works had has showed shows reads team why kept =
     inr (inr (inr (inl (record { site = site; scripts = scripts; reads = reads; planners = planners; works = works; team = team; why = why }, kept))))
 
 -- ---- the text
 
-pub written : {X U : Type 0} (fits : X → Floor → Bool) (count : X → ℕ) (gives : Gives X) (options : LiveOptions) (old new : Input) (text : List ℕ) (had has : Option (List ℕ)) (answer : Result U Trouble)
-    → Hosts fits count gives options old new text → OnOk answer (Appends had has text) → OnOk answer (HostsTo fits count gives options old new had has)
-written fits count gives options old new text had has (Ok u) hosts appends = record { text = text; hosts = hosts; appends = appends }
-written fits count gives options old new text had has (Err told) hosts appends = tt
+module _ {X : Type 0} (fits : X → Floor → Bool) (count : X → ℕ) (gives : Gives X) (options : LiveOptions) (old new : Input) (text : List ℕ) (had has : Option (List ℕ)) (showed shows : Option (Option (List (List ℕ)))) where
+  pub written : (last : Result Unit ShowFault) (came : Result Unit Trouble) → Tells text last came had has
+      → (h : Hosts fits count gives options old new text) × ShowsBoards fits count gives options old new text h last showed shows
+      → OnOk came (HostsTo fits count gives options old new had has showed shows)
+  written (Ok done) came (inl all) hosted =
+      subst (λ (r : Result Unit Trouble). OnOk r (HostsTo fits count gives options old new had has showed shows)) (sym all.1) (record { text = text; hosts = hosted.0; appends = all.0; boards = hosted.1 })
+  written (Err fault) came (inl all) hosted = subst (λ (r : Result Unit Trouble). OnOk r (HostsTo fits count gives options old new had has showed shows)) (sym all.1) tt
+  written last came (inr some) hosted = subst (λ (r : Result Unit Trouble). OnOk r (HostsTo fits count gives options old new had has showed shows)) (sym some.1) tt
 
-pub unwritten : {X U : Type 0} (fits : X → Floor → Bool) (count : X → ℕ) (gives : Gives X) (options : LiveOptions) (old new : Input) (text : List ℕ) (had has : Option (List ℕ)) (answer : Result U Trouble)
-    → Hosts fits count gives options old new text → IfErr answer (λ told. told ≡ trouble.Unwritten) → OnErr answer (WritesFront had has text)
-    → IfErr answer (λ told. IsWhyUnhosted fits count gives options told old new had has)
-unwritten fits count gives options old new text had has (Ok u) hosts is front = tt
-unwritten fits count gives options old new text had has (Err told) hosts is front =
-    inr (inr (inr (inr (record { told_is = is; text = text; hosts = hosts; front = front }))))
+  pub unwritten : (last : Result Unit ShowFault) (came : Result Unit Trouble) → Tells text last came had has
+      → (h : Hosts fits count gives options old new text) × ShowsBoards fits count gives options old new text h last showed shows
+      → IfErr came (λ told. IsWhyUnhosted fits count gives options told old new had has showed shows)
+  unwritten (Ok done) came (inl all) hosted = subst (λ (r : Result Unit Trouble). IfErr r (λ told. IsWhyUnhosted fits count gives options told old new had has showed shows)) (sym all.1) tt
+  unwritten (Err fault) came (inl all) hosted =
+      subst (λ (r : Result Unit Trouble). IfErr r (λ told. IsWhyUnhosted fits count gives options told old new had has showed shows)) (sym all.1)
+      (inr (inr (inr (inr (inr (record { fault = fault; told_is = refl; text = text; hosts = hosted.0; appends = all.0; boards = hosted.1 }))))))
+  unwritten last came (inr some) hosted =
+      subst (λ (r : Result Unit Trouble). IfErr r (λ told. IsWhyUnhosted fits count gives options told old new had has showed shows)) (sym some.1)
+      (inr (inr (inr (inr (inl (record { told_is = refl; text = text; hosts = hosted.0; front = some.0; last = last; boards = hosted.1 }))))))

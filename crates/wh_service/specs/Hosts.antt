@@ -1,5 +1,5 @@
 -- What a whole run of `live` does.
-use Rattle.std.specs.Prelude.{◌≡◌, ◌⊎◌, ◌<◌, ◌^◌, ℕ, Bool, List, length, map, option_map, replicate, All, MatchOption, None, Option, Result, Some}
+use Rattle.std.specs.Prelude.{◌≡◌, ◌⊎◌, ◌<◌, ◌^◌, ℕ, Bool, List, length, map, option_map, replicate, All, MatchOption, None, Option, Result, Ok, Err, Some}
 use Rattle.std.specs.declared.alloc.AllocError.{AllocError}
 use Rattle.std.specs.Io.KnownBytes.{Appends, Keeps}
 use Rattle.wh_lines.specs.Input.{Input}
@@ -22,7 +22,9 @@ use Rattle.wh_options.specs.declared.chosen.LiveOptions.{LiveOptions}
 use Rattle.wh_replay.specs.Scripts.{WritesFront}
 use Rattle.wh_live.specs.Clients.{ClientsRead, ClientsFault}
 use Rattle.wh_live.specs.Works.{AreWorks}
-use Rattle.wh_live.specs.Lives.{Lives, IsWhyDead}
+use Rattle.wh_live.specs.Lives.{Lives, IsWhyUnlived}
+use Rattle.wh_live.specs.Displays.{BoardsShown, trouble_of_show}
+use Rattle.wh_display.specs.declared.screen.ShowFault.{ShowFault}
 use Rattle.wh_service.specs.Fleets.{IsMember, IsWhyUnclaimed}
 use Rattle.wh_service.specs.declared.parts.PlannerParts.{PlannerParts}
 
@@ -49,8 +51,8 @@ abbrev pub AreWorkers : {X : Type 0} → LiveOptions → ℕ → List (Work X) �
 AreWorkers options agents clients works =
     MatchOption options.every (AreWorks agents options.turns clients works) (λ every. works ≡ clients)
 
--- The planners of so many agents, and the workers: the clients with these scripts and with spares of their own, the agents,
--- the clock. All planners have their claims on one bank, which has as many slots in all as the options name.
+-- The planners of so many agents, and the workers: the clients with these scripts and with spares of their own, and where no
+-- worker is there for all, the agents and the clock. All planners have their claims on one bank, which has as many slots in all as the options name.
 pub record IsTeam {X : Type 0} (gives : PlannerParts → Result X AllocError → Type 0) (options : LiveOptions) (grid : Floor) (agents : ℕ)
     (scripts : List (List Command)) (planners : List X) (works : List (Work X)) : Type 0 where
   pub bank : Bank
@@ -85,12 +87,20 @@ pub record Hosts {X : Type 0} (fits : X → Floor → Bool) (count : X → ℕ) 
   pub slots : lives.slots ≡ replicate (length site.layout.agents) options.fleet.slots
   pub is_log : options.journal < 10 ^ 9 → IsLogText (record { clock = 0; slots = lives.slots; entries = lives.history }) text
 
--- a team did its works, and the log of them stands behind what was written
+-- the boards of a run were shown, if there is a screen; whether the last one was is told
+abbrev pub ShowsBoards : {X : Type 0} (fits : X → Floor → Bool) (count : X → ℕ) (gives : PlannerParts → Result X AllocError → Type 0) (options : LiveOptions) (old new : Input) (text : List ℕ)
+    → Hosts fits count gives options old new text → Result Unit ShowFault → (showed shows : Option (Option (List (List ℕ)))) → Type 0
+ShowsBoards fits count gives options old new text hosts last showed shows =
+    BoardsShown (record { site = hosts.site; opening = opened hosts.site.layout 0 hosts.lives.slots }) hosts.lives.history last showed shows
+
+-- A team did its works, and the log of them stands behind what was written. Showed is what a screen told before, if there is one, and
+-- shows what it tells then: the boards of the run, up to the last.
 pub record HostsTo {X : Type 0} (fits : X → Floor → Bool) (count : X → ℕ) (gives : PlannerParts → Result X AllocError → Type 0) (options : LiveOptions)
-    (old new : Input) (had has : Option (List ℕ)) : Type 0 where
+    (old new : Input) (had has : Option (List ℕ)) (showed shows : Option (Option (List (List ℕ)))) : Type 0 where
   pub text : List ℕ
   pub hosts : Hosts fits count gives options old new text
   pub appends : Appends had has text
+  pub boards : ShowsBoards fits count gives options old new text hosts (Ok tt) showed shows
 
 -- a site was read, and there or at the clients this was wrong
 pub record EndsAtClients (every : Option ℕ) (told : Trouble) (old new : Input) : Type 0 where
@@ -98,6 +108,16 @@ pub record EndsAtClients (every : Option ℕ) (told : Trouble) (old new : Input)
   pub site : Site
   pub site_read : SiteRead old between site.grid site.layout
   pub fault : ClientsFault told (agent_threads every (length site.layout.agents)) between new
+
+-- what is told of the last board
+abbrev pub told_of : Result Unit ShowFault → Result Unit Trouble
+told_of (Ok done) = Ok done
+told_of (Err fault) = Err (trouble_of_show fault)
+
+-- The text was written, and then it is told whether the last board was shown; or a front of the text was, and that is told.
+abbrev pub Tells : List ℕ → Result Unit ShowFault → Result Unit Trouble → (had has : Option (List ℕ)) → Type 0
+Tells text last came had has =
+    (Appends had has text × (came ≡ told_of last)) ⊎ (WritesFront had has text × (came ≡ Err trouble.Unwritten))
 
 -- all was read, and there it ended: a planner got no slots, or memory was wanting
 pub record EndsAtTeam (options : LiveOptions) (told : Trouble) (old new : Input) : Type 0 where
@@ -107,28 +127,42 @@ pub record EndsAtTeam (options : LiveOptions) (told : Trouble) (old new : Input)
   pub why : IsWhyUnclaimed options.fleet.slots told
 
 -- all was read, a team stood, and its run came to no history
-pub record EndsAtRun {X : Type 0} (gives : PlannerParts → Result X AllocError → Type 0) (options : LiveOptions) (told : Trouble) (old new : Input) : Type 0 where
+pub record EndsAtRun {X D : Type 0} (gives : PlannerParts → Result X AllocError → Type 0) (options : LiveOptions) (told : Trouble) (old new : Input) (screen : Option D) : Type 0 where
   pub site : Site
   pub scripts : List (List Command)
   pub reads : ReadsAll options.every old new site scripts
   pub planners : List X
   pub works : List (Work X)
   pub team : IsTeam gives options site.grid (length site.layout.agents) scripts planners works
-  pub why : IsWhyDead told
+  pub why : IsWhyUnlived screen told
 
--- a team did its works, and a front of their log was written
+-- a team did its works, whose boards were shown as far as may be, and a front of their log was written
 pub record EndsUnwritten {X : Type 0} (fits : X → Floor → Bool) (count : X → ℕ) (gives : PlannerParts → Result X AllocError → Type 0) (options : LiveOptions)
-    (told : Trouble) (old new : Input) (had has : Option (List ℕ)) : Type 0 where
+    (told : Trouble) (old new : Input) (had has : Option (List ℕ)) (showed shows : Option (Option (List (List ℕ)))) : Type 0 where
   pub told_is : told ≡ trouble.Unwritten
   pub text : List ℕ
   pub hosts : Hosts fits count gives options old new text
   pub front : WritesFront had has text
+  pub last : Result Unit ShowFault
+  pub boards : ShowsBoards fits count gives options old new text hosts last showed shows
 
--- Why no log was written, the earlier first. Before the log nothing is written.
-abbrev pub IsWhyUnhosted : {X : Type 0} → (X → Floor → Bool) → (X → ℕ) → (PlannerParts → Result X AllocError → Type 0) → LiveOptions → Trouble → Input → Input → Option (List ℕ) → Option (List ℕ) → Type 0
-IsWhyUnhosted fits count gives options told old new had has =
+-- a team did its works, and the log of them stands behind what was written; but the screen did not take the board of all that was done
+pub record EndsUnshown {X : Type 0} (fits : X → Floor → Bool) (count : X → ℕ) (gives : PlannerParts → Result X AllocError → Type 0) (options : LiveOptions)
+    (told : Trouble) (old new : Input) (had has : Option (List ℕ)) (showed shows : Option (Option (List (List ℕ)))) : Type 0 where
+  pub fault : ShowFault
+  pub told_is : told ≡ trouble_of_show fault
+  pub text : List ℕ
+  pub hosts : Hosts fits count gives options old new text
+  pub appends : Appends had has text
+  pub boards : ShowsBoards fits count gives options old new text hosts (Err fault) showed shows
+
+-- Why no log was written, or the last board not shown, the earlier first. Before the log nothing is written.
+abbrev pub IsWhyUnhosted : {X : Type 0} → (X → Floor → Bool) → (X → ℕ) → (PlannerParts → Result X AllocError → Type 0) → LiveOptions → Trouble → Input → Input
+    → (had has : Option (List ℕ)) → (showed shows : Option (Option (List (List ℕ)))) → Type 0
+IsWhyUnhosted fits count gives options told old new had has showed shows =
     (SiteFault told old new × Keeps had has)
     ⊎ (EndsAtClients options.every told old new × Keeps had has)
     ⊎ (EndsAtTeam options told old new × Keeps had has)
-    ⊎ (EndsAtRun gives options told old new × Keeps had has)
-    ⊎ EndsUnwritten fits count gives options told old new had has
+    ⊎ (EndsAtRun gives options told old new showed × Keeps had has)
+    ⊎ EndsUnwritten fits count gives options told old new had has showed shows
+    ⊎ EndsUnshown fits count gives options told old new had has showed shows

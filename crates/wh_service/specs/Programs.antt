@@ -1,5 +1,5 @@
 -- What the whole program comes to: from its words and its input to its output and its status.
-use Rattle.std.specs.Prelude.{◌≡◌, ◌≢◌, ◌⊎◌, ℕ, Bool, List, false, Option, Some, None, is_some, Result, Ok, Err}
+use Rattle.std.specs.Prelude.{◌≡◌, ◌≢◌, ◌⊎◌, ℕ, Bool, List, false, Option, Some, None, is_some, option_map, Result, Ok, Err}
 use Rattle.std.specs.declared.alloc.AllocError.{AllocError}
 use Rattle.std.specs.Io.KnownBytes.{Keeps}
 use Rattle.wh_lines.specs.Input.{Input}
@@ -40,11 +40,22 @@ abbrev pub Verified : Result Status Trouble → Input → Input → Option (List
 Verified (Ok status) old new had has = Verifies old new had has status
 Verified (Err told) old new had has = IsWhyUnverified told old new had has
 
--- `live` came to this. Here and below fits and count say what a planner answers, and gives what makes it.
+-- `live` over this screen, or over none, came to this. Here and below fits and count say what a planner answers, and gives what
+-- makes it; showed is what the screen told before, if there is one, and shows what it tells then.
+abbrev pub LivedOver : {X : Type 0} → (X → Floor → Bool) → (X → ℕ) → (PlannerParts → Result X AllocError → Type 0) → LiveOptions → (showed shows : Option (Option (List (List ℕ))))
+    → Result Status Trouble → Input → Input → Option (List ℕ) → Option (List ℕ) → Type 0
+LivedOver fits count gives options showed shows (Ok status) old new had has = (status ≡ Done) × HostsTo fits count gives options old new had has showed shows
+LivedOver fits count gives options showed shows (Err told) old new had has = IsWhyUnhosted fits count gives options told old new had has showed shows
+
+-- the screen that a run has: a file tells nothing of what it is shown
+abbrev pub silent : LiveOptions → Option (Option (List (List ℕ)))
+silent options = option_map (λ name. None) options.board
+
+-- `live` came to this
 abbrev pub Lived : {X : Type 0} → (X → Floor → Bool) → (X → ℕ) → (PlannerParts → Result X AllocError → Type 0) → LiveOptions → Result Status Trouble
     → Input → Input → Option (List ℕ) → Option (List ℕ) → Type 0
-Lived fits count gives options (Ok status) old new had has = (status ≡ Done) × HostsTo fits count gives options old new had has
-Lived fits count gives options (Err told) old new had has = IsWhyUnhosted fits count gives options told old new had has
+Lived fits count gives options came old new had has =
+    (shows : Option (Option (List (List ℕ)))) × LivedOver fits count gives options (silent options) shows came old new had has
 
 -- `replay` over no file came to this
 abbrev pub Replayed : {X : Type 0} → (X → Floor → Bool) → (X → ℕ) → (PlannerParts → Result X AllocError → Type 0) → ReplayOptions → Result Status Trouble

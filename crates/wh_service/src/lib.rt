@@ -30,6 +30,8 @@ pub use verified::judge_log;
 
 // handed on, for callers: what the items below take, return and speak of
 pub use wh_continue::{FileJournal, LogFile};
-pub use wh_live::{Cells, Desk, DeskFault, DeskName, Pass, Publisher, Receipt, Viewer};
+pub use wh_live::{
+    Cells, Desk, DeskFault, DeskName, Pass, Publisher, Receipt, Screen, ShowFault, Viewer,
+};
 pub use wh_replay::{Committed, Form, NoMemory, OpenFault, ReplayFault, Warehouse, replay};
 pub use wh_verify::{Book, Verified, verify};

@@ -5,7 +5,7 @@ ghost use Rattle.std.specs.Arc.{arc_value};
 ghost use Rattle.std.specs.Duration.{as_nanos};
 ghost use Rattle.wh_claims.specs.Bank.{Belongs};
 ghost use Rattle.wh_service.specs.Fleets.{IsOfFleet, IsWhyUnclaimed, MakesPlanners};
-ghost use Rattle.wh_service.specs.Hosts.{AreWorkers, HaveSpares, HostsTo, IsTeam, IsWhyUnhosted, agent_threads, paced_turns};
+ghost use Rattle.wh_service.specs.Hosts.{AreWorkers, HaveSpares, HostsTo, IsTeam, IsWhyUnhosted, Tells, agent_threads, paced_turns};
 
 use crate::fleet::members;
 use crate::parts::PlannerParts;
@@ -19,7 +19,9 @@ use wh_claims::{Bank, BankSeat};
 use wh_edge::{Site, Trouble, Work, read_site};
 use wh_grid::Grid;
 use wh_lines::Lines;
-use wh_live::{Pace, read_clients, run_crew, works_of};
+use wh_live::{
+    Display, Pace, Screen, ShowFault, read_clients, run_crew, trouble_of_show, works_of,
+};
 use wh_options::{Fleet, LiveOptions};
 use wh_planner::Planner;
 
@@ -122,14 +124,45 @@ fn make_team<P: Planner, F: Fn(PlannerParts) -> Result<P, AllocError>>(
     Ok(Team { planners, works })
 }
 
+/// Takes the screen for the run, if there is one.
+fn display_of<S>(screen: &mut Option<S>, options: &LiveOptions<'_>) -> Option<Display<S>>
+    ensures screen { option_map (λ display. display.screen) result ≡ screen.old }
+    ensures pause { IfSome result (λ display. as_nanos display.pause ≡ options.now.board_every * 1000000) }
+{
+    match screen.take() {
+        Some(screen) => Some(Display {
+            screen,
+            pause: Duration::from_millis(u64::from(options.board_every)),
+        }),
+        None => None,
+    }
+}
+
+/// Writes the log, and then tells whether the last board was shown.
+fn tell<W: Write>(output: &mut W, text: &[u8], last: Result<(), ShowFault>) -> Result<(), Trouble>
+    ensures { Tells text.now last result (W.contents output.old) (W.contents output.new) }
+{
+    match write_text(output, text) {
+        Ok(()) => {}
+        Err(trouble) => return Err(trouble),
+    }
+    match last {
+        Ok(()) => Ok(()),
+        Err(fault) => Err(trouble_of_show(fault)),
+    }
+}
+
 /// Reads a site and then its clients, makes one planner for each agent and then the spare ones of each client, all of the
 /// fleet's kind and with their claims on one bank, and has clients, agents and a clock work in threads, one for each; or each
-/// client in a thread, beside one worker for all agents and the clock. It writes the log of what they did. `make` makes one planner of its parts, and its error tells that memory is wanting.
-/// What can go wrong is told in this order: the site, the clients, the bank and the planners, the run, then the writer.
+/// client in a thread, beside one worker for all agents and the clock. Boards of the run are shown on the screen meanwhile, if
+/// there is one. It writes the log of what they did. `make` makes one planner of its parts, and its error tells that memory is
+/// wanting. What can go wrong is told in this order: the site, the clients, the bank and the planners, the first board, the run,
+/// the writer, then the last board.
 pub fn host<
     R: Read,
     W: Write,
     P: Planner,
+    S: Screen + Send + Drop,
     F: Fn(PlannerParts) -> Result<P, AllocError>,
     T: Threads + Wait + Clock + Sync,
 >(
@@ -138,13 +171,16 @@ pub fn host<
     lines: &mut Lines<R>,
     output: &mut W,
     options: &LiveOptions<'_>,
+    screen: &mut Option<S>,
     make: F,
 ) -> Result<(), Trouble>
     requires range { IsOfFleet options.now.fleet }
     requires callable { F.IsAlwaysCallable make }
     requires makes { MakesPlanners P.fits_map P.slot_count (F.post make) }
-    ensures ok { OnOk result (HostsTo P.fits_map P.slot_count (F.post make) options.now lines.old lines.new (W.contents output.old) (W.contents output.new)) }
-    ensures fault { IfErr result (λ told. IsWhyUnhosted P.fits_map P.slot_count (F.post make) options.now told lines.old lines.new (W.contents output.old) (W.contents output.new)) }
+    ensures ok { OnOk result (HostsTo P.fits_map P.slot_count (F.post make) options.now lines.old lines.new (W.contents output.old) (W.contents output.new)
+        (option_map S.shown screen.old) (option_map S.shown screen.new)) }
+    ensures fault { IfErr result (λ told. IsWhyUnhosted P.fits_map P.slot_count (F.post make) options.now told lines.old lines.new (W.contents output.old) (W.contents output.new)
+        (option_map S.shown screen.old) (option_map S.shown screen.new)) }
 {
     let Site { grid, points } = read_site(lines, alloc)?;
     let agents = points.agents().len();
@@ -161,7 +197,8 @@ pub fn host<
         Err(trouble) => return Err(trouble),
     };
     let pace = pace_of(options);
-    let text = match run_crew(
+    let display = display_of(screen, options);
+    let ran = match run_crew(
         rt,
         alloc,
         grid,
@@ -170,9 +207,11 @@ pub fn host<
         works,
         options.journal,
         pace,
+        display,
     ) {
-        Ok(text) => text,
+        Ok(ran) => ran,
         Err(trouble) => return Err(trouble),
     };
-    write_text(output, text.as_slice())
+    *screen = ran.screen;
+    tell(output, ran.text.as_slice(), ran.last)
 }

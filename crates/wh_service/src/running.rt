@@ -2,7 +2,7 @@
 
 ghost use Rattle.std.specs.Prelude.{◌≡◌, ◌≤◌, Bool, Option, is_some, map, option_map};
 ghost use Rattle.wh_service.specs.Fleets.{HasRange, IsOfFleet, MakesPlanners};
-ghost use Rattle.wh_service.specs.Programs.{Comes, Did, Drove, Ends, Files, LateFiles, ReplayedOver, names_file};
+ghost use Rattle.wh_service.specs.Programs.{Comes, Did, Drove, Ends, Files, LateFiles, Lived, LivedOver, ReplayedOver, names_file};
 ghost use Rattle.wh_service.specs.Serves.{ended_by};
 
 use crate::convoys::DriveTrouble;
@@ -24,9 +24,12 @@ use std::sync::Wait;
 use std::thread::Threads;
 use std::time::Clock;
 use wh_continue::{FileJournal, LogFile};
+use wh_display::{FileScreen, Screen};
 use wh_edge::{Status, Trouble};
 use wh_lines::Lines;
-use wh_options::{Options, Refusal, ReplayOptions, VehicleOptions, options, refusal_of};
+use wh_options::{
+    LiveOptions, Options, Refusal, ReplayOptions, VehicleOptions, options, refusal_of,
+};
 use wh_planner::Planner;
 
 /// The files that keep a run: its log, the file beside it that holds the site, and the file of arrivals.
@@ -106,12 +109,12 @@ fn replay<R: Read, W: Write, L: LogFile, P: Planner, F: Fn(PlannerParts) -> Resu
     }
 }
 
-/// Does what the options ask for, a replay over these files, or over none.
-fn obey<
+/// Has clients, agents and a clock work over a screen, or over none.
+fn live_over<
     T: Threads + Wait + Clock + Sync,
     R: Read,
     W: Write,
-    L: LogFile,
+    S: Screen + Send + Drop,
     P: Planner,
     F: Fn(PlannerParts) -> Result<P, AllocError>,
 >(
@@ -119,7 +122,71 @@ fn obey<
     alloc: Global,
     lines: &mut Lines<R>,
     output: &mut W,
-    options: &Options<'_>,
+    options: &LiveOptions<'_>,
+    screen: &mut Option<S>,
+    make: F,
+) -> Result<Status, Trouble>
+    requires range { IsOfFleet options.now.fleet }
+    requires callable { F.IsAlwaysCallable make }
+    requires makes { MakesPlanners P.fits_map P.slot_count (F.post make) }
+    ensures { LivedOver P.fits_map P.slot_count (F.post make) options.now (option_map S.shown screen.old) (option_map S.shown screen.new) result lines.old lines.new (W.contents output.old) (W.contents output.new) }
+{
+    match host(rt, alloc, lines, output, options, screen, make) {
+        Ok(()) => Ok(Status::Done),
+        Err(trouble) => Err(trouble),
+    }
+}
+
+/// Has clients, agents and a clock work, and shows boards of the run in the file that the options name, if they name one.
+#[tactic(auto, using(crate::proofs::Starved::starved_live))]
+fn live_by_name<
+    'a,
+    T: Threads + Wait + Clock + Sync + Files<File = File>,
+    R: Read,
+    W: Write,
+    P: Planner,
+    F: Fn(PlannerParts) -> Result<P, AllocError>,
+>(
+    rt: &'a T,
+    alloc: Global,
+    lines: &mut Lines<R>,
+    output: &mut W,
+    options: &LiveOptions<'a>,
+    make: F,
+) -> Result<Status, Trouble>
+    requires range { IsOfFleet options.now.fleet }
+    requires callable { F.IsAlwaysCallable make }
+    requires makes { MakesPlanners P.fits_map P.slot_count (F.post make) }
+    ensures { Lived P.fits_map P.slot_count (F.post make) options.now result lines.old lines.new (W.contents output.old) (W.contents output.new) }
+{
+    let Some(board) = options.board else {
+        let mut none: Option<FileScreen<'a, T>> = None;
+        return live_over(rt, alloc, lines, output, options, &mut none, make);
+    };
+    match name_beside(alloc, board, ".new") {
+        Ok(beside) => {
+            let mut screen = Some(FileScreen::new(rt, board, beside.as_str()));
+            live_over(rt, alloc, lines, output, options, &mut screen, make)
+        }
+        Err(_) => Err(Trouble::NoMemory),
+    }
+}
+
+/// Does what the options ask for, a replay over these files, or over none.
+fn obey<
+    'a,
+    T: Threads + Wait + Clock + Sync + Files<File = File>,
+    R: Read,
+    W: Write,
+    L: LogFile,
+    P: Planner,
+    F: Fn(PlannerParts) -> Result<P, AllocError>,
+>(
+    rt: &'a T,
+    alloc: Global,
+    lines: &mut Lines<R>,
+    output: &mut W,
+    options: &Options<'a>,
     files: &mut Option<KeptFiles<L>>,
     make: F,
 ) -> Result<Status, Trouble>
@@ -132,10 +199,7 @@ fn obey<
         Options::Check => judge(rt, alloc, lines, output),
         Options::Verify => judge_log(alloc, lines, output),
         Options::Replay(options) => replay(alloc, lines, output, options, files, make),
-        Options::Live(options) => match host(rt, alloc, lines, output, options, make) {
-            Ok(()) => Ok(Status::Done),
-            Err(trouble) => Err(trouble),
-        },
+        Options::Live(options) => live_by_name(rt, alloc, lines, output, options, make),
     }
 }
 

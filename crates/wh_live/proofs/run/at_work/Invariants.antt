@@ -1,5 +1,5 @@
 use Rattle.std.proofs.Common.{◌+◌, length}
-use Rattle.wh_live.proofs.run.history_of.Given as goal
+use Rattle.wh_live.proofs.run.at_work.Given as goal
 
 -- the warehouse, the cells and the publisher that were just made
 abbrev pub ghosts-over_desk : goal.ghosts-over_desk

@@ -1,0 +1,47 @@
+-- What a screen is shown of a run.
+use Rattle.std.specs.Prelude.{◌≡◌, ℕ, List, [], ◌∷◌, Option, None, Some, Ok, OnErr, OnOk, Result}
+use Rattle.wh_event.specs.declared.entry.Entry.{Entry}
+use Rattle.wh_board.specs.Pasts.{Origin, Past, last_of}
+use Rattle.wh_board.specs.Boards.{IsBoardOf}
+use Rattle.wh_board.specs.declared.board.Board.{Board}
+use Rattle.wh_display.specs.Texts.{board_text}
+use Rattle.wh_display.specs.Screens.{InTurn, Renews, Shows, pasts_of, texts_of, Sight}
+use Rattle.wh_display.specs.declared.screen.ShowFault.{ShowFault}
+use Rattle.wh_display.specs.declared.screen.ShowFault.TheVariants as show
+use Rattle.wh_edge.specs.declared.trouble.Trouble.{Trouble}
+use Rattle.wh_edge.specs.declared.trouble.Trouble.TheVariants as trouble
+
+-- a board of this past was shown, whatever stood there
+pub record FirstShown (past : Past) (had has : Option (List (List ℕ))) : Type 0 where
+  pub board : Board
+  pub is_board : IsBoardOf past board
+  pub texts : Shows had has (board_text board ∷ [])
+
+-- The board of all that was done was shown, if it has not as many entries as the one shown last. On a fault nothing was shown.
+pub record ShowsLast (whole : Past) (shown : ℕ) (last : Result Unit ShowFault) (had has : Option (List (List ℕ))) : Type 0 where
+  pub board : Board
+  pub is_board : IsBoardOf whole board
+  pub ok : OnOk last (Renews (Some shown) board had has)
+  pub err : OnErr last (Shows had has [])
+
+-- What a screen was shown beside a run with this history: the board of the opening, and then boards that were seen in turn, each of a
+-- longer beginning of the history than the one before. Where the last one was shown, it is the board of the whole history.
+pub record ShownBeside (origin : Origin) (history : List Entry) (last : Result Unit ShowFault) (had has : Option (List (List ℕ))) : Type 0 where
+  pub opening : Board
+  pub opening_is : IsBoardOf (record { origin = origin; history = [] }) opening
+  pub sights : List Sight
+  pub in_turn : InTurn (record { origin = origin; history = [] }) (record { origin = origin; history = history }) sights
+  pub texts : Shows had has (board_text opening ∷ texts_of sights)
+  pub last_is : OnOk last (last_of (record { origin = origin; history = [] }) (pasts_of sights) ≡ record { origin = origin; history = history })
+
+-- Where there is a screen, boards were shown on it beside a run with this history. Had is what screens tell before, if there is one,
+-- and has what they tell then.
+abbrev pub BoardsShown : Origin → List Entry → Result Unit ShowFault → (had has : Option (Option (List (List ℕ)))) → Type 0
+BoardsShown origin history last None has = (last ≡ Ok tt) × (has ≡ None)
+BoardsShown origin history last (Some had) None = ⊥
+BoardsShown origin history last (Some had) (Some has) = ShownBeside origin history last had has
+
+-- what is told of a board that is not shown
+abbrev pub trouble_of_show : ShowFault → Trouble
+trouble_of_show show.Unshown = trouble.Unshown
+trouble_of_show show.NoMemory = trouble.NoMemory

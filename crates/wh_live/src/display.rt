@@ -1,0 +1,196 @@
+//! Boards on a screen beside a run.
+#![tactic(auto)]
+
+ghost use Rattle.std.specs.Prelude.{◌≡◌, ◌≤◌, [], IfErr, IfOk, length, option_map};
+ghost use Rattle.wh_crew.specs.Pasts.{Extends, origin_of, past_of};
+ghost use Rattle.wh_display.specs.Screens.{Watches};
+ghost use Rattle.wh_live.specs.Displays.{FirstShown, ShownBeside, ShowsLast, trouble_of_show};
+ghost use Rattle.wh_live.specs.Lives.{IsWhyDead, IsWhyUnshown, WorkedBy};
+
+use crate::run::at_work;
+use std::alloc::Global;
+use std::sync::Wait;
+use std::thread::{Threads, join};
+use std::time::{Clock, Duration};
+use wh_board::Board;
+use wh_crew::{Cells, History, Pace, Publisher, Viewer, Warehouse};
+use wh_display::{Bell, Screen, ShowFault, Watched, renew, watch};
+use wh_edge::{Trouble, Work};
+use wh_planner::Planner;
+
+/// Where the boards of a run are to be shown.
+#[derive(Drop)]
+pub struct Display<S> {
+    /// The screen.
+    pub screen: S,
+    /// How long each look at the board rests behind the one before.
+    pub pause: Duration,
+}
+
+/// A screen on which the boards of a run were shown.
+#[derive(Drop)]
+pub(crate) struct Shown<S> {
+    pub(crate) screen: S,
+    /// Whether the board of the whole history is there, or why it is not.
+    pub(crate) last: Result<(), ShowFault>,
+}
+
+/// What is told of a board that is not shown.
+pub fn trouble_of_show(fault: ShowFault) -> Trouble
+    ensures value { result ≡ trouble_of_show fault }
+    ensures why { IsWhyUnshown result }
+{
+    match fault {
+        ShowFault::Unshown => Trouble::Unshown,
+        ShowFault::NoMemory => Trouble::NoMemory,
+    }
+}
+
+/// What watches a run: a viewer, and a screen on which its first board is shown.
+#[derive(Drop)]
+struct Watcher<S> {
+    viewer: Viewer,
+    screen: S,
+}
+
+/// Shows the board of a warehouse with no entry, and gives a viewer of what is published of it.
+fn set_up<S: Screen + Drop, H: Wait + Drop, P: Planner>(
+    alloc: Global,
+    warehouse: &Warehouse<P>,
+    publisher: &mut Publisher<H>,
+    mut screen: S,
+) -> Result<Watcher<S>, Trouble>
+    requires shown { publisher.old.shown ≡ past_of warehouse.now.book }
+    ensures stands { publisher.new ≡ publisher.old }
+    ensures first { IfOk result (λ w. FirstShown (past_of warehouse.now.book) (S.shown screen) (S.shown w.screen)) }
+    ensures past { IfOk result (λ w. w.viewer.past ≡ past_of warehouse.now.book) }
+    ensures book { IfOk result (λ w. w.viewer.book ≡ publisher.old.book) }
+    ensures fault { IfErr result IsWhyUnshown }
+{
+    let board = Board::of(warehouse.book());
+    match renew(alloc, &mut screen, &board, None) {
+        Ok(()) => {}
+        Err(fault) => return Err(trouble_of_show(fault)),
+    }
+    match publisher.viewer() {
+        Ok(viewer) => Ok(Watcher { viewer, screen }),
+        Err(_) => Err(Trouble::NoMemory),
+    }
+}
+
+/// What a watch beside a run leaves.
+#[derive(Drop)]
+struct Seen<S> {
+    viewer: Viewer,
+    screen: S,
+    watched: Watched,
+}
+
+/// A watch by a viewer that knows of no entry yet.
+fn watch_run<S: Screen, T: Wait + Clock>(
+    rt: &T,
+    alloc: Global,
+    watcher: Watcher<S>,
+    bell: &Bell,
+    pause: Duration,
+) -> Seen<S>
+    requires { watcher.viewer.past.history ≡ [] }
+    ensures shows { Watches watcher.viewer.past result.viewer.past result.watched (S.shown watcher.screen) (S.shown result.screen) }
+    ensures book { result.viewer.book ≡ watcher.viewer.book }
+{
+    let Watcher {
+        mut viewer,
+        mut screen,
+    } = watcher;
+    let watched = watch(rt, alloc, &mut viewer, &mut screen, 0, bell, pause);
+    Seen {
+        viewer,
+        screen,
+        watched,
+    }
+}
+
+/// Shows the board of the whole history, if it has not as many entries as the one shown last. E95: the viewer knows of what was
+/// not done.
+fn show_whole<S: Screen + Drop, P: Planner>(
+    alloc: Global,
+    history: &History<P>,
+    seen: Seen<S>,
+) -> Result<Shown<S>, Trouble>
+    requires book { seen.viewer.book ≡ history.now.front.book }
+    requires past { history.now.front.past ≡ past_of history.now.warehouse.book }
+    ensures begins { IfOk result (λ _. Extends seen.viewer.past (past_of history.now.warehouse.book)) }
+    ensures last { IfOk result (λ s. ShowsLast (past_of history.now.warehouse.book) seen.watched.shown s.last (S.shown seen.screen) (S.shown s.screen)) }
+    ensures fault { IfErr result IsWhyDead }
+{
+    if history.front.is_before(seen.viewer.front()) {
+        return Err(Trouble::Differs);
+    }
+    let Seen {
+        viewer: _viewer,
+        mut screen,
+        watched,
+    } = seen;
+    let board = Board::of(history.warehouse.book());
+    let last = renew(alloc, &mut screen, &board, Some(watched.shown));
+    Ok(Shown { screen, last })
+}
+
+/// A run, and the screen on which its boards were shown.
+pub(crate) struct Beside<P: Planner, S> {
+    pub(crate) history: History<P>,
+    pub(crate) shown: Shown<S>,
+}
+
+/// Has the works done, and shows boards meanwhile, in a thread of their own: the first before any work begins, the last when all
+/// are through.
+pub(crate) fn work_shown<
+    H: Wait + Send + Sync + Drop,
+    P: Planner,
+    S: Screen + Send + Drop,
+    T: Threads + Wait + Clock + Sync,
+>(
+    rt: &T,
+    alloc: Global,
+    warehouse: Warehouse<P>,
+    cells: Cells,
+    mut publisher: Publisher<H>,
+    works: Vec<Work<P>>,
+    pace: Option<Pace>,
+    display: Display<S>,
+) -> Result<Beside<P, S>, Trouble>
+    requires history { warehouse.book.history ≡ [] }
+    requires added { publisher.added ≡ past_of warehouse.book }
+    requires shown { publisher.shown ≡ past_of warehouse.book }
+    requires few { length works.items ≤ 64 }
+    ensures ok { IfOk result (λ b. WorkedBy P.fits_map P.slot_count works.items (option_map (λ p. p.turns) pace) (length cells) (origin_of warehouse.book)
+        b.history.warehouse.book.history b.history.warehouse.book.state) }
+    ensures shown { IfOk result (λ b. ShownBeside (origin_of warehouse.book) b.history.warehouse.book.history b.shown.last (S.shown display.screen) (S.shown b.shown.screen)) }
+    ensures fault { IfErr result IsWhyUnshown }
+{
+    let Display { screen, pause } = display;
+    let watcher = match set_up(alloc, &warehouse, &mut publisher, screen) {
+        Ok(watcher) => watcher,
+        Err(trouble) => return Err(trouble),
+    };
+    let bell = Bell::new();
+    let (seen, came) = join(
+        rt,
+        || -> Seen<S>
+            requires { watcher.viewer.past.history ≡ [] }
+            ensures { Watches watcher.viewer.past result.viewer.past result.watched (S.shown watcher.screen) (S.shown result.screen) × (result.viewer.book ≡ watcher.viewer.book) }
+        { watch_run(rt, alloc, watcher, &bell, pause) },
+        || -> Result<History<P>, Trouble>
+            requires { (warehouse.book.history ≡ []) × (publisher.added ≡ past_of warehouse.book) × (publisher.shown ≡ past_of warehouse.book) × (length works.items ≤ 64) }
+            ensures { IfOk result (λ h. WorkedBy P.fits_map P.slot_count works.items (option_map (λ p. p.turns) pace) (length cells) (origin_of warehouse.book) h.warehouse.book.history h.warehouse.book.state × (origin_of h.warehouse.book ≡ origin_of warehouse.book) × (h.front.book ≡ publisher.book) × (h.front.past ≡ past_of h.warehouse.book)) × IfErr result IsWhyDead }
+        { at_work(rt, alloc, warehouse, cells, publisher, works, pace, &bell) },
+    );
+    let history = match came {
+        Ok(history) => history,
+        Err(trouble) => return Err(trouble),
+    };
+    match show_whole(alloc, &history, seen) {
+        Ok(shown) => Ok(Beside { history, shown }),
+        Err(trouble) => Err(trouble),
+    }
+}
