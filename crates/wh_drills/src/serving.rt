@@ -1,7 +1,7 @@
 //! Two clients that are served over bytes, one of them over two connections.
 #![tactic(auto)]
 
-ghost use Rattle.std.specs.Prelude.{◌≡◌, [], IfOk, length};
+ghost use Rattle.std.specs.Prelude.{◌≡◌, [], IfOk, Some, length};
 ghost use Rattle.wh_board.specs.Pasts.{origin_of, past_of};
 
 use super::gates::hold;
@@ -9,7 +9,6 @@ use super::parts::{Parts, staffed};
 use std::alloc::{AllocError, Global};
 use std::io::{Read, Write};
 use std::marker::Brand;
-use std::process::Abort;
 use std::sync::atomic::AtomicU64;
 use std::sync::atomic::Ordering::SeqCst;
 use std::sync::{Mutex, Wait};
@@ -17,11 +16,12 @@ use std::test::*;
 use std::thread::Threads;
 use wh_board::Publisher;
 use wh_desk::{Cells, Desk, DeskName, Warehouse};
-use wh_event::{Entry, Reply};
+use wh_journal::MemoryJournal;
 use wh_planner::Planner;
 use wh_planners::Patient;
 use wh_serve::{
-    Allowance, Client, Connection, Doors, End, Form, Rights, ServeFault, Served, serve_clients,
+    Allowance, Client, Connection, Doors, End, Form, JournalName, Rights, Scribe, ServeFault,
+    Served, serve_clients,
 };
 
 /// What client 0 sends first: the line that was begun is no command.
@@ -107,10 +107,10 @@ impl<'a, X: Wait + Sync> Doors<&'static [u8], Vec<u8>> for Bytes<'a, X> {
     }
 }
 
-/// What the two left.
+/// What the two left: the journal, and over how many connections each was served.
 #[derive(Drop)]
 struct Kept {
-    entries: Vec<Entry>,
+    journal: MemoryJournal,
     connections: Vec<u64>,
 }
 
@@ -135,18 +135,10 @@ fn clients<P: Planner>(alloc: Global) -> Result<Vec<Client<P>>, Fail>
     Ok(clients)
 }
 
-/// The same entries.
-fn copies(alloc: Global, entries: &[Entry]) -> Result<Vec<Entry>, Fail> {
-    let mut copies = Vec::with_capacity(alloc, entries.len())?;
-    for entry in entries {
-        copies.push(entry.copy(alloc)?)?;
-    }
-    Ok(copies)
-}
-
 /// Opens a desk with two callers, and serves them.
 fn serve<
     N: DeskName + Send + Sync,
+    S: JournalName + Send + Sync,
     H: Wait + Send + Sync + Drop,
     P: Planner,
     X: Threads + Wait + Sync,
@@ -159,6 +151,7 @@ fn serve<
     warehouse: Warehouse<P>,
     cells: Cells,
     publisher: Publisher<H>,
+    journal: MemoryJournal,
     clients: Vec<Client<P>>,
     doors: &D,
 ) -> Result<Kept, Fail>
@@ -168,21 +161,25 @@ fn serve<
     requires book { publisher.book ≡ N.book }
     requires added { publisher.added ≡ past_of warehouse.book }
     requires shown { publisher.shown ≡ past_of warehouse.book }
+    requires start { Some journal.held.items ≡ S.start }
     requires callers { N.callers ≡ length clients.items }
     requires two { length clients.items ≡ 2 }
 {
+    let front = publisher.front().again();
     let (desk, passes) = Desk::<N, H, P>::open(alloc, warehouse, cells, publisher, 2)?;
-    match serve_clients::<_, _, _, _, R, W, _>(
+    let scribe = Scribe::<N, S, MemoryJournal>::new(journal, &front);
+    match serve_clients::<_, _, _, _, _, _, R, W, _>(
         rt,
         alloc,
         Form::Short,
         desk,
+        &scribe,
         passes,
         clients,
         doors,
     ) {
         Ok(hosted) => Ok(Kept {
-            entries: copies(alloc, hosted.history.warehouse.history())?,
+            journal: scribe.into_journal().journal,
             connections: hosted.connections,
         }),
         Err(_) => Err("two threads, and memory".into()),
@@ -197,14 +194,16 @@ fn serve_made<
     R: Read + Send + Drop,
     W: Write + Send + Drop,
     D: Doors<R, W>,
->(rt: &X, alloc: Global, doors: &D, make: &F) -> Result<Kept, Fail>
+>(rt: &X, alloc: Global, journal: MemoryJournal, doors: &D, make: &F) -> Result<Kept, Fail>
     requires { F.IsAlwaysCallable make.now }
 {
     let warehouse = staffed(alloc, make)?;
     let cells = Cells::new(alloc, 10)?;
     let publisher = Publisher::new(alloc, rt, warehouse.book())?;
     let clients = clients(alloc)?;
-    serve::<Brand, _, _, _, R, W, _>(rt, alloc, warehouse, cells, publisher, clients, doors)
+    serve::<Brand, Brand, _, _, _, R, W, _>(
+        rt, alloc, warehouse, cells, publisher, journal, clients, doors,
+    )
 }
 
 /// The same with patient planners.
@@ -213,11 +212,11 @@ fn serve_two<
     R: Read + Send + Drop,
     W: Write + Send + Drop,
     D: Doors<R, W>,
->(rt: &X, alloc: Global, doors: &D) -> Result<Kept, Fail> {
+>(rt: &X, alloc: Global, journal: MemoryJournal, doors: &D) -> Result<Kept, Fail> {
     let make = |parts: Parts| -> Result<Patient, AllocError> {
         Ok(Patient::new(parts.grid, parts.claim))
     };
-    serve_made::<_, _, _, R, W, _>(rt, alloc, doors, &make)
+    serve_made::<_, _, _, R, W, _>(rt, alloc, journal, doors, &make)
 }
 
 /// What is told over each connection, in the order in which they are left.
@@ -248,6 +247,10 @@ const TOLD: [(u32, Served, &[u8]); 3] = [
     ),
 ];
 
+/// What the journal holds at the end: each client's task, then client 0's token and its close.
+const KEPT: &[u8] =
+    b"0 submit x A B = accepted 0\n1 submit y D C = accepted 1\n0 token 0 = took 0 path 0,1 1,1 1,0 1,1 2,1 3,1 3,0\n0 close = closed\n";
+
 /// Whether these were left as the table says.
 fn as_told(left: &[Left]) -> bool {
     left.len() == TOLD.len()
@@ -256,19 +259,25 @@ fn as_told(left: &[Left]) -> bool {
         })
 }
 
-#[test]
-fn client_comes_again(rt: HostRuntime) -> Result<(), Fail> {
-    let doors = Bytes {
-        rt: &rt,
-        alloc: rt.alloc(),
+/// The doors before anybody has come.
+fn shut<'a, X: Wait>(rt: &'a X, alloc: Global) -> Bytes<'a, X> {
+    Bytes {
+        rt,
+        alloc,
         opened: AtomicU64::new(0),
         refused: AtomicU64::new(0),
         gone: AtomicU64::new(0),
         over: AtomicU64::new(0),
         limits: AtomicU64::new(0),
-        left: Mutex::new(Vec::new(rt.alloc())),
-    };
-    let kept = serve_two::<_, &'static [u8], Vec<u8>, _>(&rt, rt.alloc(), &doors)?;
+        left: Mutex::new(Vec::new(alloc)),
+    }
+}
+
+#[test]
+fn client_comes_again(rt: HostRuntime) -> Result<(), Fail> {
+    let doors = shut(&rt, rt.alloc());
+    let journal = MemoryJournal::new(rt.alloc());
+    let kept = serve_two::<_, &'static [u8], Vec<u8>, _>(&rt, rt.alloc(), journal, &doors)?;
     assert_eq!(rt; doors.limits.load(SeqCst), 0);
     assert!(rt; as_told(doors.left.lock(&rt).as_slice()));
     // Client 0 was asked for twice and client 1 twice, in vain once; and the close ended it, once.
@@ -279,19 +288,33 @@ fn client_comes_again(rt: HostRuntime) -> Result<(), Fail> {
     );
     assert_eq!(rt; counts, (4, 1, 1));
     assert_eq!(rt; kept.connections.as_slice(), [2, 1].as_slice());
-    four_entries(&rt, kept.entries.as_slice());
+    assert_eq!(rt; kept.journal.held.as_slice(), KEPT);
+    assert_eq!(rt; kept.journal.safe, KEPT.len());
     Ok(())
 }
 
-/// Each client's task, then client 0's token and its close.
-fn four_entries<X: Abort>(rt: &X, entries: &[Entry]) {
-    assert_eq!(rt; entries.len(), 4);
-    let callers = (
-        entries[0].caller,
-        entries[1].caller,
-        entries[2].caller,
-        entries[3].caller,
+/// Whether client 0 left first, with a fault, and nobody was told a reply.
+fn nobody_told(left: &[Left]) -> bool {
+    let first = left.first().is_some_and(|left| {
+        left.client == 0 && left.outcome == Err(ServeFault::Unjournaled)
+    });
+    first
+        && left
+            .iter()
+            .all(|left| left.told.as_slice() == b"entries 0\n".as_slice())
+}
+
+#[test]
+fn journal_has_failed(rt: HostRuntime) -> Result<(), Fail> {
+    let doors = shut(&rt, rt.alloc());
+    let mut journal = MemoryJournal::new(rt.alloc());
+    journal.has_failed = true;
+    let kept = serve_two::<_, &'static [u8], Vec<u8>, _>(&rt, rt.alloc(), journal, &doors)?;
+    assert_eq!(rt;
+        (doors.limits.load(SeqCst), doors.over.load(SeqCst)),
+        (0, 1)
     );
-    assert_eq!(rt; callers, (0, 1, 0, 0));
-    assert!(rt; matches!(entries[3].reply, Reply::Closed));
+    assert!(rt; nobody_told(doors.left.lock(&rt).as_slice()));
+    assert!(rt; kept.journal.held.is_empty());
+    Ok(())
 }

@@ -18,7 +18,8 @@ use Rattle.wh_serve.specs.declared.call.NoReceipt.{NoReceipt}
 use Rattle.wh_serve.specs.declared.call.NoReceipt.TheVariants as without
 use Rattle.wh_serve.specs.Texts.{without_text}
 use Rattle.wh_serve.specs.Outcomes.{Outcome, receipts_of, line_text, answers, replies_to, Made, Gives, IsOutputOf, HasFull}
-use Rattle.wh_serve.specs.Calls.{Receives, Leaves}
+use Rattle.wh_scribe.specs.Calls.{Receives}
+use Rattle.wh_serve.specs.Calls.{Leaves}
 
 -- ---- calls
 
@@ -189,3 +190,10 @@ module _ {X : Type 0} (may : Allowance) (cells : ℕ) (fits : X → Floor → Bo
         known = keeps.2;
         filled = left_filled cells old why new left;
       })
+
+  -- the receipt of a call that is told to nobody
+  pub answered_untold : (old : Received) (spares : List X) (command : Command) (new : Received) (rest : List X)
+      → Ok (Some command) ≡ line → MayCall may (length old.list) command → (receipt : ℕ × Entry) × Receives fits count grid command old spares receipt new rest
+      → (replies : List (List ℕ)) × Gives may cells fits count grid (asked line) (answers text line) old spares new rest replies × (length replies ≤ 1)
+  answered_untold old spares command new rest e fine r =
+      (text r.0 ∷ [], answered_receipt old spares command r.0 new rest e fine r.1, omega arith)

@@ -68,8 +68,8 @@ module _ {X : Type 0} (may : Allowance) (cells : ℕ) (fits : X → Floor → Bo
 
   module _ (i j k : Input) (old : Received) (spares : List X) (mid : Received) (held : List X) (new : Received) (rest : List X) (a b c d : Option (List ℕ)) (n : ℕ) (kept : List ℕ)
       (f : Follows may cells fits count grid text i j old spares mid held a b n) (flushed : Keeps b c) where
-    -- the output of the lines with one more, a whole one or the last one
-    output_line : (bytes raw : List ℕ) (replies : List (List ℕ)) → lines_of bytes ≡ without_cr raw ∷ [] → short_line kept ≡ short_line raw
+    -- the output of the lines with one more
+    pub output_line : (bytes raw : List ℕ) (replies : List (List ℕ)) → lines_of bytes ≡ without_cr raw ∷ [] → short_line kept ≡ short_line raw
         → Gives may cells fits count grid (asked (said (short_line kept))) (answers text (said (short_line kept))) mid held new rest replies
         → IsOutputOf may cells fits count grid text (lines_of (f.read ++ bytes)) old spares new rest (f.replies ++ replies)
     output_line bytes raw replies one says gives =

@@ -1,26 +1,32 @@
--- one call of the desk for a command
-use Rattle.std.specs.Prelude.{◌≡◌, ℕ, Bool, List, [], ◌∷◌, ◌++◌}
-use mathlib.Core.List.{IsPrefix}
+-- what a command of a client came to
+use Rattle.std.specs.Prelude.{◌≡◌, ℕ, Bool, List, length}
 use Rattle.wh_grid.specs.Grids.{Floor}
 use Rattle.wh_event.specs.declared.entry.Entry.{Entry}
 use Rattle.wh_event.specs.declared.event.Command.{Command}
 use Rattle.wh_desk.specs.Lists.{Received}
 use Rattle.wh_desk.specs.Calls.{Refuses}
-use Rattle.wh_crew.specs.Work.{command_of, Takes}
+use Rattle.wh_scribe.specs.Calls.{Receives}
+use Rattle.wh_serve.specs.Allowances.{MayCall, IsWhyNone}
+use Rattle.wh_serve.specs.declared.allowance.Allowance.{Allowance}
 use Rattle.wh_serve.specs.declared.call.NoReceipt.{NoReceipt}
 use Rattle.wh_serve.specs.declared.call.NoReceipt.TheVariants as without
-
--- the pass gained this receipt, which answers the command and takes the spare that it tells
-pub record Receives {X : Type 0} (fits : X → Floor → Bool) (count : X → ℕ) (grid : Floor) (command : Command) (had : Received) (spares : List X)
-    (receipt : ℕ × Entry) (has : Received) (left : List X) : Type 0 where
-  pub answers : command_of receipt.1.event ≡ command
-  pub caller_is : has.caller ≡ had.caller
-  pub gained : has.list ≡ had.list ++ receipt ∷ []
-  pub known : IsPrefix had.known has.known
-  pub takes : Takes fits count grid receipt.1.event spares left
+use Rattle.wh_serve.specs.declared.call.Lost.TheVariants as lost
+use Rattle.wh_serve.specs.declared.call.Came.{Came}
+use Rattle.wh_serve.specs.declared.call.Came.TheVariants as came
 
 -- what is left of a pass where a command has no receipt: all as it was, but for what a refusal of the desk tells
 abbrev pub Leaves : ℕ → Received → NoReceipt → Received → Type 0
 Leaves cells had (without.Refused fault) has = Refuses cells had fault has
 Leaves cells had without.Barred has = has ≡ had
 Leaves cells had without.ShareUsed has = has ≡ had
+
+-- A command that may be called has a receipt, or it is told why it has none, and then no spare is taken. Where the journal had
+-- failed, all is as it was; where it failed at the call, the pass has the receipt, which is told to nobody.
+abbrev pub Comes : {X : Type 0} → Allowance → ℕ → (X → Floor → Bool) → (X → ℕ) → Floor → Command → Received → List X → Received → List X → Came → Type 0
+Comes may cells fits count grid command had spares has left (came.Receipt receipt) =
+    MayCall may (length had.list) command × Receives fits count grid command had spares (receipt.position, receipt.entry) has left
+Comes may cells fits count grid command had spares has left (came.Without why) =
+    IsWhyNone may (length had.list) command why × Leaves cells had why has × (left ≡ spares)
+Comes may cells fits count grid command had spares has left (came.Lost lost.Failed) = (has ≡ had) × (left ≡ spares)
+Comes may cells fits count grid command had spares has left (came.Lost lost.Unkept) =
+    MayCall may (length had.list) command × ((receipt : ℕ × Entry) × Receives fits count grid command had spares receipt has left)

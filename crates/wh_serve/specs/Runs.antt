@@ -1,6 +1,6 @@
--- What clients did from the opening of a warehouse, and the log of it.
-use Rattle.std.specs.Prelude.{◌≡◌, ℕ, ◌<◌, ◌≤◌, Bool, List, length, All, Option, Some, slice_get}
-use Rattle.wh_words.specs.Lines.{text_of}
+-- What clients did from the opening of a warehouse, and what the journal holds of it.
+use Rattle.std.specs.Prelude.{◌≡◌, ℕ, ◌<◌, ◌≤◌, Bool, true, List, length, take, All, Option, Some, slice_get}
+use Rattle.std.specs.Io.KnownBytes.{Appends}
 use Rattle.wh_grid.specs.Grids.{Floor}
 use Rattle.wh_points.specs.Points.{Site}
 use Rattle.wh_event.specs.declared.entry.Entry.{Entry}
@@ -8,11 +8,12 @@ use Rattle.wh_core.specs.States.{State, opened}
 use Rattle.wh_core.specs.Laws.{IsOpening}
 use Rattle.wh_core.specs.Steps.{Run}
 use Rattle.wh_desk.specs.Fleet.{IsTied}
-use Rattle.wh_log.specs.Logs.{log_lines}
-use Rattle.wh_log.specs.declared.version.Version.TheVariants.{Two}
 use Rattle.wh_desk.specs.Pasts.{Origin}
 use Rattle.wh_desk.specs.Lists.{Received, entries_of}
 use Rattle.wh_desk.specs.Calls.{AllEmpty, InOrder, NoneWantsPath}
+use Rattle.wh_journal.specs.Journals.{lines_for}
+use Rattle.wh_scribe.specs.Keeping.{Holds}
+use Rattle.wh_scribe.specs.declared.scribe.Kept.{Kept}
 use Rattle.wh_crew.specs.declared.threads.CrewFault.{CrewFault}
 use Rattle.wh_crew.specs.declared.threads.CrewFault.TheVariants as crew
 use Rattle.wh_edge.specs.declared.trouble.Trouble.{Trouble}
@@ -39,16 +40,29 @@ pub record ServedFrom {R W X : Type 0} (fits : X → Floor → Bool) (count : X 
   pub empty : AllEmpty passes
   pub served : AllServed (λ client had has times. Attended journal fits count origin.site.grid text remaining contents client had has times) clients passes history connections
 
--- The warehouse was opened at clock 0 with these planners, the clients were served over a journal of so many positions, and
--- the log is of what they did.
+-- The warehouse was opened at clock 0 with these planners, and the clients were served over a journal of so many positions.
 pub record Hosts {R W X : Type 0} (fits : X → Floor → Bool) (count : X → ℕ) (text : ℕ × Entry → List ℕ) (remaining : R → Option (List ℕ)) (contents : W → Option (List ℕ))
-    (site : Site) (planners : List X) (clients : List (Client X)) (journal : ℕ) (connections : List ℕ) (log : List ℕ) : Type 0 where
+    (site : Site) (planners : List X) (clients : List (Client X)) (journal : ℕ) (history : List Entry) (state : State) (connections : List ℕ) : Type 0 where
   pub slots : List ℕ
   pub tied : IsTied fits count site.grid planners slots
-  pub history : List Entry
-  pub state : State
   pub served : ServedFrom fits count text remaining contents (record { site = site; opening = opened site.layout 0 slots }) clients journal history state connections
-  pub log_is : log ≡ text_of (log_lines Two (record { clock = 0; slots = slots; entries = history }))
+
+-- A journal that held this at the start holds now, behind that, the lines of the first entries of the history, and maybe, where it
+-- has failed, a front of one line more. Where it is told to be whole, these are the lines of all its entries, and they outlive a kill.
+pub record IsJournalOf (start now synced : Option (List ℕ)) (history : List Entry) (is_whole : Bool) : Type 0 where
+  pub written : ℕ
+  pub within : written ≤ length history
+  pub failed : Bool
+  pub holds : Holds failed start now history written
+  pub whole : is_whole ≡ true → Appends start now (lines_for history)
+  pub safe : is_whole ≡ true → 0 < length history → Appends start synced (lines_for history)
+
+-- what a scribe leaves of a journal that held this at its start
+pub record LeavesKept {J : Type 0} (contents synced : J → Option (List ℕ)) (start : Option (List ℕ)) (kept : Kept J) : Type 0 where
+  pub within : kept.written ≤ length kept.front.past.history
+  pub holds : Holds kept.failed start (contents kept.journal) kept.front.past.history kept.written
+  pub safe_within : kept.synced ≤ kept.written
+  pub safe : 0 < kept.synced → Appends start (synced kept.journal) (lines_for (take kept.synced kept.front.past.history))
 
 -- what is told of clients that came to no history
 abbrev pub trouble_of : CrewFault → Trouble
@@ -56,7 +70,7 @@ trouble_of crew.NoThread = trouble.NoThread
 trouble_of crew.NoMemory = trouble.NoMemory
 trouble_of crew.Stale = trouble.Differs
 
--- why there is no log: a thread could not be started, a pass differs from its row, or memory was wanting
+-- why there is no history: a thread could not be started, a pass differs from its row, or memory was wanting
 abbrev pub IsWhyUnserved : Trouble → Type 0
 IsWhyUnserved trouble.NoThread = Unit {0}
 IsWhyUnserved trouble.Differs = Unit {0}

@@ -8,9 +8,11 @@ ghost use Rattle.wh_replay.specs.Answers.{said, text_of};
 ghost use Rattle.wh_replay.specs.Scripts.{WritesFront, fault_of};
 ghost use Rattle.wh_serve.specs.Texts.{receipt_text};
 ghost use Rattle.wh_serve.specs.Tellings.{texts};
-ghost use Rattle.wh_serve.specs.Sessions.{Serves, ServesUnwritten, ServesAll, Outputs, Stops};
+ghost use Rattle.wh_serve.specs.Sessions.{Serves, ServesAll, Outputs, Stops};
+ghost use Rattle.wh_serve.specs.Losses.{Unserves, unserved_fault};
 
 use crate::allowance::Allowance;
+use crate::call::Lost;
 use crate::doors::Doors;
 use crate::form::Form;
 use crate::served::{End, ServeFault, Served};
@@ -19,9 +21,11 @@ use std::alloc::Global;
 use std::io::{Read, Write};
 use std::sync::Wait;
 use wh_desk::{Desk, DeskName, Pass};
+use wh_journal::Journal;
 use wh_lines::{CommandLine, LineFault, Lines, Next, ReadFault};
 use wh_planner::Planner;
 use wh_replay::{ReplayFault, WriteFault};
+use wh_scribe::{JournalName, Scribe};
 
 fn fault_of(fault: LineFault) -> ReplayFault
     ensures { result ≡ fault_of fault }
@@ -68,8 +72,36 @@ fn pass_on<R: Read, W: Write, D: Doors<R, W>>(
     }
 }
 
+/// Why a line was not answered.
+#[derive(Clone, Copy, Debug, PartialEq, Eq)]
+enum Unserved {
+    /// Its reply could not be written to its end.
+    Unwritten,
+    /// The journal has failed.
+    Lost(Lost),
+}
+
+fn unserved_fault(why: Unserved) -> ServeFault
+    ensures { result ≡ unserved_fault why }
+{
+    match why {
+        Unserved::Unwritten => ServeFault::Cut(ReplayFault::Unwritten),
+        Unserved::Lost(_) => ServeFault::Unjournaled,
+    }
+}
+
 /// Serves a line, of which a front is kept. How many replies it got: one or none.
-fn serve_line<N: DeskName, H: Wait + Drop, P: Planner, X: Wait, R: Read, W: Write, D: Doors<R, W>>(
+fn serve_line<
+    N: DeskName,
+    S: JournalName,
+    J: Journal + Drop,
+    H: Wait + Drop,
+    P: Planner,
+    X: Wait,
+    R: Read,
+    W: Write,
+    D: Doors<R, W>,
+>(
     rt: &X,
     alloc: Global,
     form: Form,
@@ -77,23 +109,36 @@ fn serve_line<N: DeskName, H: Wait + Drop, P: Planner, X: Wait, R: Read, W: Writ
     line: &CommandLine,
     writer: &mut W,
     desk: &Desk<N, H, P>,
+    scribe: &Scribe<N, S, J>,
     pass: &mut Pass<N>,
     spares: &mut Vec<P>,
     doors: &D,
-) -> Result<u64, ReplayFault>
+) -> Result<u64, Unserved>
     ensures ok { IfOk result (λ count. Serves may (length N.cells) P.fits_map P.slot_count N.origin.site.grid (receipt_text form) (said (short_line line.now)) pass.old spares.old.items pass.new spares.new.items (W.contents writer.old) (W.contents writer.new) count) }
     ensures few { IfOk result (λ count. count ≤ 1) }
-    ensures err { OnErr result (ServesUnwritten may (length N.cells) P.fits_map P.slot_count N.origin.site.grid (receipt_text form) (said (short_line line.now)) pass.old spares.old.items pass.new spares.new.items (W.contents writer.old) (W.contents writer.new)) }
-    ensures fault { IfErr result (λ fault. fault ≡ ReplayFault.Unwritten) }
+    ensures err { IfErr result (λ why. Unserves may (length N.cells) P.fits_map P.slot_count N.origin.site.grid (receipt_text form) (said (short_line line.now)) pass.old spares.old.items pass.new spares.new.items (W.contents writer.old) (W.contents writer.new) why) }
 {
-    let told = answer(rt, alloc, form, may, line, desk, pass, spares);
+    let told = match answer(rt, alloc, form, may, line, desk, scribe, pass, spares) {
+        Ok(told) => told,
+        Err(lost) => return Err(Unserved::Lost(lost)),
+    };
     match pass_on(form, writer, &told, doors) {
         Ok(count) => Ok(count),
-        Err(_) => Err(ReplayFault::Unwritten),
+        Err(_) => Err(Unserved::Unwritten),
     }
 }
 
-fn serve_all<N: DeskName, H: Wait + Drop, P: Planner, X: Wait, R: Read, W: Write, D: Doors<R, W>>(
+fn serve_all<
+    N: DeskName,
+    S: JournalName,
+    J: Journal + Drop,
+    H: Wait + Drop,
+    P: Planner,
+    X: Wait,
+    R: Read,
+    W: Write,
+    D: Doors<R, W>,
+>(
     rt: &X,
     alloc: Global,
     form: Form,
@@ -101,20 +146,21 @@ fn serve_all<N: DeskName, H: Wait + Drop, P: Planner, X: Wait, R: Read, W: Write
     lines: &mut Lines<R>,
     writer: &mut W,
     desk: &Desk<N, H, P>,
+    scribe: &Scribe<N, S, J>,
     pass: &mut Pass<N>,
     spares: &mut Vec<P>,
     doors: &D,
-) -> Result<Served, ReplayFault>
+) -> Result<Served, ServeFault>
     requires { lines.old.failed ≡ false }
     ensures ok { IfOk result (λ r. ServesAll may (length N.cells) P.fits_map P.slot_count N.origin.site.grid (receipt_text form) lines.old lines.new pass.old spares.old.items pass.new spares.new.items (W.contents writer.old) (W.contents writer.new) r.replies r.end) }
-    ensures fault { IfErr result (λ fault. Stops may (length N.cells) P.fits_map P.slot_count N.origin.site.grid (receipt_text form) (ServeFault.Cut fault) lines.old lines.new pass.old spares.old.items pass.new spares.new.items (W.contents writer.old) (W.contents writer.new)) }
+    ensures fault { IfErr result (λ fault. Stops may (length N.cells) P.fits_map P.slot_count N.origin.site.grid (receipt_text form) fault lines.old lines.new pass.old spares.old.items pass.new spares.new.items (W.contents writer.old) (W.contents writer.new)) }
 {
     let mut line = CommandLine::new();
     let mut replies = 0;
     for _ in 0..u64::MAX {
         let next = match lines.next_line(writer, &mut line) {
             Ok(next) => next,
-            Err(fault) => return Err(fault_of(fault)),
+            Err(fault) => return Err(ServeFault::Cut(fault_of(fault))),
         };
         match next {
             Next::Whole => {
@@ -125,10 +171,10 @@ fn serve_all<N: DeskName, H: Wait + Drop, P: Planner, X: Wait, R: Read, W: Write
                     });
                 }
                 match serve_line(
-                    rt, alloc, form, may, &line, writer, desk, pass, spares, doors,
+                    rt, alloc, form, may, &line, writer, desk, scribe, pass, spares, doors,
                 ) {
                     Ok(count) => replies += count,
-                    Err(fault) => return Err(fault),
+                    Err(why) => return Err(unserved_fault(why)),
                 }
             }
             Next::End => {
@@ -145,7 +191,14 @@ fn serve_all<N: DeskName, H: Wait + Drop, P: Planner, X: Wait, R: Read, W: Write
             }
         }
     }
-    Err(ReplayFault::Endless)
+    Err(ServeFault::Cut(ReplayFault::Endless))
+}
+
+/// Where the journal has failed, nobody can be told anything more, and the service ends.
+fn let_go<R: Read, W: Write, D: Doors<R, W>>(doors: &D, fault: ServeFault) {
+    if fault == ServeFault::Unjournaled {
+        doors.end();
+    }
 }
 
 /// Serves a client to its reader's end, or until the service is over: before each line is served that is asked, and a line that
@@ -156,9 +209,15 @@ fn serve_all<N: DeskName, H: Wait + Drop, P: Planner, X: Wait, R: Read, W: Write
 /// no line: a client or a network that was cut leaves part of one, which may read as another command. A Replace takes the
 /// last spare. Each reply is a line; the writer is flushed before each read, which may wait.
 ///
-/// A call may wait for the desk's lock. A line takes no memory of its own. A call whose reply could not be written stands.
+/// A receipt is told once the journal keeps its entry. Where the journal has failed the client is told nothing more, and the service
+/// ends.
+///
+/// A call may wait for the desk's lock, and for the journal. A line takes no memory of its own. A call whose reply could not be
+/// written stands, and so does one at which the journal failed.
 pub fn serve_client<
     N: DeskName,
+    S: JournalName,
+    J: Journal + Drop,
     H: Wait + Drop,
     P: Planner,
     X: Wait,
@@ -173,6 +232,7 @@ pub fn serve_client<
     lines: &mut Lines<R>,
     writer: &mut W,
     desk: &Desk<N, H, P>,
+    scribe: &Scribe<N, S, J>,
     pass: &mut Pass<N>,
     spares: &mut Vec<P>,
     doors: &D,
@@ -192,12 +252,13 @@ pub fn serve_client<
         return Err(ServeFault::Cut(ReplayFault::Broken));
     }
     match serve_all(
-        rt, alloc, form, may, lines, writer, desk, pass, spares, doors,
+        rt, alloc, form, may, lines, writer, desk, scribe, pass, spares, doors,
     ) {
         Ok(served) => Ok(served),
         Err(fault) => {
             lines.fail();
-            Err(ServeFault::Cut(fault))
+            let_go(doors, fault);
+            Err(fault)
         }
     }
 }

@@ -1,14 +1,11 @@
-//! A run that serves clients: a warehouse behind a desk, the clients over it, and the log of what they did.
+//! A run that serves clients: a warehouse behind a desk, a journal behind that, and the clients over both.
 
-ghost use Rattle.std.specs.Prelude.{◌≡◌, ◌<◌, ◌≤◌, ◌^◌, [], IfErr, IfOk, length};
-ghost use Rattle.wh_words.specs.Lines.{text_of};
+ghost use Rattle.std.specs.Prelude.{◌≡◌, ◌<◌, ◌≤◌, ◌^◌, [], IfErr, IfOk, length, true, false};
 ghost use Rattle.wh_points.specs.Points.{IsLayout};
-ghost use Rattle.wh_log.specs.Logs.{log_lines};
-ghost use Rattle.wh_log.specs.declared.version.Version.TheVariants.{Two};
 ghost use Rattle.wh_desk.specs.Fleet.{AllFit};
 ghost use Rattle.wh_desk.specs.Pasts.{origin_of, past_of};
 ghost use Rattle.wh_serve.specs.Texts.{receipt_text};
-ghost use Rattle.wh_serve.specs.Runs.{ServedFrom, Hosts, IsWhyUnserved, trouble_of};
+ghost use Rattle.wh_serve.specs.Runs.{ServedFrom, LeavesKept, IsJournalOf, Hosts, IsWhyUnserved, trouble_of};
 
 use crate::doors::Doors;
 use crate::form::Form;
@@ -19,12 +16,13 @@ use std::marker::Brand;
 use std::sync::{Arc, Wait};
 use std::thread::Threads;
 use wh_crew::CrewFault;
-use wh_desk::{Cells, Desk, DeskName, OpenFault, Publisher, Warehouse};
+use wh_desk::{Cells, Desk, DeskName, History, OpenFault, Publisher, Warehouse};
 use wh_edge::Trouble;
 use wh_grid::Grid;
-use wh_log::{NoMemory, log_text};
+use wh_journal::Journal;
 use wh_planner::Planner;
 use wh_points::Points;
+use wh_scribe::{JournalName, Kept, Scribe};
 
 /// What is told of clients that came to no history.
 fn trouble_of(fault: CrewFault) -> Trouble
@@ -38,9 +36,63 @@ fn trouble_of(fault: CrewFault) -> Trouble
     }
 }
 
-/// Opens a desk round the warehouse with a pass for each client, and serves them.
+/// What a run leaves: the history, over how many connections each client was served, in their order, the journal, and whether the
+/// history's entries stand in it, all of them and synced.
+#[derive(Drop)]
+pub struct Ran<J: Journal + Drop, P: Planner = Box<dyn Planner>> {
+    pub history: History<P>,
+    pub connections: Vec<u64>,
+    pub journal: J,
+    pub is_whole: bool,
+}
+
+/// Whether as many entries were written and synced as were done.
+fn has_all(failed: bool, written: u64, synced: u64, done: u64) -> bool
+    ensures { result ≡ true → (failed ≡ false) × (written ≡ done) × (synced ≡ done) }
+{
+    !failed && written == done && synced == done
+}
+
+/// Compares the journal with the history that the clients left. E95: the journal has seen more than was done.
+fn compare<J: Journal + Drop, P: Planner>(
+    hosted: Hosted<P>,
+    kept: Kept<J>,
+) -> Result<Ran<J, P>, Trouble>
+    requires book { kept.front.book ≡ hosted.history.front.book }
+    requires past { hosted.history.front.past ≡ past_of hosted.history.warehouse.book }
+    ensures history { IfOk result (λ r. r.history ≡ hosted.history) }
+    ensures connections { IfOk result (λ r. r.connections ≡ hosted.connections) }
+    ensures journal { (start : _) → LeavesKept (λ x. J.contents x) (λ x. J.synced x) start kept → IfOk result (λ r. IsJournalOf start (J.contents r.journal) (J.synced r.journal) r.history.warehouse.book.history r.is_whole) }
+    ensures fault { IfErr result IsWhyUnserved }
+{
+    let Hosted {
+        history,
+        connections,
+    } = hosted;
+    let Kept {
+        journal,
+        front,
+        written,
+        synced,
+        failed,
+    } = kept;
+    if history.front.is_before(&front) {
+        return Err(Trouble::Differs);
+    }
+    let done = history.warehouse.history().len() as u64;
+    Ok(Ran {
+        history,
+        connections,
+        journal,
+        is_whole: has_all(failed, written, synced, done),
+    })
+}
+
+/// Opens a desk round the warehouse with a pass for each client, and serves them through the journal.
 fn over_desk<
     N: DeskName + Send + Sync,
+    S: JournalName + Send + Sync,
+    J: Journal + Send + Drop,
     H: Wait + Send + Sync + Drop,
     P: Planner,
     X: Threads + Wait + Sync,
@@ -54,41 +106,37 @@ fn over_desk<
     warehouse: Warehouse<P>,
     cells: Cells,
     publisher: Publisher<H>,
+    journal: J,
     clients: Vec<Client<P>>,
     doors: &D,
-) -> Result<Hosted<P>, Trouble>
+) -> Result<Ran<J, P>, Trouble>
     requires origin { origin_of warehouse.book ≡ N.origin }
     requires history { warehouse.book.history ≡ [] }
     requires cells { cells ≡ N.cells }
     requires book { publisher.book ≡ N.book }
     requires added { publisher.added ≡ past_of warehouse.book }
     requires shown { publisher.shown ≡ past_of warehouse.book }
+    requires start { J.contents journal ≡ S.start }
     requires callers { length clients.items ≡ N.callers }
     requires few { length clients.items ≤ 64 }
     ensures ok { IfOk result (λ c. ServedFrom P.fits_map P.slot_count (receipt_text form) (λ x. R.remaining x) (λ x. W.contents x) N.origin clients.items (length N.cells)
         c.history.warehouse.book.history c.history.warehouse.book.state c.connections.items) }
+    ensures journal { IfOk result (λ c. IsJournalOf S.start (J.contents c.journal) (J.synced c.journal) c.history.warehouse.book.history c.is_whole) }
     ensures fault { IfErr result IsWhyUnserved }
 {
     let callers = clients.len() as u32;
+    let front = publisher.front().again();
     let (desk, passes) = Desk::<N, H, P>::open(alloc, warehouse, cells, publisher, callers)?;
-    match serve_clients(rt, alloc, form, desk, passes, clients, doors) {
-        Ok(hosted) => Ok(hosted),
+    let scribe = Scribe::<N, S, J>::new(journal, &front);
+    match serve_clients(rt, alloc, form, desk, &scribe, passes, clients, doors) {
+        Ok(hosted) => compare(hosted, scribe.into_journal()),
         Err(fault) => Err(trouble_of(fault)),
     }
 }
 
-/// The log of a run, and over how many connections each client was served, in their order.
-#[derive(Drop)]
-pub struct Logged {
-    pub text: Vec<u8>,
-    pub connections: Vec<u64>,
-}
-
-/// What a desk round a warehouse is made of beside it: the cells of its receipts, and the publisher of its board. With them
-/// the slots with which the warehouse was opened, for the log.
+/// What a desk round a warehouse is made of beside it: the cells of its receipts, and the publisher of its board.
 #[derive(Drop)]
 struct Outfit<H: Wait + Drop> {
-    slots: Vec<u32>,
     cells: Cells,
     publisher: Publisher<H>,
 }
@@ -98,44 +146,24 @@ fn furnish<H: Wait + Drop, P: Planner>(
     rt: H,
     alloc: Global,
     warehouse: &Warehouse<P>,
-    journal: u32,
+    most: u32,
 ) -> Result<Outfit<H>, AllocError>
-    ensures slots { IfOk result (λ made. made.slots.items ≡ warehouse.now.book.opening.slots) }
-    ensures cells { IfOk result (λ made. length made.cells ≡ journal) }
+    ensures cells { IfOk result (λ made. length made.cells ≡ most) }
     ensures added { IfOk result (λ made. made.publisher.added ≡ past_of warehouse.now.book) }
     ensures shown { IfOk result (λ made. made.publisher.shown ≡ past_of warehouse.now.book) }
 {
-    let slots = Vec::from_slice(alloc, warehouse.first_slots())?;
-    let cells = Cells::new(alloc, u64::from(journal))?;
+    let cells = Cells::new(alloc, u64::from(most))?;
     let publisher = Publisher::new(alloc, rt, warehouse.book())?;
-    Ok(Outfit {
-        slots,
-        cells,
-        publisher,
-    })
+    Ok(Outfit { cells, publisher })
 }
 
-/// The log of what the clients left.
-fn write_log<P: Planner>(alloc: Global, slots: &[u32], hosted: Hosted<P>) -> Result<Logged, Trouble>
-    ensures connections { IfOk result (λ r. r.connections ≡ hosted.connections) }
-    ensures fault { IfErr result IsWhyUnserved }
-    ensures text { IfOk result (λ r. r.text.items ≡ text_of (log_lines Two (record { clock = 0; slots = slots.now; entries = hosted.history.warehouse.book.history }))) }
-{
-    let Hosted {
-        history,
-        connections,
-    } = hosted;
-    match log_text(alloc, 0, slots, history.warehouse.history()) {
-        Ok(text) => Ok(Logged { text, connections }),
-        Err(NoMemory) => Err(Trouble::NoMemory),
-    }
-}
-
-/// Opens the warehouse at clock 0 with one planner for each agent, and serves each client by a thread of its own, over one
-/// desk whose journal has this many positions. The text is the log of all that they did. Trouble: E90, and E93 where a
-/// thread could not be started.
+/// Opens the warehouse at clock 0 with one planner for each agent, and serves each client by a thread of its own, over one desk
+/// that takes at most so many entries, each of which goes into the journal before it is told. Where the journal fails, nobody
+/// is told anything more, and the service ends. Trouble: E90, E93 where a thread could not be started, and E95 where a pass has not
+/// all that its caller did; the journal is dropped then.
 pub fn run_clients<
     P: Planner,
+    J: Journal + Send + Drop,
     X: Threads + Wait + Sync,
     R: Read + Send + Drop,
     W: Write + Send + Drop,
@@ -148,15 +176,17 @@ pub fn run_clients<
     points: Points,
     planners: Vec<P>,
     clients: Vec<Client<P>>,
-    journal: u32,
+    most: u32,
+    journal: J,
     doors: &D,
-) -> Result<Logged, Trouble>
+) -> Result<Ran<J, P>, Trouble>
     requires layout { IsLayout grid.value points }
     requires count { length planners.items ≡ length points.agents }
     requires fit { AllFit P.fits_map grid.value planners.items }
     requires few { length clients.items ≤ 64 }
     ensures ok { IfOk result (λ r. Hosts P.fits_map P.slot_count (receipt_text form) (λ x. R.remaining x) (λ x. W.contents x) (record { grid = grid.value; layout = points })
-        planners.items clients.items journal r.connections.items r.text.items) }
+        planners.items clients.items most r.history.warehouse.book.history r.history.warehouse.book.state r.connections.items) }
+    ensures journal { IfOk result (λ r. IsJournalOf (J.contents journal) (J.contents r.journal) (J.synced r.journal) r.history.warehouse.book.history r.is_whole) }
     // No thread could be started, no memory was left, or a pass has not all that its caller did.
     ensures fault { IfErr result IsWhyUnserved }
 {
@@ -165,13 +195,8 @@ pub fn run_clients<
         Err(OpenFault::NoMemory) => return Err(Trouble::NoMemory),
         Err(OpenFault::WrongCount | OpenFault::Foreign { .. }) => unreachable!(),
     };
-    let Outfit {
-        slots,
-        cells,
-        publisher,
-    } = furnish(rt, alloc, &warehouse, journal)?;
-    let hosted = over_desk::<Brand, _, _, _, _, _, _>(
-        rt, alloc, form, warehouse, cells, publisher, clients, doors,
-    )?;
-    write_log(alloc, &slots, hosted)
+    let Outfit { cells, publisher } = furnish(rt, alloc, &warehouse, most)?;
+    over_desk::<Brand, Brand, _, _, _, _, _, _, _>(
+        rt, alloc, form, warehouse, cells, publisher, journal, clients, doors,
+    )
 }

@@ -1,9 +1,9 @@
-//! Clients that are served at once: a thread for each, all over one desk.
+//! Clients that are served at once: a thread for each, all over one desk and its journal.
 
 ghost use Rattle.std.specs.Prelude.{◌≡◌, ◌<◌, ◌≤◌, [], ℕ, All, IfOk, length, map, vec_len, vec_capacity, Some, slice_get};
 ghost use Rattle.wh_core.specs.Laws.{IsOpening};
 ghost use Rattle.wh_core.specs.Steps.{Run};
-ghost use Rattle.wh_desk.specs.Pasts.{origin_of};
+ghost use Rattle.wh_desk.specs.Pasts.{origin_of, past_of};
 ghost use Rattle.wh_desk.specs.Lists.{AllAt};
 ghost use Rattle.wh_desk.specs.Calls.{InOrder, NoneWantsPath};
 ghost use Rattle.wh_serve.specs.Texts.{receipt_text};
@@ -24,7 +24,9 @@ use std::thread;
 use std::thread::{Promise, PromisedHandle, Scope, Threads};
 use wh_crew::CrewFault;
 use wh_desk::{Desk, DeskName, History, Pass};
+use wh_journal::Journal;
 use wh_planner::Planner;
+use wh_scribe::{JournalName, Scribe};
 
 /// A client: the planners that its Replaces may lend, the last first, and what it may do.
 #[derive(Drop)]
@@ -59,6 +61,8 @@ impl<N: DeskName, R: Read, W: Write, P: Planner> Promise<Report<N>> for Due<N, R
 /// One client from its first connection to its last, with its pass moved in and out.
 fn serve_whole<
     N: DeskName,
+    S: JournalName,
+    J: Journal + Drop,
     H: Wait + Drop,
     P: Planner,
     X: Wait,
@@ -70,6 +74,7 @@ fn serve_whole<
     alloc: Global,
     form: Form,
     desk: &Desk<N, H, P>,
+    scribe: &Scribe<N, S, J>,
     mut pass: Pass<N>,
     client: Client<P>,
     doors: &D,
@@ -81,12 +86,13 @@ fn serve_whole<
         mut spares,
         allowance,
     } = client;
-    let connections = serve_visits::<N, H, P, X, R, W, D>(
+    let connections = serve_visits::<N, S, J, H, P, X, R, W, D>(
         rt,
         alloc,
         form,
         allowance,
         desk,
+        scribe,
         &mut pass,
         &mut spares,
         doors,
@@ -98,6 +104,8 @@ fn serve_whole<
 /// What a client's thread does at a word. At a stop it serves nobody.
 fn serve_at<
     N: DeskName,
+    S: JournalName,
+    J: Journal + Drop,
     H: Wait + Drop,
     P: Planner,
     X: Wait,
@@ -109,6 +117,7 @@ fn serve_at<
     alloc: Global,
     form: Form,
     desk: &Desk<N, H, P>,
+    scribe: &Scribe<N, S, J>,
     pass: Pass<N>,
     client: Client<P>,
     doors: &D,
@@ -119,8 +128,8 @@ fn serve_at<
     ensures stopped { word ≡ Word.Stop → (result.pass ≡ pass) × (result.connections ≡ 0) }
 {
     match word {
-        Word::Go => serve_whole::<N, H, P, X, R, W, D>(
-            rt, alloc, form, desk, pass, client, doors, number,
+        Word::Go => serve_whole::<N, S, J, H, P, X, R, W, D>(
+            rt, alloc, form, desk, scribe, pass, client, doors, number,
         ),
         Word::Stop => Report {
             pass,
@@ -134,6 +143,8 @@ fn start_one<
     's,
     E: 's,
     N: DeskName + Send + Sync + 's,
+    S: JournalName + Send + Sync + 's,
+    J: Journal + Send + Drop + 's,
     H: Wait + Send + Sync + Drop + 's,
     P: Planner + 's,
     X: Wait + Sync + 's,
@@ -146,6 +157,7 @@ fn start_one<
     alloc: Global,
     form: Form,
     desk: &'s Desk<N, H, P>,
+    scribe: &'s Scribe<N, S, J>,
     pass: Pass<N>,
     client: Client<P>,
     doors: &'s D,
@@ -166,8 +178,8 @@ fn start_one<
             ensures { Attended (length N.cells) P.fits_map P.slot_count N.origin.site.grid (receipt_text form) (λ x. R.remaining x) (λ x. W.contents x) client pass result.pass result.connections }
         {
             let word = start.wait(rt);
-            serve_at::<N, H, P, X, R, W, D>(
-                rt, alloc, form, desk, pass, client, doors, number, word,
+            serve_at::<N, S, J, H, P, X, R, W, D>(
+                rt, alloc, form, desk, scribe, pass, client, doors, number, word,
             )
         },
     );
@@ -183,6 +195,8 @@ fn start_all<
     's,
     E: 's,
     N: DeskName + Send + Sync + 's,
+    S: JournalName + Send + Sync + 's,
+    J: Journal + Send + Drop + 's,
     H: Wait + Send + Sync + Drop + 's,
     P: Planner + 's,
     X: Threads + Wait + Sync + 's,
@@ -195,6 +209,7 @@ fn start_all<
     alloc: Global,
     form: Form,
     desk: &'s Desk<N, H, P>,
+    scribe: &'s Scribe<N, S, J>,
     passes: Vec<Pass<N>>,
     clients: Vec<Client<P>>,
     doors: &'s D,
@@ -214,7 +229,7 @@ fn start_all<
             unreachable!()
         };
         match start_one(
-            scope, rt, alloc, form, desk, pass, client, doors, start, number,
+            scope, rt, alloc, form, desk, scribe, pass, client, doors, start, number,
         ) {
             Ok(handle) => handles.push_reserved(handle),
             Err(fault) => {
@@ -281,6 +296,8 @@ fn take_apart<N: DeskName>(
 /// Each client in a thread of its own. All threads are joined when it returns, also where one could not be started.
 fn run_all<
     N: DeskName + Send + Sync,
+    S: JournalName + Send + Sync,
+    J: Journal + Send + Drop,
     H: Wait + Send + Sync + Drop,
     P: Planner,
     X: Threads + Wait + Sync,
@@ -292,6 +309,7 @@ fn run_all<
     alloc: Global,
     form: Form,
     desk: &Desk<N, H, P>,
+    scribe: &Scribe<N, S, J>,
     passes: Vec<Pass<N>>,
     clients: Vec<Client<P>>,
     reports: Vec<Report<N>>,
@@ -312,7 +330,9 @@ fn run_all<
             requires { (length clients.items ≡ length passes.items) × (reports.items ≡ []) × (length passes.items ≤ vec_capacity reports) }
             ensures { IfOk result (λ rs. (length rs.items ≡ length passes.items) × AllAt (λ i r. ReportAt (λ c had has n. Attended (length N.cells) P.fits_map P.slot_count N.origin.site.grid (receipt_text form) (λ x. R.remaining x) (λ x. W.contents x) c had has n) clients.items passes.items i r.pass r.connections) rs.items) }
         {
-            let handles = start_all(scope, rt, alloc, form, desk, passes, clients, doors, start)?;
+            let handles = start_all(
+                scope, rt, alloc, form, desk, scribe, passes, clients, doors, start,
+            )?;
             Ok(join_all(rt, handles, reports))
         },
     )
@@ -335,6 +355,8 @@ pub struct Hosted<P: Planner = Box<dyn Planner>> {
 /// they leave could not be had (E90).
 pub fn serve_clients<
     N: DeskName + Send + Sync,
+    S: JournalName + Send + Sync,
+    J: Journal + Send + Drop,
     H: Wait + Send + Sync + Drop,
     P: Planner,
     X: Threads + Wait + Sync,
@@ -346,6 +368,7 @@ pub fn serve_clients<
     alloc: Global,
     form: Form,
     desk: Desk<N, H, P>,
+    scribe: &Scribe<N, S, J>,
     passes: Vec<Pass<N>>,
     clients: Vec<Client<P>>,
     doors: &D,
@@ -358,6 +381,8 @@ pub fn serve_clients<
     ensures callers { IfOk result (λ c. All (λ entry. entry.caller < N.callers) c.history.warehouse.book.history) }
     ensures granted { IfOk result (λ c. NoneWantsPath N.origin c.history.warehouse.book.history) }
     ensures within { IfOk result (λ c. length c.history.warehouse.book.history ≤ length N.cells) }
+    ensures book { IfOk result (λ c. c.history.front.book ≡ N.book) }
+    ensures past { IfOk result (λ c. c.history.front.past ≡ past_of c.history.warehouse.book) }
     ensures served { IfOk result (λ c. AllServed (λ d had has n. Attended (length N.cells) P.fits_map P.slot_count N.origin.site.grid (receipt_text form) (λ x. R.remaining x) (λ x. W.contents x) d had has n) clients.items passes.items c.history.warehouse.book.history c.connections.items) }
 {
     let Ok(room) = make_room(alloc, passes.len()) else {
@@ -368,7 +393,9 @@ pub fn serve_clients<
         passes: ended,
         connections,
     } = room;
-    let reports = run_all(rt, alloc, form, &desk, passes, clients, reports, doors)?;
+    let reports = run_all(
+        rt, alloc, form, &desk, scribe, passes, clients, reports, doors,
+    )?;
     let (ended, connections) = take_apart(reports, ended, connections);
     match desk.finish(ended) {
         Ok(history) => Ok(Hosted {

@@ -1,16 +1,17 @@
 //! What a line is answered, and how that is written.
 
-ghost use Rattle.std.specs.Prelude.{◌≡◌, ◌++◌, ◌∷◌, ◌≤◌, [], IfOk, OnOk, OnErr, length, MatchResult};
+ghost use Rattle.std.specs.Prelude.{◌≡◌, ◌++◌, ◌∷◌, ◌≤◌, [], IfOk, IfErr, OnOk, OnErr, length, MatchResult};
 ghost use Rattle.std.specs.Io.KnownBytes.{Appends};
 ghost use Rattle.wh_lines.specs.Text.{short_line};
 ghost use Rattle.wh_replay.specs.Answers.{asked, said, text_of};
 ghost use Rattle.wh_replay.specs.Scripts.{WritesFront};
 ghost use Rattle.wh_serve.specs.Texts.{entries_text, fault_text, receipt_text, without_text};
 ghost use Rattle.wh_serve.specs.Outcomes.{Gives, answers, line_text};
+ghost use Rattle.wh_serve.specs.Losses.{Loses};
 ghost use Rattle.wh_serve.specs.Tellings.{closes, texts};
 
 use crate::allowance::Allowance;
-use crate::call::{NoReceipt, call_allowed};
+use crate::call::{Came, Lost, NoReceipt, call_allowed};
 use crate::form::{Form, tell};
 use arrayvec::ArrayVec;
 use std::alloc::Global;
@@ -18,9 +19,11 @@ use std::io::Write;
 use std::sync::Wait;
 use wh_desk::{Desk, DeskFault, DeskName, Pass, Receipt};
 use wh_event::{Command, LineFault, Reply, put_number, read_line};
+use wh_journal::Journal;
 use wh_lines::CommandLine;
 use wh_planner::Planner;
 use wh_replay::{WriteFault, write_all};
+use wh_scribe::{JournalName, Scribe};
 
 /// What a line is answered.
 #[derive(Drop)]
@@ -55,26 +58,38 @@ fn read_kept(line: &CommandLine) -> Result<Option<Command>, LineFault>
     }
 }
 
-/// Answers a line: one that is a command is one call of the desk, if the client may make it.
-pub(crate) fn answer<N: DeskName, H: Wait + Drop, P: Planner, X: Wait>(
+/// Answers a line: one that is a command is one call of the desk through the journal, if the client may make it.
+pub(crate) fn answer<
+    N: DeskName,
+    S: JournalName,
+    J: Journal + Drop,
+    H: Wait + Drop,
+    P: Planner,
+    X: Wait,
+>(
     rt: &X,
     alloc: Global,
     form: Form,
     may: Allowance,
     line: &CommandLine,
     desk: &Desk<N, H, P>,
+    scribe: &Scribe<N, S, J>,
     pass: &mut Pass<N>,
     spares: &mut Vec<P>,
-) -> Told
-    ensures { Gives may (length N.cells) P.fits_map P.slot_count N.origin.site.grid (asked (said (short_line line.now))) (answers (receipt_text form) (said (short_line line.now))) pass.old spares.old.items pass.new spares.new.items (texts form result) }
+) -> Result<Told, Lost>
+    ensures ok { IfOk result (λ told. Gives may (length N.cells) P.fits_map P.slot_count N.origin.site.grid (asked (said (short_line line.now))) (answers (receipt_text form) (said (short_line line.now))) pass.old spares.old.items pass.new spares.new.items (texts form told)) }
+    ensures lost { IfErr result (λ lost. Loses may (length N.cells) P.fits_map P.slot_count N.origin.site.grid (receipt_text form) (said (short_line line.now)) pass.old spares.old.items pass.new spares.new.items lost) }
 {
     match read_kept(line) {
-        Ok(None) => Told::Nothing,
-        Ok(Some(command)) => match call_allowed(rt, alloc, may, desk, pass, command, spares) {
-            Ok(receipt) => Told::Received(receipt),
-            Err(why) => Told::Without(why),
-        },
-        Err(fault) => Told::NoCommand(fault),
+        Ok(None) => Ok(Told::Nothing),
+        Ok(Some(command)) => {
+            match call_allowed(rt, alloc, may, desk, scribe, pass, command, spares) {
+                Came::Receipt(receipt) => Ok(Told::Received(receipt)),
+                Came::Without(why) => Ok(Told::Without(why)),
+                Came::Lost(lost) => Err(lost),
+            }
+        }
+        Err(fault) => Ok(Told::NoCommand(fault)),
     }
 }
 

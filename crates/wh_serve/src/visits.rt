@@ -14,9 +14,11 @@ use std::alloc::Global;
 use std::io::{Read, Write};
 use std::sync::Wait;
 use wh_desk::{Desk, DeskName, Pass};
+use wh_journal::Journal;
 use wh_lines::Lines;
 use wh_planner::Planner;
 use wh_replay::ReplayFault;
+use wh_scribe::{JournalName, Scribe};
 
 /// A connection that is over.
 struct Visited<W> {
@@ -28,6 +30,8 @@ struct Visited<W> {
 /// last command stands.
 fn serve_connection<
     N: DeskName,
+    S: JournalName,
+    J: Journal + Drop,
     H: Wait + Drop,
     P: Planner,
     X: Wait,
@@ -41,6 +45,7 @@ fn serve_connection<
     may: Allowance,
     connection: Connection<R, W>,
     desk: &Desk<N, H, P>,
+    scribe: &Scribe<N, S, J>,
     pass: &mut Pass<N>,
     spares: &mut Vec<P>,
     doors: &D,
@@ -59,6 +64,7 @@ fn serve_connection<
                 &mut lines,
                 &mut writer,
                 desk,
+                scribe,
                 pass,
                 spares,
                 doors,
@@ -76,6 +82,8 @@ fn serve_connection<
 /// there were.
 pub(crate) fn serve_visits<
     N: DeskName,
+    S: JournalName,
+    J: Journal + Drop,
     H: Wait + Drop,
     P: Planner,
     X: Wait,
@@ -88,6 +96,7 @@ pub(crate) fn serve_visits<
     form: Form,
     may: Allowance,
     desk: &Desk<N, H, P>,
+    scribe: &Scribe<N, S, J>,
     pass: &mut Pass<N>,
     spares: &mut Vec<P>,
     doors: &D,
@@ -102,7 +111,9 @@ pub(crate) fn serve_visits<
         let Some(connection) = doors.open(client) else {
             return connections;
         };
-        let visited = serve_connection(rt, alloc, form, may, connection, desk, pass, spares, doors);
+        let visited = serve_connection(
+            rt, alloc, form, may, connection, desk, scribe, pass, spares, doors,
+        );
         let Visited { outcome, writer } = visited;
         doors.leave(client, &outcome, writer);
     }

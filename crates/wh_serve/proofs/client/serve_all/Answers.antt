@@ -6,10 +6,10 @@ use Rattle.wh_replay.specs.Scripts.{fault_of}
 use Rattle.wh_replay.proofs.Until.{cause_of, cause_endless}
 use Rattle.wh_serve.specs.Texts.{receipt_text}
 use Rattle.wh_serve.specs.Sessions.{Stops}
-use Rattle.wh_replay.specs.declared.script.ReplayFault.{ReplayFault}
 use Rattle.wh_replay.specs.declared.script.ReplayFault.TheVariants.{Endless}
-use Rattle.wh_serve.specs.declared.served.ServeFault.TheVariants.{Cut}
-use Rattle.wh_serve.proofs.Serving.{following_start, following_line, stops_line, served_end, served_last, served_over, stops_between, stops_now}
+use Rattle.wh_serve.specs.declared.served.ServeFault.{ServeFault}
+use Rattle.wh_serve.proofs.Serving.{following_start, following_line, served_end, served_last, served_over, stops_between, stops_now}
+use Rattle.wh_serve.proofs.Losing.{stops_unserved}
 use Rattle.wh_serve.proofs.client.serve_all.Goals as goal
 
 pub loop-init : goal.loop-init
@@ -45,9 +45,9 @@ pub returns-in-Err-serve_line-clause-fault : goal.returns-in-Err-serve_line-clau
 returns-in-Err-serve_line-clause-fault g c =
     let told = g.W.Write.contents in
     let gathered = subst (λ (next : Next). Gathered next c.loop.lines c.next_line.new.self c.next_line.new.line) c.in-Whole.is c.in-Ok.ensures.ok in
-    subst (λ (fault : ReplayFault). Stops c.args.may (length g.N.DeskName.cells) g.P.Planner.fits_map g.P.Planner.slot_count g.N.DeskName.origin.site.grid (receipt_text c.args.form) (Cut fault) c.args.lines.now c.next_line.new.self
-    c.args.pass.now c.args.spares.now.items c.serve_line.new.pass c.serve_line.new.spares.items (told c.args.writer.now) (told c.serve_line.new.writer)) (sym c.in-Err-serve_line.ensures.fault)
-    (stops_line _ _ _ _ _ _ c.args.lines.now c.loop.lines c.next_line.new.self _ _ _ _ _ _ _ _ _ _ _ c.next_line.new.line c.loop.invariant.served.follows c.next_line.ensures.writer gathered c.in-Err-serve_line.ensures.err)
+    subst (λ (fault : ServeFault). Stops c.args.may (length g.N.DeskName.cells) g.P.Planner.fits_map g.P.Planner.slot_count g.N.DeskName.origin.site.grid (receipt_text c.args.form) fault c.args.lines.now c.next_line.new.self
+    c.args.pass.now c.args.spares.now.items c.serve_line.new.pass c.serve_line.new.spares.items (told c.args.writer.now) (told c.serve_line.new.writer)) (sym c.unserved_fault.ensures)
+    (stops_unserved _ _ _ _ _ _ c.args.lines.now c.loop.lines c.next_line.new.self _ _ _ _ _ _ _ _ _ _ _ c.next_line.new.line c.loop.invariant.served.follows c.next_line.ensures.writer c.in-Err-serve_line.why gathered c.in-Err-serve_line.ensures.err)
 
 pub loop-preserved : goal.loop-preserved
 loop-preserved g c =

@@ -1,7 +1,6 @@
 use Rattle.std.proofs.Common.{◌≡◌, true, inl, rules, length}
 use Rattle.wh_serve.specs.Texts.{receipt_text}
 use Rattle.wh_replay.specs.declared.script.ReplayFault.TheVariants.{Broken}
-use Rattle.wh_serve.specs.declared.served.ServeFault.TheVariants.{Cut}
 use Rattle.wh_serve.proofs.Serving.{follows_start, stops_now, stops_failed, outputs_of}
 use Rattle.wh_serve.proofs.client.serve_client.Goals as goal
 
@@ -13,7 +12,7 @@ returns-then-has_failed-clause-fault g c =
 
 pub returns-in-Err-clause-fault : goal.returns-in-Err-clause-fault
 returns-in-Err-clause-fault g c =
-    stops_failed c.args.may (length g.N.DeskName.cells) g.P.Planner.fits_map g.P.Planner.slot_count g.N.DeskName.origin.site.grid (receipt_text c.args.form) c.args.lines.now c.serve_all.new.lines c.fail.new.self c.args.pass.now c.args.spares.now.items _ _ _ _ (Cut c.in-Err.fault) c.fail.ensures c.in-Err.ensures.fault
+    stops_failed c.args.may (length g.N.DeskName.cells) g.P.Planner.fits_map g.P.Planner.slot_count g.N.DeskName.origin.site.grid (receipt_text c.args.form) c.args.lines.now c.serve_all.new.lines c.fail.new.self c.args.pass.now c.args.spares.now.items _ _ _ _ c.in-Err.fault c.fail.ensures c.in-Err.ensures.fault
 
 pub returns-in-Ok-clause-output : goal.returns-in-Ok-clause-output
 returns-in-Ok-clause-output g c =

@@ -3,6 +3,7 @@ use Rattle.std.proofs.Crossing.{crosses}
 use denote.Param.Send.{sendable, given_send}
 use Rattle.wh_desk.specs.Lists.{Received}
 use Rattle.wh_desk.proofs.Sharing.{desk_sync, pass_send}
+use Rattle.wh_scribe.proofs.Sharing.{scribe_sync}
 use Rattle.wh_serve.specs.Texts.{receipt_text}
 use Rattle.wh_serve.specs.Rows.{Attended}
 use Rattle.wh_serve.proofs.Sending.{client_send, form_send, start_sync}
@@ -12,6 +13,9 @@ pub spawn_with-started-requires-send-F : goal.spawn_with-started-requires-send-F
 spawn_with-started-requires-send-F g c κs within =
     let n = c.type_bounds.send-N in
     let m = c.type_bounds.sync-N in
+    let a = c.type_bounds.send-S in
+    let b = c.type_bounds.sync-S in
+    let j = c.type_bounds.send-J in
     let h = c.type_bounds.send-H in
     let k = c.type_bounds.sync-H in
     let p = c.type_bounds.send-P in
@@ -19,7 +23,7 @@ spawn_with-started-requires-send-F g c κs within =
     let r = c.type_bounds.send-R in
     let w = c.type_bounds.send-W in
     let t = c.type_bounds.sync-D in
-    search (sendable, crosses, desk_sync, pass_send, client_send, form_send, start_sync, given_send) depth 30 fits 20000
+    search (sendable, crosses, desk_sync, scribe_sync, pass_send, client_send, form_send, start_sync, given_send) depth 30 fits 20000
 
 pub spawn_with-started-requires-clause-keeps : goal.spawn_with-started-requires-clause-keeps
 spawn_with-started-requires-clause-keeps g c κs within = λ r s.

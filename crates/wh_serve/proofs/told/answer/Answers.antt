@@ -1,26 +1,37 @@
-use Rattle.std.proofs.Common.{◌≡◌, Some, None, Ok, Err, length}
+use Rattle.std.proofs.Common.{◌≡◌, Some, None, Ok, Err, length, subst}
 use Rattle.wh_lines.specs.Text.{short_line}
 use Rattle.wh_replay.specs.Answers.{said}
 use Rattle.wh_serve.specs.Texts.{receipt_text}
+use Rattle.wh_serve.specs.Calls.{Comes}
+use Rattle.wh_serve.specs.declared.call.Came.{Came}
 use Rattle.wh_serve.proofs.Giving.{answered_nothing, answered_fault, answered_receipt, answered_without}
+use Rattle.wh_serve.proofs.Losing.{loses_of}
 use Rattle.wh_serve.proofs.told.answer.Goals as goal
 
-pub returns-in-Ok-None : goal.returns-in-Ok-None
-returns-in-Ok-None g c =
+pub returns-in-Ok-None-clause-ok : goal.returns-in-Ok-None-clause-ok
+returns-in-Ok-None-clause-ok g c =
     let says : Ok None ≡ said (short_line c.args.line.now) = cc (c.in-Ok-None.is, c.in-Ok-None.field-0-is, c.read_kept.ensures) in
     answered_nothing c.args.may (length g.N.DeskName.cells) g.P.Planner.fits_map g.P.Planner.slot_count g.N.DeskName.origin.site.grid (receipt_text c.args.form) _ _ _ says
 
-pub returns-in-Err : goal.returns-in-Err
-returns-in-Err g c =
+pub returns-in-Err-clause-ok : goal.returns-in-Err-clause-ok
+returns-in-Err-clause-ok g c =
     let says : Err c.in-Err.fault ≡ said (short_line c.args.line.now) = cc (c.in-Err.is, c.read_kept.ensures) in
     answered_fault c.args.may (length g.N.DeskName.cells) g.P.Planner.fits_map g.P.Planner.slot_count g.N.DeskName.origin.site.grid (receipt_text c.args.form) _ _ _ c.in-Err.fault says
 
-pub returns-in-Ok : goal.returns-in-Ok
-returns-in-Ok g c =
+pub returns-in-Receipt-clause-ok : goal.returns-in-Receipt-clause-ok
+returns-in-Receipt-clause-ok g c =
     let says : Ok (Some c.in-Ok-Some.command) ≡ said (short_line c.args.line.now) = cc (c.in-Ok-Some.is, c.in-Ok-Some.field-0-is, c.read_kept.ensures) in
-    answered_receipt c.args.may (length g.N.DeskName.cells) g.P.Planner.fits_map g.P.Planner.slot_count g.N.DeskName.origin.site.grid (receipt_text c.args.form) _ _ _ c.in-Ok-Some.command _ _ _ says c.in-Ok.ensures.may c.in-Ok.ensures.ok
+    let came = subst (λ (r : Came). Comes c.args.may (length g.N.DeskName.cells) g.P.Planner.fits_map g.P.Planner.slot_count g.N.DeskName.origin.site.grid c.in-Ok-Some.command c.args.pass.now c.args.spares.now.items c.call_allowed.new.pass c.call_allowed.new.spares.items r) c.in-Receipt.is c.call_allowed.ensures in
+    answered_receipt c.args.may (length g.N.DeskName.cells) g.P.Planner.fits_map g.P.Planner.slot_count g.N.DeskName.origin.site.grid (receipt_text c.args.form) _ _ _ c.in-Ok-Some.command _ _ _ says came.0 came.1
 
-pub returns-in-Err-call_allowed : goal.returns-in-Err-call_allowed
-returns-in-Err-call_allowed g c =
+pub returns-in-Without-clause-ok : goal.returns-in-Without-clause-ok
+returns-in-Without-clause-ok g c =
     let says : Ok (Some c.in-Ok-Some.command) ≡ said (short_line c.args.line.now) = cc (c.in-Ok-Some.is, c.in-Ok-Some.field-0-is, c.read_kept.ensures) in
-    answered_without c.args.may (length g.N.DeskName.cells) g.P.Planner.fits_map g.P.Planner.slot_count g.N.DeskName.origin.site.grid (receipt_text c.args.form) _ _ _ c.in-Ok-Some.command _ _ _ says c.in-Err-call_allowed.ensures.why c.in-Err-call_allowed.ensures.left c.in-Err-call_allowed.ensures.spares
+    let came = subst (λ (r : Came). Comes c.args.may (length g.N.DeskName.cells) g.P.Planner.fits_map g.P.Planner.slot_count g.N.DeskName.origin.site.grid c.in-Ok-Some.command c.args.pass.now c.args.spares.now.items c.call_allowed.new.pass c.call_allowed.new.spares.items r) c.in-Without.is c.call_allowed.ensures in
+    answered_without c.args.may (length g.N.DeskName.cells) g.P.Planner.fits_map g.P.Planner.slot_count g.N.DeskName.origin.site.grid (receipt_text c.args.form) _ _ _ c.in-Ok-Some.command _ _ _ says came.0 came.1 came.2
+
+pub returns-in-Lost-clause-lost : goal.returns-in-Lost-clause-lost
+returns-in-Lost-clause-lost g c =
+    let says : Ok (Some c.in-Ok-Some.command) ≡ said (short_line c.args.line.now) = cc (c.in-Ok-Some.is, c.in-Ok-Some.field-0-is, c.read_kept.ensures) in
+    let came = subst (λ (r : Came). Comes c.args.may (length g.N.DeskName.cells) g.P.Planner.fits_map g.P.Planner.slot_count g.N.DeskName.origin.site.grid c.in-Ok-Some.command c.args.pass.now c.args.spares.now.items c.call_allowed.new.pass c.call_allowed.new.spares.items r) c.in-Lost.is c.call_allowed.ensures in
+    loses_of c.args.may (length g.N.DeskName.cells) g.P.Planner.fits_map g.P.Planner.slot_count g.N.DeskName.origin.site.grid (receipt_text c.args.form) _ c.in-Ok-Some.command _ _ _ _ c.in-Lost.lost says came
