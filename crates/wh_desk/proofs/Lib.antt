@@ -5,3 +5,4 @@ pub mod Receipts
 pub mod Telling
 pub mod Handing
 pub mod Sharing
+mod Recalled

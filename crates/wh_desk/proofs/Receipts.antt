@@ -30,21 +30,6 @@ get_under [] ys k less = absurd (omega arith)
 get_under (x ∷ xs) ys zero less = refl
 get_under (x ∷ xs) ys (suc k) less = get_under xs ys k (omega arith)
 
--- a pass that received nothing
-pub pass_first : {origin : Origin} {row : List ℕ} {book : Book} {callers caller : ℕ} (held : List Held) (front : Known) → held ≡ [] → caller < callers → front.book ≡ book → front.past.history ≡ []
-    → PassKeeps origin row book callers caller 0 0 held front
-pass_first {origin} {row} {book} {callers} {caller} held front none within same empty =
-    subst (λ (l : List Held). PassKeeps origin row book callers caller 0 0 l front) (sym none)
-    (record {
-      caller_within = within;
-      last_is = refl;
-      book_is = same;
-      run = (origin.opening, subst (λ (h : List Entry). Run origin.site origin.opening h origin.opening) (sym empty) refl);
-      long_is = sym (ap length empty);
-      all = ap (λ (h : List Entry). entries_of h caller) (sym empty);
-      notes = λ k x at. absurd cc;
-    })
-
 -- a pass that comes to know of a longer history, in which it has all that its caller did
 pub pass_learns : {origin : Origin} {row : List ℕ} {book : Book} {callers caller last long : ℕ} {held : List Held} {front : Known} → PassKeeps origin row book callers caller last long held front
     → (after : Known) (longer : ℕ) → list_of held ≡ entries_of after.past.history caller → after.book ≡ book → IsRunFrom origin after.past.history → longer ≡ length after.past.history
@@ -119,27 +104,6 @@ journal_push {origin} {names} {book} {callers} {capacity} {past} {rows} {notes} 
       added_is = added;
       shown_begins = shown;
     }
-
--- a journal with no entry yet
-pub journal_first : {origin : Origin} {names : List ℕ} {book : Book} {callers capacity : ℕ} {rows : List Row} {notes : List (Note Entry)} (past : Past) (cells : Filled) (publisher : Stand)
-    → past.origin ≡ origin → past.history ≡ [] → capacity ≡ length names → length rows ≡ callers → AllAt (λ _ r. RowOf [] r) rows → notes ≡ []
-    → cells.names ≡ names → cells.count ≡ 0
-    → publisher.book ≡ book → publisher.added ≡ past → publisher.shown ≡ past
-    → JournalKeeps origin names book callers past capacity rows notes cells publisher
-journal_first {origin} {names} {book} {callers} {capacity} {rows} {notes} past cells publisher begins empty fits count rows_empty none named unset same added shown = record {
-  origin_is = begins;
-  within = omega (arith, ap length empty);
-  capacity_is = fits;
-  cells_are = (let few : cells.count ≡ length past.history = unset ∙ sym (ap length empty) in λ i. record { names = named i; count = few i });
-  callers_within = subst (λ (l : List Entry). All (λ (x : Entry). x.caller < callers) l) (sym empty) (All-nil _);
-  rows_length = count;
-  rows_are = subst (λ (l : List Entry). AllAt (λ c q. RowOf (entries_of l c) q) rows) (sym empty) rows_empty;
-  notes_length = ap length none ∙ sym (ap length empty);
-  notes_are = subst (λ (l : List (Note Entry)). AllAt (NoteAt names past.history) l) (sym none) (λ k x h. absurd cc);
-  book_is = same;
-  added_is = added;
-  shown_begins = extends_same _ _ shown;
-}
 
 -- a book that is the same but for its room has the same past
 pub past_same : (old new : Seen) → IsSame old new → past_of new ≡ past_of old

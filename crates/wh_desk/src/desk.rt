@@ -11,17 +11,19 @@ ghost use Rattle.wh_core.specs.Laws.{IsOpening};
 ghost use Rattle.wh_core.specs.Steps.{Run};
 ghost use Rattle.wh_token.specs.Fleet.{TellsFor, replaced_agent};
 ghost use Rattle.wh_board.specs.Pasts.{Extends, origin_of, past_of};
+ghost use Rattle.wh_desk.specs.Earlier.{IsWhyUnopened};
 ghost use Rattle.wh_desk.specs.Lists.{entries_of};
 ghost use Rattle.wh_desk.specs.Calls.{AllBegin, AllEmpty, Called, HandsBack, InOrder, IsClockAt, NoneWantsPath, Refuses, TellsReceipt, Together};
 
 use crate::answer::{Answer, DeskFault, Met, Receipt, Stale};
 use crate::cells::Cells;
+use crate::earlier::{Earlier, Unopened, passes_of, recall, rows_of};
 use crate::journal::{History, Journal};
 use crate::naming::DeskName;
 use crate::pass::Pass;
 use std::alloc::{AllocError, Global};
 use std::sync::{Mutex, Wait};
-use wh_board::{Front, Publisher, Told, Viewer, ViewerFault};
+use wh_board::{Publisher, Told, Viewer, ViewerFault};
 use wh_event::{Command, Stops};
 use wh_planner::Planner;
 use wh_text::Name;
@@ -54,8 +56,42 @@ impl<N: DeskName, H: Wait + Drop, P: Planner> Desk<N, H, P> {
         ensures order { IfOk result (λ r. InOrder N.callers r.1.items) }
         ensures empty { IfOk result (λ r. AllEmpty r.1.items) }
     {
-        let passes = first_passes(alloc, publisher.front(), callers)?;
-        let journal = Journal::new(alloc, warehouse, cells, publisher, callers)?;
+        match Desk::resume(alloc, warehouse, cells, publisher, callers) {
+            Ok(opened) => Ok(opened),
+            Err(Unopened::NoMemory) => Err(AllocError),
+            Err(Unopened::CellTaken | Unopened::Full | Unopened::OtherCaller) => unreachable!(),
+        }
+    }
+
+    /// A desk round a warehouse with the entries that it has, of 1 to 64 callers. Each pass has all that its caller did, and knows
+    /// the whole history. The journal has as many positions as there are cells, those of these entries among them; the publisher
+    /// was made of this warehouse and published nothing since. Each entry is copied. Refused: E90, E91, a history with more
+    /// entries than cells, and one with an entry of a caller whom the desk does not have; what was handed in is dropped then.
+    pub fn resume(
+        alloc: Global,
+        warehouse: Warehouse<P>,
+        cells: Cells,
+        publisher: Publisher<H>,
+        callers: u32,
+    ) -> Result<(Desk<N, H, P>, Vec<Pass<N>>), Unopened>
+        requires origin { origin_of warehouse.book ≡ N.origin }
+        requires named { cells ≡ N.cells }
+        requires book { publisher.book ≡ N.book }
+        requires added { publisher.added ≡ past_of warehouse.book }
+        requires shown { publisher.shown ≡ past_of warehouse.book }
+        requires callers { callers ≡ N.callers }
+        ensures order { IfOk result (λ r. InOrder N.callers r.1.items) }
+        ensures lists { IfOk result (λ r. All (λ p. p.list ≡ entries_of warehouse.book.history p.caller) r.1.items) }
+        ensures known { IfOk result (λ r. All (λ p. p.known ≡ warehouse.book.history) r.1.items) }
+        ensures fault { IfErr result (IsWhyUnopened (length cells) callers warehouse.book.history) }
+    {
+        let capacity = cells.len();
+        let history = warehouse.history();
+        let known = history.len() as u64;
+        let Earlier { cells, notes, owns } = recall(alloc, history, cells, callers)?;
+        let rows = rows_of(alloc, owns.as_slice())?;
+        let passes = passes_of(alloc, owns, publisher.front(), known, callers)?;
+        let journal = Journal::over(warehouse, capacity, rows, notes, cells, publisher);
         let desk = Desk {
             journal: Mutex::new(journal),
         };
@@ -239,23 +275,4 @@ impl<N: DeskName, H: Wait + Drop, P: Planner> Desk<N, H, P> {
         }
         Ok(journal.into_history())
     }
-}
-
-/// A pass for each caller, in order.
-fn first_passes<N: DeskName>(
-    alloc: Global,
-    front: &Front,
-    callers: u32,
-) -> Result<Vec<Pass<N>>, AllocError>
-    requires book { front.now.book ≡ N.book }
-    requires empty { front.now.past.history ≡ [] }
-    requires callers { callers ≡ N.callers }
-    ensures order { IfOk result (λ v. InOrder N.callers v.items) }
-    ensures empty { IfOk result (λ v. AllEmpty v.items) }
-{
-    let mut passes = Vec::new(alloc);
-    for caller in 0..callers {
-        passes.push(Pass::new(alloc, front, caller))?;
-    }
-    Ok(passes)
 }

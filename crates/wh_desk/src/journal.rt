@@ -11,16 +11,16 @@ ghost use Rattle.wh_core.specs.Steps.{Run};
 ghost use Rattle.wh_token.specs.Fleet.{IsTied, StaySeated, TellsFor, replaced_agent};
 ghost use Rattle.wh_board.specs.Pasts.{origin_of, past_of};
 ghost use Rattle.wh_desk.specs.Lists.{AllAt, TellsTheSame, entries_of, is_current};
-ghost use Rattle.wh_desk.specs.Kept.{RowOf};
+ghost use Rattle.wh_desk.specs.Kept.{NoteAt, RowOf};
 ghost use Rattle.wh_desk.specs.Calls.{AllBegin, Entered, HandsBack, NoneWantsPath, Refuses, Reseats, Together, Untouched};
 
 use crate::answer::{Answer, DeskFault, Met, Receipt, Stale};
-use crate::cells::{CellRow, Cells};
+use crate::cells::CellRow;
 use crate::making::{Made, make_ready, note_down};
 use crate::naming::DeskName;
 use crate::pass::{Pass, Row};
 use once_cell::race::Note;
-use std::alloc::{AllocError, Global};
+use std::alloc::Global;
 use std::marker::{Model, PhantomData};
 use std::sync::Wait;
 use wh_board::{Front, Publisher, Viewer, ViewerFault};
@@ -62,37 +62,42 @@ impl<N: DeskName, H: Wait + Drop, P: Planner> Model for Journal<N, H, P> {
 }
 
 impl<N: DeskName, H: Wait + Drop, P: Planner> Journal<N, H, P> {
-    /// A journal with no entry yet.
-    pub fn new(
-        alloc: Global,
+    /// A journal of the entries that the warehouse has.
+    pub(crate) fn over(
         warehouse: Warehouse<P>,
-        cells: Cells,
+        capacity: u64,
+        rows: Vec<Row>,
+        notes: Vec<Note<Entry>>,
+        cells: CellRow,
         publisher: Publisher<H>,
-        callers: u32,
-    ) -> Result<Journal<N, H, P>, AllocError>
+    ) -> Journal<N, H, P>
         requires origin { origin_of warehouse.book ≡ N.origin }
-        requires history { warehouse.book.history ≡ [] }
-        requires named { cells ≡ N.cells }
+        requires capacity { capacity ≡ length N.cells }
+        requires room { length warehouse.book.history ≤ capacity }
+        requires callers { All (λ entry. entry.caller < N.callers) warehouse.book.history }
+        requires length { length rows.items ≡ N.callers }
+        requires rows { AllAt (λ caller row. RowOf (entries_of warehouse.book.history caller) row) rows.items }
+        requires noted { length notes.items ≡ length warehouse.book.history }
+        requires notes { AllAt (NoteAt N.cells warehouse.book.history) notes.items }
+        requires cells { cells ≡ record { names = N.cells; count = length warehouse.book.history } }
         requires book { publisher.book ≡ N.book }
         requires added { publisher.added ≡ past_of warehouse.book }
         requires shown { publisher.shown ≡ past_of warehouse.book }
-        requires callers { callers ≡ N.callers }
-        ensures history { IfOk result (λ j. j.history ≡ []) }
-        ensures state { IfOk result (λ j. j.state ≡ warehouse.book.state) }
-        ensures capacity { IfOk result (λ j. j.capacity ≡ length cells) }
-        ensures shown { IfOk result (λ j. j.shown ≡ []) }
-        ensures planners { IfOk result (λ j. j.planners ≡ warehouse.planners) }
+        ensures history { result.history ≡ warehouse.book.history }
+        ensures state { result.state ≡ warehouse.book.state }
+        ensures capacity { result.capacity ≡ capacity }
+        ensures shown { result.shown ≡ warehouse.book.history }
+        ensures planners { result.planners ≡ warehouse.planners }
     {
-        let rows = empty_rows(alloc, callers)?;
-        Ok(Journal {
+        Journal {
             warehouse,
-            capacity: cells.len(),
+            capacity,
             rows,
-            notes: Vec::new(alloc),
-            cells: CellRow::new(cells),
+            notes,
+            cells,
             publisher,
             name: PhantomData,
-        })
+        }
     }
 
     /// What the caller has in this history.
@@ -343,16 +348,4 @@ impl<N: DeskName, H: Wait + Drop, P: Planner> Journal<N, H, P> {
             back,
         }
     }
-}
-
-/// A row for each caller, of no entries.
-fn empty_rows(alloc: Global, callers: u32) -> Result<Vec<Row>, AllocError>
-    ensures length { IfOk result (λ v. length v.items ≡ callers) }
-    ensures empty { IfOk result (λ v. AllAt (λ _ r. RowOf [] r) v.items) }
-{
-    let mut rows = Vec::new(alloc);
-    for _ in 0..callers {
-        rows.push(Row { count: 0, last: 0 })?;
-    }
-    Ok(rows)
 }

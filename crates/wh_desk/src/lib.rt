@@ -5,6 +5,7 @@
 mod answer;
 mod cells;
 mod desk;
+mod earlier;
 mod journal;
 mod making;
 mod naming;
@@ -13,6 +14,7 @@ mod pass;
 pub use answer::{Answer, DeskFault, Met, Receipt, Stale};
 pub use cells::Cells;
 pub use desk::Desk;
+pub use earlier::Unopened;
 pub use journal::{History, Journal};
 pub use naming::DeskName;
 pub use pass::{Held, Pass, Row};

@@ -137,7 +137,10 @@ fn add_and_fill<H: Wait + Drop>(
 }
 
 /// Room for a note and a receipt.
-fn make_room(notes: &mut Vec<Note<Entry>>, held: &mut Vec<Held>) -> Result<(), AllocError>
+pub(crate) fn make_room(
+    notes: &mut Vec<Note<Entry>>,
+    held: &mut Vec<Held>,
+) -> Result<(), AllocError>
     ensures notes { notes.new.items ≡ notes.old.items }
     ensures held { held.new.items ≡ held.old.items }
     ensures notes_room { IfOk result (λ _. vec_len notes.new < vec_capacity notes.new) }
@@ -149,7 +152,7 @@ fn make_room(notes: &mut Vec<Note<Entry>>, held: &mut Vec<Held>) -> Result<(), A
 }
 
 /// A copy of the entry, in a box.
-fn boxed_copy(alloc: Global, entry: &Entry) -> Result<Box<Entry>, AllocError>
+pub(crate) fn boxed_copy(alloc: Global, entry: &Entry) -> Result<Box<Entry>, AllocError>
     ensures { IfOk result (λ boxed. boxed.value ≡ entry.now) }
 {
     let kept = entry.copy(alloc)?;

@@ -4,12 +4,13 @@
 ghost use Rattle.std.specs.Prelude.{◌≡◌, ℕ, ◌<◌, ◌≤◌, [], List, length, Some, slice_get};
 ghost use mathlib.Core.List.{IsPrefix};
 ghost use Rattle.wh_desk.specs.Lists.{IsRunFrom, entries_of};
+ghost use Rattle.wh_desk.specs.Earlier.{OwnOf};
 ghost use Rattle.wh_desk.specs.Kept.{RowOf};
 ghost use Rattle.wh_desk.specs.Calls.{Agreed, NoteOf};
 
+use crate::earlier::Own;
 use crate::naming::DeskName;
 use once_cell::race::Note;
-use std::alloc::Global;
 use std::marker::{Model, PhantomData};
 use std::snapshot::Snapshot;
 use wh_board::Front;
@@ -56,18 +57,21 @@ impl<N: DeskName> Model for Pass<N> {
 impl<N: DeskName> Pass<N> {
     ghost use Rattle.wh_event.specs.declared.entry.Entry.{Entry};
 
-    /// A pass that received nothing yet.
-    pub(crate) fn new(alloc: Global, front: &Front, caller: u32) -> Pass<N>
+    /// A pass that has all that its caller did in the history that is known, which has so many entries.
+    pub(crate) fn over(front: &Front, caller: u32, own: Own, known: u64) -> Pass<N>
         requires book { front.now.book ≡ N.book }
-        requires empty { front.now.past.history ≡ [] }
+        requires run { IsRunFrom N.origin front.now.past.history }
+        requires known { known ≡ length front.now.past.history }
         requires within { caller < N.callers }
-        ensures { result ≡ record { caller = caller; list = []; known = [] } }
+        requires own { OwnOf N.cells (entries_of front.now.past.history caller) own }
+        ensures { result ≡ record { caller = caller; list = entries_of front.now.past.history caller; known = front.now.past.history } }
     {
+        let Own { held, last } = own;
         Pass {
             caller,
-            last: 0,
-            known: 0,
-            held: Vec::new(alloc),
+            last,
+            known,
+            held,
             front: front.again(),
             name: PhantomData,
         }
