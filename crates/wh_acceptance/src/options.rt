@@ -212,7 +212,10 @@ const MISTAKES: [(&[&str], ErrorKind); 34] = [
         &["live", "--board=b", "--board-every=60001"],
         ErrorKind::ValueValidation,
     ),
-    (&["live", "--board=b", "--board=b"], ErrorKind::ArgumentConflict),
+    (
+        &["live", "--board=b", "--board=b"],
+        ErrorKind::ArgumentConflict,
+    ),
     (&["replay", "--board=b"], ErrorKind::UnknownArgument),
 ];
 

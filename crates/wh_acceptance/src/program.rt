@@ -15,7 +15,7 @@ use wh_lines::Lines;
 use wh_options::PlannerKind;
 use wh_planner::Planner;
 use wh_planners::{Patient, Sharing};
-use wh_service::{PlannerParts, run};
+use wh_program::{PlannerParts, run};
 
 /// What a call of the program shows.
 #[derive(Drop)]

@@ -36,7 +36,6 @@ use Rattle.wh_convoy.proofs.Kept.{kept_is_served}
 use Rattle.wh_service.specs.Convoys.{GoesOn, GoesToEnd, GoesWithoutTail, IsWhyNoConvoy, IsWhyNotOn, IsWhyUnconvoyed, ServesConvoy, StandsOver, StartsConvoy}
 use Rattle.wh_service.specs.Kept.{IsSeated, IsSet, Siding, StartsFrom, StartsOver, first_slots}
 use Rattle.wh_service.specs.Plays.{text_by}
-use Rattle.wh_service.specs.Programs.{Drove, LateFiles}
 use Rattle.wh_service.specs.Tails.{IsWhyNoTail, tail_after}
 use Rattle.wh_service.specs.declared.convoys.DriveTrouble.{DriveTrouble}
 use Rattle.wh_service.specs.declared.convoys.DriveTrouble.TheVariants.{Plain}
@@ -163,12 +162,3 @@ at_ahead fleet again n ahead site files beside text told same why = subst (λ (k
 pub seated_at : {X : Type 0} (gives : PlannerParts → Result X AllocError → Type 0) (fleet : Fleet) (grid : Floor) (slots at : List ℕ) (planners spares : List X) → slots ≡ at →
     IsSeated gives fleet grid slots planners spares → IsSeated gives fleet grid at planners spares
 seated_at gives fleet grid slots at planners spares same seated = subst (λ (ns : List ℕ). IsSeated gives fleet grid ns planners spares) same seated
-
--- over files that were named it came to this
-pub drove_over : {X : Type 0} (fits : X → Floor → Bool) (count : X → ℕ) (gives : PlannerParts → Result X AllocError → Type 0) (o : ReplayOptions) (pace : VehicleOptions) (files : LateFiles) (came : Result ℕ DriveTrouble)
-    (old new : Input) (had has : Option (List ℕ)) (holds synced : Held) (log_failed arrivals_failed : Bool) (beside : Siding) → beside.before ≡ files.site
-    → IfOk came (λ left. ServesConvoy fits count (text_by o.replies) gives o.fleet o.tail o.told pace old new had has (record_of files.log files.arrivals) holds synced beside left)
-    → IfErr came (λ told. IsWhyUnconvoyed fits count (text_by o.replies) gives o.fleet o.tail o.told pace told old new had has (record_of files.log files.arrivals) holds synced log_failed arrivals_failed beside)
-    → Drove fits count gives o pace (Some files) came old new had has
-drove_over fits count gives o pace files (Ok left) old new had has holds synced log_failed arrivals_failed beside is ok err = (holds, synced, beside, is, ok)
-drove_over fits count gives o pace files (Err told) old new had has holds synced log_failed arrivals_failed beside is ok err = (holds, synced, log_failed, arrivals_failed, beside, is, err)

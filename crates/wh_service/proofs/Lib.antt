@@ -8,10 +8,8 @@ pub mod Asked
 pub mod Paced
 pub mod Teams
 mod Lasting
-pub mod Starved
 pub mod Logged
 pub mod Openings
 pub mod Replayed
-pub mod Whole
 pub mod Drove
 mod Convoyed

@@ -8,7 +8,6 @@ pub mod Convoys
 pub mod Checks
 pub mod Verifies
 pub mod Hosts
-pub mod Programs
 -- handed on, for the crates above
 pub use Rattle.wh_live.specs.Calls
 pub use Rattle.wh_live.specs.Lists

@@ -10,7 +10,6 @@ mod kept;
 mod live;
 mod parts;
 mod program;
-mod running;
 mod tail;
 mod vehicles;
 mod verdict;
@@ -23,10 +22,10 @@ pub use kept::serve_kept;
 pub use live::host;
 pub use parts::PlannerParts;
 pub use program::{ended, play, serve};
-pub use running::{end, run};
 pub use vehicles::serve_late;
 pub use verdict::judge;
 pub use verified::judge_log;
+pub use writing::write_text;
 
 // handed on, for callers: what the items below take, return and speak of
 pub use wh_continue::{FileJournal, LogFile};

@@ -9,7 +9,7 @@ use wh_edge::Trouble;
 use wh_lines::write_all;
 
 /// Writes a text, and flushes the writer. The error tells that one of the two failed; of the text a front is then written.
-pub(crate) fn write_text<W: Write>(output: &mut W, text: &[u8]) -> Result<(), Trouble>
+pub fn write_text<W: Write>(output: &mut W, text: &[u8]) -> Result<(), Trouble>
     ensures ok { OnOk result (Appends (W.contents output.old) (W.contents output.new) text.now) }
     ensures fault { IfErr result (λ told. told ≡ Trouble.Unwritten) }
     ensures front { OnErr result (WritesFront (W.contents output.old) (W.contents output.new) text.now) }

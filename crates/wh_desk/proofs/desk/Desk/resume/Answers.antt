@@ -29,7 +29,7 @@ pub over-journal-requires-clause-rows : goal.over-journal-requires-clause-rows
 over-journal-requires-clause-rows g c κs within =
     let h = c.args.warehouse.book.history in
     let owns : AllAt (λ caller own. OwnOf c.args.cells (entries_of h caller) own) c.in_ok-cells.field-0.owns.items =
-        subst (λ (l : List Entry). AllAt (λ caller own. OwnOf c.args.cells (entries_of l caller) own) c.in_ok-cells.field-0.owns.items) c.history-history.ensures.value c.in_ok-cells.ensures.ok.owns_are in
+    subst (λ (l : List Entry). AllAt (λ caller own. OwnOf c.args.cells (entries_of l caller) own) c.in_ok-cells.field-0.owns.items) c.history-history.ensures.value c.in_ok-cells.ensures.ok.owns_are in
     c.in_ok-rows.ensures.rows c.args.cells h (subst (λ (l : List Own). AllAt (λ caller own. OwnOf c.args.cells (entries_of h caller) own) l) (sym c.as_slice.ensures.value) owns)
 
 pub over-journal-requires-clause-notes : goal.over-journal-requires-clause-notes

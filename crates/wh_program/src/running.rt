@@ -2,18 +2,10 @@
 
 ghost use Rattle.std.specs.Prelude.{◌≡◌, ◌≤◌, Bool, Option, is_some, map, option_map};
 ghost use Rattle.wh_service.specs.Fleets.{HasRange, IsOfFleet, MakesPlanners};
-ghost use Rattle.wh_service.specs.Programs.{Comes, Did, Drove, Ends, Files, LateFiles, Lived, LivedOver, ReplayedOver, names_file};
+ghost use Rattle.wh_program.specs.Programs.{Comes, Did, Drove, Ends, Files, LateFiles, Lived, LivedOver, ReplayedOver, names_file};
 ghost use Rattle.wh_service.specs.Serves.{ended_by};
 
-use crate::convoys::DriveTrouble;
-use crate::kept::serve_kept;
-use crate::live::host;
-use crate::parts::PlannerParts;
-use crate::program::{ended, serve};
-use crate::vehicles::{drive_over, end_drive, late};
-use crate::verdict::judge;
-use crate::verified::judge_log;
-use crate::writing::write_text;
+use crate::driving::{drive_over, end_drive, late};
 use std::alloc::{AllocError, Global};
 use std::convert::AsStr;
 use std::fmt::Display;
@@ -23,7 +15,6 @@ use std::path::Path;
 use std::sync::Wait;
 use std::thread::Threads;
 use std::time::Clock;
-use wh_continue::{FileJournal, LogFile};
 use wh_display::{FileScreen, Screen};
 use wh_edge::{Status, Trouble};
 use wh_lines::Lines;
@@ -31,6 +22,10 @@ use wh_options::{
     LiveOptions, Options, Refusal, ReplayOptions, VehicleOptions, options, refusal_of,
 };
 use wh_planner::Planner;
+use wh_service::{
+    DriveTrouble, FileJournal, LogFile, PlannerParts, ended, host, judge, judge_log, serve,
+    serve_kept, write_text,
+};
 
 /// The files that keep a run: its log, the file beside it that holds the site, and the file of arrivals.
 #[derive(Drop)]

@@ -1,10 +1,10 @@
 use Rattle.std.proofs.Common.{Ok, Err, ◌≡◌, ◌∙◌, List, Option, Result, refl, subst, sym}
 use Rattle.std.specs.Prelude.{ℕ}
 use Rattle.wh_lines.specs.Output.{WritesFront}
-use Rattle.wh_service.specs.Programs.{EndsDrive}
+use Rattle.wh_program.specs.Programs.{EndsDrive}
 use Rattle.wh_service.specs.declared.convoys.DriveTrouble.{DriveTrouble}
-use Rattle.wh_service.proofs.Whole.{shown}
-use Rattle.wh_service.proofs.vehicles.end_drive.Goals as goal
+use Rattle.wh_program.proofs.Whole.{shown}
+use Rattle.wh_program.proofs.driving.end_drive.Goals as goal
 
 pub returns-in-Ok : goal.returns-in-Ok
 returns-in-Ok g c = rw c.in-Ok.is (refl, c.tell_way.ensures)

@@ -20,7 +20,7 @@ use Rattle.wh_options.specs.declared.chosen.Options.TheVariants.{Check, Replay, 
 use Rattle.wh_options.specs.declared.refused.Refusal.{Refusal}
 use Rattle.wh_options.specs.declared.refused.Refusal.TheVariants as refusal
 use Rattle.wh_service.specs.Fleets.{HasRange, IsOfFleet}
-use Rattle.wh_service.specs.Programs.{Declines, Ends}
+use Rattle.wh_program.specs.Programs.{Declines, Ends}
 use Rattle.wh_service.specs.Serves.{ended_by}
 
 -- ---- what is written

@@ -13,7 +13,7 @@ use Rattle.wh_options.specs.declared.chosen.ReplayOptions.{ReplayOptions}
 use Rattle.wh_options.specs.declared.chosen.VehicleOptions.{VehicleOptions}
 use Rattle.wh_convoy.specs.Convoys.{Held}
 use Rattle.wh_service.specs.Kept.{Siding}
-use Rattle.wh_service.specs.Programs.{Did, Drove, Files, LateFiles, Lived, ReplayedOver, names_file, silent}
+use Rattle.wh_program.specs.Programs.{Did, Drove, Files, LateFiles, Lived, ReplayedOver, names_file, silent}
 use Rattle.wh_service.specs.declared.convoys.DriveTrouble.TheVariants.{Plain}
 use Rattle.wh_service.specs.declared.parts.PlannerParts.{PlannerParts}
 

@@ -1,5 +1,5 @@
 use Rattle.std.proofs.Common.{None, Some, refl}
-use Rattle.wh_service.proofs.running.drive_by_name.Goals as goal
+use Rattle.wh_program.proofs.running.drive_by_name.Goals as goal
 
 -- files tell no bytes
 pub returns-in-Ok : goal.returns-in-Ok

@@ -1,5 +1,5 @@
 use Rattle.std.proofs.Common.{refl}
-use Rattle.wh_service.proofs.running.replay.Goals as goal
+use Rattle.wh_program.proofs.running.replay.Goals as goal
 
 pub returns-in-Ok-serve_kept : goal.returns-in-Ok-serve_kept
 returns-in-Ok-serve_kept g c = rw c.in-Some.is (

@@ -5,8 +5,8 @@ use Rattle.wh_lines.specs.Output.{WritesFront}
 use Rattle.wh_lines.proofs.Written.{front_all}
 use Rattle.wh_service.specs.Late.{way_text}
 use Rattle.wh_service.proofs.Drove.{way_is}
-use Rattle.wh_service.proofs.Whole.{shown}
-use Rattle.wh_service.proofs.vehicles.tell_way.Goals as goal
+use Rattle.wh_program.proofs.Whole.{shown}
+use Rattle.wh_program.proofs.driving.tell_way.Goals as goal
 
 pub returns-then-left-eq0 : goal.returns-then-left-eq0
 returns-then-left-eq0 g c =

@@ -1,6 +1,6 @@
 use Rattle.std.proofs.Common.{refl}
-use Rattle.wh_service.proofs.Convoyed.{drove_over}
-use Rattle.wh_service.proofs.vehicles.drive_over.Goals as goal
+use Rattle.wh_program.proofs.Late.{drove_over}
+use Rattle.wh_program.proofs.driving.drive_over.Goals as goal
 
 -- over files
 pub returns-in-Some : goal.returns-in-Some

@@ -1,6 +1,6 @@
 use Rattle.std.proofs.Common.{◌∙◌}
-use Rattle.wh_service.proofs.Whole.{shown, told}
-use Rattle.wh_service.proofs.running.end.Goals as goal
+use Rattle.wh_program.proofs.Whole.{shown, told}
+use Rattle.wh_program.proofs.running.end.Goals as goal
 
 pub returns-in-Err : goal.returns-in-Err
 returns-in-Err g c =

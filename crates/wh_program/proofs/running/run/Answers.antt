@@ -1,8 +1,8 @@
 use Rattle.std.proofs.Common.{inl, inr, map, subst}
 use Rattle.wh_options.specs.Options.{WordsGive}
 use Rattle.wh_options.specs.declared.chosen.Options.{Options}
-use Rattle.wh_service.proofs.Whole.{declines}
-use Rattle.wh_service.proofs.running.run.Goals as goal
+use Rattle.wh_program.proofs.Whole.{declines}
+use Rattle.wh_program.proofs.running.run.Goals as goal
 
 -- a replay with vehicles
 pub returns-in-Some : goal.returns-in-Some

@@ -1,0 +1,3 @@
+pub mod Starved
+pub mod Whole
+mod Late
