@@ -44,7 +44,7 @@ pub record PageKeeps {X : Type 0} (contents synced : X → Option (List ℕ)) (b
   pub within : page.written ≤ length page.known.past.history
   pub safe_within : page.synced ≤ page.written
   pub holds : Holds page.failed start (contents page.journal) page.known.past.history page.written
-  pub safe : 0 < page.synced → Appends start (synced page.journal) (lines_for (take page.synced page.known.past.history))
+  pub safe : Appends start (synced page.journal) (lines_for (take page.synced page.known.past.history))
 
 abbrev pub standing : {X : Type 0} → X → Known → ℕ → ℕ → Bool → Standing X
 standing journal known written synced failed = record { journal = journal; known = known; written = written; synced = synced; failed = failed }

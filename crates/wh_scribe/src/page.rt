@@ -2,6 +2,8 @@
 #![tactic(auto)]
 
 ghost use Rattle.std.specs.Prelude.{◌≡◌, ◌≢◌, ◌⊎◌, true, false, Err, IfOk, IfErr, MatchBool, Some, length, slice_get};
+ghost use Rattle.std.specs.Io.KnownBytes.{Appends};
+ghost use Rattle.wh_journal.specs.Journals.{lines_for};
 ghost use Rattle.wh_desk.specs.Lists.{IsRunFrom};
 ghost use Rattle.wh_scribe.specs.Calls.{Leaves, Receives};
 ghost use Rattle.wh_scribe.specs.Keeping.{Follows, IsKept};
@@ -41,18 +43,20 @@ impl<N: DeskName, S: JournalName, J: Journal + Drop> Model for Page<N, S, J> {
 }
 
 impl<N: DeskName, S: JournalName, J: Journal + Drop> Page<N, S, J> {
-    /// A page with no entry, over the journal as it stands.
-    pub(crate) fn new(journal: J, front: &Front) -> Page<N, S, J>
+    /// A page over the journal as it stands, with the lines of so many entries, all that are known.
+    pub(crate) fn new(journal: J, front: &Front, written: u64) -> Page<N, S, J>
         requires book { front.now.book ≡ N.book }
-        requires start { J.contents journal ≡ S.start }
-        ensures written { result.written ≡ 0 }
+        requires written { written ≡ length front.now.past.history }
+        requires start { Appends S.start (J.contents journal) (lines_for front.now.past.history) }
+        requires synced { J.synced journal ≡ J.contents journal }
+        ensures written { result.written ≡ written }
         ensures open { result.failed ≡ false }
     {
         Page {
             journal,
             front: front.again(),
-            written: 0,
-            synced: 0,
+            written,
+            synced: written,
             failed: false,
             name: PhantomData,
         }

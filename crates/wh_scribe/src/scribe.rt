@@ -20,8 +20,9 @@ use wh_journal::Journal;
 use wh_planner::Planner;
 
 /// A journal that each call of a desk goes through. Entries come into it in the history's order, and one sync serves all calls
-/// that wait for one. `coming` counts the calls that are on their way to append: the last of them syncs for all. Each thread has
-/// at most one call under way, so the count comes down to none; no clause says so.
+/// that wait for one. `coming` counts the calls that are on their way to append: the last of them syncs for all, and so does one
+/// that the desk refuses. Each thread has at most one call under way, and waits where it was not refused, so that one of these
+/// comes; no clause says so.
 #[derive(Drop)]
 pub struct Scribe<N: DeskName, S: JournalName, J: Journal + Drop> {
     page: Mutex<Page<N, S, J>>,
@@ -41,13 +42,16 @@ pub struct Kept<J: Journal + Drop> {
 }
 
 impl<N: DeskName, S: JournalName, J: Journal + Drop> Scribe<N, S, J> {
-    /// Over the journal as it stands, before the first entry of a desk. The front is of the desk's book.
-    pub fn new(journal: J, front: &Front) -> Scribe<N, S, J>
+    /// Over the journal as it stands, before the first call of a desk. The front is of the desk's book, and knows of the entries
+    /// that are there already, so many, whose lines the journal has behind what it held at its start, all of it synced.
+    pub fn new(journal: J, front: &Front, written: u64) -> Scribe<N, S, J>
         requires book { front.now.book ≡ N.book }
-        requires start { J.contents journal ≡ S.start }
+        requires written { written ≡ length front.now.past.history }
+        requires start { Appends S.start (J.contents journal) (lines_for front.now.past.history) }
+        requires synced { J.synced journal ≡ J.contents journal }
     {
         Scribe {
-            page: Mutex::new(Page::new(journal, front)),
+            page: Mutex::new(Page::new(journal, front, written)),
             coming: AtomicU64::new(0),
             settled: Condvar::new(),
         }
@@ -72,7 +76,9 @@ impl<N: DeskName, S: JournalName, J: Journal + Drop> Scribe<N, S, J> {
         self.coming.fetch_add(1, Ordering::SeqCst);
         let mut page = self.page.lock(rt);
         let outcome = page.enter(rt, alloc, desk, pass, command, spares);
-        if self.coming.fetch_sub(1, Ordering::SeqCst) == 1 {
+        // A call that was refused waits for nothing, so its thread may come again at once: it syncs for those who wait.
+        let is_last = self.coming.fetch_sub(1, Ordering::SeqCst) == 1;
+        if is_last || outcome.is_err() {
             page.sync();
             self.settled.notify_all();
         }
@@ -111,7 +117,7 @@ impl<N: DeskName, S: JournalName, J: Journal + Drop> Scribe<N, S, J> {
         ensures within { result.written ≤ length result.front.past.history }
         ensures holds { Holds result.failed S.start (J.contents result.journal) result.front.past.history result.written }
         ensures safe_within { result.synced ≤ result.written }
-        ensures safe { 0 < result.synced → Appends S.start (J.synced result.journal) (lines_for (take result.synced result.front.past.history)) }
+        ensures safe { Appends S.start (J.synced result.journal) (lines_for (take result.synced result.front.past.history)) }
     {
         let Scribe { page, .. } = self;
         let Page {

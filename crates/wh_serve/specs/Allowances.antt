@@ -1,5 +1,5 @@
 -- what a client may do
-use Rattle.std.specs.Prelude.{◌≡◌, ◌<◌, ◌≤◌, ℕ, Bool, true, false, List, length, All}
+use Rattle.std.specs.Prelude.{◌≡◌, ◌≢◌, ◌<◌, ◌≤◌, ℕ, Bool, true, false, List, [], ◌++◌, length, All}
 use Rattle.wh_event.specs.declared.event.Command.{Command}
 use Rattle.wh_event.specs.declared.event.Command.TheVariants as command
 use Rattle.wh_event.specs.declared.entry.Entry.{Entry}
@@ -27,7 +27,10 @@ IsWhyNone may held asked without.Barred = allows may.rights asked ≡ false
 IsWhyNone may held asked without.ShareUsed = (allows may.rights asked ≡ true) × (may.entries ≤ held)
 IsWhyNone may held asked (without.Refused fault) = MayCall may held asked
 
--- a client's entries keep to what it may do: it has the right to each, and there are no more than may be its own
-pub record KeepsTo (may : Allowance) (entries : List (ℕ × Entry)) : Type 0 where
-  pub allowed : All (λ x. allows may.rights (command_of x.1.event) ≡ true) entries
-  pub few : length entries ≤ may.entries
+-- A client's entries keep to what it may do: behind those that it had before, it has the right to each that was added, and where
+-- one was, there are no more of all of them than may be its own.
+pub record KeepsTo (may : Allowance) (before entries : List (ℕ × Entry)) : Type 0 where
+  pub added : List (ℕ × Entry)
+  pub entries_are : entries ≡ before ++ added
+  pub allowed : All (λ x. allows may.rights (command_of x.1.event) ≡ true) added
+  pub few : added ≢ [] → length entries ≤ may.entries

@@ -1,16 +1,19 @@
 -- What clients did from the opening of a warehouse, and what the journal holds of it.
-use Rattle.std.specs.Prelude.{◌≡◌, ℕ, ◌<◌, ◌≤◌, Bool, true, List, length, take, All, Option, Some, slice_get}
+use Rattle.std.specs.Prelude.{◌≡◌, ℕ, ◌<◌, ◌≤◌, Bool, true, List, [], length, take, All, Option, Some, option_map, slice_get}
+use mathlib.Core.List.{IsPrefix}
 use Rattle.std.specs.Io.KnownBytes.{Appends}
 use Rattle.wh_grid.specs.Grids.{Floor}
-use Rattle.wh_points.specs.Points.{Site}
 use Rattle.wh_event.specs.declared.entry.Entry.{Entry}
-use Rattle.wh_core.specs.States.{State, opened}
+use Rattle.wh_core.specs.States.{State}
 use Rattle.wh_core.specs.Laws.{IsOpening}
 use Rattle.wh_core.specs.Steps.{Run}
-use Rattle.wh_desk.specs.Fleet.{IsTied}
 use Rattle.wh_desk.specs.Pasts.{Origin}
 use Rattle.wh_desk.specs.Lists.{Received, entries_of}
-use Rattle.wh_desk.specs.Calls.{AllEmpty, InOrder, NoneWantsPath}
+use Rattle.wh_desk.specs.Calls.{InOrder, NoneWantsPath}
+use Rattle.wh_words.specs.Lines.{text_of as lines_text}
+use Rattle.wh_log.specs.declared.version.Version.TheVariants.{Two}
+use Rattle.wh_log.specs.Torn.{begun_lines}
+use Rattle.wh_token.specs.Drafts.{Seen}
 use Rattle.wh_journal.specs.Journals.{lines_for}
 use Rattle.wh_scribe.specs.Keeping.{Holds}
 use Rattle.wh_scribe.specs.declared.scribe.Kept.{Kept}
@@ -23,31 +26,29 @@ use Rattle.wh_serve.specs.Rows.{Attended}
 use Rattle.wh_serve.specs.Hosting.{AllServed}
 use Rattle.wh_serve.specs.declared.threads.Client.{Client}
 
--- The history is one run from an opening, by these clients alone, and has no more entries than the journal has positions. On a
--- well-formed instance no request in it is refused for want of a path. What is each client's in it keeps to what the client may
--- do. Each client had nothing before, and what was written to it, over its connections, is told by what is its caller's in the
--- history.
+-- The history is one run from an opening, and goes on from an earlier one by these clients alone; it has no more entries than the
+-- journal has positions. On a well-formed instance no request in it is refused for want of a path. What each client has in it
+-- keeps to what the client may do behind what it had in the earlier one; and what was written to it, over its connections, is told
+-- by what is its caller's in the history.
 pub record ServedFrom {R W X : Type 0} (fits : X → Floor → Bool) (count : X → ℕ) (text : ℕ × Entry → List ℕ) (remaining : R → Option (List ℕ)) (contents : W → Option (List ℕ))
-    (origin : Origin) (clients : List (Client X)) (journal : ℕ) (history : List Entry) (state : State) (connections : List ℕ) : Type 0 where
+    (origin : Origin) (earlier : List Entry) (clients : List (Client X)) (journal : ℕ) (history : List Entry) (state : State) (connections : List ℕ) : Type 0 where
   pub opens : IsOpening origin.site origin.opening
   pub run : Run origin.site origin.opening history state
+  pub begins : IsPrefix earlier history
   pub granted : NoneWantsPath origin history
   pub within : length history ≤ journal
   pub callers : All (λ entry. entry.caller < length clients) history
-  pub allowed : (i : ℕ) (client : Client X) → slice_get clients i ≡ Some client → KeepsTo client.allowance (entries_of history i)
+  pub allowed : (i : ℕ) (client : Client X) → slice_get clients i ≡ Some client → KeepsTo client.allowance (entries_of earlier i) (entries_of history i)
   pub passes : List Received
   pub in_order : InOrder (length clients) passes
-  pub empty : AllEmpty passes
+  pub had : All (λ pass. pass.list ≡ entries_of earlier pass.caller) passes
   pub served : AllServed (λ client had has times. Attended journal fits count origin.site.grid text remaining contents client had has times) clients passes history connections
 
--- The warehouse was opened at clock 0 with these planners, and the clients were served over a journal of so many positions.
-pub record Hosts {R W X : Type 0} (fits : X → Floor → Bool) (count : X → ℕ) (text : ℕ × Entry → List ℕ) (remaining : R → Option (List ℕ)) (contents : W → Option (List ℕ))
-    (site : Site) (planners : List X) (clients : List (Client X)) (journal : ℕ) (history : List Entry) (state : State) (connections : List ℕ) : Type 0 where
-  pub slots : List ℕ
-  pub tied : IsTied fits count site.grid planners slots
-  pub served : ServedFrom fits count text remaining contents (record { site = site; opening = opened site.layout 0 slots }) clients journal history state connections
+-- the first two lines of the book's log, of a file that tells its bytes
+abbrev pub first_lines : Option (List ℕ) → Seen → Option (List ℕ)
+first_lines file book = option_map (λ _. lines_text (begun_lines Two (record { clock = book.opening.clock; slots = book.opening.slots; entries = [] }))) file
 
--- A journal that held this at the start holds now, behind that, the lines of the first entries of the history, and maybe, where it
+-- A journal holds now, behind what it held at its start, the lines of the first entries of the history, so many, and maybe, where it
 -- has failed, a front of one line more. Where it is told to be whole, these are the lines of all its entries, and they outlive a kill.
 pub record IsJournalOf (start now synced : Option (List ℕ)) (history : List Entry) (is_whole : Bool) : Type 0 where
   pub written : ℕ
@@ -55,14 +56,14 @@ pub record IsJournalOf (start now synced : Option (List ℕ)) (history : List En
   pub failed : Bool
   pub holds : Holds failed start now history written
   pub whole : is_whole ≡ true → Appends start now (lines_for history)
-  pub safe : is_whole ≡ true → 0 < length history → Appends start synced (lines_for history)
+  pub safe : is_whole ≡ true → Appends start synced (lines_for history)
 
 -- what a scribe leaves of a journal that held this at its start
 pub record LeavesKept {J : Type 0} (contents synced : J → Option (List ℕ)) (start : Option (List ℕ)) (kept : Kept J) : Type 0 where
   pub within : kept.written ≤ length kept.front.past.history
   pub holds : Holds kept.failed start (contents kept.journal) kept.front.past.history kept.written
   pub safe_within : kept.synced ≤ kept.written
-  pub safe : 0 < kept.synced → Appends start (synced kept.journal) (lines_for (take kept.synced kept.front.past.history))
+  pub safe : Appends start (synced kept.journal) (lines_for (take kept.synced kept.front.past.history))
 
 -- what is told of clients that came to no history
 abbrev pub trouble_of : CrewFault → Trouble
