@@ -57,6 +57,7 @@ told (trouble.Log number) = placed (codes "L1") number
 told trouble.Unkept = codes "X5"
 told (trouble.NoPipes client) = codes "X5 " ++ decimal client
 told trouble.Unshown = codes "X6"
+told trouble.Scripted = codes "X7"
 told trouble.MayFollow = codes "V4"
 told trouble.NoMemory = codes "E90"
 
@@ -72,7 +73,8 @@ number_of_status status.CommandLine = 2
 number_of_status status.Failed = 3
 number_of_status status.NoMemory = 4
 
--- input or a log file that is refused is told by status 1, a device or a thread by 3, want of memory by 4
+-- input or a log file that is refused is told by status 1, input that the words do not go with by 2, a device or a thread by 3, want
+-- of memory by 4
 abbrev pub status_of : Trouble → Status
 status_of (trouble.Map fault) = status.Refused
 status_of (trouble.Points fault) = status.Refused
@@ -90,5 +92,6 @@ status_of (trouble.Log number) = status.Refused
 status_of trouble.Unkept = status.Failed
 status_of (trouble.NoPipes client) = status.Failed
 status_of trouble.Unshown = status.Failed
+status_of trouble.Scripted = status.CommandLine
 status_of trouble.MayFollow = status.Refused
 status_of trouble.NoMemory = status.NoMemory

@@ -76,6 +76,8 @@ pub enum Trouble {
     NoPipes { client: u32 },
     /// The file of the board cannot be written.
     Unshown,
+    /// Sections stand behind the site, where clients come in elsewhere.
+    Scripted,
     /// The points let agents follow each other: vehicles that follow in a ring would stand still for ever.
     MayFollow,
     /// Memory was wanting.
@@ -178,6 +180,7 @@ impl Trouble {
             Trouble::Unkept => put(&mut line, b"X5"),
             Trouble::NoPipes { client } => put_number(&mut line, b"X5 ", u64::from(client)),
             Trouble::Unshown => put(&mut line, b"X6"),
+            Trouble::Scripted => put(&mut line, b"X7"),
             Trouble::MayFollow => put(&mut line, b"V4"),
             Trouble::NoMemory => put(&mut line, b"E90"),
         }
@@ -197,6 +200,7 @@ impl Trouble {
             Trouble::Broken | Trouble::Endless | Trouble::Unwritten => Status::Failed,
             Trouble::NoThread | Trouble::Differs => Status::Failed,
             Trouble::Unkept | Trouble::NoPipes { .. } | Trouble::Unshown => Status::Failed,
+            Trouble::Scripted => Status::CommandLine,
             Trouble::NoMemory => Status::NoMemory,
         }
     }

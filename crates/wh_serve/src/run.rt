@@ -141,7 +141,9 @@ fn over_desk<
     let callers = clients.len() as u32;
     let earlier = publisher.front().again();
     let written = warehouse.history().len() as u64;
-    let (desk, passes) = match Desk::<N, H, P>::resume(alloc, warehouse, cells, publisher, callers) {
+    let (desk, passes) = match Desk::<N, H, P>::resume(
+        alloc, warehouse, cells, publisher, callers,
+    ) {
         Ok(opened) => opened,
         Err(fault) => return Err(unopened(fault)),
     };

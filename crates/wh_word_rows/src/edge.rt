@@ -32,7 +32,7 @@ const NO_SITES: [(&[u8], &[u8]); 5] = [
 ];
 
 /// Troubles, each with its text and the number of its status.
-const TROUBLES: [(Trouble, &[u8], u8); 8] = [
+const TROUBLES: [(Trouble, &[u8], u8); 9] = [
     (
         Trouble::Points(Fault {
             kind: FaultKind::RuleTwice,
@@ -47,6 +47,7 @@ const TROUBLES: [(Trouble, &[u8], u8); 8] = [
     (Trouble::Unkept, b"refused X5\n", 3),
     (Trouble::NoPipes { client: 61 }, b"refused X5 61\n", 3),
     (Trouble::Unshown, b"refused X6\n", 3),
+    (Trouble::Scripted, b"refused X7\n", 2),
     (Trouble::MayFollow, b"refused V4\n", 1),
 ];
 
