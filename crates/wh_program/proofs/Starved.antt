@@ -28,14 +28,14 @@ module _ {X : Type 0} (fits : X → Floor → Bool) (count : X → ℕ) (gives :
     (false, None, None, record { before = None; after = None; synced = None; failed = false }, refl, inl (tt, Keeps-refl had, refl, refl)),
   )
 
-  pub starved : (screens : Text → Option (List (List ℕ)) → Type 0) (o : Options) → (files : Option Files) × (is_some files ≡ names_file o) × Did fits count gives screens o files (Err trouble.NoMemory) input input had had
+  pub starved : (screens : Text → Text → Option (List (List ℕ)) → Type 0) (o : Options) → (files : Option Files) × (is_some files ≡ names_file o) × Did fits count gives screens o files (Err trouble.NoMemory) input input had had
   starved screens Check = (None, refl, (tt, Keeps-refl had))
   starved screens Verify = (None, refl, Keeps-refl had)
   starved screens (Live o) = (None, refl, inl (refl, refl, Keeps-refl had))
   starved screens (Replay o) = over o o.log
 
   -- memory was wanting for the name of the file beside the board
-  pub starved_live : (screens : Text → Option (List (List ℕ)) → Type 0) (o : LiveOptions) → Lived fits count gives screens o (Err trouble.NoMemory) input input had had
+  pub starved_live : (screens : Text → Text → Option (List (List ℕ)) → Type 0) (o : LiveOptions) → Lived fits count gives screens o (Err trouble.NoMemory) input input had had
   starved_live screens o = inl (refl, refl, Keeps-refl had)
 
   -- the same with vehicles

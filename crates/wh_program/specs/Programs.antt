@@ -1,5 +1,5 @@
 -- What the whole program comes to: from its words and its input to its output and its status.
-use Rattle.std.specs.Prelude.{◌≡◌, ◌≢◌, ◌⊎◌, ◌≤◌, ℕ, Bool, List, false, IfSome, Option, Some, None, is_some, Result, Ok, Err}
+use Rattle.std.specs.Prelude.{◌≡◌, ◌≢◌, ◌⊎◌, ◌≤◌, ◌++◌, ℕ, Bool, List, codes, false, IfSome, Option, Some, None, is_some, Result, Ok, Err}
 use Rattle.std.specs.declared.alloc.AllocError.{AllocError}
 use Rattle.std.specs.Io.KnownBytes.{Keeps}
 use Rattle.wh_lines.specs.Input.{Input}
@@ -61,16 +61,16 @@ abbrev pub LivedOver : {X : Type 0} → (X → Floor → Bool) → (X → ℕ) �
 LivedOver fits count gives options showed shows (Ok status) old new had has = (status ≡ Done) × HostsTo fits count gives options old new had has showed shows
 LivedOver fits count gives options showed shows (Err told) old new had has = IsWhyUnhosted fits count gives options told old new had has showed shows
 
--- what a run's screen tells when it is handed out: where a board is named there is one of that name, and else there is none. Screens,
--- here and below, says what a screen of a name tells then.
-abbrev pub IsHanded : (Text → Option (List (List ℕ)) → Type 0) → Option Text → Option (Option (List (List ℕ))) → Type 0
+-- What a run's screen tells when it is handed out: where a board is named it is of that name, with another one beside it, and else
+-- there is none. Screens, here and below, says what a screen of such names tells then.
+abbrev pub IsHanded : (Text → Text → Option (List (List ℕ)) → Type 0) → Option Text → Option (Option (List (List ℕ))) → Type 0
 IsHanded screens None None = Unit {0}
-IsHanded screens (Some name) (Some showed) = screens name showed
+IsHanded screens (Some name) (Some showed) = screens name (name ++ codes ".new") showed
 IsHanded screens _ _ = ⊥
 
 -- `live` came to this: memory was wanting for the name of the file beside the board, and nothing was read or written; or there was
 -- a run over the screen of the board's name, or over none
-abbrev pub Lived : {X : Type 0} → (X → Floor → Bool) → (X → ℕ) → (PlannerParts → Result X AllocError → Type 0) → (Text → Option (List (List ℕ)) → Type 0) → LiveOptions → Result Status Trouble
+abbrev pub Lived : {X : Type 0} → (X → Floor → Bool) → (X → ℕ) → (PlannerParts → Result X AllocError → Type 0) → (Text → Text → Option (List (List ℕ)) → Type 0) → LiveOptions → Result Status Trouble
     → Input → Input → Option (List ℕ) → Option (List ℕ) → Type 0
 Lived fits count gives screens options came old new had has =
     ((came ≡ Err trouble.NoMemory) × (new ≡ old) × Keeps had has)
@@ -105,7 +105,7 @@ ReplayedOver fits count gives o None came old new had has = Replayed fits count 
 ReplayedOver fits count gives o (Some files) came old new had has = Kept fits count gives o came old new had has files
 
 -- what the options ask for was done, and came to this
-abbrev pub Did : {X : Type 0} → (X → Floor → Bool) → (X → ℕ) → (PlannerParts → Result X AllocError → Type 0) → (Text → Option (List (List ℕ)) → Type 0) → Options
+abbrev pub Did : {X : Type 0} → (X → Floor → Bool) → (X → ℕ) → (PlannerParts → Result X AllocError → Type 0) → (Text → Text → Option (List (List ℕ)) → Type 0) → Options
     → Option Files → Result Status Trouble → Input → Input → Option (List ℕ) → Option (List ℕ) → Type 0
 Did fits count gives screens Check files came old new had has = Checked came old new had has
 Did fits count gives screens Verify files came old new had has = Verified came old new had has
@@ -123,7 +123,7 @@ Ends (Ok status) ended had has = (ended ≡ status) × Keeps had has
 Ends (Err told) ended had has = (ended ≡ status_of told) × WritesFront had has (trouble_text told)
 
 -- The words give options without vehicles, and what these ask for was done, over a log file and the file beside it where they name one.
-pub record Obeys {X : Type 0} (fits : X → Floor → Bool) (count : X → ℕ) (gives : PlannerParts → Result X AllocError → Type 0) (screens : Text → Option (List (List ℕ)) → Type 0)
+pub record Obeys {X : Type 0} (fits : X → Floor → Bool) (count : X → ℕ) (gives : PlannerParts → Result X AllocError → Type 0) (screens : Text → Text → Option (List (List ℕ)) → Type 0)
     (words : List Text) (ended : Status) (old new : Input) (had has blamed blames : Option (List ℕ)) : Type 0 where
   pub options : Options
   pub given : WordsGive words options
@@ -181,7 +181,7 @@ pub record Declines (words : List Text) (ended : Status) (old new : Input) : Typ
   pub unread : new ≡ old
 
 -- What the program comes to. Blamed and blames are what stood on standard error before, and stands there after.
-abbrev pub Comes : {X : Type 0} → (X → Floor → Bool) → (X → ℕ) → (PlannerParts → Result X AllocError → Type 0) → (Text → Option (List (List ℕ)) → Type 0) → List Text → Status
+abbrev pub Comes : {X : Type 0} → (X → Floor → Bool) → (X → ℕ) → (PlannerParts → Result X AllocError → Type 0) → (Text → Text → Option (List (List ℕ)) → Type 0) → List Text → Status
     → (old new : Input) → (had has blamed blames : Option (List ℕ)) → Type 0
 Comes fits count gives screens words ended old new had has blamed blames =
     Obeys fits count gives screens words ended old new had has blamed blames ⊎ ObeysLate fits count gives words ended old new had has blamed blames

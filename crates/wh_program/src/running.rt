@@ -1,6 +1,7 @@
 //! The whole program: from its words and its input to its output and its status.
 
-ghost use Rattle.std.specs.Prelude.{◌≡◌, ◌≤◌, Bool, Option, is_some, map, option_map};
+ghost use Rattle.std.specs.Prelude.{◌≡◌, ◌≤◌, ◌++◌, Bool, IfOk, Option, is_some, map, option_map};
+ghost use Rattle.std.specs.String.{string_bytes};
 ghost use Rattle.wh_service.specs.Fleets.{IsOfFleet, MakesPlanners};
 ghost use Rattle.wh_program.specs.Programs.{Comes, Did, Drove, Ends, Files, HasRange, LateFiles, Lived, LivedOver, ReplayedOver, names_file};
 ghost use Rattle.wh_service.specs.Serves.{ended_by};
@@ -46,12 +47,14 @@ fn log_name<'a>(options: &Options<'a>) -> Option<&'a str>
     }
 }
 
-/// The name of a file beside this log.
-fn name_beside(alloc: Global, log: &str, end: &str) -> Result<String, AllocError> {
-    let mut name = String::new(alloc);
-    name.push_str(log)?;
-    name.push_str(end)?;
-    Ok(name)
+/// The name of a file beside the one of this name.
+fn name_beside(alloc: Global, name: &str, end: &str) -> Result<String, AllocError>
+    ensures { IfOk result (λ beside. string_bytes beside ≡ name.now ++ end.now) }
+{
+    let mut beside = String::new(alloc);
+    beside.push_str(name)?;
+    beside.push_str(end)?;
+    Ok(beside)
 }
 
 /// The names of the files beside this log, of its site and of arrivals.
