@@ -20,7 +20,7 @@ const FIRST: &[u8] =
     b"wboard 1\nentries 0\nclock 0\nopen 0\nassigned 0\ncarried 0\ndone 0\n0,1 0 none\n4,1 0 none\n";
 
 /// The same after a request of each, and a tick.
-const LAST: &[u8] =
+pub const LAST: &[u8] =
     b"wboard 1\nentries 3\nclock 1\nopen 0\nassigned 0\ncarried 0\ndone 0\n0,1 0 none\n4,1 0 none\n";
 
 /// Notes the texts that it is shown, while it has room for so many.

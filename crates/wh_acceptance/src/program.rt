@@ -5,8 +5,11 @@ ghost use Rattle.std.specs.Prelude.{◌≡◌, true, IfOk};
 ghost use Rattle.wh_claims.specs.Claim.{claim_amount};
 
 use crate::answers::{AGENTS, MAP, POINTS};
+use crate::boards::LAST;
 use std::alloc::{AllocError, AllocGlobal};
+use std::fs;
 use std::fs::{File, Files};
+use std::path::Path;
 use std::sync::Wait;
 use std::test::*;
 use std::thread::Threads;
@@ -335,6 +338,26 @@ fn a_live_log_is_verified(rt: HostRuntime) -> Result<(), Fail> {
         assert!(rt; verified.status == 0, "{wanted}");
         assert!(rt; verified.output.as_slice() == wanted.as_bytes(), "{wanted}");
     }
+    Ok(())
+}
+
+/// The board of the whole run is left in the file that the options name, and no other one beside it. Where that can be no file,
+/// nothing is begun.
+#[test]
+fn a_board_is_left(rt: HostRuntime) -> Result<(), Fail> {
+    let input = format!(in rt.alloc(); "{MAP}%%\n{POINTS}{AGENTS}%%\n")?;
+    let board = "acceptance_board";
+    let words = ["warehouse", "live", "--every", "1", "--board", board];
+    let outside = Surroundings::new(&rt);
+    let shown = call(&rt, &outside, words.as_slice(), input.as_bytes())?;
+    assert!(rt; shown.status == 0 && shown.errors.is_empty());
+    assert!(rt; fs::read(&rt, Path::new(board))?.as_slice() == LAST);
+    assert!(rt; !fs::exists(&rt, Path::new("acceptance_board.new"))?);
+    fs::remove_file(&rt, Path::new(board))?;
+    let words = ["warehouse", "live", "--board", "acceptance_nowhere/board"];
+    let shown = call(&rt, &outside, words.as_slice(), input.as_bytes())?;
+    assert!(rt; shown.status == 3 && shown.output.is_empty());
+    assert!(rt; shown.errors.as_slice() == b"refused X6\n".as_slice());
     Ok(())
 }
 
