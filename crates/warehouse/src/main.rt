@@ -21,7 +21,7 @@ use wh_lines::Lines;
 use wh_options::PlannerKind;
 use wh_planner::Planner;
 use wh_planners::{Patient, Sharing};
-use wh_program::{PlannerParts, end, run};
+use wh_program::{Outside, PlannerParts, Screen, Surroundings, end, run};
 
 /// How many bytes of output are written at a time.
 const OUTPUT_BUFFER: usize = 65_536;
@@ -53,8 +53,10 @@ fn words<R: AllocGlobal + env::Env, E: Write>(
 fn obey<
     'w,
     R: AllocGlobal + Print + Input + Files<File = File> + Threads + Wait + Clock + Sync,
+    S: Screen + Send + Drop,
+    O: Outside<'w, S>,
     E: Write,
->(rt: &'w R, words: &'w [String], errors: &mut E) -> Status {
+>(rt: &'w R, outside: &O, words: &'w [String], errors: &mut E) -> Status {
     let alloc = rt.alloc();
     let make = |parts: PlannerParts| -> Result<Box<dyn Planner>, AllocError>
         ensures on_grid { IfOk result (λ b. fits_map b parts.grid.value ≡ true) }
@@ -77,13 +79,22 @@ fn obey<
     let Ok(mut output) = BufWriter::with_capacity(alloc, OUTPUT_BUFFER, io::writer(rt)) else {
         return starved(errors);
     };
-    run(rt, alloc, words, &mut lines, &mut output, errors, make)
+    run(
+        rt,
+        outside,
+        alloc,
+        words,
+        &mut lines,
+        &mut output,
+        errors,
+        make,
+    )
 }
 
 fn main(rt: HostRuntime) -> ExitCode {
     let mut errors = rt.stderr();
     let status = match words(&rt, &mut errors) {
-        Ok(words) => obey(&rt, words.as_slice(), &mut errors),
+        Ok(words) => obey(&rt, &Surroundings::new(&rt), words.as_slice(), &mut errors),
         Err(status) => status,
     };
     ExitCode::from(status.number())

@@ -15,7 +15,7 @@ use wh_lines::Lines;
 use wh_options::PlannerKind;
 use wh_planner::Planner;
 use wh_planners::{Patient, Sharing};
-use wh_program::{PlannerParts, run};
+use wh_program::{Outside, PlannerParts, Screen, Surroundings, run};
 
 /// What a call of the program shows.
 #[derive(Drop)]
@@ -26,11 +26,12 @@ struct Shown {
 }
 
 /// Calls the program with these words behind its name.
-fn call<R: AllocGlobal + Threads + Wait + Clock + Sync + Files<File = File>>(
-    rt: &R,
-    words: &[&str],
-    input: &[u8],
-) -> Result<Shown, Fail> {
+fn call<
+    'w,
+    R: AllocGlobal + Threads + Wait + Clock + Sync + Files<File = File>,
+    S: Screen + Send + Drop,
+    O: Outside<'w, S>,
+>(rt: &'w R, outside: &O, words: &'w [&'w str], input: &[u8]) -> Result<Shown, Fail> {
     let alloc = rt.alloc();
     let make = |parts: PlannerParts| -> Result<Box<dyn Planner>, AllocError>
         ensures on_grid { IfOk result (λ b. fits_map b parts.grid.value ≡ true) }
@@ -52,7 +53,16 @@ fn call<R: AllocGlobal + Threads + Wait + Clock + Sync + Files<File = File>>(
     let mut lines = Lines::new(input);
     let mut output = Vec::new(alloc);
     let mut errors = Vec::new(alloc);
-    let status = run(rt, alloc, words, &mut lines, &mut output, &mut errors, make);
+    let status = run(
+        rt,
+        outside,
+        alloc,
+        words,
+        &mut lines,
+        &mut output,
+        &mut errors,
+        make,
+    );
     Ok(Shown {
         status: status.number(),
         output,
@@ -254,7 +264,7 @@ fn each_subcommand(rt: HostRuntime) -> Result<(), Fail> {
     for row in ROWS.iter() {
         let (points, rest) = (row.points, row.rest);
         let input = format!(in rt.alloc(); "{MAP}%%\n{points}{AGENTS}%%\n{rest}")?;
-        let shown = call(&rt, row.words, input.as_bytes())?;
+        let shown = call(&rt, &Surroundings::new(&rt), row.words, input.as_bytes())?;
         assert!(rt; shown.status == row.status, "{}", row.output);
         assert!(rt;
             shown.output.as_slice() == row.output.as_bytes(),
@@ -274,7 +284,12 @@ fn each_subcommand(rt: HostRuntime) -> Result<(), Fail> {
 #[test]
 fn mistaken_words(rt: HostRuntime) -> Result<(), Fail> {
     for word in ["fly", "--fast", "live-two"] {
-        let shown = call(&rt, ["warehouse", word].as_slice(), b"")?;
+        let shown = call(
+            &rt,
+            &Surroundings::new(&rt),
+            ["warehouse", word].as_slice(),
+            b"",
+        )?;
         assert!(rt; shown.status == 2, "{word}");
         assert!(rt; shown.output.is_empty(), "{word}");
         assert!(rt; !shown.errors.is_empty(), "{word}");
@@ -302,11 +317,21 @@ fn a_live_log_is_verified(rt: HostRuntime) -> Result<(), Fail> {
             "run 6\n",
         ),
     ] {
-        let lived = call(&rt, words.as_slice(), input.as_bytes())?;
+        let lived = call(
+            &rt,
+            &Surroundings::new(&rt),
+            words.as_slice(),
+            input.as_bytes(),
+        )?;
         assert!(rt; lived.status == 0 && lived.errors.is_empty(), "{wanted}");
         let mut log = Vec::from_slice(rt.alloc(), site.as_bytes())?;
         log.extend_from_slice(lived.output.as_slice())?;
-        let verified = call(&rt, ["warehouse", "verify"].as_slice(), log.as_slice())?;
+        let verified = call(
+            &rt,
+            &Surroundings::new(&rt),
+            ["warehouse", "verify"].as_slice(),
+            log.as_slice(),
+        )?;
         assert!(rt; verified.status == 0, "{wanted}");
         assert!(rt; verified.output.as_slice() == wanted.as_bytes(), "{wanted}");
     }
@@ -320,7 +345,12 @@ fn no_front_of_a_log_is_one(rt: HostRuntime) -> Result<(), Fail> {
     for length in 0..RUN.len() {
         let mut input = Vec::from_slice(rt.alloc(), site.as_bytes())?;
         input.extend_from_slice(&RUN.as_bytes()[..length])?;
-        let verified = call(&rt, ["warehouse", "verify"].as_slice(), input.as_slice())?;
+        let verified = call(
+            &rt,
+            &Surroundings::new(&rt),
+            ["warehouse", "verify"].as_slice(),
+            input.as_slice(),
+        )?;
         assert!(rt; verified.status == 1, "{length}");
         assert!(rt; verified.output.starts_with(b"bad "), "{length}");
     }

@@ -15,12 +15,12 @@ use std::io::Write;
 pub struct FileScreen<'a, T: Files<File = File>> {
     files: &'a T,
     path: &'a str,
-    beside: &'a str,
+    beside: String,
 }
 
 impl<'a, T: Files<File = File>> FileScreen<'a, T> {
     /// The file of this path. A text is written to another one beside it, in the same folder, which then takes its name.
-    pub fn new(files: &'a T, path: &'a str, beside: &'a str) -> FileScreen<'a, T> {
+    pub fn new(files: &'a T, path: &'a str, beside: String) -> FileScreen<'a, T> {
         FileScreen {
             files,
             path,
@@ -42,11 +42,12 @@ fn write_anew<T: Files<File = File>>(files: &T, path: &str, text: &[u8]) -> Resu
 
 impl<'a, T: Files<File = File>> Screen for FileScreen<'a, T> {
     fn show(&mut self, text: &[u8]) -> Result<(), ShowFault> {
-        match write_anew(self.files, self.beside, text) {
+        let beside = self.beside.as_str();
+        match write_anew(self.files, beside, text) {
             Ok(()) => {}
             Err(fault) => return Err(fault),
         }
-        match fs::rename(self.files, self.beside, self.path) {
+        match fs::rename(self.files, beside, self.path) {
             Ok(()) => Ok(()),
             Err(_) => Err(ShowFault::Unshown),
         }

@@ -1,3 +1,4 @@
 pub mod Starved
 pub mod Whole
 mod Late
+mod Screens

@@ -6,6 +6,7 @@ use Rattle.std.specs.declared.alloc.AllocError.{AllocError}
 use Rattle.wh_grid.specs.Grids.{Floor}
 use Rattle.wh_lines.specs.Input.{Input}
 use Rattle.wh_edge.specs.declared.trouble.Trouble.TheVariants as trouble
+use Rattle.wh_options.specs.Setting.{Text}
 use Rattle.wh_options.specs.declared.chosen.Options.{Options}
 use Rattle.wh_options.specs.declared.chosen.Options.TheVariants.{Check, Replay, Verify, Live}
 use Rattle.wh_options.specs.declared.chosen.LiveOptions.{LiveOptions}
@@ -13,7 +14,7 @@ use Rattle.wh_options.specs.declared.chosen.ReplayOptions.{ReplayOptions}
 use Rattle.wh_options.specs.declared.chosen.VehicleOptions.{VehicleOptions}
 use Rattle.wh_convoy.specs.Convoys.{Held}
 use Rattle.wh_service.specs.Kept.{Siding}
-use Rattle.wh_program.specs.Programs.{Did, Drove, Files, LateFiles, Lived, ReplayedOver, names_file, silent}
+use Rattle.wh_program.specs.Programs.{Did, Drove, Files, LateFiles, Lived, ReplayedOver, names_file}
 use Rattle.wh_service.specs.declared.convoys.DriveTrouble.TheVariants.{Plain}
 use Rattle.wh_service.specs.declared.parts.PlannerParts.{PlannerParts}
 
@@ -27,15 +28,15 @@ module _ {X : Type 0} (fits : X → Floor → Bool) (count : X → ℕ) (gives :
     (false, None, None, record { before = None; after = None; synced = None; failed = false }, refl, inl (tt, Keeps-refl had, refl, refl)),
   )
 
-  pub starved : (o : Options) → (files : Option Files) × (is_some files ≡ names_file o) × Did fits count gives o files (Err trouble.NoMemory) input input had had
-  starved Check = (None, refl, (tt, Keeps-refl had))
-  starved Verify = (None, refl, Keeps-refl had)
-  starved (Live o) = (None, refl, (silent o, inl (tt, Keeps-refl had)))
-  starved (Replay o) = over o o.log
+  pub starved : (screens : Text → Text → Option (List (List ℕ)) → Type 0) (o : Options) → (files : Option Files) × (is_some files ≡ names_file o) × Did fits count gives screens o files (Err trouble.NoMemory) input input had had
+  starved screens Check = (None, refl, (tt, Keeps-refl had))
+  starved screens Verify = (None, refl, Keeps-refl had)
+  starved screens (Live o) = (None, refl, inl (refl, refl, Keeps-refl had))
+  starved screens (Replay o) = over o o.log
 
   -- memory was wanting for the name of the file beside the board
-  pub starved_live : (o : LiveOptions) → Lived fits count gives o (Err trouble.NoMemory) input input had had
-  starved_live o = (silent o, inl (tt, Keeps-refl had))
+  pub starved_live : (screens : Text → Text → Option (List (List ℕ)) → Type 0) (o : LiveOptions) → Lived fits count gives screens o (Err trouble.NoMemory) input input had had
+  starved_live screens o = inl (refl, refl, Keeps-refl had)
 
   -- the same with vehicles
   late_over : {N : Type 0} (o : ReplayOptions) (pace : VehicleOptions) (log : Option N) →

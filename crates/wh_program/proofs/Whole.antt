@@ -19,8 +19,8 @@ use Rattle.wh_options.specs.declared.chosen.Options.{Options}
 use Rattle.wh_options.specs.declared.chosen.Options.TheVariants.{Check, Replay, Verify, Live}
 use Rattle.wh_options.specs.declared.refused.Refusal.{Refusal}
 use Rattle.wh_options.specs.declared.refused.Refusal.TheVariants as refusal
-use Rattle.wh_service.specs.Fleets.{HasRange, IsOfFleet}
-use Rattle.wh_program.specs.Programs.{Declines, Ends}
+use Rattle.wh_service.specs.Fleets.{IsOfFleet}
+use Rattle.wh_program.specs.Programs.{Declines, Ends, HasRange}
 use Rattle.wh_service.specs.Serves.{ended_by}
 
 -- ---- what is written

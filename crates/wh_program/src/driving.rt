@@ -4,8 +4,8 @@ ghost use Rattle.std.specs.Prelude.{◌≡◌, ◌≤◌, MatchOption, None, Som
 ghost use Rattle.wh_lines.specs.Output.{WritesFront};
 ghost use Rattle.wh_options.specs.declared.chosen.Options.TheVariants.{Replay};
 ghost use Rattle.wh_service.specs.Fleets.{IsOfFleet, MakesPlanners};
-ghost use Rattle.wh_service.specs.Late.{pace_of, way_text};
-ghost use Rattle.wh_program.specs.Programs.{Drove, EndsDrive};
+ghost use Rattle.wh_service.specs.Late.{way_text};
+ghost use Rattle.wh_program.specs.Programs.{Drove, EndsDrive, pace_of};
 
 use crate::running::KeptFiles;
 use arrayvec::ArrayVec;

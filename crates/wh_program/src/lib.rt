@@ -3,9 +3,12 @@
 #![tactic(auto)]
 
 mod driving;
+mod outside;
 mod running;
 
+pub use outside::{Outside, Surroundings};
 pub use running::{end, run};
 
 // handed on, for callers: what the items above take
+pub use wh_display::Screen;
 pub use wh_service::PlannerParts;

@@ -1,11 +1,13 @@
 //! The whole program: from its words and its input to its output and its status.
 
-ghost use Rattle.std.specs.Prelude.{◌≡◌, ◌≤◌, Bool, Option, is_some, map, option_map};
-ghost use Rattle.wh_service.specs.Fleets.{HasRange, IsOfFleet, MakesPlanners};
-ghost use Rattle.wh_program.specs.Programs.{Comes, Did, Drove, Ends, Files, LateFiles, Lived, LivedOver, ReplayedOver, names_file};
+ghost use Rattle.std.specs.Prelude.{◌≡◌, ◌≤◌, ◌++◌, Bool, IfOk, Option, is_some, map, option_map};
+ghost use Rattle.std.specs.String.{string_bytes};
+ghost use Rattle.wh_service.specs.Fleets.{IsOfFleet, MakesPlanners};
+ghost use Rattle.wh_program.specs.Programs.{Comes, Did, Drove, Ends, Files, HasRange, LateFiles, Lived, LivedOver, ReplayedOver, names_file};
 ghost use Rattle.wh_service.specs.Serves.{ended_by};
 
 use crate::driving::{drive_over, end_drive, late};
+use crate::outside::Outside;
 use std::alloc::{AllocError, Global};
 use std::convert::AsStr;
 use std::fmt::Display;
@@ -15,7 +17,7 @@ use std::path::Path;
 use std::sync::Wait;
 use std::thread::Threads;
 use std::time::Clock;
-use wh_display::{FileScreen, Screen};
+use wh_display::Screen;
 use wh_edge::{Status, Trouble};
 use wh_lines::Lines;
 use wh_options::{
@@ -45,12 +47,14 @@ fn log_name<'a>(options: &Options<'a>) -> Option<&'a str>
     }
 }
 
-/// The name of a file beside this log.
-fn name_beside(alloc: Global, log: &str, end: &str) -> Result<String, AllocError> {
-    let mut name = String::new(alloc);
-    name.push_str(log)?;
-    name.push_str(end)?;
-    Ok(name)
+/// The name of a file beside the one of this name.
+fn name_beside(alloc: Global, name: &str, end: &str) -> Result<String, AllocError>
+    ensures { IfOk result (λ beside. string_bytes beside ≡ name.now ++ end.now) }
+{
+    let mut beside = String::new(alloc);
+    beside.push_str(name)?;
+    beside.push_str(end)?;
+    Ok(beside)
 }
 
 /// The names of the files beside this log, of its site and of arrivals.
@@ -136,13 +140,16 @@ fn live_over<
 #[tactic(auto, using(crate::proofs::Starved::starved_live))]
 fn live_by_name<
     'a,
-    T: Threads + Wait + Clock + Sync + Files<File = File>,
+    T: Threads + Wait + Clock + Sync,
+    S: Screen + Send + Drop,
+    O: Outside<'a, S>,
     R: Read,
     W: Write,
     P: Planner,
     F: Fn(PlannerParts) -> Result<P, AllocError>,
 >(
-    rt: &'a T,
+    rt: &T,
+    outside: &O,
     alloc: Global,
     lines: &mut Lines<R>,
     output: &mut W,
@@ -152,32 +159,37 @@ fn live_by_name<
     requires range { IsOfFleet options.now.fleet }
     requires callable { F.IsAlwaysCallable make }
     requires makes { MakesPlanners P.fits_map P.slot_count (F.post make) }
-    ensures { Lived P.fits_map P.slot_count (F.post make) options.now result lines.old lines.new (W.contents output.old) (W.contents output.new) }
+    ensures { Lived P.fits_map P.slot_count (F.post make) (O.tells outside.now) options.now result lines.old lines.new (W.contents output.old) (W.contents output.new) }
 {
-    let Some(board) = options.board else {
-        let mut none: Option<FileScreen<'a, T>> = None;
-        return live_over(rt, alloc, lines, output, options, &mut none, make);
-    };
-    match name_beside(alloc, board, ".new") {
-        Ok(beside) => {
-            let mut screen = Some(FileScreen::new(rt, board, beside.as_str()));
-            live_over(rt, alloc, lines, output, options, &mut screen, make)
+    match options.board {
+        None => {
+            let mut none: Option<S> = None;
+            live_over(rt, alloc, lines, output, options, &mut none, make)
         }
-        Err(_) => Err(Trouble::NoMemory),
+        Some(board) => match name_beside(alloc, board, ".new") {
+            Ok(beside) => {
+                let mut screen = Some(outside.screen(board, beside));
+                live_over(rt, alloc, lines, output, options, &mut screen, make)
+            }
+            Err(_) => Err(Trouble::NoMemory),
+        },
     }
 }
 
 /// Does what the options ask for, a replay over these files, or over none.
 fn obey<
     'a,
-    T: Threads + Wait + Clock + Sync + Files<File = File>,
+    T: Threads + Wait + Clock + Sync,
+    S: Screen + Send + Drop,
+    O: Outside<'a, S>,
     R: Read,
     W: Write,
     L: LogFile,
     P: Planner,
     F: Fn(PlannerParts) -> Result<P, AllocError>,
 >(
-    rt: &'a T,
+    rt: &T,
+    outside: &O,
     alloc: Global,
     lines: &mut Lines<R>,
     output: &mut W,
@@ -188,13 +200,13 @@ fn obey<
     requires range { HasRange options.now }
     requires callable { F.IsAlwaysCallable make }
     requires makes { MakesPlanners P.fits_map P.slot_count (F.post make) }
-    ensures { Did P.fits_map P.slot_count (F.post make) options.now (option_map (λ f. record { log = L.contents f.log; site = L.contents f.site }) files.old) result lines.old lines.new (W.contents output.old) (W.contents output.new) }
+    ensures { Did P.fits_map P.slot_count (F.post make) (O.tells outside.now) options.now (option_map (λ f. record { log = L.contents f.log; site = L.contents f.site }) files.old) result lines.old lines.new (W.contents output.old) (W.contents output.new) }
 {
     match options {
         Options::Check => judge(rt, alloc, lines, output),
         Options::Verify => judge_log(alloc, lines, output),
         Options::Replay(options) => replay(alloc, lines, output, options, files, make),
-        Options::Live(options) => live_by_name(rt, alloc, lines, output, options, make),
+        Options::Live(options) => live_by_name(rt, outside, alloc, lines, output, options, make),
     }
 }
 
@@ -203,12 +215,15 @@ fn obey<
 fn obey_by_name<
     'a,
     T: Threads + Wait + Clock + Sync + Files<File = File>,
+    S: Screen + Send + Drop,
+    O: Outside<'a, S>,
     R: Read,
     W: Write,
     P: Planner,
     F: Fn(PlannerParts) -> Result<P, AllocError>,
 >(
     rt: &'a T,
+    outside: &O,
     alloc: Global,
     lines: &mut Lines<R>,
     output: &mut W,
@@ -218,16 +233,16 @@ fn obey_by_name<
     requires range { HasRange options.now }
     requires callable { F.IsAlwaysCallable make }
     requires makes { MakesPlanners P.fits_map P.slot_count (F.post make) }
-    ensures { (files : Option Files) × (is_some files ≡ names_file options.now) × Did P.fits_map P.slot_count (F.post make) options.now files result lines.old lines.new (W.contents output.old) (W.contents output.new) }
+    ensures { (files : Option Files) × (is_some files ≡ names_file options.now) × Did P.fits_map P.slot_count (F.post make) (O.tells outside.now) options.now files result lines.old lines.new (W.contents output.old) (W.contents output.new) }
 {
     let Some(log) = log_name(options) else {
         let mut none: Option<KeptFiles<FileJournal<'a, T>>> = None;
-        return obey(rt, alloc, lines, output, options, &mut none, make);
+        return obey(rt, outside, alloc, lines, output, options, &mut none, make);
     };
     match names_beside(alloc, log) {
         Ok((site, arrivals)) => {
             let mut files = Some(kept_files(rt, log, site.as_str(), arrivals.as_str()));
-            obey(rt, alloc, lines, output, options, &mut files, make)
+            obey(rt, outside, alloc, lines, output, options, &mut files, make)
         }
         Err(_) => Err(Trouble::NoMemory),
     }
@@ -307,12 +322,15 @@ pub fn end<E: Write>(errors: &mut E, came: Result<Status, Trouble>) -> Status
 
 /// Does what the words ask for, over this input: the first word is the program's name. `make` makes one planner of its parts, and
 /// its error tells that memory is wanting. The answer is the status with which the program ends; one line on standard error
-/// tells what stopped it. A log file, and the one beside it, lie where `rt` finds files.
+/// tells what stopped it. A log file, and the one beside it, lie where `rt` finds files, and the file of a board where `outside`
+/// finds it.
 #[tactic(auto, using(crate::proofs::Whole::in_range))]
 pub fn run<
     'a,
     T: Threads + Wait + Clock + Sync + Files<File = File>,
-    S: AsStr,
+    S: Screen + Send + Drop,
+    O: Outside<'a, S>,
+    A: AsStr,
     R: Read,
     W: Write,
     E: Write,
@@ -320,8 +338,9 @@ pub fn run<
     F: Fn(PlannerParts) -> Result<P, AllocError>,
 >(
     rt: &'a T,
+    outside: &O,
     alloc: Global,
-    words: &'a [S],
+    words: &'a [A],
     lines: &mut Lines<R>,
     output: &mut W,
     errors: &mut E,
@@ -329,7 +348,7 @@ pub fn run<
 ) -> Status
     requires callable { F.IsAlwaysCallable make }
     requires makes { MakesPlanners P.fits_map P.slot_count (F.post make) }
-    ensures { Comes P.fits_map P.slot_count (F.post make) (map S.text words.now) result lines.old lines.new (W.contents output.old) (W.contents output.new) (E.contents errors.old) (E.contents errors.new) }
+    ensures { Comes P.fits_map P.slot_count (F.post make) (O.tells outside.now) (map A.text words.now) result lines.old lines.new (W.contents output.old) (W.contents output.new) (E.contents errors.old) (E.contents errors.new) }
 {
     match options(alloc, words) {
         Ok(options) => match late(&options) {
@@ -338,7 +357,7 @@ pub fn run<
                 end_drive(errors, came)
             }
             None => {
-                let came = obey_by_name(rt, alloc, lines, output, &options, make);
+                let came = obey_by_name(rt, outside, alloc, lines, output, &options, make);
                 end(errors, came)
             }
         },

@@ -1,5 +1,5 @@
 -- The planners that a run is given.
-use Rattle.std.specs.Prelude.{◌≡◌, ◌<◌, ◌≤◌, ℕ, Bool, true, List, length, All, Contains, IfSome, Result, Ok}
+use Rattle.std.specs.Prelude.{◌≡◌, ◌<◌, ◌≤◌, ℕ, Bool, true, List, length, All, Contains, Result, Ok}
 use Rattle.std.specs.List.{AllZip}
 use Rattle.std.specs.declared.alloc.AllocError.{AllocError}
 use Rattle.std.specs.Arc.{arc_value}
@@ -11,8 +11,6 @@ use Rattle.wh_claims.specs.declared.claim.Claim.{Claim}
 use Rattle.wh_edge.specs.declared.trouble.Trouble.{Trouble}
 use Rattle.wh_edge.specs.declared.trouble.Trouble.TheVariants as trouble
 use Rattle.wh_options.specs.declared.chosen.Fleet.{Fleet}
-use Rattle.wh_options.specs.declared.chosen.Options.{Options}
-use Rattle.wh_options.specs.declared.chosen.Options.TheVariants.{Check, Replay, Verify, Live}
 use Rattle.wh_service.specs.declared.parts.PlannerParts.{PlannerParts}
 
 -- a claim of 2 to 64 slots, as many as a planner may have
@@ -28,13 +26,6 @@ pub record MakesPlanners {X : Type 0} (fits : X → Floor → Bool) (count : X �
 -- each planner of the fleet may keep 2 to 64 fields
 abbrev pub IsOfFleet : Fleet → Type 0
 IsOfFleet fleet = (2 ≤ fleet.slots) × (fleet.slots ≤ 64)
-
--- the fleet that the options name keeps to that, and vehicles may be told one cell ahead or more
-abbrev pub HasRange : Options → Type 0
-HasRange Check = Unit {0}
-HasRange (Replay o) = IsOfFleet o.fleet × IfSome o.vehicles (λ pace. 1 ≤ pace.ahead)
-HasRange Verify = Unit {0}
-HasRange (Live o) = IsOfFleet o.fleet
 
 -- the planner was made of the fleet's kind, this grid, and a claim of the fleet's slots on this bank
 pub record IsMember {X : Type 0} (gives : PlannerParts → Result X AllocError → Type 0) (fleet : Fleet) (grid : Floor) (bank : Bank) (planner : X) : Type 0 where

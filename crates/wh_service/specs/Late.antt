@@ -18,11 +18,7 @@ use Rattle.wh_edge.specs.declared.trouble.Status.TheVariants.{Done}
 use Rattle.wh_edge.specs.declared.trouble.Trouble.{Trouble}
 use Rattle.wh_edge.specs.declared.trouble.Trouble.TheVariants as trouble
 use Rattle.wh_log.specs.Told.{Answered}
-use Rattle.wh_options.specs.Options.{WordsGive}
-use Rattle.wh_options.specs.Setting.{Text}
 use Rattle.wh_options.specs.declared.chosen.Fleet.{Fleet}
-use Rattle.wh_options.specs.declared.chosen.Options.{Options}
-use Rattle.wh_options.specs.declared.chosen.Options.TheVariants.{Replay}
 use Rattle.wh_options.specs.declared.chosen.ReplayOptions.{ReplayOptions}
 use Rattle.wh_options.specs.declared.chosen.Tail.{Tail}
 use Rattle.wh_options.specs.declared.chosen.VehicleOptions.{VehicleOptions}
@@ -135,11 +131,6 @@ IsWhyUnservedLate fits count text gives fleet tail pace told old new had has =
     ⊎ (LetsFollow told old new × Keeps had has)
     ⊎ (EndsAtFleet fleet told old new × Keeps had has)
     ⊎ StopsLate fits count text gives fleet tail pace told old new had has
-
--- how vehicles carry out the plan, where the options say that they do so at their own pace
-abbrev pub pace_of : Options → Option VehicleOptions
-pace_of (Replay o) = o.vehicles
-pace_of _ = None
 
 -- the line that tells how many vehicles are on their way, if some are
 abbrev pub way_text : ℕ → List ℕ

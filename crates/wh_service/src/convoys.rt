@@ -46,7 +46,7 @@ pub enum DriveTrouble {
 
 impl DriveTrouble {
     /// The line that tells of it, with its line feed.
-    pub(crate) fn text(&self) -> ArrayVec<u8, 64>
+    pub fn text(&self) -> ArrayVec<u8, 64>
         ensures { result.items ≡ drive_text self.now }
     {
         let mut line = ArrayVec::new();
@@ -64,7 +64,7 @@ impl DriveTrouble {
     }
 
     /// The status with which the program ends.
-    pub(crate) fn status(&self) -> Status
+    pub fn status(&self) -> Status
         ensures { result ≡ drive_status self.now }
     {
         match self {

@@ -46,7 +46,8 @@ fn a_board_is_shown_where_it_has_changed(rt: HostRuntime) -> Result<(), Fail> {
     make_folder(&rt, "survival_board")?;
     let path = Path::new("survival_board/board");
     let mut viewer = viewer(&rt, alloc)?;
-    let mut screen = FileScreen::new(&rt, "survival_board/board", "survival_board/next");
+    let next = String::from_str(alloc, "survival_board/next")?;
+    let mut screen = FileScreen::new(&rt, "survival_board/board", next);
     fs::write(&rt, path, b"of another".as_slice())?;
     assert!(rt; refresh(alloc, &mut viewer, &mut screen, Some(0)) == Ok(0));
     assert!(rt; holds(&rt, path, b"of another")?);
@@ -61,7 +62,8 @@ fn a_board_is_not_shown_in_no_folder(rt: HostRuntime) -> Result<(), Fail> {
     let alloc = rt.alloc();
     make_folder(&rt, "survival_unshown")?;
     let mut viewer = viewer(&rt, alloc)?;
-    let mut screen = FileScreen::new(&rt, "survival_unshown/a/board", "survival_unshown/a/next");
+    let next = String::from_str(alloc, "survival_unshown/a/next")?;
+    let mut screen = FileScreen::new(&rt, "survival_unshown/a/board", next);
     assert!(rt; refresh(alloc, &mut viewer, &mut screen, None) == Err(ShowFault::Unshown));
     Ok(fs::remove_dir_all(&rt, "survival_unshown")?)
 }

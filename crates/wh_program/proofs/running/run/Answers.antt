@@ -9,7 +9,7 @@ pub returns-in-Some : goal.returns-in-Some
 returns-in-Some g c =
     inr (inl (record {
       options = c.in-Some.replay;
-      given = subst (λ (o : Options). WordsGive (map g.S.AsStr.text c.args.words.now) o) c.in-Some.ensures.0 c.in-Ok.ensures.ok;
+      given = subst (λ (o : Options). WordsGive (map g.A.AsStr.text c.args.words.now) o) c.in-Some.ensures.0 c.in-Ok.ensures.ok;
       pace = c.in-Some.pace;
       late = c.in-Some.ensures.1;
       files = c.drive_by_name-came.ensures.0;
