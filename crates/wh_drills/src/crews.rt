@@ -332,9 +332,8 @@ fn looks_see_fronts_of_the_history(rt: HostRuntime) -> Result<(), Fail> {
         assert!(rt; before < Some(glimpse.entries));
         before = Some(glimpse.entries);
     }
-    // A look that began two calls before the last holds the room in which the last board would be shown (`Receipt::shown`).
-    assert!(rt; before == Some(3) || before == Some(4));
-    // The two calls that came second were held until the display had seen one that came first.
+    assert_eq!(rt; before, Some(4));
+    // No call came second before the display had seen one that came first.
     let between = |glimpse: &Glimpse| glimpse.entries == 1 || glimpse.entries == 2;
     assert!(rt; left.seen.as_slice().iter().any(between));
     Ok(())

@@ -88,7 +88,8 @@ impl Gate for Open {
     }
 }
 
-/// Holds each call until a display has seen as many entries as calls were answered before.
+/// Holds each worker, once its call is answered, until a display has seen as many entries as calls were answered. So none ends, and
+/// the desk with it, before the last board is seen: a look at a desk that is gone shows nothing new.
 #[derive(Drop)]
 pub struct Watched {
     pub answered: AtomicU64,
@@ -107,11 +108,10 @@ impl Watched {
 }
 
 impl Gate for Watched {
-    fn before(&self, _worker: u32, _call: u32) {
-        hold(&self.seen, self.answered.load(SeqCst), &self.limits);
-    }
+    fn before(&self, _worker: u32, _call: u32) {}
 
     fn after(&self, _worker: u32, _call: u32) {
-        self.answered.fetch_add(1, SeqCst);
+        let answered = self.answered.fetch_add(1, SeqCst).saturating_add(1);
+        hold(&self.seen, answered, &self.limits);
     }
 }
