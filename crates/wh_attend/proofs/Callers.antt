@@ -1,5 +1,5 @@
 -- Whoever has entries in a log is one of 64.
-use Rattle.std.proofs.Common.{◌≡◌, ◌<◌, ℕ, List, sym, subst, All, Option, None, Some}
+use Rattle.std.proofs.Common.{◌≡◌, ◌<◌, ℕ, List, [], ◌∷◌, ◌++◌, length, sym, subst, All, Option, None, Some}
 use Rattle.std.specs.Prelude.{MatchOption}
 use Rattle.std.proofs.lemmas.List.Elements.{All-from_recursion, All-nil}
 use Rattle.wh_points.specs.Points.{Site}
@@ -10,6 +10,8 @@ use Rattle.wh_log.specs.declared.version.Version.{Version}
 use Rattle.wh_verify.specs.Drafts.{Seen}
 use Rattle.wh_continue.specs.Starting.{Begins, GoesOnFrom}
 use Rattle.wh_continue.specs.declared.starting.Start.{Start}
+use Rattle.wh_desk.specs.Lists.{AllAt}
+use Rattle.wh_desk.proofs.Entries.{AllAt_push}
 use Rattle.wh_options.specs.declared.chosen.Fleet.{Fleet}
 use Rattle.wh_service.specs.Kept.{StartsFrom, first_slots}
 
@@ -25,3 +27,8 @@ few_at site slots text book version (Some n) on =
 
 pub callers_few : (fleet : Fleet) (site : Site) (file : Option (List ℕ)) (start : Start) → StartsFrom fleet site file start → Few start.book.history
 callers_few fleet site file start from = few_at site (first_slots fleet site) from.text start.book start.version start.bytes from.starts
+
+-- one more at the end
+pub at_end : {A : Type 0} (P : ℕ → A → Type 0) (xs ys : List A) (n : ℕ) (y : A) → ys ≡ xs ++ y ∷ [] → length xs ≡ n → AllAt P xs → P n y → AllAt P ys
+at_end P xs ys n y same size all here =
+    subst (λ (zs : List _). AllAt P zs) (sym same) (AllAt_push P xs y all (subst (λ (k : ℕ). P k y) (sym size) here))

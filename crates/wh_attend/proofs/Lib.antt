@@ -1,1 +1,3 @@
-pub mod Callers
+mod Attended
+mod Callers
+mod Wholes

@@ -64,9 +64,7 @@ fn places_of(history: &[Entry]) -> u32
 {
     let mut places = 0;
     for entry in history {
-        if places <= entry.caller {
-            places = entry.caller + 1;
-        }
+        places = places.max(entry.caller + 1);
     }
     places
 }
@@ -80,9 +78,7 @@ fn places_for(clients: &[ClientOptions<'_>], mut places: u32) -> u32
     ensures few { result ≤ 64 }
 {
     for client in clients {
-        if places <= client.number {
-            places = client.number + 1;
-        }
+        places = places.max(client.number + 1);
     }
     places
 }
