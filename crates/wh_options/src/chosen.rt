@@ -1,4 +1,5 @@
 //! What a command line asks for: a subcommand with its options.
+use wh_client::ClientOptions;
 
 /// Which kind of planner drives the agents.
 #[derive(Clone, Copy, Debug, PartialEq, Eq)]
@@ -89,8 +90,23 @@ pub struct LiveOptions<'a> {
     pub board_every: u32,
 }
 
+/// The options of `live` with running clients, who come in over named pipes. They keep a text of the words that gave them.
+#[derive(Debug, PartialEq, Eq, Drop)]
+pub struct AttendOptions<'a> {
+    /// The planners of the run; each client has its own `spares`.
+    pub fleet: Fleet,
+    /// How many entries more the history may have, 1 to 1000000; the clients share them equally.
+    pub journal: u32,
+    /// How the replies are told.
+    pub replies: Replies,
+    /// The name of the file that keeps the run's log; never empty.
+    pub log: &'a str,
+    /// The clients, 1 to 62; no two have one number or one folder.
+    pub clients: Vec<ClientOptions<'a>>,
+}
+
 /// A subcommand with its options.
-#[derive(Clone, Copy, Debug, PartialEq, Eq)]
+#[derive(Debug, PartialEq, Eq, Drop)]
 pub enum Options<'a> {
     /// `check`: whether the warehouse is well-formed.
     Check,
@@ -100,4 +116,6 @@ pub enum Options<'a> {
     Verify,
     /// `live`: clients, agents and a clock in threads.
     Live(LiveOptions<'a>),
+    /// `live` with running clients.
+    Attend(AttendOptions<'a>),
 }

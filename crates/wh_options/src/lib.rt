@@ -11,7 +11,9 @@ mod read;
 mod refused;
 
 pub use chosen::{
-    Fleet, LiveOptions, Options, PlannerKind, ReplayOptions, Replies, Tail, VehicleOptions,
+    AttendOptions, Fleet, LiveOptions, Options, PlannerKind, ReplayOptions, Replies, Tail,
+    VehicleOptions,
 };
 pub use read::options;
 pub use refused::{Refusal, refusal_of};
+pub use wh_client::{ClientOptions, ClientRights};

@@ -7,7 +7,7 @@ pub mod InRange
 pub mod Asked
 pub mod Paced
 pub mod Teams
-mod Lasting
+pub mod Lasting
 pub mod Logged
 pub mod Openings
 pub mod Replayed

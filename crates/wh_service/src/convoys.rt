@@ -159,7 +159,9 @@ fn start_convoy<L: LogFile, P: Planner, F: Fn(PlannerParts) -> Result<P, AllocEr
     ensures same_beside { L.contents beside.new ≡ L.contents beside.old }
     ensures same_arrivals { L.contents arrivals.new ≡ L.contents arrivals.old }
 {
-    let (start, found) = match start_aside(alloc, file, beside, text, grid, points, options) {
+    let fleet = &options.fleet;
+    let again = options.told;
+    let (start, found) = match start_aside(alloc, file, beside, text, grid, points, fleet, again) {
         Ok(started) => started,
         Err(trouble) => return Err(DriveTrouble::Plain(trouble)),
     };
@@ -167,7 +169,7 @@ fn start_convoy<L: LogFile, P: Planner, F: Fn(PlannerParts) -> Result<P, AllocEr
         Ok(stood) => stood,
         Err(trouble) => return Err(trouble),
     };
-    match equip_for(alloc, &options.fleet, grid, start.book.slots(), make) {
+    match equip_for(alloc, fleet, grid, start.book.slots(), make) {
         Ok(equipped) => Ok((start, found, stood, equipped)),
         Err(trouble) => Err(DriveTrouble::Plain(trouble)),
     }

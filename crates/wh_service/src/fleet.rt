@@ -63,7 +63,7 @@ fn member<P: Planner, F: Fn(PlannerParts) -> Result<P, AllocError>>(
 
 /// So many planners of the fleet, each with a claim of its own on the bank. The error tells why one of them got no
 /// slots, or that memory is wanting.
-pub(crate) fn members<P: Planner, F: Fn(PlannerParts) -> Result<P, AllocError>>(
+pub fn members<P: Planner, F: Fn(PlannerParts) -> Result<P, AllocError>>(
     alloc: Global,
     fleet: &Fleet,
     grid: &Arc<Grid>,
@@ -90,7 +90,7 @@ pub(crate) fn members<P: Planner, F: Fn(PlannerParts) -> Result<P, AllocError>>(
 
 /// One planner of the fleet for each of these numbers of slots, 2 to 64, each with a claim of its own on the bank. The error
 /// tells why one of them got no slots, or that memory is wanting.
-pub(crate) fn seated<P: Planner, F: Fn(PlannerParts) -> Result<P, AllocError>>(
+pub fn seated<P: Planner, F: Fn(PlannerParts) -> Result<P, AllocError>>(
     alloc: Global,
     fleet: &Fleet,
     grid: &Arc<Grid>,

@@ -29,7 +29,7 @@ use wh_planner::Planner;
 use wh_points::Points;
 
 /// What is told of a log file that was not begun or not ended.
-pub(crate) fn keep_trouble(fault: KeepFault) -> Trouble
+pub fn keep_trouble(fault: KeepFault) -> Trouble
     ensures { result ≡ keep_trouble fault }
 {
     match fault {
@@ -146,36 +146,37 @@ fn wanting_line(again: Option<u32>, entries: u64) -> Option<u64>
 }
 
 /// What a run of the site starts from by both files, and how much of the site's text stands beside the log. The file beside
-/// it comes first.
-pub(crate) fn start_aside<L: LogFile>(
+/// it comes first. Where entries are to be told again from one on, the run has come to it.
+pub fn start_aside<L: LogFile, B: LogFile>(
     alloc: Global,
     file: &mut L,
-    beside: &mut L,
+    beside: &mut B,
     text: &[u8],
     grid: &Arc<Grid>,
     points: Points,
-    options: &ReplayOptions<'_>,
+    fleet: &Fleet,
+    again: Option<u32>,
 ) -> Result<(Start, Beside), Trouble>
     requires layout { IsLayout (arc_value grid.now) points }
     requires some { 1 ≤ length points.agents }
-    requires range { IsOfFleet options.now.fleet }
-    ensures ok { IfOk result (λ r. StartsFrom options.now.fleet (record { grid = arc_value grid.now; layout = points }) (L.contents file.old) r.0) }
-    ensures stands { IfOk result (λ r. StandsBeside (L.contents beside.old) text.now r.1) }
-    ensures within { IfOk result (λ r. IfSome options.now.told (λ first. first ≤ length r.0.book.history)) }
+    requires range { IsOfFleet fleet.now }
+    ensures ok { IfOk result (λ r. StartsFrom fleet.now (record { grid = arc_value grid.now; layout = points }) (L.contents file.old) r.0) }
+    ensures stands { IfOk result (λ r. StandsBeside (B.contents beside.old) text.now r.1) }
+    ensures within { IfOk result (λ r. IfSome again (λ first. first ≤ length r.0.book.history)) }
     ensures slots { IfOk result (λ r. All IsSlots r.0.book.state.slots) }
-    ensures fault { IfErr result (IsWhyNoRun options.now.fleet options.now.told (record { grid = arc_value grid.now; layout = points }) (L.contents file.old) (L.contents beside.old) text.now) }
+    ensures fault { IfErr result (IsWhyNoRun fleet.now again (record { grid = arc_value grid.now; layout = points }) (L.contents file.old) (B.contents beside.old) text.now) }
     ensures same { L.contents file.new ≡ L.contents file.old }
-    ensures same_beside { L.contents beside.new ≡ L.contents beside.old }
+    ensures same_beside { B.contents beside.new ≡ B.contents beside.old }
 {
     let found = match look_aside(alloc, beside, text) {
         Ok(found) => found,
         Err(trouble) => return Err(trouble),
     };
-    let start = match start_over(alloc, file, grid, points, &options.fleet) {
+    let start = match start_over(alloc, file, grid, points, fleet) {
         Ok(start) => start,
         Err(trouble) => return Err(trouble),
     };
-    match wanting_line(options.told, start.book.history().len() as u64) {
+    match wanting_line(again, start.book.history().len() as u64) {
         Some(line) => Err(Trouble::Log { line }),
         None => Ok((start, found)),
     }
@@ -218,12 +219,16 @@ pub fn serve_kept<
     let bytes = text.as_slice();
     let Site { grid, points } = site;
     let grid = Arc::new(alloc, grid)?;
-    let (start, found) = match start_aside(alloc, file, beside, bytes, &grid, points, options) {
+    let fleet = &options.fleet;
+    let again = options.told;
+    let (start, found) = match start_aside(
+        alloc, file, beside, bytes, &grid, points, fleet, again,
+    ) {
         Ok(started) => started,
         Err(trouble) => return Err(trouble),
     };
     let slots = start.book.slots();
-    let (planners, mut spares) = match equip_for(alloc, &options.fleet, &grid, slots, &make) {
+    let (planners, mut spares) = match equip_for(alloc, fleet, &grid, slots, &make) {
         Ok(equipped) => equipped,
         Err(trouble) => return Err(trouble),
     };
@@ -237,7 +242,7 @@ pub fn serve_kept<
         lines,
         alloc,
         form,
-        options.told,
+        again,
         file,
         output,
         start,

@@ -17,8 +17,8 @@ mod verified;
 mod writing;
 
 pub use convoys::{DriveTrouble, serve_convoy};
-pub use fleet::{claim, equip};
-pub use kept::serve_kept;
+pub use fleet::{claim, equip, members, seated};
+pub use kept::{keep_trouble, serve_kept, start_aside};
 pub use live::host;
 pub use parts::PlannerParts;
 pub use program::{ended, play, serve};

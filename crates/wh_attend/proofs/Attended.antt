@@ -1,0 +1,92 @@
+-- What the whole call says.
+use Rattle.std.proofs.Common.{◌≡◌, ◌⊎◌, ◌+◌, ℕ, Bool, true, List, length, refl, sym, ap, ◌∙◌, subst, inl, inr, Option, None, Some, Result, Ok, Err}
+use Rattle.std.specs.Prelude.{IfErr, IfOk}
+use Rattle.std.specs.declared.alloc.AllocError.{AllocError}
+use Rattle.std.specs.Io.KnownBytes.{Appends, Keeps}
+use Rattle.std.proofs.KnownBytes.{Keeps-refl}
+use Rattle.wh_lines.specs.Input.{Input}
+use Rattle.wh_grid.specs.Grids.{Floor}
+use Rattle.wh_points.specs.Points.{Site}
+use Rattle.wh_event.specs.declared.entry.Entry.{Entry}
+use Rattle.wh_verify.specs.Drafts.{Seen}
+use Rattle.wh_desk.specs.Pasts.{Origin, origin_of}
+use Rattle.wh_journal.specs.Surviving.{StaysLog}
+use Rattle.wh_continue.specs.Running.{LeavesFront, Opens, last_line}
+use Rattle.wh_edge.specs.declared.trouble.Trouble.{Trouble}
+use Rattle.wh_edge.specs.declared.trouble.Trouble.TheVariants as trouble
+use Rattle.wh_options.specs.declared.chosen.AttendOptions.{AttendOptions}
+use Rattle.wh_serve.specs.Runs.{IsJournalOf, IsWhyUnserved, ServedFrom, first_lines}
+use Rattle.wh_serve.specs.Texts.{receipt_text}
+use Rattle.wh_serve.specs.declared.form.Form.{Form}
+use Rattle.wh_service.specs.Kept.{IsSet, Siding, first_slots}
+use Rattle.wh_service.specs.declared.parts.PlannerParts.{PlannerParts}
+use Rattle.wh_service.proofs.Lasting.{start_site}
+use Rattle.wh_attend.specs.Attends.{Attends, IsReady, IsWhyNoHistory, IsWhyUnattended, IsWhyUntold, Serves, form_of, log_of}
+use Rattle.wh_attend.specs.declared.ready.Ready.{Ready}
+use Rattle.wh_attend.proofs.Wholes.{whole_log}
+
+-- clients that came to no history
+pub no_history : (told : Trouble) → IsWhyUnserved told → IsWhyNoHistory told
+no_history trouble.Unkept why = tt
+no_history told why = why
+
+module _ {R W X : Type 0} (fits : X → Floor → Bool) (count : X → ℕ) (remaining : R → Option (List ℕ)) (contents : W → Option (List ℕ)) (gives : PlannerParts → Result X AllocError → Type 0) (options : AttendOptions)
+    (old new : Input) (file : Option (List ℕ)) (beside : Siding) (site : Site) (run : Ready X) (ready : IsReady gives options old new file beside.before site run) (aside : Option (List ℕ)) (still : aside ≡ beside.before) where
+  -- what stands beside the log was not kept
+  pub stops_aside : (had : Option (List ℕ)) → LeavesFront aside beside.after run.text.items → beside.failed ≡ true
+      → IsWhyUnattended fits count remaining contents gives options trouble.Unkept old new had had file beside
+  stops_aside had left failing = inr (inl (
+    refl,
+    record {
+      site = site;
+      run = run;
+      ready = ready;
+      left = subst (λ (b : Option (List ℕ)). LeavesFront b beside.after run.text.items) still left;
+      has_failed = failing;
+    },
+    Keeps-refl had,
+  ))
+
+  module _ (opens : Opens aside beside.after run.text.items) (safe : beside.synced ≡ beside.after) where
+    set : IsSet beside run.text.items
+    set = (subst (λ (b : Option (List ℕ)). Opens b beside.after run.text.items) still opens, safe)
+
+    -- there is no history
+    pub stops : (told : Trouble) (had : Option (List ℕ)) → IsWhyNoHistory told → IsWhyUnattended fits count remaining contents gives options told old new had had file beside
+    stops told had why = inr (inr (inl (record { site = site; run = run; ready = ready; is_set = set; why = why }, Keeps-refl had)))
+
+    module _ (form : Form) (form_is : form ≡ form_of options.replies) (book final : Seen) (book_is : book ≡ run.start.book) (origin : origin_of final ≡ origin_of book) (connections : List ℕ)
+        (served : ServedFrom fits count (receipt_text form) remaining contents (origin_of book) book.history run.clients.items (length book.history + options.journal) final.history final.state connections) where
+      serves : Serves fits count remaining contents options site run final
+      serves = record {
+        site_is = ap (λ (o : Origin). o.site) origin ∙ ap (λ (b : Seen). b.site) book_is ∙ start_site site (first_slots options.fleet site) ready.starts.text run.start ready.starts.starts;
+        opening_is = ap (λ (o : Origin). o.opening) origin ∙ ap (λ (b : Seen). b.opening) book_is;
+        connections = connections;
+        served = subst (λ (h : List Entry). ServedFrom fits count (receipt_text (form_of options.replies)) remaining contents (origin_of final) h run.clients.items (length h + options.journal) final.history final.state connections) (ap (λ (b : Seen). b.history) book_is)
+            (subst (λ (o : Origin). ServedFrom fits count (receipt_text (form_of options.replies)) remaining contents o book.history run.clients.items (length book.history + options.journal) final.history final.state connections) (sym origin)
+            (subst (λ (f : Form). ServedFrom fits count (receipt_text f) remaining contents (origin_of book) book.history run.clients.items (length book.history + options.journal) final.history final.state connections) form_is served));
+      }
+
+      -- the log was kept to its end and written
+      pub attends : {A : Type 0} (kept safe : A → Option (List ℕ)) (said : Result A Trouble) (held begun now synced had has : Option (List ℕ)) (is_whole : Bool) → held ≡ file → StaysLog held begun run.start.book
+          → IsJournalOf (first_lines begun book) now synced final.history is_whole → IfOk said (λ (_ : A). is_whole ≡ true) → IfOk said (λ (f : A). Appends now (kept f) (last_line (length final.history)))
+          → IfOk said (λ (f : A). safe f ≡ kept f) → IfOk said (λ (_ : A). Appends had has (log_of final))
+          → IfOk said (λ (f : A). Attends fits count remaining contents gives options old new had has file (safe f) (kept f) beside)
+      attends kept safe (Ok f) held begun now synced had has is_whole same stays journal whole ends synced_is tells = record {
+        site = site;
+        run = run;
+        ready = ready;
+        is_set = set;
+        final = final;
+        serves = serves;
+        whole = whole_log file begun now (kept f) book final (subst (λ (h : Option (List ℕ)). StaysLog h begun book) same (subst (λ (b : Seen). StaysLog held begun b) (sym book_is) stays)) origin (journal.whole whole) ends;
+        synced_is = synced_is;
+        tells = tells;
+      }
+      attends kept safe (Err told) held begun now synced had has is_whole same stays journal whole ends synced_is tells = tt
+
+      -- or was not
+      pub untold : {A : Type 0} (said : Result A Trouble) (had has : Option (List ℕ)) → IfErr said (λ (told : Trouble). IsWhyUntold told (log_of final) had has)
+          → IfErr said (λ (told : Trouble). IsWhyUnattended fits count remaining contents gives options told old new had has file beside)
+      untold (Ok f) had has why = tt
+      untold (Err told) had has why = inr (inr (inr (record { site = site; run = run; ready = ready; is_set = set; final = final; serves = serves; why = why })))

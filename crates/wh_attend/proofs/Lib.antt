@@ -1,0 +1,3 @@
+mod Attended
+mod Callers
+mod Wholes

@@ -1,0 +1,143 @@
+-- What a whole run of `live` with running clients does, from the site that is read to the log that is kept.
+use Rattle.std.specs.Prelude.{◌≡◌, ◌⊎◌, ◌+◌, ℕ, Bool, true, false, List, length, Option, None, Some, IfSome, Result}
+use Rattle.std.specs.declared.alloc.AllocError.{AllocError}
+use Rattle.std.specs.Io.KnownBytes.{Appends, Keeps}
+use Rattle.wh_lines.specs.Input.{Input}
+use Rattle.wh_lines.specs.Output.{WritesFront}
+use Rattle.wh_grid.specs.Grids.{Floor}
+use Rattle.wh_points.specs.Points.{Site}
+use Rattle.wh_words.specs.Lines.{text_of as lines_text}
+use Rattle.wh_log.specs.Logs.{log_lines}
+use Rattle.wh_log.specs.declared.version.Version.TheVariants.{Two}
+use Rattle.wh_journal.specs.Surviving.{told_by}
+use Rattle.wh_continue.specs.Besides.{StandsBeside}
+use Rattle.wh_continue.specs.Running.{IsWholeLog, LeavesFront}
+use Rattle.wh_edge.specs.Site.{SiteFault, SiteKept}
+use Rattle.wh_edge.specs.declared.trouble.Trouble.{Trouble}
+use Rattle.wh_edge.specs.declared.trouble.Trouble.TheVariants as trouble
+use Rattle.wh_options.specs.declared.chosen.AttendOptions.{AttendOptions}
+use Rattle.wh_options.specs.declared.chosen.Replies.{Replies}
+use Rattle.wh_options.specs.declared.chosen.Replies.TheVariants as replies
+use Rattle.wh_desk.specs.Pasts.{origin_of}
+use Rattle.wh_verify.specs.Drafts.{Seen}
+use Rattle.wh_serve.specs.Runs.{IsWhyUnserved, ServedFrom}
+use Rattle.wh_serve.specs.Texts.{receipt_text}
+use Rattle.wh_serve.specs.declared.form.Form.{Form}
+use Rattle.wh_serve.specs.declared.form.Form.TheVariants as form
+use Rattle.wh_service.specs.Kept.{EndsAtStart, IsSet, IsUntouched, Siding, StartsFrom}
+use Rattle.wh_service.specs.declared.parts.PlannerParts.{PlannerParts}
+use Rattle.wh_attend.specs.Guests.{IsStaffed}
+use Rattle.wh_attend.specs.declared.ready.Ready.{Ready}
+
+-- the form in which receipts are told
+abbrev pub form_of : Replies → Form
+form_of replies.Short = form.Short
+form_of replies.Full = form.Full
+form_of replies.Placed = form.Placed
+
+-- the log of a book's run
+abbrev pub log_of : Seen → List ℕ
+log_of book = lines_text (log_lines Two (told_by book))
+
+-- A run is ready. A site was read, and the input ended behind it; its text stands beside the log, or a beginning of it does; by the log
+-- the run starts from this, with one planner for each agent, and with the clients and their spare planners.
+pub record IsReady {X : Type 0} (gives : PlannerParts → Result X AllocError → Type 0) (options : AttendOptions) (old new : Input) (file beside : Option (List ℕ)) (site : Site) (run : Ready X) : Type 0 where
+  pub site_read : SiteKept old new site.grid site.layout run.text.items
+  pub alone : new.ended ≡ true
+  pub stands : StandsBeside beside run.text.items run.found
+  pub starts : StartsFrom options.fleet site file run.start
+  pub staffed : IsStaffed gives options site.grid run.start.book.state.slots run.start.book.history run.planners.items run.clients.items
+
+-- The clients of a run were served, over what it started from: its history goes on from there, as one run from the same opening of the
+-- site, by no more entries than the options name. Remaining and contents are the bytes that a reader and a writer of a client tell.
+pub record Serves {R W X : Type 0} (fits : X → Floor → Bool) (count : X → ℕ) (remaining : R → Option (List ℕ)) (contents : W → Option (List ℕ))
+    (options : AttendOptions) (site : Site) (run : Ready X) (final : Seen) : Type 0 where
+  pub site_is : final.site ≡ site
+  pub opening_is : final.opening ≡ run.start.book.opening
+  pub connections : List ℕ
+  pub served : ServedFrom fits count (receipt_text (form_of options.replies)) remaining contents (origin_of final) run.start.book.history run.clients.items
+      (length run.start.book.history + options.journal) final.history final.state connections
+
+-- A run was ready, its site was kept beside the log, and its clients were served. The file is the log of the whole run now, old entries and
+-- new ones, if it tells its bytes, and all of it is synced; and that log was written.
+pub record Attends {R W X : Type 0} (fits : X → Floor → Bool) (count : X → ℕ) (remaining : R → Option (List ℕ)) (contents : W → Option (List ℕ)) (gives : PlannerParts → Result X AllocError → Type 0) (options : AttendOptions)
+    (old new : Input) (had has file synced holds : Option (List ℕ)) (beside : Siding) : Type 0 where
+  pub site : Site
+  pub run : Ready X
+  pub ready : IsReady gives options old new file beside.before site run
+  pub is_set : IsSet beside run.text.items
+  pub final : Seen
+  pub serves : Serves fits count remaining contents options site run final
+  pub whole : IfSome file (λ _. IsWholeLog holds final)
+  pub synced_is : synced ≡ holds
+  pub tells : Appends had has (log_of final)
+
+-- A site was read, and more stands behind it.
+pub record IsFollowed (old new : Input) : Type 0 where
+  pub site : Site
+  pub text : List ℕ
+  pub site_read : SiteKept old new site.grid site.layout text
+  pub more : new.ended ≡ false
+
+-- A run is ready, but that this client has no way in.
+pub record EndsAtHall {X : Type 0} (gives : PlannerParts → Result X AllocError → Type 0) (options : AttendOptions) (client : ℕ) (old new : Input) (file beside : Option (List ℕ)) : Type 0 where
+  pub site : Site
+  pub run : Ready X
+  pub ready : IsReady gives options old new file beside site run
+
+-- why no run is ready, the earlier first: the site, what stands behind it, both files, the bank and the planners, the hall
+abbrev pub IsWhyUnready : {X : Type 0} → (PlannerParts → Result X AllocError → Type 0) → AttendOptions → Trouble → (old new : Input) → (file beside : Option (List ℕ)) → Type 0
+IsWhyUnready gives options told old new file beside =
+    SiteFault told old new
+    ⊎ ((told ≡ trouble.Scripted) × IsFollowed old new)
+    ⊎ ((new.ended ≡ true) × EndsAtStart options.fleet None told old new file beside)
+    ⊎ ((client : ℕ) × (told ≡ trouble.NoPipes client) × EndsAtHall gives options client old new file beside)
+
+-- A run was ready, and its site could not be kept beside the log: what stood there stands, or a front of the text.
+pub record StopsAside {X : Type 0} (gives : PlannerParts → Result X AllocError → Type 0) (options : AttendOptions) (old new : Input) (file : Option (List ℕ)) (beside : Siding) : Type 0 where
+  pub site : Site
+  pub run : Ready X
+  pub ready : IsReady gives options old new file beside.before site run
+  pub left : LeavesFront beside.before beside.after run.text.items
+  pub has_failed : beside.failed ≡ true
+
+-- why there is no history: the log was not begun, or there is none of the clients
+abbrev pub IsWhyNoHistory : Trouble → Type 0
+IsWhyNoHistory trouble.Unkept = Unit {0}
+IsWhyNoHistory told = IsWhyUnserved told
+
+-- A run was ready, with its site beside its log, and came to no history.
+pub record StopsAttending {X : Type 0} (gives : PlannerParts → Result X AllocError → Type 0) (options : AttendOptions) (told : Trouble) (old new : Input) (file : Option (List ℕ)) (beside : Siding) : Type 0 where
+  pub site : Site
+  pub run : Ready X
+  pub ready : IsReady gives options old new file beside.before site run
+  pub is_set : IsSet beside run.text.items
+  pub why : IsWhyNoHistory told
+
+-- Why a log was not written: the file that keeps it failed before, or memory was wanting, and nothing was written; or a front of it was.
+abbrev pub IsWhyUntold : Trouble → List ℕ → (had has : Option (List ℕ)) → Type 0
+IsWhyUntold trouble.Unkept log had has = Keeps had has
+IsWhyUntold trouble.NoMemory log had has = Keeps had has
+IsWhyUntold trouble.Unwritten log had has = WritesFront had has log
+IsWhyUntold _ log had has = ⊥
+
+-- The clients of a run were served, and its log was not kept to its end, or not written.
+pub record AttendsUntold {R W X : Type 0} (fits : X → Floor → Bool) (count : X → ℕ) (remaining : R → Option (List ℕ)) (contents : W → Option (List ℕ)) (gives : PlannerParts → Result X AllocError → Type 0) (options : AttendOptions)
+    (told : Trouble) (old new : Input) (had has file : Option (List ℕ)) (beside : Siding) : Type 0 where
+  pub site : Site
+  pub run : Ready X
+  pub ready : IsReady gives options old new file beside.before site run
+  pub is_set : IsSet beside run.text.items
+  pub final : Seen
+  pub serves : Serves fits count remaining contents options site run final
+  pub why : IsWhyUntold told (log_of final) had has
+
+-- Why it ended otherwise, the earlier first. Before the run is ready the file beside the log is as it was, and before the clients were
+-- served nothing is written. Of the file of the log nothing is said: the run had it.
+abbrev pub IsWhyUnattended : {R W X : Type 0} → (X → Floor → Bool) → (X → ℕ) → (R → Option (List ℕ)) → (W → Option (List ℕ)) → (PlannerParts → Result X AllocError → Type 0) → AttendOptions → Trouble
+    → (old new : Input) → (had has file : Option (List ℕ)) → Siding → Type 0
+IsWhyUnattended fits count remaining contents gives options told old new had has file beside =
+    (IsWhyUnready gives options told old new file beside.before × Keeps had has × IsUntouched beside)
+    ⊎ ((told ≡ trouble.Unkept) × StopsAside gives options old new file beside × Keeps had has)
+    ⊎ (StopsAttending gives options told old new file beside × Keeps had has)
+    ⊎ AttendsUntold fits count remaining contents gives options told old new had has file beside

@@ -1,0 +1,73 @@
+-- The clients of a run of `live`, and the planners that it is given.
+use Rattle.std.specs.Prelude.{◌≡◌, ◌≢◌, ◌⊎◌, ◌<◌, ◌≤◌, ◌+◌, ◌/◌, ℕ, false, max, List, [], length, All, Contains, Result}
+use Rattle.std.specs.declared.alloc.AllocError.{AllocError}
+use Rattle.wh_grid.specs.Grids.{Floor}
+use Rattle.wh_event.specs.declared.entry.Entry.{Entry}
+use Rattle.wh_claims.specs.Bank.{bank_total}
+use Rattle.wh_claims.specs.declared.bank.Bank.{Bank}
+use Rattle.wh_client.specs.declared.client.ClientOptions.{ClientOptions}
+use Rattle.wh_client.specs.declared.client.ClientRights.{ClientRights}
+use Rattle.wh_options.specs.declared.chosen.AttendOptions.{AttendOptions}
+use Rattle.wh_desk.specs.Lists.{AllAt, entries_of}
+use Rattle.wh_serve.specs.declared.allowance.Rights.{Rights}
+use Rattle.wh_serve.specs.declared.threads.Client.{Client}
+use Rattle.wh_service.specs.Fleets.{AreSeated}
+use Rattle.wh_service.specs.Hosts.{AreMembers}
+use Rattle.wh_service.specs.declared.parts.PlannerParts.{PlannerParts}
+
+-- the rights that a client's word gave it, and none
+abbrev pub rights_of : ClientRights → Rights
+rights_of r = record { submit = r.submit; token = r.token; tick = r.tick; replace = r.replace; close = r.close }
+
+abbrev pub no_rights : Rights
+no_rights = record { submit = false; token = false; tick = false; replace = false; close = false }
+
+-- how many entries more each named client may have: they share those of the journal equally, and each has one at least
+abbrev pub share_of : (journal named : ℕ) → ℕ
+share_of journal named = max (journal / named) 1
+
+-- the clients that were named number 0 to 61, one at least
+pub record AreNamed (clients : List ClientOptions) : Type 0 where
+  pub some : 1 ≤ length clients
+  pub each : All (λ named. named.number < 62) clients
+
+-- one of them has this number, and these rights
+pub record IsNamed (clients : List ClientOptions) (number : ℕ) (rights : ClientRights) : Type 0 where
+  pub named : ClientOptions
+  pub there : Contains clients named
+  pub number_is : named.number ≡ number
+  pub rights_are : named.rights ≡ rights
+
+-- A client with so many entries before the run, whose word gave it these rights: it may have its share of entries beside them, and as
+-- many planners stand by for it as the options name.
+pub record IsGuest {X : Type 0} (gives : PlannerParts → Result X AllocError → Type 0) (options : AttendOptions) (grid : Floor) (bank : Bank) (had : ℕ) (rights : ClientRights) (client : Client X) : Type 0 where
+  pub rights_are : client.allowance.rights ≡ rights_of rights
+  pub share_is : client.allowance.entries ≡ had + share_of options.journal (length options.clients.items)
+  pub spares_are : AreMembers gives options.fleet grid bank options.fleet.spares client.spares.items
+
+-- A client that nobody named: it may do nothing.
+pub record IsNobody {X : Type 0} (client : Client X) : Type 0 where
+  pub rights_are : client.allowance.rights ≡ no_rights
+  pub share_is : client.allowance.entries ≡ 0
+  pub spares_are : client.spares.items ≡ []
+
+-- the client of this number, which was named, or which nobody named
+abbrev pub IsClient : {X : Type 0} → (PlannerParts → Result X AllocError → Type 0) → AttendOptions → Floor → Bank → (earlier : List Entry) → (number : ℕ) → Client X → Type 0
+IsClient gives options grid bank earlier number client =
+    ((rights : ClientRights) × IsNamed options.clients.items number rights × IsGuest gives options grid bank (length (entries_of earlier number)) rights client)
+    ⊎ (All (λ named. named.number ≢ number) options.clients.items × IsNobody client)
+
+-- A client for each number from 0 on, 64 at most: for all that were named, and for all that have entries.
+pub record AreClients {X : Type 0} (gives : PlannerParts → Result X AllocError → Type 0) (options : AttendOptions) (grid : Floor) (bank : Bank) (earlier : List Entry) (clients : List (Client X)) : Type 0 where
+  pub few : length clients ≤ 64
+  pub named : All (λ named. named.number < length clients) options.clients.items
+  pub callers : All (λ entry. entry.caller < length clients) earlier
+  pub each : AllAt (IsClient gives options grid bank earlier) clients
+
+-- One planner for each agent, with the slots that its state tells, and the clients with those that stand by for them. All have their
+-- claims on one bank, which has as many slots in all as the options name.
+pub record IsStaffed {X : Type 0} (gives : PlannerParts → Result X AllocError → Type 0) (options : AttendOptions) (grid : Floor) (slots : List ℕ) (earlier : List Entry) (planners : List X) (clients : List (Client X)) : Type 0 where
+  pub bank : Bank
+  pub total : bank_total bank ≡ options.fleet.bank
+  pub planners_are : AreSeated gives options.fleet grid bank slots planners
+  pub clients_are : AreClients gives options grid bank earlier clients

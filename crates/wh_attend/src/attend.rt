@@ -1,0 +1,128 @@
+//! What `live` does with running clients.
+
+ghost use Rattle.std.specs.Prelude.{◌≡◌, IfErr, IfOk};
+ghost use Rattle.wh_journal.specs.Surviving.{HoldsLog, StaysLog};
+ghost use Rattle.wh_continue.specs.Running.{IsStartOf};
+ghost use Rattle.wh_service.specs.Fleets.{IsOfFleet};
+ghost use Rattle.wh_attend.specs.Guests.{AreNamed};
+ghost use Rattle.wh_attend.specs.Attends.{Attends, IsWhyNoHistory, IsWhyUnattended, form_of};
+
+use crate::ending::end_run;
+use crate::hall::Hall;
+use crate::ready::{Ready, prepare};
+use crate::serving::serve_all;
+use std::alloc::{AllocError, Global};
+use std::io::{Read, Write};
+use std::sync::Wait;
+use std::thread::Threads;
+use wh_continue::{LogFile, Start, Warehouse, begin_log, keep_beside};
+use wh_edge::Trouble;
+use wh_lines::Lines;
+use wh_options::{AttendOptions, Replies};
+use wh_planner::Planner;
+use wh_serve::{Doors, Form};
+use wh_service::{PlannerParts, keep_trouble};
+
+/// The form in which receipts are told.
+fn form_of(replies: Replies) -> Form
+    ensures { result ≡ form_of replies }
+{
+    match replies {
+        Replies::Short => Form::Short,
+        Replies::Full => Form::Full,
+        Replies::Placed => Form::Placed,
+    }
+}
+
+/// Makes the file the log of the run so far, but for its end line, and the warehouse that goes on from there. Planners are made for the
+/// very book, so that none is refused for anything but want of memory.
+fn begin<L: LogFile, P: Planner>(
+    alloc: Global,
+    file: &mut L,
+    start: Start,
+    planners: Vec<P>,
+) -> Result<Warehouse<P>, Trouble>
+    requires starts { IsStartOf (L.contents file.old) start }
+    ensures book { IfOk result (λ w. w.book ≡ start.book) }
+    ensures stays { IfOk result (λ _. StaysLog (L.contents file.old) (L.contents file.new) start.book) }
+    ensures holds { IfOk result (λ _. HoldsLog (L.contents file.new) start.book) }
+    ensures synced { IfOk result (λ _. L.synced file.new ≡ L.contents file.new) }
+    ensures fault { IfErr result IsWhyNoHistory }
+{
+    match begin_log(alloc, file, &start) {
+        Ok(()) => {}
+        Err(fault) => return Err(keep_trouble(fault)),
+    }
+    let Start { book, .. } = start;
+    match Warehouse::resume(alloc, book, planners) {
+        Ok(warehouse) => Ok(warehouse),
+        Err(_) => Err(Trouble::NoMemory),
+    }
+}
+
+/// Reads a site, finds out from the log file and the file beside it what the run starts from, makes one planner for each agent, with the
+/// slots that its state tells, and those that stand by for clients, keeps the site's text beside the log, and serves running clients, who
+/// come in at the doors, over the log. Each has the rights that its word gave it, and may have its share of the entries that the journal may
+/// have more; a client that nobody named may do nothing. When all are through the file is given the line that ends the log, and the log of
+/// the whole run, old entries and new ones, is written. What stands in the log outlives a kill, and no reply is told before its entry was
+/// synced. `make` makes one planner of its parts, and its error tells that memory is wanting. What can go wrong is told in this order: the
+/// site, what stands behind it, the file beside the log, the log, the bank and the planners, a client without a way in, what is written
+/// beside the log, the run, the end of the log, the writer. Before the clients are served nothing is written to the output. The file of
+/// the log comes back where all went well: else it is let go, and no more is said of it here.
+pub fn attend<
+    R: Read,
+    W: Write,
+    L: LogFile + Send + Drop,
+    B: LogFile,
+    P: Planner,
+    F: Fn(PlannerParts) -> Result<P, AllocError>,
+    T: Threads + Wait + Sync,
+    I: Read + Send + Drop,
+    O: Write + Send + Drop,
+    D: Doors<I, O> + Hall,
+>(
+    rt: &T,
+    alloc: Global,
+    lines: &mut Lines<R>,
+    output: &mut W,
+    options: &AttendOptions<'_>,
+    mut file: L,
+    beside: &mut B,
+    doors: &D,
+    make: F,
+) -> Result<L, Trouble>
+    requires range { IsOfFleet options.now.fleet }
+    requires named { AreNamed options.now.clients.items }
+    requires callable { F.IsAlwaysCallable make }
+    ensures ok { IfOk result (λ kept. Attends P.fits_map P.slot_count (λ x. I.remaining x) (λ x. O.contents x) (F.post make) options.now lines.old lines.new (W.contents output.old) (W.contents output.new) (L.contents file) (L.synced kept) (L.contents kept)
+        (record { before = B.contents beside.old; after = B.contents beside.new; synced = B.synced beside.new; failed = B.failed beside.new })) }
+    ensures fault { IfErr result (λ told. IsWhyUnattended P.fits_map P.slot_count (λ x. I.remaining x) (λ x. O.contents x) (F.post make) options.now told lines.old lines.new (W.contents output.old) (W.contents output.new) (L.contents file)
+        (record { before = B.contents beside.old; after = B.contents beside.new; synced = B.synced beside.new; failed = B.failed beside.new })) }
+{
+    let ready = match prepare(alloc, lines, options, &mut file, beside, doors, &make) {
+        Ok(ready) => ready,
+        Err(trouble) => return Err(trouble),
+    };
+    let Ready {
+        text,
+        found,
+        start,
+        planners,
+        clients,
+    } = ready;
+    match keep_beside(beside, text.as_slice(), found) {
+        Ok(()) => {}
+        Err(_) => return Err(Trouble::Unkept),
+    }
+    drop(text);
+    let warehouse = match begin(alloc, &mut file, start, planners) {
+        Ok(warehouse) => warehouse,
+        Err(trouble) => return Err(trouble),
+    };
+    let form = form_of(options.replies);
+    let more = options.journal;
+    match serve_all(rt, alloc, form, warehouse, clients, more, file, doors) {
+        Ok(ran) => end_run(alloc, output, ran),
+        Err(trouble) => Err(trouble),
+    }
+}

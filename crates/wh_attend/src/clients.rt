@@ -1,0 +1,214 @@
+//! The clients of a run: one for each number, with what it may do and the planners that stand by for it.
+
+ghost use Rattle.std.specs.Prelude.{◌≡◌, ◌≢◌, ◌⊎◌, ◌<◌, ◌≤◌, [], All, IfErr, IfNone, IfOk, IfSome, length};
+ghost use Rattle.std.specs.Arc.{arc_value};
+ghost use Rattle.wh_claims.specs.Bank.{Belongs};
+ghost use Rattle.wh_log.specs.Logs.{IsSlots};
+ghost use Rattle.wh_desk.specs.Lists.{AllAt, entries_of};
+ghost use Rattle.wh_service.specs.Fleets.{IsOfFleet, IsWhyUnclaimed, IsWhyUnseated};
+ghost use Rattle.wh_attend.specs.Guests.{AreClients, AreNamed, IsClient, IsNamed, IsNobody, IsStaffed, no_rights, rights_of, share_of};
+
+use std::alloc::{AllocError, Global};
+use std::sync::Arc;
+use wh_claims::{Bank, BankSeat};
+use wh_continue::Start;
+use wh_edge::Trouble;
+use wh_event::Entry;
+use wh_grid::Grid;
+use wh_options::{AttendOptions, ClientOptions, ClientRights};
+use wh_planner::Planner;
+use wh_serve::{Allowance, Client, Rights};
+use wh_service::{PlannerParts, members, seated};
+
+/// The rights that a client's word gave it.
+fn rights_of(rights: ClientRights) -> Rights
+    ensures { result ≡ rights_of rights }
+{
+    Rights {
+        submit: rights.submit,
+        token: rights.token,
+        tick: rights.tick,
+        replace: rights.replace,
+        close: rights.close,
+    }
+}
+
+/// How many entries more each of the named clients may have.
+fn share_of(journal: u32, named: usize) -> u64
+    requires some { 1 ≤ named }
+    ensures value { result ≡ share_of journal named }
+    ensures few { result ≤ 4294967296 }
+{
+    (u64::from(journal) / named as u64).max(1)
+}
+
+/// How many entries a caller has in a history.
+fn had_by(history: &[Entry], caller: u32) -> u64
+    ensures value { result ≡ length (entries_of history.now caller) }
+    ensures few { result ≤ length history.now }
+{
+    let mut count = 0;
+    for entry in history {
+        if entry.caller == caller {
+            count += 1;
+        }
+    }
+    count
+}
+
+/// For how many clients there is to be a place that all who have entries are among them.
+fn places_of(history: &[Entry]) -> u32
+    requires callers { All (λ entry. entry.caller < 64) history.now }
+    ensures within { All (λ entry. entry.caller < result) history.now }
+    ensures few { result ≤ 64 }
+{
+    let mut places = 0;
+    for entry in history {
+        places = places.max(entry.caller + 1);
+    }
+    places
+}
+
+/// The same, so that those who were named are among them too.
+fn places_for(clients: &[ClientOptions<'_>], mut places: u32) -> u32
+    requires named { All (λ named. named.number < 62) clients.now }
+    requires few { places ≤ 64 }
+    ensures within { All (λ named. named.number < result) clients.now }
+    ensures more { places ≤ result }
+    ensures few { result ≤ 64 }
+{
+    for client in clients {
+        places = places.max(client.number + 1);
+    }
+    places
+}
+
+/// The rights of the client that was named by this number, if one was.
+fn rights_at(clients: &[ClientOptions<'_>], number: u32) -> Option<ClientRights>
+    ensures some { IfSome result (IsNamed clients.now number) }
+    ensures none { IfNone result (All (λ named. named.number ≢ number) clients.now) }
+{
+    for client in clients {
+        if client.number == number {
+            return Some(client.rights);
+        }
+    }
+    None
+}
+
+/// A client that nobody named.
+fn nobody<P: Planner>(alloc: Global) -> Client<P>
+    ensures { IsNobody result }
+{
+    Client {
+        spares: Vec::new(alloc),
+        allowance: Allowance {
+            rights: Rights::default(),
+            entries: 0,
+        },
+    }
+}
+
+/// The client of this number. Those that stand by for it have their claims on the bank.
+fn client_of<P: Planner, F: Fn(PlannerParts) -> Result<P, AllocError>>(
+    alloc: Global,
+    options: &AttendOptions<'_>,
+    grid: &Arc<Grid>,
+    bank: &Arc<Bank>,
+    seat: &mut BankSeat,
+    make: &F,
+    history: &[Entry],
+    number: u32,
+) -> Result<Client<P>, Trouble>
+    requires range { IsOfFleet options.now.fleet }
+    requires named { AreNamed options.now.clients.items }
+    requires callable { F.IsAlwaysCallable make.now }
+    requires seat { Belongs seat.old (arc_value bank.now) }
+    ensures seat { Belongs seat.new (arc_value bank.now) }
+    ensures ok { IfOk result (IsClient (F.post make.now) options.now (arc_value grid.now) (arc_value bank.now) history.now number) }
+    ensures fault { IfErr result (IsWhyUnclaimed options.now.fleet.slots) }
+{
+    let fleet = &options.fleet;
+    let Some(rights) = rights_at(options.clients.as_slice(), number) else {
+        return Ok(nobody(alloc));
+    };
+    let spares = members(alloc, fleet, grid, bank, seat, make, fleet.spares as usize)?;
+    let share = share_of(options.journal, options.clients.len());
+    Ok(Client {
+        spares,
+        allowance: Allowance {
+            rights: rights_of(rights),
+            entries: had_by(history, number) + share,
+        },
+    })
+}
+
+/// The clients, one for each number.
+fn clients_of<P: Planner, F: Fn(PlannerParts) -> Result<P, AllocError>>(
+    alloc: Global,
+    options: &AttendOptions<'_>,
+    grid: &Arc<Grid>,
+    bank: &Arc<Bank>,
+    seat: &mut BankSeat,
+    make: &F,
+    history: &[Entry],
+    places: u32,
+) -> Result<Vec<Client<P>>, Trouble>
+    requires range { IsOfFleet options.now.fleet }
+    requires named { AreNamed options.now.clients.items }
+    requires callable { F.IsAlwaysCallable make.now }
+    requires seat { Belongs seat.old (arc_value bank.now) }
+    ensures count { IfOk result (λ clients. length clients.items ≡ places) }
+    ensures each { IfOk result (λ clients. AllAt (IsClient (F.post make.now) options.now (arc_value grid.now) (arc_value bank.now) history.now) clients.items) }
+    ensures fault { IfErr result (IsWhyUnclaimed options.now.fleet.slots) }
+{
+    let mut clients = Vec::with_capacity(alloc, places as usize)?;
+    for number in 0..places {
+        let client = client_of(alloc, options, grid, bank, seat, make, history, number)?;
+        clients.push(client)?;
+    }
+    Ok(clients)
+}
+
+/// The planners of a run, and its clients.
+#[derive(Drop)]
+pub(crate) struct Staff<P: Planner> {
+    /// One for each agent.
+    pub planners: Vec<P>,
+    /// The clients, with the planners that stand by for them.
+    pub clients: Vec<Client<P>>,
+}
+
+/// Makes the planners of the agents, with the slots that the start's state tells, and then those that stand by for clients. The error
+/// tells why one of them got no slots, or that memory is wanting.
+pub(crate) fn staff<P: Planner, F: Fn(PlannerParts) -> Result<P, AllocError>>(
+    alloc: Global,
+    options: &AttendOptions<'_>,
+    grid: &Arc<Grid>,
+    start: &Start,
+    make: &F,
+) -> Result<Staff<P>, Trouble>
+    requires range { IsOfFleet options.now.fleet }
+    requires named { AreNamed options.now.clients.items }
+    requires slots { All IsSlots start.now.book.state.slots }
+    requires callers { All (λ entry. entry.caller < 64) start.now.book.history }
+    requires callable { F.IsAlwaysCallable make.now }
+    ensures ok { IfOk result (λ s. IsStaffed (F.post make.now) options.now (arc_value grid.now) start.now.book.state.slots start.now.book.history s.planners.items s.clients.items) }
+    ensures fault { IfErr result (λ told. IsWhyUnseated start.now.book.state.slots told ⊎ IsWhyUnclaimed options.now.fleet.slots told) }
+{
+    let fleet = &options.fleet;
+    let history = start.book.history();
+    let slots = start.book.slots();
+    let places = places_for(options.clients.as_slice(), places_of(history));
+    let (bank, mut seat) = Bank::new(alloc, fleet.bank)?;
+    let planners = match seated(alloc, fleet, grid, &bank, &mut seat, make, slots) {
+        Ok(planners) => planners,
+        Err(trouble) => return Err(trouble),
+    };
+    match clients_of(
+        alloc, options, grid, &bank, &mut seat, make, history, places,
+    ) {
+        Ok(clients) => Ok(Staff { planners, clients }),
+        Err(trouble) => Err(trouble),
+    }
+}
