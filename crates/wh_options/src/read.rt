@@ -17,7 +17,7 @@ use clap::error::ErrorKind;
 use clap::{ArgMatches, Error};
 use std::alloc::{AllocError, Global};
 use std::convert::AsStr;
-use wh_client::clients_of;
+use wh_client::{ClientOptions, clients_of};
 
 fn number(matches: &ArgMatches<'_>, name: &str, default: u32) -> u32
     ensures { ReadsNumber (first_value (found_of matches.now) name.now) default result }
@@ -154,14 +154,16 @@ fn live_options<'a>(matches: &ArgMatches<'a>) -> LiveOptions<'a>
     }
 }
 
-// All the texts that are given for clients.
-fn client_texts<'m, 'a>(live: &'m ArgMatches<'a>) -> &'m [&'a str]
-    ensures { map (λ t. t.now) result.now ≡ clients_in (rows_of (found_of live.now)) }
+// The clients that the texts name, where each names one of its own.
+fn clients<'a>(
+    alloc: Global,
+    live: &ArgMatches<'a>,
+) -> Result<Option<Vec<ClientOptions<'a>>>, AllocError>
+    ensures { IfOk result (λ found. MatchOption found
+        ((cs : List ClientOptions) → ¬ GiveClients (clients_in (rows_of (found_of live.now))) cs)
+        (λ clients. GiveClients (clients_in (rows_of (found_of live.now))) clients.items)) }
 {
-    match live.get_strs("client") {
-        Some(texts) => texts,
-        None => &[],
-    }
+    clients_of(alloc, live.get_strs("client").unwrap_or(&[]))
 }
 
 // The options of `live` with running clients, where the texts name some.
@@ -174,7 +176,7 @@ fn attend_options<'a>(
         ((cs : List ClientOptions) → ¬ GiveClients (clients_in (rows_of (found_of live.now))) cs)
         (ReadsAttend (first_value (found_of live.now)) (clients_in (rows_of (found_of live.now))))) }
 {
-    let Some(clients) = clients_of(alloc, client_texts(live))? else {
+    let Some(clients) = clients(alloc, live)? else {
         return Ok(None);
     };
     Ok(Some(AttendOptions {
