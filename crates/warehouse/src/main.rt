@@ -11,7 +11,7 @@ ghost use Rattle.wh_claims.specs.Claim.{claim_amount};
 use std::alloc::AllocError;
 use std::env;
 use std::fs::{File, Files};
-use std::io::{self, BufWriter, ErrorKind, Write};
+use std::io::{self, BufWriter, ErrorKind, Read, Write};
 use std::process::ExitCode;
 use std::sync::Wait;
 use std::thread::Threads;
@@ -21,7 +21,9 @@ use wh_lines::Lines;
 use wh_options::PlannerKind;
 use wh_planner::Planner;
 use wh_planners::{Patient, Sharing};
-use wh_program::{Outside, PlannerParts, Screen, Surroundings, end, run};
+use wh_program::{
+    Doors, Hall, LogFile, Outside, PlannerParts, Screen, Surroundings, end, run,
+};
 
 /// How many bytes of output are written at a time.
 const OUTPUT_BUFFER: usize = 65_536;
@@ -54,7 +56,11 @@ fn obey<
     'w,
     R: AllocGlobal + Print + Input + Files<File = File> + Threads + Wait + Clock + Sync,
     S: Screen + Send + Drop,
-    O: Outside<'w, S>,
+    L: LogFile + Send + Drop,
+    I: Read + Send + Drop,
+    Q: Write + Send + Drop,
+    D: Doors<I, Q> + Hall,
+    O: Outside<'w, S, L, I, Q, D>,
     E: Write,
 >(rt: &'w R, outside: &O, words: &'w [String], errors: &mut E) -> Status {
     let alloc = rt.alloc();

@@ -9,6 +9,7 @@ use crate::boards::LAST;
 use std::alloc::{AllocError, AllocGlobal};
 use std::fs;
 use std::fs::{File, Files};
+use std::io::{Read, Write};
 use std::path::Path;
 use std::sync::Wait;
 use std::test::*;
@@ -18,7 +19,7 @@ use wh_lines::Lines;
 use wh_options::PlannerKind;
 use wh_planner::Planner;
 use wh_planners::{Patient, Sharing};
-use wh_program::{Outside, PlannerParts, Screen, Surroundings, run};
+use wh_program::{Doors, Hall, LogFile, Outside, PlannerParts, Screen, Surroundings, run};
 
 /// What a call of the program shows.
 #[derive(Drop)]
@@ -33,7 +34,11 @@ fn call<
     'w,
     R: AllocGlobal + Threads + Wait + Clock + Sync + Files<File = File>,
     S: Screen + Send + Drop,
-    O: Outside<'w, S>,
+    L: LogFile + Send + Drop,
+    I: Read + Send + Drop,
+    Q: Write + Send + Drop,
+    D: Doors<I, Q> + Hall,
+    O: Outside<'w, S, L, I, Q, D>,
 >(rt: &'w R, outside: &O, words: &'w [&'w str], input: &[u8]) -> Result<Shown, Fail> {
     let alloc = rt.alloc();
     let make = |parts: PlannerParts| -> Result<Box<dyn Planner>, AllocError>

@@ -1,4 +1,5 @@
 pub mod Starved
 pub mod Whole
+mod Folders
 mod Late
 mod Screens

@@ -8,12 +8,13 @@ use Rattle.wh_lines.specs.Input.{Input}
 use Rattle.wh_edge.specs.declared.trouble.Trouble.TheVariants as trouble
 use Rattle.wh_options.specs.Setting.{Text}
 use Rattle.wh_options.specs.declared.chosen.Options.{Options}
-use Rattle.wh_options.specs.declared.chosen.Options.TheVariants.{Check, Replay, Verify, Live}
+use Rattle.wh_options.specs.declared.chosen.Options.TheVariants.{Attend, Check, Replay, Verify, Live}
 use Rattle.wh_options.specs.declared.chosen.LiveOptions.{LiveOptions}
 use Rattle.wh_options.specs.declared.chosen.ReplayOptions.{ReplayOptions}
 use Rattle.wh_options.specs.declared.chosen.VehicleOptions.{VehicleOptions}
 use Rattle.wh_convoy.specs.Convoys.{Held}
 use Rattle.wh_service.specs.Kept.{Siding}
+use Rattle.wh_program.specs.Attending.{Attended}
 use Rattle.wh_program.specs.Programs.{Did, Drove, Files, LateFiles, Lived, ReplayedOver, names_file}
 use Rattle.wh_service.specs.declared.convoys.DriveTrouble.TheVariants.{Plain}
 use Rattle.wh_service.specs.declared.parts.PlannerParts.{PlannerParts}
@@ -28,11 +29,13 @@ module _ {X : Type 0} (fits : X → Floor → Bool) (count : X → ℕ) (gives :
     (false, None, None, record { before = None; after = None; synced = None; failed = false }, refl, inl (tt, Keeps-refl had, refl, refl)),
   )
 
-  pub starved : (screens : Text → Text → Option (List (List ℕ)) → Type 0) (o : Options) → (files : Option Files) × (is_some files ≡ names_file o) × Did fits count gives screens o files (Err trouble.NoMemory) input input had had
-  starved screens Check = (None, refl, (tt, Keeps-refl had))
-  starved screens Verify = (None, refl, Keeps-refl had)
-  starved screens (Live o) = (None, refl, inl (refl, refl, Keeps-refl had))
-  starved screens (Replay o) = over o o.log
+  pub starved : {R W D : Type 0} (screens : Text → Text → Option (List (List ℕ)) → Type 0) (remaining : R → Option (List ℕ)) (contents : W → Option (List ℕ)) (logs : Text → Option (List ℕ) → Type 0) (leads : List (Option Text) → D → Type 0) (o : Options) →
+      (files : Option Files) × (is_some files ≡ names_file o) × Did fits count gives screens (Attended fits count gives remaining contents logs leads) o files (Err trouble.NoMemory) input input had had
+  starved screens remaining contents logs leads Check = (None, refl, (tt, Keeps-refl had))
+  starved screens remaining contents logs leads Verify = (None, refl, Keeps-refl had)
+  starved screens remaining contents logs leads (Live o) = (None, refl, inl (refl, refl, Keeps-refl had))
+  starved screens remaining contents logs leads (Attend o) = (None, refl, inl (refl, refl, Keeps-refl had))
+  starved screens remaining contents logs leads (Replay o) = over o o.log
 
   -- memory was wanting for the name of the file beside the board
   pub starved_live : (screens : Text → Text → Option (List (List ℕ)) → Type 0) (o : LiveOptions) → Lived fits count gives screens o (Err trouble.NoMemory) input input had had

@@ -1,7 +1,9 @@
 -- What the whole program comes to.
-use Rattle.std.proofs.Common.{◌≡◌, ◌≢◌, ◌⊎◌, ◌≤◌, ℕ, Bool, true, false, List, Option, Some, None, Result, Ok, Err, MatchOption, codes, inl, inr, refl, subst, sym, ◌∙◌, ap, arith}
+use Rattle.std.proofs.Common.{◌≡◌, ◌≢◌, ◌⊎◌, ◌≤◌, ℕ, Bool, true, false, List, [], ◌∷◌, length, ◌<◌, All, Option, Some, None, Result, Ok, Err, MatchOption, codes, inl, inr, refl, subst, sym, ◌∙◌, ap, arith}
 use Rattle.std.specs.Prelude.{OnOk, OnErr, IfSome, is_some, option_map}
 use Rattle.std.specs.Io.KnownBytes.{Appends}
+use Rattle.std.specs.List.{AllByRecursion, AllZip}
+use Rattle.std.proofs.lemmas.List.Elements.{All-from_recursion}
 use Rattle.wh_lines.specs.Input.{Input}
 use Rattle.wh_lines.specs.Output.{WritesFront}
 use Rattle.wh_lines.proofs.Written.{front_all}
@@ -11,12 +13,14 @@ use Rattle.wh_edge.specs.declared.trouble.Status.TheVariants as status
 use Rattle.wh_edge.specs.declared.trouble.Trouble.{Trouble}
 use Rattle.wh_options.specs.Options.{GivesFleet, IsWritten, WordsGive}
 use Rattle.wh_options.specs.Requests.{AsksBy, help_flags, version_flags}
-use Rattle.wh_options.specs.Setting.{Setting, Text, value_of}
+use Rattle.wh_options.specs.Setting.{Setting, Text, value_of, values_of}
+use Rattle.wh_client.specs.Clients.{GivesClient}
+use Rattle.wh_client.specs.declared.client.ClientOptions.{ClientOptions}
 use Rattle.wh_options.specs.declared.chosen.Fleet.{Fleet}
 use Rattle.wh_options.specs.declared.chosen.ReplayOptions.{ReplayOptions}
 use Rattle.wh_options.specs.declared.chosen.VehicleOptions.{VehicleOptions}
 use Rattle.wh_options.specs.declared.chosen.Options.{Options}
-use Rattle.wh_options.specs.declared.chosen.Options.TheVariants.{Check, Replay, Verify, Live}
+use Rattle.wh_options.specs.declared.chosen.Options.TheVariants.{Attend, Check, Replay, Verify, Live}
 use Rattle.wh_options.specs.declared.refused.Refusal.{Refusal}
 use Rattle.wh_options.specs.declared.refused.Refusal.TheVariants as refusal
 use Rattle.wh_service.specs.Fleets.{IsOfFleet}
@@ -60,6 +64,20 @@ some_ahead (Some text) vehicles pace is h = subst (λ (v : Option VehicleOptions
 pub late_range : (o : ReplayOptions) (pace : VehicleOptions) → HasRange (Replay o) → o.vehicles ≡ Some pace → IsOfFleet o.fleet × (1 ≤ pace.ahead)
 late_range o pace range is = (range.0, subst (λ (v : Option VehicleOptions). IfSome v (λ p. 1 ≤ p.ahead)) is range.1)
 
+some_long : {X : Type 0} (xs : List X) → xs ≢ [] → 1 ≤ length xs
+some_long [] none = absurd (none refl)
+some_long (x ∷ xs) some = omega (arith)
+
+below : (texts : List Text) (clients : List ClientOptions) → AllZip GivesClient texts clients → AllByRecursion (λ c. c.number < 62) clients
+below [] [] zip = tt
+below [] (c ∷ cs) zip = absurd zip
+below (t ∷ ts) [] zip = absurd zip
+below (t ∷ ts) (c ∷ cs) zip = (let n = zip.0.1.2 in omega (arith, n), below ts cs zip.1)
+
+-- each client that texts give has a number from 0 to 61
+numbered : (texts : List Text) (clients : List ClientOptions) → AllZip GivesClient texts clients → All (λ c. c.number < 62) clients
+numbered texts clients zip = All-from_recursion (λ (c : ClientOptions). c.number < 62) clients (below texts clients zip)
+
 pub in_range : (words : List Text) (o : Options) → WordsGive words o → HasRange o
 in_range words Check gives = tt
 in_range words (Replay o) gives =
@@ -69,6 +87,13 @@ in_range words (Replay o) gives =
     )
 in_range words Verify gives = tt
 in_range words (Live o) gives = ranged (value_of (codes "slots") gives.1) o.fleet.slots gives.3.0.1.fleet.slots
+in_range words (Attend o) gives = (
+  ranged (value_of (codes "slots") gives.1) o.fleet.slots gives.3.0.1.fleet.slots,
+  record {
+    some = some_long o.clients.items gives.3.0.1.some;
+    each = numbered (values_of (codes "client") gives.1) o.clients.items gives.3.0.1.clients.each;
+  },
+)
 
 -- Where help or the version was asked for, and where memory was wanting, nothing is told of a mistake. The three kinds of a
 -- refusal of words that are told apart are named by whoever knows them.

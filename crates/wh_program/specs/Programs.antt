@@ -13,9 +13,10 @@ use Rattle.wh_edge.specs.declared.trouble.Trouble.TheVariants as trouble
 use Rattle.wh_options.specs.Options.{WordsGive, board_of}
 use Rattle.wh_options.specs.Requests.{AsksBy, help_flags, version_flags}
 use Rattle.wh_options.specs.Setting.{Text}
+use Rattle.wh_options.specs.declared.chosen.AttendOptions.{AttendOptions}
 use Rattle.wh_options.specs.declared.chosen.LiveOptions.{LiveOptions}
 use Rattle.wh_options.specs.declared.chosen.Options.{Options}
-use Rattle.wh_options.specs.declared.chosen.Options.TheVariants.{Check, Replay, Verify, Live}
+use Rattle.wh_options.specs.declared.chosen.Options.TheVariants.{Attend, Check, Replay, Verify, Live}
 use Rattle.wh_options.specs.declared.chosen.ReplayOptions.{ReplayOptions}
 use Rattle.wh_service.specs.Checks.{IsWhyUnjudged, Judges}
 use Rattle.wh_service.specs.Hosts.{HostsTo, IsWhyUnhosted}
@@ -31,13 +32,15 @@ use Rattle.wh_service.specs.Plays.{text_by}
 use Rattle.wh_service.specs.Serves.{IsWhyUnserved, ServesByFleet}
 use Rattle.wh_service.specs.Verifies.{IsWhyUnverified, Verifies}
 use Rattle.wh_service.specs.declared.parts.PlannerParts.{PlannerParts}
+use Rattle.wh_attend.specs.Guests.{AreNamed}
 
--- each planner of the options' fleet may keep 2 to 64 fields, and vehicles may be told one cell ahead or more
+-- each planner of the options' fleet may keep 2 to 64 fields, vehicles may be told one cell ahead or more, and running clients were named
 abbrev pub HasRange : Options → Type 0
 HasRange Check = Unit {0}
 HasRange (Replay o) = IsOfFleet o.fleet × IfSome o.vehicles (λ pace. 1 ≤ pace.ahead)
 HasRange Verify = Unit {0}
 HasRange (Live o) = IsOfFleet o.fleet
+HasRange (Attend o) = IsOfFleet o.fleet × AreNamed o.clients.items
 
 -- how vehicles carry out the plan, where the options say that they do so at their own pace
 abbrev pub pace_of : Options → Option VehicleOptions
@@ -104,13 +107,14 @@ abbrev pub ReplayedOver : {X : Type 0} → (X → Floor → Bool) → (X → ℕ
 ReplayedOver fits count gives o None came old new had has = Replayed fits count gives o came old new had has
 ReplayedOver fits count gives o (Some files) came old new had has = Kept fits count gives o came old new had has files
 
--- what the options ask for was done, and came to this
-abbrev pub Did : {X : Type 0} → (X → Floor → Bool) → (X → ℕ) → (PlannerParts → Result X AllocError → Type 0) → (Text → Text → Option (List (List ℕ)) → Type 0) → Options
+-- What the options ask for was done, and came to this. Guests says what `live` with running clients comes to.
+abbrev pub Did : {X : Type 0} → (X → Floor → Bool) → (X → ℕ) → (PlannerParts → Result X AllocError → Type 0) → (Text → Text → Option (List (List ℕ)) → Type 0) → (guests : AttendOptions → Result Status Trouble → Input → Input → Option (List ℕ) → Option (List ℕ) → Type 0) → Options
     → Option Files → Result Status Trouble → Input → Input → Option (List ℕ) → Option (List ℕ) → Type 0
-Did fits count gives screens Check files came old new had has = Checked came old new had has
-Did fits count gives screens Verify files came old new had has = Verified came old new had has
-Did fits count gives screens (Live o) files came old new had has = Lived fits count gives screens o came old new had has
-Did fits count gives screens (Replay o) files came old new had has = ReplayedOver fits count gives o files came old new had has
+Did fits count gives screens guests Check files came old new had has = Checked came old new had has
+Did fits count gives screens guests Verify files came old new had has = Verified came old new had has
+Did fits count gives screens guests (Live o) files came old new had has = Lived fits count gives screens o came old new had has
+Did fits count gives screens guests (Attend o) files came old new had has = guests o came old new had has
+Did fits count gives screens guests (Replay o) files came old new had has = ReplayedOver fits count gives o files came old new had has
 
 -- whether the options name a log file
 abbrev pub names_file : Options → Bool
@@ -124,6 +128,7 @@ Ends (Err told) ended had has = (ended ≡ status_of told) × WritesFront had ha
 
 -- The words give options without vehicles, and what these ask for was done, over a log file and the file beside it where they name one.
 pub record Obeys {X : Type 0} (fits : X → Floor → Bool) (count : X → ℕ) (gives : PlannerParts → Result X AllocError → Type 0) (screens : Text → Text → Option (List (List ℕ)) → Type 0)
+    (guests : AttendOptions → Result Status Trouble → Input → Input → Option (List ℕ) → Option (List ℕ) → Type 0)
     (words : List Text) (ended : Status) (old new : Input) (had has blamed blames : Option (List ℕ)) : Type 0 where
   pub options : Options
   pub given : WordsGive words options
@@ -131,7 +136,7 @@ pub record Obeys {X : Type 0} (fits : X → Floor → Bool) (count : X → ℕ) 
   pub files : Option Files
   pub named : is_some files ≡ names_file options
   pub came : Result Status Trouble
-  pub did : Did fits count gives screens options files came old new had has
+  pub did : Did fits count gives screens guests options files came old new had has
   pub ends : Ends came ended blamed blames
 
 -- what the log, the file beside it and the file of arrivals told before anything was done
@@ -181,8 +186,8 @@ pub record Declines (words : List Text) (ended : Status) (old new : Input) : Typ
   pub unread : new ≡ old
 
 -- What the program comes to. Blamed and blames are what stood on standard error before, and stands there after.
-abbrev pub Comes : {X : Type 0} → (X → Floor → Bool) → (X → ℕ) → (PlannerParts → Result X AllocError → Type 0) → (Text → Text → Option (List (List ℕ)) → Type 0) → List Text → Status
+abbrev pub Comes : {X : Type 0} → (X → Floor → Bool) → (X → ℕ) → (PlannerParts → Result X AllocError → Type 0) → (Text → Text → Option (List (List ℕ)) → Type 0) → (guests : AttendOptions → Result Status Trouble → Input → Input → Option (List ℕ) → Option (List ℕ) → Type 0) → List Text → Status
     → (old new : Input) → (had has blamed blames : Option (List ℕ)) → Type 0
-Comes fits count gives screens words ended old new had has blamed blames =
-    Obeys fits count gives screens words ended old new had has blamed blames ⊎ ObeysLate fits count gives words ended old new had has blamed blames
+Comes fits count gives screens guests words ended old new had has blamed blames =
+    Obeys fits count gives screens guests words ended old new had has blamed blames ⊎ ObeysLate fits count gives words ended old new had has blamed blames
     ⊎ Declines words ended old new

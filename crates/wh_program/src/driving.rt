@@ -27,7 +27,7 @@ pub(crate) fn late<'a>(options: &Options<'a>) -> Option<(ReplayOptions<'a>, Vehi
             Some(pace) => Some((*replay, pace)),
             None => None,
         },
-        Options::Check | Options::Verify | Options::Live(_) => None,
+        Options::Check | Options::Verify | Options::Live(_) | Options::Attend(_) => None,
     }
 }
 

@@ -2,6 +2,7 @@
 //! over the files that they name, and it is told how that ended.
 #![tactic(auto)]
 
+mod attending;
 mod driving;
 mod outside;
 mod running;
@@ -10,5 +11,6 @@ pub use outside::{Outside, Surroundings};
 pub use running::{end, run};
 
 // handed on, for callers: what the items above take
+pub use wh_attend::{Doors, Hall, LogFile};
 pub use wh_display::Screen;
 pub use wh_service::PlannerParts;

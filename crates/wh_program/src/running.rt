@@ -3,9 +3,11 @@
 ghost use Rattle.std.specs.Prelude.{◌≡◌, ◌≤◌, ◌++◌, Bool, IfOk, Option, is_some, map, option_map};
 ghost use Rattle.std.specs.String.{string_bytes};
 ghost use Rattle.wh_service.specs.Fleets.{IsOfFleet, MakesPlanners};
+ghost use Rattle.wh_program.specs.Attending.{Attended};
 ghost use Rattle.wh_program.specs.Programs.{Comes, Did, Drove, Ends, Files, HasRange, LateFiles, Lived, LivedOver, ReplayedOver, names_file};
 ghost use Rattle.wh_service.specs.Serves.{ended_by};
 
+use crate::attending::attend_by_name;
 use crate::driving::{drive_over, end_drive, late};
 use crate::outside::Outside;
 use std::alloc::{AllocError, Global};
@@ -17,6 +19,7 @@ use std::path::Path;
 use std::sync::Wait;
 use std::thread::Threads;
 use std::time::Clock;
+use wh_attend::{Doors, Hall};
 use wh_display::Screen;
 use wh_edge::{Status, Trouble};
 use wh_lines::Lines;
@@ -43,12 +46,12 @@ fn log_name<'a>(options: &Options<'a>) -> Option<&'a str>
 {
     match options {
         Options::Replay(options) => options.log,
-        Options::Check | Options::Verify | Options::Live(_) => None,
+        Options::Check | Options::Verify | Options::Live(_) | Options::Attend(_) => None,
     }
 }
 
 /// The name of a file beside the one of this name.
-fn name_beside(alloc: Global, name: &str, end: &str) -> Result<String, AllocError>
+pub(crate) fn name_beside(alloc: Global, name: &str, end: &str) -> Result<String, AllocError>
     ensures { IfOk result (λ beside. string_bytes beside ≡ name.now ++ end.now) }
 {
     let mut beside = String::new(alloc);
@@ -142,7 +145,11 @@ fn live_by_name<
     'a,
     T: Threads + Wait + Clock + Sync,
     S: Screen + Send + Drop,
-    O: Outside<'a, S>,
+    L: LogFile + Send + Drop,
+    I: Read + Send + Drop,
+    Q: Write + Send + Drop,
+    D: Doors<I, Q> + Hall,
+    O: Outside<'a, S, L, I, Q, D>,
     R: Read,
     W: Write,
     P: Planner,
@@ -179,12 +186,16 @@ fn live_by_name<
 /// Does what the options ask for, a replay over these files, or over none.
 fn obey<
     'a,
-    T: Threads + Wait + Clock + Sync,
+    T: Threads + Wait + Clock + Sync + Files<File = File>,
     S: Screen + Send + Drop,
-    O: Outside<'a, S>,
+    L: LogFile + Send + Drop,
+    I: Read + Send + Drop,
+    Q: Write + Send + Drop,
+    D: Doors<I, Q> + Hall,
+    O: Outside<'a, S, L, I, Q, D>,
     R: Read,
     W: Write,
-    L: LogFile,
+    K: LogFile,
     P: Planner,
     F: Fn(PlannerParts) -> Result<P, AllocError>,
 >(
@@ -194,19 +205,22 @@ fn obey<
     lines: &mut Lines<R>,
     output: &mut W,
     options: &Options<'a>,
-    files: &mut Option<KeptFiles<L>>,
+    files: &mut Option<KeptFiles<K>>,
     make: F,
 ) -> Result<Status, Trouble>
     requires range { HasRange options.now }
     requires callable { F.IsAlwaysCallable make }
     requires makes { MakesPlanners P.fits_map P.slot_count (F.post make) }
-    ensures { Did P.fits_map P.slot_count (F.post make) (O.tells outside.now) options.now (option_map (λ f. record { log = L.contents f.log; site = L.contents f.site }) files.old) result lines.old lines.new (W.contents output.old) (W.contents output.new) }
+    ensures { Did P.fits_map P.slot_count (F.post make) (O.tells outside.now) (Attended P.fits_map P.slot_count (F.post make) (λ x. I.remaining x) (λ x. Q.contents x) (O.holds outside.now) (O.leads outside.now)) options.now (option_map (λ f. record { log = K.contents f.log; site = K.contents f.site }) files.old) result lines.old lines.new (W.contents output.old) (W.contents output.new) }
 {
     match options {
         Options::Check => judge(rt, alloc, lines, output),
         Options::Verify => judge_log(alloc, lines, output),
         Options::Replay(options) => replay(alloc, lines, output, options, files, make),
         Options::Live(options) => live_by_name(rt, outside, alloc, lines, output, options, make),
+        Options::Attend(options) => {
+            attend_by_name(rt, outside, alloc, lines, output, options, make)
+        }
     }
 }
 
@@ -216,7 +230,11 @@ fn obey_by_name<
     'a,
     T: Threads + Wait + Clock + Sync + Files<File = File>,
     S: Screen + Send + Drop,
-    O: Outside<'a, S>,
+    L: LogFile + Send + Drop,
+    I: Read + Send + Drop,
+    Q: Write + Send + Drop,
+    D: Doors<I, Q> + Hall,
+    O: Outside<'a, S, L, I, Q, D>,
     R: Read,
     W: Write,
     P: Planner,
@@ -233,7 +251,7 @@ fn obey_by_name<
     requires range { HasRange options.now }
     requires callable { F.IsAlwaysCallable make }
     requires makes { MakesPlanners P.fits_map P.slot_count (F.post make) }
-    ensures { (files : Option Files) × (is_some files ≡ names_file options.now) × Did P.fits_map P.slot_count (F.post make) (O.tells outside.now) options.now files result lines.old lines.new (W.contents output.old) (W.contents output.new) }
+    ensures { (files : Option Files) × (is_some files ≡ names_file options.now) × Did P.fits_map P.slot_count (F.post make) (O.tells outside.now) (Attended P.fits_map P.slot_count (F.post make) (λ x. I.remaining x) (λ x. Q.contents x) (O.holds outside.now) (O.leads outside.now)) options.now files result lines.old lines.new (W.contents output.old) (W.contents output.new) }
 {
     let Some(log) = log_name(options) else {
         let mut none: Option<KeptFiles<FileJournal<'a, T>>> = None;
@@ -322,14 +340,18 @@ pub fn end<E: Write>(errors: &mut E, came: Result<Status, Trouble>) -> Status
 
 /// Does what the words ask for, over this input: the first word is the program's name. `make` makes one planner of its parts, and
 /// its error tells that memory is wanting. The answer is the status with which the program ends; one line on standard error
-/// tells what stopped it. A log file, and the one beside it, lie where `rt` finds files, and the file of a board where `outside`
-/// finds it.
+/// tells what stopped it. The files of `replay` lie where `rt` finds files; the file of a board, and what running clients and their
+/// log need, where `outside` finds it.
 #[tactic(auto, using(crate::proofs::Whole::in_range))]
 pub fn run<
     'a,
     T: Threads + Wait + Clock + Sync + Files<File = File>,
     S: Screen + Send + Drop,
-    O: Outside<'a, S>,
+    L: LogFile + Send + Drop,
+    I: Read + Send + Drop,
+    Q: Write + Send + Drop,
+    D: Doors<I, Q> + Hall,
+    O: Outside<'a, S, L, I, Q, D>,
     A: AsStr,
     R: Read,
     W: Write,
@@ -348,7 +370,7 @@ pub fn run<
 ) -> Status
     requires callable { F.IsAlwaysCallable make }
     requires makes { MakesPlanners P.fits_map P.slot_count (F.post make) }
-    ensures { Comes P.fits_map P.slot_count (F.post make) (O.tells outside.now) (map A.text words.now) result lines.old lines.new (W.contents output.old) (W.contents output.new) (E.contents errors.old) (E.contents errors.new) }
+    ensures { Comes P.fits_map P.slot_count (F.post make) (O.tells outside.now) (Attended P.fits_map P.slot_count (F.post make) (λ x. I.remaining x) (λ x. Q.contents x) (O.holds outside.now) (O.leads outside.now)) (map A.text words.now) result lines.old lines.new (W.contents output.old) (W.contents output.new) (E.contents errors.old) (E.contents errors.new) }
 {
     match options(alloc, words) {
         Ok(options) => match late(&options) {

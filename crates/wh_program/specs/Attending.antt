@@ -1,0 +1,68 @@
+-- What `live` with running clients comes to, over the files and the folders that the options name.
+use Rattle.std.specs.Prelude.{◌≡◌, ◌≢◌, ◌⊎◌, ℕ, Bool, List, length, All, Contains, Option, None, Some, Result, Ok, Err}
+use Rattle.std.specs.declared.alloc.AllocError.{AllocError}
+use Rattle.std.specs.Io.KnownBytes.{Keeps}
+use Rattle.wh_lines.specs.Input.{Input}
+use Rattle.wh_grid.specs.Grids.{Floor}
+use Rattle.wh_client.specs.declared.client.ClientOptions.{ClientOptions}
+use Rattle.wh_desk.specs.Lists.{AllAt}
+use Rattle.wh_edge.specs.declared.trouble.Status.{Status}
+use Rattle.wh_edge.specs.declared.trouble.Status.TheVariants.{Done}
+use Rattle.wh_edge.specs.declared.trouble.Trouble.{Trouble}
+use Rattle.wh_edge.specs.declared.trouble.Trouble.TheVariants as trouble
+use Rattle.wh_options.specs.Setting.{Text}
+use Rattle.wh_options.specs.declared.chosen.AttendOptions.{AttendOptions}
+use Rattle.wh_service.specs.Kept.{Siding}
+use Rattle.wh_service.specs.declared.parts.PlannerParts.{PlannerParts}
+use Rattle.wh_attend.specs.Attends.{Attends, IsWhyUnattended}
+
+-- one of the clients has this number, and this folder
+pub record IsFolderOf (clients : List ClientOptions) (number : ℕ) (folder : Text) : Type 0 where
+  pub named : ClientOptions
+  pub there : Contains clients named
+  pub number_is : named.number ≡ number
+  pub folder_is : named.folder.now ≡ folder
+
+-- the folder of the client of this number, or none, where nobody has it
+abbrev pub IsFolderAt : List ClientOptions → ℕ → Option Text → Type 0
+IsFolderAt clients number None = All (λ named. named.number ≢ number) clients
+IsFolderAt clients number (Some folder) = IsFolderOf clients number folder
+
+-- the folders of the clients, each at the place of its number, 0 to 61
+pub record AreFolders (clients : List ClientOptions) (folders : List (Option Text)) : Type 0 where
+  pub places : length folders ≡ 62
+  pub each : AllAt (IsFolderAt clients) folders
+
+-- It was so over a log file that told this and the file beside it. Here and below fits and count say what a planner answers, gives what
+-- makes it, remaining and contents what a client's reader and writer tell, and files what a file of a name may tell.
+abbrev pub AttendsOver : {R W X : Type 0} → (X → Floor → Bool) → (X → ℕ) → (PlannerParts → Result X AllocError → Type 0) → (R → Option (List ℕ)) → (W → Option (List ℕ)) → AttendOptions → (file : Option (List ℕ)) → Siding
+    → Result Status Trouble → (old new : Input) → (had has : Option (List ℕ)) → Type 0
+AttendsOver fits count gives remaining contents o file beside (Ok status) old new had has =
+    (status ≡ Done) × ((synced holds : Option (List ℕ)) × Attends fits count remaining contents gives o old new had has file synced holds beside)
+AttendsOver fits count gives remaining contents o file beside (Err told) old new had has =
+    IsWhyUnattended fits count remaining contents gives o told old new had has file beside
+
+-- over a log file of the options' name, and one beside it
+pub record AttendsBy {R W X : Type 0} (fits : X → Floor → Bool) (count : X → ℕ) (gives : PlannerParts → Result X AllocError → Type 0) (remaining : R → Option (List ℕ)) (contents : W → Option (List ℕ))
+    (files : Text → Option (List ℕ) → Type 0) (o : AttendOptions) (came : Result Status Trouble) (old new : Input) (had has : Option (List ℕ)) : Type 0 where
+  pub file : Option (List ℕ)
+  pub file_is : files o.log.now file
+  pub beside : Siding
+  pub over : AttendsOver fits count gives remaining contents o file beside came old new had has
+
+-- The clients came in at doors of their folders; leads says which doors are of which folders.
+pub record AttendsAt {R W D X : Type 0} (fits : X → Floor → Bool) (count : X → ℕ) (gives : PlannerParts → Result X AllocError → Type 0) (remaining : R → Option (List ℕ)) (contents : W → Option (List ℕ))
+    (files : Text → Option (List ℕ) → Type 0) (leads : List (Option Text) → D → Type 0) (o : AttendOptions) (came : Result Status Trouble) (old new : Input) (had has : Option (List ℕ)) : Type 0 where
+  pub folders : List (Option Text)
+  pub folders_are : AreFolders o.clients.items folders
+  pub doors : D
+  pub doors_are : leads folders doors
+  pub by : AttendsBy fits count gives remaining contents files o came old new had has
+
+-- `live` with running clients came to this: memory was wanting for the names of files or for the doors, and nothing was read or written; or
+-- it was so.
+abbrev pub Attended : {R W D X : Type 0} → (X → Floor → Bool) → (X → ℕ) → (PlannerParts → Result X AllocError → Type 0) → (R → Option (List ℕ)) → (W → Option (List ℕ))
+    → (files : Text → Option (List ℕ) → Type 0) → (leads : List (Option Text) → D → Type 0) → AttendOptions → Result Status Trouble → (old new : Input) → (had has : Option (List ℕ)) → Type 0
+Attended fits count gives remaining contents files leads o came old new had has =
+    ((came ≡ Err trouble.NoMemory) × (new ≡ old) × Keeps had has)
+    ⊎ AttendsAt fits count gives remaining contents files leads o came old new had has
