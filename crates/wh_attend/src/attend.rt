@@ -1,6 +1,6 @@
 //! What `live` does with running clients.
 
-ghost use Rattle.std.specs.Prelude.{◌≡◌, IfErr, IfOk};
+ghost use Rattle.std.specs.Prelude.{◌≡◌, IfErr, IfOk, true};
 ghost use Rattle.wh_journal.specs.Surviving.{HoldsLog, StaysLog};
 ghost use Rattle.wh_continue.specs.Running.{IsStartOf};
 ghost use Rattle.wh_service.specs.Fleets.{IsOfFleet};
@@ -96,6 +96,7 @@ pub fn attend<
     requires callable { F.IsAlwaysCallable make }
     ensures ok { IfOk result (λ kept. Attends P.fits_map P.slot_count (λ x. I.remaining x) (λ x. O.contents x) (F.post make) options.now lines.old lines.new (W.contents output.old) (W.contents output.new) (L.contents file) (L.synced kept) (L.contents kept)
         (record { before = B.contents beside.old; after = B.contents beside.new; synced = B.synced beside.new; failed = B.failed beside.new })) }
+    ensures asked { IfOk result (λ _. D.all_have doors.now ≡ true) }
     ensures fault { IfErr result (λ told. IsWhyUnattended P.fits_map P.slot_count (λ x. I.remaining x) (λ x. O.contents x) (F.post make) options.now told lines.old lines.new (W.contents output.old) (W.contents output.new) (L.contents file)
         (record { before = B.contents beside.old; after = B.contents beside.new; synced = B.synced beside.new; failed = B.failed beside.new })) }
 {

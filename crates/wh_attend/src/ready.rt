@@ -77,6 +77,7 @@ pub(crate) fn prepare<
     requires named { AreNamed options.now.clients.items }
     requires callable { F.IsAlwaysCallable make.now }
     ensures ok { IfOk result (λ run. (site : Instance) × IsReady (F.post make.now) options.now lines.old lines.new (L.contents file.old) (B.contents beside.old) site run) }
+    ensures asked { IfOk result (λ _. D.all_have hall.now ≡ true) }
     ensures starts { IfOk result (λ run. IsStartOf (L.contents file.new) run.start) }
     ensures fault { IfErr result (λ told. IsWhyUnready (F.post make.now) options.now told lines.old lines.new (L.contents file.old) (B.contents beside.old)) }
     ensures same { L.contents file.new ≡ L.contents file.old }

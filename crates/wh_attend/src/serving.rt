@@ -85,7 +85,7 @@ pub(crate) fn serve_all<
         rt,
         || -> Result<Ran<L, P>, Trouble>
             requires { HoldsLog (L.contents file) warehouse.book × (L.synced file ≡ L.contents file) × (length clients.items ≤ 64) × All (λ entry. entry.caller < length clients.items) warehouse.book.history }
-            ensures { IfOk result (λ r. ServedFrom P.fits_map P.slot_count (receipt_text form) (λ x. I.remaining x) (λ x. O.contents x) (origin_of warehouse.book) warehouse.book.history clients.items (length warehouse.book.history + more) r.history.warehouse.book.history r.history.warehouse.book.state r.connections.items × (origin_of r.history.warehouse.book ≡ origin_of warehouse.book) × IsJournalOf (first_lines (L.contents file) warehouse.book) (L.contents r.journal) (L.synced r.journal) r.history.warehouse.book.history r.is_whole) × IfErr result IsWhyUnserved }
+            ensures { IfOk result (λ r. ServedFrom P.fits_map P.slot_count (receipt_text form) (λ x. I.remaining x) (λ x. O.contents x) (origin_of warehouse.book) warehouse.book.history clients.items (length warehouse.book.history + more) r.history.warehouse.book.history r.history.warehouse.book.state r.connections.items) × IfOk result (λ r. origin_of r.history.warehouse.book ≡ origin_of warehouse.book) × IfOk result (λ r. IsJournalOf (first_lines (L.contents file) warehouse.book) (L.contents r.journal) (L.synced r.journal) r.history.warehouse.book.history r.is_whole) × IfErr result IsWhyUnserved }
         {
             serve_through(
                 rt, alloc, form, warehouse, clients, more, file, doors, &through,
