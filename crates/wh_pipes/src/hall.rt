@@ -7,7 +7,7 @@ use crate::pipes::Pipes;
 use crate::standing::Place;
 use std::alloc::{AllocError, Global};
 use std::fs::{File, Files, OpenOptions};
-use std::io::{Eprint, Write};
+use std::io::Write;
 use std::os::fd::OwnedFd;
 use std::process::ChildStdin;
 use std::sync::atomic::AtomicBool;
@@ -48,7 +48,7 @@ fn let_one_go<T: Files<File = File>>(files: &T, pipes: &ClientPipes) -> io::Resu
     }
 }
 
-impl<'a, T: Files<File = File> + Eprint + Clock + Sync> Hall for Pipes<'a, T> {
+impl<'a, T: Files<File = File> + Clock> Hall for Pipes<'a, T> {
     fn first_without(&self, alloc: Global) -> Result<Option<u32>, AllocError> {
         first_without_pipes(self.rt, alloc, self.clients.as_slice())
     }

@@ -20,7 +20,7 @@ const REPLIES_ROOM: usize = 4_096;
 
 /// The doors of a service: each client's next connection is its two pipes, opened anew.
 #[derive(Drop)]
-pub struct Pipes<'a, T: Files<File = File> + Eprint + Clock + Sync> {
+pub struct Pipes<'a, T: Files<File = File> + Clock> {
     pub(crate) rt: &'a T,
     alloc: Global,
     pub(crate) clients: Vec<Option<Arc<ClientPipes>>>,
@@ -30,7 +30,7 @@ pub struct Pipes<'a, T: Files<File = File> + Eprint + Clock + Sync> {
 /// One connection of a client over its pipes.
 type PipeConnection<'a, T> = Connection<Inlet<'a, T>, BufWriter<Outlet<'a, T>>>;
 
-impl<'a, T: Files<File = File> + Eprint + Clock + Sync> Pipes<'a, T> {
+impl<'a, T: Files<File = File> + Clock> Pipes<'a, T> {
     /// The pipes in these folders: a client's number is its place, and one without a folder never comes.
     pub fn new(
         rt: &'a T,
@@ -67,13 +67,13 @@ impl<'a, T: Files<File = File> + Eprint + Clock + Sync> Pipes<'a, T> {
     /// Waits until a client opens the pipe of its replies, or the service is over.
     fn connect(&self, pipes: &Arc<ClientPipes>) -> io::Result<Option<PipeConnection<'a, T>>> {
         pipes.standing.set(Place::OpeningReplies);
-        if self.is_over() {
+        if pipes.is_over() {
             return Ok(None);
         }
         let mut how = OpenOptions::new();
         how.write(true);
         let replies = open_pipe(self.rt, &how, pipes.replies.as_str())?;
-        if self.is_over() {
+        if pipes.is_over() {
             return Ok(None);
         }
         let (Ok(for_outlet), Ok(for_inlet)) = (Arc::try_clone(pipes), Arc::try_clone(pipes)) else {
