@@ -1,6 +1,8 @@
 //! One connection over a client's pipes.
 #![tactic(auto)]
 
+ghost use Rattle.std.specs.Io.{ReadsAtMost};
+
 use crate::folders::{ClientPipes, open_pipe};
 use crate::standing::Place;
 use std::fs::{File, Files, OpenOptions};
@@ -45,7 +47,9 @@ impl<'a, T: Files<File = File>> Inlet<'a, T> {
         Ok(())
     }
 
-    fn read_open(&mut self, buffer: &mut [u8]) -> io::Result<usize> {
+    fn read_open(&mut self, buffer: &mut [u8]) -> io::Result<usize>
+        ensures { ReadsAtMost result buffer.new }
+    {
         self.open()?;
         self.pipes.standing.set(Place::Reading);
         match &mut self.pipe {
