@@ -16,6 +16,8 @@ place of its reply, which stands in the log of the service; else the line is sen
 Status 0: all lines were answered; 1: the service did not come within --wait, or tells another number of entries than it can
 have.
 """
+from __future__ import annotations
+
 import argparse
 import os
 import re
@@ -52,9 +54,9 @@ class Connection:
                 raise Broken from None
 
     def read(self) -> bytes:
-        """The next line. One without its line feed was cut, and is none."""
+        """The next line. One without its line feed was cut, and is none; a first line begins another connection."""
         line = self.replies.readline()
-        if not line.endswith(b'\n'):
+        if not line.endswith(b'\n') or GREETING.search(line):
             raise Broken
         return line
 
