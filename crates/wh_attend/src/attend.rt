@@ -8,7 +8,6 @@ ghost use Rattle.wh_attend.specs.Guests.{AreNamed};
 ghost use Rattle.wh_attend.specs.Attends.{Attends, IsWhyNoHistory, IsWhyUnattended, form_of};
 
 use crate::ending::end_run;
-use crate::hall::Hall;
 use crate::ready::{Ready, prepare};
 use crate::serving::serve_all;
 use std::alloc::{AllocError, Global};
@@ -19,6 +18,7 @@ use wh_continue::{LogFile, Start, Warehouse, begin_log, keep_beside};
 use wh_edge::Trouble;
 use wh_lines::Lines;
 use wh_options::{AttendOptions, Replies};
+use wh_pipes::Hall;
 use wh_planner::Planner;
 use wh_serve::{Doors, Form};
 use wh_service::{PlannerParts, keep_trouble};

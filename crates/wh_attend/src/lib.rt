@@ -4,13 +4,12 @@
 mod attend;
 mod clients;
 mod ending;
-mod hall;
 mod ready;
 mod serving;
 
 pub use attend::attend;
-pub use hall::Hall;
 
 // handed on, for callers: what the item above takes and speaks of
 pub use wh_continue::{FileJournal, LogFile};
+pub use wh_pipes::Hall;
 pub use wh_serve::{Connection, Doors, End, ReplayFault, ServeFault, Served};

@@ -9,7 +9,6 @@ ghost use Rattle.wh_attend.specs.Guests.{AreNamed};
 ghost use Rattle.wh_attend.specs.Attends.{IsFollowed, IsReady, IsWhyUnready};
 
 use crate::clients::{Staff, staff};
-use crate::hall::Hall;
 use std::alloc::{AllocError, Global};
 use std::io::Read;
 use std::sync::Arc;
@@ -17,6 +16,7 @@ use wh_continue::{Beside, LogFile, Start};
 use wh_edge::{KeptSite, Site, Trouble, read_kept_site};
 use wh_lines::Lines;
 use wh_options::AttendOptions;
+use wh_pipes::Hall;
 use wh_planner::Planner;
 use wh_serve::Client;
 use wh_service::{PlannerParts, start_aside};

@@ -6,7 +6,6 @@ ghost use Rattle.wh_journal.specs.Surviving.{HoldsLog};
 ghost use Rattle.wh_serve.specs.Runs.{IsJournalOf, IsWhyUnserved, ServedFrom, first_lines};
 ghost use Rattle.wh_serve.specs.Texts.{receipt_text};
 
-use crate::hall::Hall;
 use std::alloc::Global;
 use std::io::{Read, Write};
 use std::sync::Wait;
@@ -15,6 +14,7 @@ use std::sync::atomic::Ordering::SeqCst;
 use std::thread::{Threads, join};
 use wh_continue::{LogFile, Warehouse};
 use wh_edge::Trouble;
+use wh_pipes::Hall;
 use wh_planner::Planner;
 use wh_serve::{Client, Doors, Form, Ran, run_clients};
 

@@ -1,0 +1,104 @@
+//! The clients' folders.
+#![tactic(auto)]
+
+use crate::standing::Standing;
+use std::alloc::{AllocError, Global};
+use std::fs::{File, Files, OpenOptions, metadata};
+use std::io;
+use std::io::ErrorKind;
+use std::os::unix::fs::{FileTypeExt, MetadataExt};
+use std::sync::Arc;
+use std::sync::atomic::AtomicBool;
+use std::sync::atomic::Ordering::SeqCst;
+
+/// The two pipes of one client, where its thread stands in them, and whether the service is over.
+#[derive(Drop)]
+pub(crate) struct ClientPipes {
+    pub(crate) commands: String,
+    pub(crate) replies: String,
+    pub(crate) standing: Standing,
+    is_over: Arc<AtomicBool>,
+}
+
+impl ClientPipes {
+    pub(crate) fn new(
+        alloc: Global,
+        folder: &str,
+        is_over: Arc<AtomicBool>,
+    ) -> Result<ClientPipes, AllocError> {
+        Ok(ClientPipes {
+            commands: joined(alloc, folder, "/in")?,
+            replies: joined(alloc, folder, "/out")?,
+            standing: Standing::new(),
+            is_over,
+        })
+    }
+
+    pub(crate) fn is_over(&self) -> bool {
+        self.is_over.load(SeqCst)
+    }
+}
+
+fn joined(alloc: Global, folder: &str, end: &str) -> Result<String, AllocError> {
+    let mut name = String::new(alloc);
+    name.push_str(folder)?;
+    name.push_str(end)?;
+    Ok(name)
+}
+
+/// Opens a pipe. Another file of this name, which may have come there meanwhile, is left as it is.
+pub(crate) fn open_pipe<T: Files<File = File>>(
+    files: &T,
+    how: &OpenOptions,
+    path: &str,
+) -> io::Result<File> {
+    let file = how.open(files, path)?;
+    if file.metadata()?.file_type().is_fifo() {
+        Ok(file)
+    } else {
+        Err(io::Error::from(ErrorKind::InvalidInput))
+    }
+}
+
+/// Which file it is: no two have the same numbers.
+type Identity = (u64, u64);
+
+/// Which pipe stands there, if one does.
+fn pipe_at<T: Files>(files: &T, path: &str) -> Option<Identity> {
+    match metadata(files, path) {
+        Ok(found) if found.file_type().is_fifo() => Some((found.dev(), found.ino())),
+        _ => None,
+    }
+}
+
+/// Adds a pipe to those found, if it is none of them.
+fn is_new(found: &mut Vec<Identity>, pipe: Option<Identity>) -> Result<bool, AllocError> {
+    match pipe {
+        Some(pipe) if !found.iter().any(|other| *other == pipe) => {
+            found.push(pipe)?;
+            Ok(true)
+        }
+        _ => Ok(false),
+    }
+}
+
+/// The first client, by its number, whose folder has not two pipes that are no other client's, if there is one.
+pub(crate) fn first_without_pipes<T: Files>(
+    files: &T,
+    alloc: Global,
+    clients: &[Option<Arc<ClientPipes>>],
+) -> Result<Option<u32>, AllocError> {
+    let mut found = Vec::new(alloc);
+    let mut number = 0u32;
+    for client in clients {
+        if let Some(pipes) = client {
+            let commands = pipe_at(files, pipes.commands.as_str());
+            let replies = pipe_at(files, pipes.replies.as_str());
+            if !is_new(&mut found, commands)? || !is_new(&mut found, replies)? {
+                return Ok(Some(number));
+            }
+        }
+        number = number.saturating_add(1);
+    }
+    Ok(None)
+}

@@ -1,0 +1,78 @@
+//! How threads that stand in their clients' pipes are let go.
+#![tactic(auto)]
+
+ghost use Rattle.std.specs.Prelude.{◌≡◌, Bool, IfNone, IfOk, true};
+
+use crate::connection::unwaiting;
+use crate::folders::{ClientPipes, first_without_pipes, open_pipe};
+use crate::pipes::Pipes;
+use crate::standing::Place;
+use std::alloc::{AllocError, Global};
+use std::fs::{File, Files, OpenOptions};
+use std::io::Write;
+use std::os::fd::OwnedFd;
+use std::process::ChildStdin;
+use std::sync::atomic::AtomicBool;
+use std::sync::atomic::Ordering::SeqCst;
+use std::time::{Clock, Duration};
+use std::{io, thread};
+
+/// Where all clients of a service come in.
+pub trait Hall {
+    // whether each client was found to have a way in, where that can be told
+    ghost all_have: { Self → Bool } = { λ _. true };
+
+    /// The first client, by its number, that has no way in.
+    fn first_without(&self, alloc: Global) -> Result<Option<u32>, AllocError>
+        ensures { IfOk result (λ found. IfNone found (all_have self.now ≡ true)) };
+
+    /// Lets the threads that stand in a connection go once the service is over, until `through` is set.
+    fn let_go(&self, through: &AtomicBool);
+}
+
+/// How many milliseconds whoever lets threads go rests between two rounds.
+const ROUND: u64 = 20;
+
+/// Opens a pipe for both ways, which waits for nobody: whoever waits for the other end to be opened waits no longer.
+fn open_both_ways<T: Files<File = File>>(files: &T, path: &str) -> io::Result<OwnedFd> {
+    let mut how = OpenOptions::new();
+    how.read(true).write(true);
+    unwaiting(open_pipe(files, &how, path)?)
+}
+
+/// Lets one client's thread go, if it stands in a pipe.
+fn let_one_go<T: Files<File = File>>(files: &T, pipes: &ClientPipes) -> io::Result<()> {
+    match pipes.standing.place() {
+        Place::Nowhere => Ok(()),
+        Place::OpeningReplies => open_both_ways(files, pipes.replies.as_str()).map(drop),
+        Place::OpeningCommands => open_both_ways(files, pipes.commands.as_str()).map(drop),
+        Place::Reading => {
+            // the line that it ends is not served any more
+            let pipe = open_both_ways(files, pipes.commands.as_str())?;
+            ChildStdin::from(pipe).write_all(b"\n")
+        }
+    }
+}
+
+impl<'a, T: Files<File = File> + Clock> Hall for Pipes<'a, T> {
+    fn first_without(&self, alloc: Global) -> Result<Option<u32>, AllocError> {
+        first_without_pipes(self.rt, alloc, self.clients.as_slice())
+    }
+
+    // again and again: a thread may set out for its pipe at any time
+    fn let_go(&self, through: &AtomicBool) {
+        for _ in 0..u64::MAX {
+            if through.load(SeqCst) {
+                return;
+            }
+            thread::sleep(self.rt, Duration::from_millis(ROUND));
+            if self.is_over.load(SeqCst) {
+                for client in self.clients.iter() {
+                    if let Some(pipes) = client {
+                        let _ = let_one_go(self.rt, pipes);
+                    }
+                }
+            }
+        }
+    }
+}

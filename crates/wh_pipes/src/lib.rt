@@ -1,0 +1,13 @@
+//! Clients over named pipes: each has a folder with two of them, `in` for its commands and `out` for its replies. Of what a file
+//! gives or takes no contract can say anything, so neither do those here.
+#![tactic(auto)]
+
+mod connection;
+mod folders;
+mod hall;
+mod pipes;
+mod standing;
+
+pub use connection::{Inlet, Outlet};
+pub use hall::Hall;
+pub use pipes::Pipes;

@@ -1,0 +1,283 @@
+#!/usr/bin/env bash
+# Runs the built program's `live` with running clients, each a process of its own that comes in over two named pipes.
+#
+#   tests/clients.sh
+#
+# WAREHOUSE names another program than ./warehouse, which builds it where it has to be built.
+set -u
+warehouse=$(readlink -f -- "${WAREHOUSE:-$(dirname -- "${BASH_SOURCE[0]}")/../warehouse}")
+cd -- "$(dirname -- "${BASH_SOURCE[0]}")" || exit 1
+
+"$warehouse" replay < replay/one_delivery > /dev/null || exit 1    # builds it where it has to be built
+scratch=$(mktemp -d) || exit 1
+service=
+trap '[[ -n $service ]] && kill -9 "$service" 2> /dev/null; rm -rf -- "$scratch"' EXIT
+passed=0 failed=0
+
+judge() {
+    if [[ $2 == "$3" ]]; then
+        passed=$((passed + 1))
+    else
+        failed=$((failed + 1))
+        echo "$1: got '$2', wanted '$3'"
+    fi
+}
+
+# Folders with two pipes each, and no log: nothing of a run before.
+#   afresh FOLDER..
+afresh() {
+    local folder
+    rm -rf -- "$scratch"/log* "$scratch"/c?
+    for folder in "$@"; do
+        mkdir -m 700 -- "$scratch/$folder"
+        mkfifo -m 600 -- "$scratch/$folder/in" "$scratch/$folder/out"
+    done
+}
+
+# Begins a service, which goes on in the background.
+#   begin WORDS..
+begin() {
+    "$warehouse" live --log "$scratch/log" --replies full "$@" < "$scratch/site" > "$scratch/told" 2> "$scratch/errors" &
+    service=$!
+}
+
+# Waits for so many seconds at most until the service has ended. `how` is its status, or that it goes on; then it is killed.
+#   ended SECONDS
+ended() {
+    local left=$(($1 * 20))
+    while kill -0 "$service" 2> /dev/null && ((left-- > 0)); do
+        sleep 0.05
+    done
+    if kill -0 "$service" 2> /dev/null; then
+        kill -9 "$service"
+        wait "$service" 2> /dev/null
+        how='goes on'
+    else
+        wait "$service"
+        how=$?
+    fi
+    service=
+}
+
+# Ends the service by a signal, as a want of power or of memory may.
+killed() {
+    kill -9 "$service"
+    wait "$service" 2> /dev/null
+    service=
+}
+
+# What a client is told that sends these lines, each line with a semicolon behind it.
+#   client FOLDER LINE..
+client() {
+    local folder=$1
+    shift
+    printf '%s\n' "$@" | timeout 20 ../tools/client.py "$scratch/$folder" --wait 10 | tr '\n' ';'
+}
+
+# A client that does what a program of Python does with its connection, `c`.
+#   peer FOLDER PROGRAM
+peer() {
+    timeout 30 python3 - "$scratch/$1" "$2" << 'END'
+import os, signal, sys, time
+sys.path.insert(0, '../tools')
+from client import Broken, Connection
+signal.alarm(20)
+exec(sys.argv[2], {'c': Connection(sys.argv[1]), 'Broken': Broken, 'os': os, 'signal': signal, 'time': time})
+END
+}
+
+# What `verify` says of a log.
+verified() {
+    { cat -- "$scratch/site"; echo %%; cat -- "$1"; } | "$warehouse" verify
+}
+
+# A service that has ended well: its log is what `verify` takes, and it printed the same log.
+#   judge_log NAME ENTRIES
+judge_log() {
+    judge "$1: status" "$how" 0
+    judge "$1: log" "$(verified "$scratch/log")" "run $2"
+    judge "$1: the same log told" "$(cmp -- "$scratch/log" "$scratch/told" 2>&1)" ''
+}
+
+# The replies of a caller's entries in the log.
+#   replies CALLER
+replies() {
+    sed -n "s/^$1 .* = //p" "$scratch/log" | tr '\n' ';'
+}
+
+# What is printed where `live` does not begin, and which files there are then: standard output, standard error, status, files.
+#   refused INPUT WORDS..
+refused() {
+    local input=$1 status
+    shift
+    timeout 20 "$warehouse" live "$@" < "$input" > "$scratch/stdout" 2> "$scratch/stderr"
+    status=$?
+    echo "$(cat "$scratch/stdout")|$(cat "$scratch/stderr")|$status|$(cd -- "$scratch" && echo log*)"
+}
+
+# the map and the points, and no separator behind them: the clients come in elsewhere
+awk '/^%%\r?$/ && ++cut == 2 { exit } { print }' replay/one_delivery > "$scratch/site"
+
+# three clients at once, each with its own replies; who comes again is told how many entries are its own
+afresh c0 c1 c2
+begin --client "0=$scratch/c0:all" --client "1=$scratch/c1" --client "7=$scratch/c2:submit,token,tick"
+client c1 'submit x A B' 'submit x B C' 'nonsense' '# nothing' 'submit x A Z' > "$scratch/said1" &
+workers=($!)
+client c2 'token 9' 'submit y C D' 'tick' 'tick' > "$scratch/said2" &
+workers+=($!)
+said=$(client c0 'tick' 'token 5' 'tick')
+wait "${workers[@]}"
+judge 'client 0' "$said" "entries 0;$(replies 0)"
+told=$(replies 1)
+judge 'client 1' "$(< "$scratch/said1")" "entries 0;${told/refused E1/refused C1;refused E1}"
+judge 'client 7' "$(< "$scratch/said2")" "entries 0;$(replies 7)"
+judge 'client 1, again' "$(client c1 'submit x D A')" 'entries 3;accepted 3;'
+judge 'client 0, again' "$(client c0 'replace 0' 'close')" 'entries 3;refused E10;closed;'
+ended 5
+judge_log 'three clients' 13
+judge 'three clients: nothing else to be told' "$(< "$scratch/errors")" ''
+
+# who is killed within a line leaves no entry of it, and may come again
+afresh c0 c1
+begin --client "0=$scratch/c0:all" --client "1=$scratch/c1"
+for torn in 'submit x C D' 'sub' 'submit x C D\nsubmit x D'; do
+    peer c1 "c.ask(b'submit x A B'); c.send(b'$torn'); os.kill(os.getpid(), signal.SIGKILL)" 2> /dev/null
+done
+# the line before the torn one of the third has an entry, whether its reply was read or not
+judge 'after three torn lines' "$(client c1 'submit x B A')" 'entries 4;accepted 4;'
+judge 'torn lines are told of' "$(grep -c '^client 1: ' "$scratch/errors")" 3
+client c0 close > /dev/null
+ended 5
+judge_log 'torn lines' 6
+
+# one that never reads, one that never comes, one that never sends: the service ends all the same
+afresh c0 c1 c2 c3
+begin --client "0=$scratch/c0:all" --client "1=$scratch/c1" --client "2=$scratch/c2" --client "3=$scratch/c3"
+peer c1 "
+try:
+    while True:
+        c.send(b'token 0\n' * 1000)
+except Broken:
+    pass" &
+peer c3 "c.read()" 2> /dev/null &
+sleep 1
+judge 'beside one that never reads' "$(client c0 'submit x A B' close)" 'entries 0;accepted 0;closed;'
+ended 8
+judge_log 'one that never reads' 2
+wait
+
+# without a right, and beyond its share: no entry
+afresh c0 c1
+begin --journal 6 --client "0=$scratch/c0:close,tick" --client "1=$scratch/c1"
+judge 'no right' "$(client c1 'token 0' 'tick' 'replace 0' 'close' 'submit x A B')" \
+    'entries 0;refused C3;refused C3;refused C3;refused C3;accepted 0;'
+judge 'a full share' "$(client c1 'submit x A B' 'submit x A B' 'submit x A B' 'tick')" \
+    'entries 1;accepted 1;accepted 2;refused E11;refused C3;'
+judge 'another share' "$(client c0 'submit x A B' 'tick' close)" 'entries 0;refused C3;clock 1 picked 0 dropped 0;closed;'
+ended 5
+judge_log 'rights and shares' 5
+
+# gone on with, each client has a share again beside what it had
+afresh c0 c1
+words=(--journal 2 --client "0=$scratch/c0:all" --client "1=$scratch/c1")
+begin "${words[@]}"
+judge 'a share of one' "$(client c1 'submit x A B' 'submit x A B')" 'entries 0;accepted 0;refused E11;'
+killed
+begin "${words[@]}"
+judge 'a share of one more' "$(client c1 'submit x A B' 'submit x A B')" 'entries 1;accepted 1;refused E11;'
+client c0 close > /dev/null
+ended 5
+judge_log 'shares of two lives' 3
+begin "${words[@]}"
+judge 'closed is closed' "$(client c0 tick)" 'entries 1;refused E8;'
+killed
+
+# Whether a client was told what its entries say, in order, where a line whose reply was lost is said to stand. How many entries
+# it has, and whether it came again.
+#   told_as_kept CALLER LINES TOLD
+told_as_kept() {
+    python3 - "$@" "$scratch/log" << 'END'
+import sys
+caller, lines, told, log = sys.argv[1:]
+with open(lines) as file:
+    lines = file.read().splitlines()
+with open(told) as file:
+    told = file.read().splitlines()
+kept = [line.split(' = ') for line in open(log).read().splitlines() if ' = ' in line and line.split(' ')[0] == caller]
+lives = [line for line in told if line.startswith('entries ')]
+told = [line for line in told if not line.startswith('entries ')]
+for line, reply, (event, entry) in zip(lines, told, kept):
+    if event != f'{caller} {line}' or reply not in (entry, f'lost: {line}'):
+        sys.exit(print(f'{line}: told {reply}, kept {event} = {entry}'))
+print(len(told), len(kept), 'again' if len(lives) > 1 else 'once')
+END
+}
+
+# killed again and again while its clients are at work: they come again, and nothing that was told is lost
+afresh c0 c1 c2
+words=(--client "0=$scratch/c0:all" --client "1=$scratch/c1" --client "2=$scratch/c2")
+{ echo 'token 0'; yes tick | head -n 999; } > "$scratch/lines0"
+yes 'submit x A B' | head -n 1000 > "$scratch/lines1"
+yes 'submit y C D' | head -n 1000 > "$scratch/lines2"
+begin "${words[@]}"
+workers=()
+for k in 0 1 2; do
+    timeout 60 ../tools/client.py "$scratch/c$k" --wait 20 < "$scratch/lines$k" > "$scratch/told$k" &
+    workers+=($!)
+done
+for most in 60 600 1500; do
+    for ((k = 0; k < 2000; k++)); do
+        [[ -e $scratch/log ]] && (($(wc -l < "$scratch/log") > most)) && break
+        sleep 0.01
+    done
+    killed
+    begin "${words[@]}"
+done
+wait "${workers[@]}"
+for k in 0 1 2; do
+    judge "client $k of a service that was killed" "$(told_as_kept "$k" "$scratch/lines$k" "$scratch/told$k")" '1000 1000 again'
+done
+judge 'entries of all lives' "$(client c0 close)" 'entries 1000;closed;'
+ended 5
+judge_log 'three kills' 3001
+
+# where it does not begin, nothing is written
+afresh c0 c1
+words=(--log "$scratch/log" --client "0=$scratch/c0:all")
+judge 'no pipes' "$(refused "$scratch/site" "${words[@]}" --client "3=$scratch/c3")" '|refused X5 3|3|log*'
+mkdir -- "$scratch/c4"
+mkfifo -- "$scratch/c4/in"
+judge 'one pipe' "$(refused "$scratch/site" "${words[@]}" --client "4=$scratch/c4")" '|refused X5 4|3|log*'
+: > "$scratch/c4/out"
+judge 'a file and no pipe' "$(refused "$scratch/site" "${words[@]}" --client "4=$scratch/c4")" '|refused X5 4|3|log*'
+judge 'the pipes of another' "$(refused "$scratch/site" "${words[@]}" --client "2=$scratch/c0/.")" '|refused X5 2|3|log*'
+{ cat -- "$scratch/site"; echo %%; } > "$scratch/behind"
+judge 'a section behind the points' "$(refused "$scratch/behind" "${words[@]}")" '|refused X7|2|log*'
+echo 'submit x A B' >> "$scratch/behind"
+judge 'a script behind the points' "$(refused "$scratch/behind" "${words[@]}")" '|refused X7|2|log*'
+sed '1d' "$scratch/site" > "$scratch/no_map"
+judge 'no map' "$(refused "$scratch/no_map" "${words[@]}")" '|refused M1 line 1|1|log*'
+# the program has words of its own for these, on standard error
+wrong() {
+    local said
+    said=$(refused "$scratch/site" "$@")
+    judge "words ${*//"$scratch/"/}" "${said%%|*}|${said#*|*|}" '|2|log*'
+}
+wrong "${words[@]}" --client "0=$scratch/c1"
+wrong "${words[@]}" --client "1=$scratch/c0"
+wrong "${words[@]}" --client "62=$scratch/c1"
+wrong "${words[@]}" --client "1=$scratch/c1:read"
+wrong "${words[@]}" --client "1="
+wrong "${words[@]}" --every 10
+wrong --client "0=$scratch/c0"
+wrong --log "$scratch/log"
+# a log of another site is left as it is
+begin "${words[@]:2}"
+client c0 'submit x A B' close > /dev/null
+ended 5
+cp -- "$scratch/log" "$scratch/before"
+sed 's/^station A 1 0/station A 3 0/; s/^station B 3 0/station B 1 0/' "$scratch/site" > "$scratch/other"
+judge 'another site' "$(refused "$scratch/other" "${words[@]}" | cut -d '|' -f 1-3)" '|refused L1 line 0|1'
+judge 'another site: the log' "$(cmp -- "$scratch/before" "$scratch/log" 2>&1)" ''
+echo "$passed passed, $failed failed"
+((failed == 0))
