@@ -76,7 +76,7 @@ none_of None never = refl
 none_of (Some x) never = absurd (never (λ e. cc))
 
 pub some_is : {X : Type 0} (o : Option X) (x : X) → Some x ≡ o → o ≢ None
-some_is o x e = λ none.
+some_is {X = X} o x e = λ none.
     let bad : ◌≡◌ {A = Option X} (Some x) None = e ∙ none in
     cc
 
