@@ -36,8 +36,9 @@ returns-in-Ok-clause-ok g c =
     let menu = c.in_ok-warehouse_command.ensures in
     let simple = menu_is_simple _ menu in
     let found = c.in_ok-matches.ensures in
+    let read = rw c.in-Ok.is at c.in_ok-options.ensures.read in
     let gives = words_give _ (map g.W.AsStr.text c.args.words.now) c.in-Ok.options menu (found.kinds simple.0)
-    (λ name rows e. c.in-Ok.ensures.read name rows ((found.matches simple.1).1 ∙ e)) in
+    (λ name rows e. read name rows ((found.matches simple.1).1 ∙ e)) in
     gives
 
 pub returns-in-Ok-clause-only : goal.returns-in-Ok-clause-only
@@ -45,8 +46,9 @@ returns-in-Ok-clause-only g c =
     let menu = c.in_ok-warehouse_command.ensures in
     let simple = menu_is_simple _ menu in
     let found = c.in_ok-matches.ensures in
+    let read = rw c.in-Ok.is at c.in_ok-options.ensures.read in
     let gives = words_give _ (map g.W.AsStr.text c.args.words.now) c.in-Ok.options menu (found.kinds simple.0)
-    (λ name rows e. c.in-Ok.ensures.read name rows ((found.matches simple.1).1 ∙ e)) in
+    (λ name rows e. read name rows ((found.matches simple.1).1 ∙ e)) in
     λ p other. given_once (map g.W.AsStr.text c.args.words.now) p c.in-Ok.options other gives
 
 pub returns-in-Ok-clause-lacking : goal.returns-in-Ok-clause-lacking
@@ -54,8 +56,9 @@ returns-in-Ok-clause-lacking g c =
     let menu = c.in_ok-warehouse_command.ensures in
     let simple = menu_is_simple _ menu in
     let found = c.in_ok-matches.ensures in
+    let read = rw c.in-Ok.is at c.in_ok-options.ensures.read in
     let gives = words_give _ (map g.W.AsStr.text c.args.words.now) c.in-Ok.options menu (found.kinds simple.0)
-    (λ name rows e. c.in-Ok.ensures.read name rows ((found.matches simple.1).1 ∙ e)) in
+    (λ name rows e. read name rows ((found.matches simple.1).1 ∙ e)) in
     λ amiss. mistaken_never MissingRequiredArgument (map g.W.AsStr.text c.args.words.now) (lacking (map g.W.AsStr.text c.args.words.now) amiss) c.in-Ok.options gives
 
 pub returns-in-Ok-clause-clashing : goal.returns-in-Ok-clause-clashing
@@ -63,8 +66,9 @@ returns-in-Ok-clause-clashing g c =
     let menu = c.in_ok-warehouse_command.ensures in
     let simple = menu_is_simple _ menu in
     let found = c.in_ok-matches.ensures in
+    let read = rw c.in-Ok.is at c.in_ok-options.ensures.read in
     let gives = words_give _ (map g.W.AsStr.text c.args.words.now) c.in-Ok.options menu (found.kinds simple.0)
-    (λ name rows e. c.in-Ok.ensures.read name rows ((found.matches simple.1).1 ∙ e)) in
+    (λ name rows e. read name rows ((found.matches simple.1).1 ∙ e)) in
     λ amiss. mistaken_never ArgumentConflict (map g.W.AsStr.text c.args.words.now) (clashing (map g.W.AsStr.text c.args.words.now) amiss) c.in-Ok.options gives
 
 pub returns-in-Ok-clause-clientless : goal.returns-in-Ok-clause-clientless
@@ -72,8 +76,9 @@ returns-in-Ok-clause-clientless g c =
     let menu = c.in_ok-warehouse_command.ensures in
     let simple = menu_is_simple _ menu in
     let found = c.in_ok-matches.ensures in
+    let read = rw c.in-Ok.is at c.in_ok-options.ensures.read in
     let gives = words_give _ (map g.W.AsStr.text c.args.words.now) c.in-Ok.options menu (found.kinds simple.0)
-    (λ name rows e. c.in-Ok.ensures.read name rows ((found.matches simple.1).1 ∙ e)) in
+    (λ name rows e. read name rows ((found.matches simple.1).1 ∙ e)) in
     λ amiss. mistaken_never ValueValidation (map g.W.AsStr.text c.args.words.now) (clientless (map g.W.AsStr.text c.args.words.now) amiss) c.in-Ok.options gives
 
 pub returns-in-Ok-clause-help : goal.returns-in-Ok-clause-help
@@ -95,8 +100,9 @@ returns-clause-refused g c =
     let menu = c.in_ok-warehouse_command.ensures in
     let simple = menu_is_simple _ menu in
     let found = c.in_ok-matches.ensures in
+    let told = rw c.in-Err.is at c.in_ok-options.ensures.mistaken in
     let wrong = words_mistaken (kind_of_mistake c.in-Err.mistake) _ (map g.W.AsStr.text c.args.words.now) menu (found.kinds simple.0)
-    (λ name rows e. c.in-Err.ensures.mistaken name rows ((found.matches simple.1).1 ∙ e)) in
+    (λ name rows e. told name rows ((found.matches simple.1).1 ∙ e)) in
     λ o gives. absurd (mistaken_never (kind_of_mistake c.in-Err.mistake) (map g.W.AsStr.text c.args.words.now) wrong o gives)
 
 pub returns-clause-lacking : goal.returns-clause-lacking
@@ -104,8 +110,9 @@ returns-clause-lacking g c =
     let menu = c.in_ok-warehouse_command.ensures in
     let simple = menu_is_simple _ menu in
     let found = c.in_ok-matches.ensures in
+    let told = rw c.in-Err.is at c.in_ok-options.ensures.mistaken in
     let wrong = words_mistaken (kind_of_mistake c.in-Err.mistake) _ (map g.W.AsStr.text c.args.words.now) menu (found.kinds simple.0)
-    (λ name rows e. c.in-Err.ensures.mistaken name rows ((found.matches simple.1).1 ∙ e)) in
+    (λ name rows e. told name rows ((found.matches simple.1).1 ∙ e)) in
     λ amiss. inl (c.in_ok-error-in-Err.ensures ∙ mistaken_once (kind_of_mistake c.in-Err.mistake) MissingRequiredArgument (map g.W.AsStr.text c.args.words.now) wrong (lacking (map g.W.AsStr.text c.args.words.now) amiss))
 
 pub returns-clause-clashing : goal.returns-clause-clashing
@@ -113,8 +120,9 @@ returns-clause-clashing g c =
     let menu = c.in_ok-warehouse_command.ensures in
     let simple = menu_is_simple _ menu in
     let found = c.in_ok-matches.ensures in
+    let told = rw c.in-Err.is at c.in_ok-options.ensures.mistaken in
     let wrong = words_mistaken (kind_of_mistake c.in-Err.mistake) _ (map g.W.AsStr.text c.args.words.now) menu (found.kinds simple.0)
-    (λ name rows e. c.in-Err.ensures.mistaken name rows ((found.matches simple.1).1 ∙ e)) in
+    (λ name rows e. told name rows ((found.matches simple.1).1 ∙ e)) in
     λ amiss. inl (c.in_ok-error-in-Err.ensures ∙ mistaken_once (kind_of_mistake c.in-Err.mistake) ArgumentConflict (map g.W.AsStr.text c.args.words.now) wrong (clashing (map g.W.AsStr.text c.args.words.now) amiss))
 
 pub returns-clause-clientless : goal.returns-clause-clientless
@@ -122,8 +130,9 @@ returns-clause-clientless g c =
     let menu = c.in_ok-warehouse_command.ensures in
     let simple = menu_is_simple _ menu in
     let found = c.in_ok-matches.ensures in
+    let told = rw c.in-Err.is at c.in_ok-options.ensures.mistaken in
     let wrong = words_mistaken (kind_of_mistake c.in-Err.mistake) _ (map g.W.AsStr.text c.args.words.now) menu (found.kinds simple.0)
-    (λ name rows e. c.in-Err.ensures.mistaken name rows ((found.matches simple.1).1 ∙ e)) in
+    (λ name rows e. told name rows ((found.matches simple.1).1 ∙ e)) in
     λ amiss. inl (c.in_ok-error-in-Err.ensures ∙ mistaken_once (kind_of_mistake c.in-Err.mistake) ValueValidation (map g.W.AsStr.text c.args.words.now) wrong (clientless (map g.W.AsStr.text c.args.words.now) amiss))
 
 pub returns-clause-help : goal.returns-clause-help
