@@ -1,5 +1,5 @@
 -- Settings of some names, and names of which there are none.
-use Rattle.std.proofs.Common.{◌≡◌, List, [], ◌∷◌, refl, sym, ap, ◌∙◌, Bool, true, false, cond, None, Some, Option, subst, ◌||◌, not, true≢false, option_map}
+use Rattle.std.proofs.Common.{◌≡◌, List, [], ◌∷◌, refl, sym, ap, ◌∙◌, Bool, true, false, cond, None, Some, Option, ◌||◌, not, true≢false, option_map}
 use Rattle.std.specs.Prelude.{◌≢◌, filter, find, slice_get}
 use Rattle.std.specs.List.{AllByRecursion, list_all, list_any}
 use Rattle.std.specs.Str.{bytes_eq}

@@ -1,5 +1,5 @@
 -- What the entered subcommand's rows say is what its reader reads.
-use Rattle.std.proofs.Common.{◌≡◌, ◌∙◌, List, Option, Some, None, Result, Ok, Err, sym, ap, refl, subst, codes, option_map, inl, inr}
+use Rattle.std.proofs.Common.{◌≡◌, ◌∙◌, List, Option, Some, None, Result, Ok, Err, sym, ap, refl, subst, codes, option_map, inl}
 use Rattle.std.specs.Prelude.{Box, IfErr, IfOk}
 use Rattle.std.specs.Box.{box_value}
 use Rattle.std.proofs.lemmas.Result.{IfOk-weaker}
@@ -8,7 +8,7 @@ use Rattle.clap.specs.Words.{Row, Text, first_of, first_value, found_of, rows_of
 use Rattle.clap.specs.declared.parser.matches.ArgMatches.{ArgMatches}
 use Rattle.clap.specs.declared.parser.matches.SubCommand.{SubCommand}
 use Rattle.clap.specs.declared.parser.matches.ArgMatches.TheViews.{out-ArgMatches, out-SubCommand}
-use Rattle.wh_options.specs.Options.{LiveLacks, ReplayLacks}
+use Rattle.wh_options.specs.Options.{ReplayLacks}
 use Rattle.wh_options.specs.Reads.{IsTold, Reads, ReadsLine, ReadsReplay, clients_in, kind_of_mistake}
 use Rattle.wh_options.specs.declared.chosen.Options.{Options}
 use Rattle.wh_options.specs.declared.mistake.Mistake.{Mistake}
