@@ -1,6 +1,5 @@
 -- Words whose options do not go together.
-use Rattle.std.proofs.Common.{◌≡◌, List, Option, None, sym, ◌∙◌, refl, inl, inr, subst, codes}
-use Rattle.std.proofs.Common.{false}
+use Rattle.std.proofs.Common.{◌≡◌, List, Option, sym, ◌∙◌, refl, false, inl, inr, subst, codes}
 use Rattle.std.specs.Str.{bytes_eq}
 use Rattle.clap.specs.declared.error.kind.ErrorKind.{ErrorKind}
 use Rattle.clap.specs.declared.error.kind.ErrorKind.TheVariants.{ArgumentConflict, MissingRequiredArgument, ValueValidation}
@@ -11,7 +10,7 @@ use Rattle.wh_options.specs.declared.chosen.Options.{Options}
 use Rattle.wh_options.specs.declared.chosen.Options.TheVariants.{Attend, Check, Replay, Verify, Live}
 use Rattle.wh_options.proofs.Names.{Named, gives_named, other_word, says_named}
 use Rattle.wh_options.proofs.Menus.{Mistaken, told_as}
-use Rattle.wh_options.proofs.Attending.{has_client, no_clash, no_client}
+use Rattle.wh_options.proofs.Attending.{no_clash, no_client}
 use Rattle.wh_options.proofs.Once.{all_agree, one_line}
 
 -- what some settings are told of is told of others that give the same

@@ -1,10 +1,10 @@
 -- Running clients: what is found for them, and what settings say of them.
-use Rattle.std.proofs.Common.{◌≡◌, List, [], ◌∷◌, refl, sym, ap, ◌∙◌, Bool, true, false, cond, None, Some, Option, subst, inl, inr, codes}
+use Rattle.std.proofs.Common.{◌≡◌, List, [], ◌∷◌, refl, sym, Bool, true, false, cond, None, Some, Option, subst, inl, inr, codes}
 use Rattle.std.specs.Prelude.{◌≢◌, MatchOption, find, option_map, unwrap_or}
 use Rattle.std.specs.List.{AllZip, list_any}
 use Rattle.std.specs.Str.{bytes_eq}
 use Rattle.clap.specs.Walk.{Row, all_of}
-use Rattle.wh_client.specs.Clients.{GiveClients, GivesClient, Text}
+use Rattle.wh_client.specs.Clients.{GivesClient, Text}
 use Rattle.wh_client.specs.declared.client.ClientOptions.{ClientOptions}
 use Rattle.wh_options.specs.Setting.{Setting, value_of, values_of}
 use Rattle.wh_options.specs.Options.{Clashes, GivesAttend, GivesLive, GivesReplies, LiveLacks, SaysLive, all_live_names, attend_names, live_names, replies_text}

@@ -1,6 +1,6 @@
 -- The words that the program's command takes, and what they mean.
 use Rattle.std.proofs.Common.{◌≡◌, ◌⊎◌, ℕ, List, [], ◌∷◌, refl, sym, ap, ◌∙◌, Bool, true, false, cond, None, Some, Option, subst, inl, inr, codes, lit<, not, is_some, ◌&&◌, true≢false}
-use Rattle.std.specs.Prelude.{drop, find, slice_get, unwrap_or}
+use Rattle.std.specs.Prelude.{◌≢◌, drop, find, slice_get, unwrap_or}
 use Rattle.std.specs.List.{AllByRecursion, IsDistinct}
 use Rattle.std.specs.Str.{bytes_eq}
 use Rattle.clap.specs.Faults.{fault_of, is_simple_and_free, level_fault}
@@ -25,7 +25,7 @@ use Rattle.wh_options.proofs.Rows.{IsTaken, first_in, first_value, no_defaults, 
 use Rattle.wh_options.proofs.Top.{IsMenuApp, level_parts, menu_entered}
 use Rattle.wh_options.proofs.Singles.{choice_option, file_option, is_single, many_option, number_option, single_parts, switch_is}
 use Rattle.wh_options.proofs.Names.{Named, only_named, other_word}
-use Rattle.wh_options.proofs.Restricts.{only_but, some_is, some_values}
+use Rattle.wh_options.proofs.Restricts.{but, only_but, some_is, some_values}
 use Rattle.wh_options.proofs.Attending.{all_in, log_has_client, no_client_no_replies, no_log_no_client, none_clashes, some_clients}
 use Rattle.wh_options.proofs.Values.{some_same, file_given, no_settings, number_given, only_names, planner_given, replies_given, tail_given, may_given, vehicles_given}
 
@@ -273,12 +273,15 @@ live_only : (settings : List Setting) → HasOnly all_live_names settings → (L
 live_only settings only never log =
     let client = no_log_no_client (λ id. value_of id settings) never log in
     let replies = no_client_no_replies (λ id. value_of id settings) never client in
-    only_but (codes "replies") _ settings replies (only_but (codes "log") _ settings log (only_but (codes "client") all_live_names settings client only))
+    only_but (codes "replies") (but (codes "log") (but (codes "client") all_live_names)) settings replies
+    (only_but (codes "log") (but (codes "client") all_live_names) settings log (only_but (codes "client") all_live_names settings client only))
 
 attend_only : (settings : List Setting) → HasOnly all_live_names settings → (Clashes (λ id. value_of id settings) → ⊥) → value_of (codes "client") settings ≢ None → HasOnly attend_names settings
 attend_only settings only never client =
     let none = none_clashes (λ id. value_of id settings) never client in
-    only_but (codes "board-every") _ settings none.3 (only_but (codes "board") _ settings none.2 (only_but (codes "every") _ settings none.1 (only_but (codes "turns") all_live_names settings none.0 only)))
+    let paced = only_but (codes "every") (but (codes "turns") all_live_names) settings none.1 (only_but (codes "turns") all_live_names settings none.0 only) in
+    only_but (codes "board-every") (but (codes "board") (but (codes "every") (but (codes "turns") all_live_names))) settings none.3
+    (only_but (codes "board") (but (codes "every") (but (codes "turns") all_live_names)) settings none.2 paced)
 
 live_given : (p t r : Choices) (q : LiveChoices) (rest : List Text) (o : LiveOptions) (says : LeafSays (leaf_at 3 p t r q) rest) → texts q.planners.now ≡ planner_words
     → ReadsLive (λ id. first_of id (rows_after (leaf_at 3 p t r q).rules [] rest)) o → HasOnly live_names says.settings → GivesLive says.settings o
@@ -382,7 +385,7 @@ pub record Mistaken (kind : ErrorKind) (words : List Text) : Type 0 where
 abbrev FindsWrong : ErrorKind → Shape → List Text → Type 0
 FindsWrong kind s rest = IsTold kind s.name (λ id. first_of id (rows_after s.rules [] rest)) (clients_in (rows_after s.rules [] rest))
 
-told_as : (kind : ErrorKind) (name : Text) (f g : Text → Option Text) (xs ys : List Text) → ((id : Text) → f id ≡ g id) → xs ≡ ys → IsTold kind name f xs → IsTold kind name g ys
+pub told_as : (kind : ErrorKind) (name : Text) (f g : Text → Option Text) (xs ys : List Text) → ((id : Text) → f id ≡ g id) → xs ≡ ys → IsTold kind name f xs → IsTold kind name g ys
 told_as kind name f g xs ys same clients told =
     subst (λ zs. IsTold kind name g zs) clients (subst (λ (h : Text → Option Text). IsTold kind name h xs) (λ i id. same id i) told)
 

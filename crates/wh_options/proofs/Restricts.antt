@@ -1,5 +1,5 @@
 -- Settings of some names, and names of which there are none.
-use Rattle.std.proofs.Common.{◌≡◌, List, [], ◌∷◌, refl, sym, ap, ◌∙◌, Bool, true, false, cond, None, Some, Option, subst, ◌||◌, not, true≢false, option_map}
+use Rattle.std.proofs.Common.{◌≡◌, List, [], ◌∷◌, refl, sym, ap, ◌∙◌, Bool, true, false, cond, None, Some, Option, ◌||◌, not, true≢false, option_map}
 use Rattle.std.specs.Prelude.{◌≢◌, filter, find, slice_get}
 use Rattle.std.specs.List.{AllByRecursion, list_all, list_any}
 use Rattle.std.specs.Str.{bytes_eq}
@@ -76,7 +76,7 @@ none_of None never = refl
 none_of (Some x) never = absurd (never (λ e. cc))
 
 pub some_is : {X : Type 0} (o : Option X) (x : X) → Some x ≡ o → o ≢ None
-some_is o x e = λ none.
+some_is {X = X} o x e = λ none.
     let bad : ◌≡◌ {A = Option X} (Some x) None = e ∙ none in
     cc
 
