@@ -10,7 +10,7 @@ cd -- "$(dirname -- "${BASH_SOURCE[0]}")" || exit 1
 
 "$warehouse" replay < replay/one_delivery > /dev/null || exit 1    # builds it where it has to be built
 scratch=$(mktemp -d) || exit 1
-service=
+service= form=full most=
 trap '[[ -n $service ]] && kill -9 "$service" 2> /dev/null; rm -rf -- "$scratch"' EXIT
 passed=0 failed=0
 
@@ -34,10 +34,14 @@ afresh() {
     done
 }
 
-# Begins a service, which goes on in the background.
+# Begins a service, which goes on in the background. Where `most` is set no file of it may have more kilobytes.
 #   begin WORDS..
 begin() {
-    "$warehouse" live --log "$scratch/log" --replies full "$@" < "$scratch/site" > "$scratch/told" 2> "$scratch/errors" &
+    (
+        # refused, as by a disk that is full, and not ended by a signal
+        [[ -n $most ]] && trap '' XFSZ && ulimit -f "$most"
+        exec "$warehouse" live --log "$scratch/log" --replies "$form" "$@"
+    ) < "$scratch/site" > "$scratch/told" 2> "$scratch/errors" &
     service=$!
 }
 
@@ -225,9 +229,9 @@ for k in 0 1 2; do
     timeout 60 ../tools/client.py "$scratch/c$k" --wait 20 < "$scratch/lines$k" > "$scratch/told$k" &
     workers+=($!)
 done
-for most in 60 600 1500; do
+for lines in 60 600 1500; do
     for ((k = 0; k < 2000; k++)); do
-        [[ -e $scratch/log ]] && (($(wc -l < "$scratch/log") > most)) && break
+        [[ -e $scratch/log ]] && (($(wc -l < "$scratch/log") > lines)) && break
         sleep 0.01
     done
     killed
@@ -240,6 +244,35 @@ done
 judge 'entries of all lives' "$(client c0 close)" 'entries 1000;closed;'
 ended 5
 judge_log 'three kills' 3001
+
+# a disk that is full: nothing is told that is not kept, the service ends, and goes on where there is room
+afresh c0 c1
+words=(--client "0=$scratch/c0:all" --client "1=$scratch/c1")
+most=1 begin "${words[@]}"
+head -n 100 "$scratch/lines1" | timeout 60 ../tools/client.py "$scratch/c1" --wait 20 > "$scratch/told1" &
+workers=($!)
+ended 10
+judge 'a full disk' "$how $(< "$scratch/errors") $(wc -c < "$scratch/told")" '3 refused X5 0'
+begin "${words[@]}"
+wait "${workers[@]}"
+judge 'a client of a service whose disk was full' "$(told_as_kept 1 "$scratch/lines1" "$scratch/told1")" '100 100 again'
+client c0 close > /dev/null
+ended 5
+judge_log 'a full disk' 101
+
+# the three forms of replies
+for form in short full placed; do
+    afresh c0
+    begin --client "0=$scratch/c0:all"
+    said=$(client c0 'submit x A B' 'token 0' close)
+    ended 5
+    case $form in
+        short) judge "replies $form" "$said" 'entries 0;accepted 0;took 0 end 6;closed;' ;;
+        full) judge "replies $form" "$said" 'entries 0;accepted 0;took 0 path 0,1 1,1 1,0 1,1 2,1 3,1 3,0;closed;' ;;
+        placed) judge "replies $form" "$said" 'entries 0;0 accepted 0;1 took 0 path 0,1 1,1 1,0 1,1 2,1 3,1 3,0;2 closed;' ;;
+    esac
+done
+form=full
 
 # where it does not begin, nothing is written
 afresh c0 c1
