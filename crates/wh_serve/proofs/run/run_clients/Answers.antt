@@ -6,7 +6,7 @@ use Rattle.wh_serve.proofs.Settling.{log_begun}
 use Rattle.wh_serve.proofs.run.run_clients.Goals as goal
 
 pub over_desk-requires-clause-start : goal.over_desk-requires-clause-start
-over_desk-requires-clause-start g c = log_begun (g.J.Journal.contents c.args.journal) c.args.warehouse.book c.requires.log
+over_desk-requires-clause-start g c κs within = log_begun (g.J.Journal.contents c.args.journal) c.args.warehouse.book c.requires.log
 
 pub returns-clause-ok : goal.returns-clause-ok
 returns-clause-ok g c =
