@@ -21,9 +21,7 @@ use wh_lines::Lines;
 use wh_options::PlannerKind;
 use wh_planner::Planner;
 use wh_planners::{Patient, Sharing};
-use wh_program::{
-    Doors, Hall, LogFile, Outside, PlannerParts, Screen, Surroundings, end, run,
-};
+use wh_program::{Doors, Hall, LogFile, Outside, PlannerParts, Screen, Surroundings, end, run};
 
 /// How many bytes of output are written at a time.
 const OUTPUT_BUFFER: usize = 65_536;
