@@ -57,7 +57,7 @@ fn obey<
     L: LogFile + Send + Drop,
     I: Read + Send + Drop,
     Q: Write + Send + Drop,
-    D: Doors<I, Q> + Hall,
+    D: Doors<I, Q> + Hall + Drop,
     O: Outside<'w, S, L, I, Q, D>,
     E: Write,
 >(rt: &'w R, outside: &O, words: &'w [String], errors: &mut E) -> Status {

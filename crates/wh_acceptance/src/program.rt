@@ -37,7 +37,7 @@ fn call<
     L: LogFile + Send + Drop,
     I: Read + Send + Drop,
     Q: Write + Send + Drop,
-    D: Doors<I, Q> + Hall,
+    D: Doors<I, Q> + Hall + Drop,
     O: Outside<'w, S, L, I, Q, D>,
 >(rt: &'w R, outside: &O, words: &'w [&'w str], input: &[u8]) -> Result<Shown, Fail> {
     let alloc = rt.alloc();
