@@ -10,11 +10,11 @@ pub trait Outside<'a, S: Screen> {
     ghost use Rattle.std.specs.String.{string_bytes};
 
     // that a screen of this name, with this other one beside it, tells so when it is handed out
-    ghost tells: { Self → List ℕ → List ℕ → Option (List (List ℕ)) → Type 0 };
+    ghost screen_tells: { Self → List ℕ → List ℕ → Option (List (List ℕ)) → Type 0 };
 
     /// The file of this name, as a screen. A text is written to the other one beside it, which then takes its name.
     fn screen(&self, name: &'a str, beside: String) -> S
-        ensures { tells self.now name.now (string_bytes beside) (S.shown result) };
+        ensures { screen_tells self.now name.now (string_bytes beside) (S.shown result) };
 }
 
 /// The files of a runtime.
@@ -34,7 +34,7 @@ impl<'a, T: Files<File = File>> Outside<'a, FileScreen<'a, T>> for Surroundings<
     ghost use Rattle.std.specs.Prelude.{◌≡◌, None};
 
     // a file tells nothing of what it is shown
-    ghost tells = { λ _ _ _ showed. showed ≡ None };
+    ghost screen_tells = { λ _ _ _ showed. showed ≡ None };
 
     fn screen(&self, name: &'a str, beside: String) -> FileScreen<'a, T> {
         FileScreen::new(self.rt, name, beside)
