@@ -79,7 +79,7 @@ fn attend_beside<
     requires range { IsOfFleet options.now.fleet }
     requires named { AreNamed options.now.clients.items }
     requires callable { F.IsAlwaysCallable make }
-    ensures { AttendsBy P.fits_map P.slot_count (F.post make) (λ x. I.remaining x) (λ x. Q.contents x) (O.holds outside.now) options.now result lines.old lines.new (W.contents output.old) (W.contents output.new) }
+    ensures { AttendsBy P.fits_map P.slot_count (F.post make) (λ x. I.remaining x) (λ x. Q.contents x) (O.log_holds outside.now) options.now result lines.old lines.new (W.contents output.old) (W.contents output.new) }
 {
     let file = outside.log(options.log);
     let mut beside = FileJournal::new(rt, Path::new(site));
@@ -125,7 +125,7 @@ pub(crate) fn attend_by_name<
     requires range { IsOfFleet options.now.fleet }
     requires named { AreNamed options.now.clients.items }
     requires callable { F.IsAlwaysCallable make }
-    ensures { Attended P.fits_map P.slot_count (F.post make) (λ x. I.remaining x) (λ x. Q.contents x) (O.holds outside.now) (O.leads outside.now) options.now result lines.old lines.new (W.contents output.old) (W.contents output.new) }
+    ensures { Attended P.fits_map P.slot_count (F.post make) (λ x. I.remaining x) (λ x. Q.contents x) (O.log_holds outside.now) (O.doors_lead outside.now) options.now result lines.old lines.new (W.contents output.old) (W.contents output.new) }
 {
     let Ok(site) = name_beside(alloc, options.log, ".site") else {
         return Err(Trouble::NoMemory);

@@ -16,25 +16,25 @@ pub trait Outside<'a, S: Screen, L: LogFile, I: Read, Q: Write, D: Doors<I, Q>> 
     ghost use Rattle.std.specs.String.{string_bytes};
 
     // that a screen of this name, with this other one beside it, tells so when it is handed out
-    ghost tells: { Self → List ℕ → List ℕ → Option (List (List ℕ)) → Type 0 };
+    ghost screen_tells: { Self → List ℕ → List ℕ → Option (List (List ℕ)) → Type 0 };
 
     // that a log file of this name tells so when it is handed out
-    ghost holds: { Self → List ℕ → Option (List ℕ) → Type 0 };
+    ghost log_holds: { Self → List ℕ → Option (List ℕ) → Type 0 };
 
     // that these are the doors of clients with these folders, each at the place of its number
-    ghost leads: { Self → List (Option (List ℕ)) → D → Type 0 };
+    ghost doors_lead: { Self → List (Option (List ℕ)) → D → Type 0 };
 
     /// The file of this name, as a screen. A text is written to the other one beside it, which then takes its name.
     fn screen(&self, name: &'a str, beside: String) -> S
-        ensures { tells self.now name.now (string_bytes beside) (S.shown result) };
+        ensures { screen_tells self.now name.now (string_bytes beside) (S.shown result) };
 
     /// The log file of this name. It is not opened yet.
     fn log(&self, name: &'a str) -> L
-        ensures { holds self.now name.now (L.contents result) };
+        ensures { log_holds self.now name.now (L.contents result) };
 
     /// Where the clients with these folders come in. Nothing is opened yet.
     fn doors(&self, alloc: Global, folders: &[Option<&'a str>]) -> Result<D, AllocError>
-        ensures { IfOk result (leads self.now (map (λ folder. option_map (λ s. s.now) folder) folders.now)) };
+        ensures { IfOk result (doors_lead self.now (map (λ folder. option_map (λ s. s.now) folder) folders.now)) };
 }
 
 /// The files of a runtime.
@@ -61,13 +61,13 @@ impl<'a, T: Files<File = File> + Eprint + Clock + Sync> Outside<
     ghost use Rattle.std.specs.Prelude.{◌≡◌, None};
 
     // a file tells nothing of what it is shown
-    ghost tells = { λ _ _ _ showed. showed ≡ None };
+    ghost screen_tells = { λ _ _ _ showed. showed ≡ None };
 
     // nor of its bytes
-    ghost holds = { λ _ _ held. held ≡ None };
+    ghost log_holds = { λ _ _ held. held ≡ None };
 
     // of what stands in a folder nothing can be said
-    ghost leads = { λ _ _ _. Unit {0} };
+    ghost doors_lead = { λ _ _ _. Unit {0} };
 
     fn screen(&self, name: &'a str, beside: String) -> FileScreen<'a, T> {
         FileScreen::new(self.rt, name, beside)

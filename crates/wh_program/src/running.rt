@@ -166,7 +166,7 @@ fn live_by_name<
     requires range { IsOfFleet options.now.fleet }
     requires callable { F.IsAlwaysCallable make }
     requires makes { MakesPlanners P.fits_map P.slot_count (F.post make) }
-    ensures { Lived P.fits_map P.slot_count (F.post make) (O.tells outside.now) options.now result lines.old lines.new (W.contents output.old) (W.contents output.new) }
+    ensures { Lived P.fits_map P.slot_count (F.post make) (O.screen_tells outside.now) options.now result lines.old lines.new (W.contents output.old) (W.contents output.new) }
 {
     match options.board {
         None => {
@@ -211,7 +211,7 @@ fn obey<
     requires range { HasRange options.now }
     requires callable { F.IsAlwaysCallable make }
     requires makes { MakesPlanners P.fits_map P.slot_count (F.post make) }
-    ensures { Did P.fits_map P.slot_count (F.post make) (O.tells outside.now) (Attended P.fits_map P.slot_count (F.post make) (λ x. I.remaining x) (λ x. Q.contents x) (O.holds outside.now) (O.leads outside.now)) options.now (option_map (λ f. record { log = K.contents f.log; site = K.contents f.site }) files.old) result lines.old lines.new (W.contents output.old) (W.contents output.new) }
+    ensures { Did P.fits_map P.slot_count (F.post make) (O.screen_tells outside.now) (Attended P.fits_map P.slot_count (F.post make) (λ x. I.remaining x) (λ x. Q.contents x) (O.log_holds outside.now) (O.doors_lead outside.now)) options.now (option_map (λ f. record { log = K.contents f.log; site = K.contents f.site }) files.old) result lines.old lines.new (W.contents output.old) (W.contents output.new) }
 {
     match options {
         Options::Check => judge(rt, alloc, lines, output),
@@ -251,7 +251,7 @@ fn obey_by_name<
     requires range { HasRange options.now }
     requires callable { F.IsAlwaysCallable make }
     requires makes { MakesPlanners P.fits_map P.slot_count (F.post make) }
-    ensures { (files : Option Files) × (is_some files ≡ names_file options.now) × Did P.fits_map P.slot_count (F.post make) (O.tells outside.now) (Attended P.fits_map P.slot_count (F.post make) (λ x. I.remaining x) (λ x. Q.contents x) (O.holds outside.now) (O.leads outside.now)) options.now files result lines.old lines.new (W.contents output.old) (W.contents output.new) }
+    ensures { (files : Option Files) × (is_some files ≡ names_file options.now) × Did P.fits_map P.slot_count (F.post make) (O.screen_tells outside.now) (Attended P.fits_map P.slot_count (F.post make) (λ x. I.remaining x) (λ x. Q.contents x) (O.log_holds outside.now) (O.doors_lead outside.now)) options.now files result lines.old lines.new (W.contents output.old) (W.contents output.new) }
 {
     let Some(log) = log_name(options) else {
         let mut none: Option<KeptFiles<FileJournal<'a, T>>> = None;
@@ -370,7 +370,7 @@ pub fn run<
 ) -> Status
     requires callable { F.IsAlwaysCallable make }
     requires makes { MakesPlanners P.fits_map P.slot_count (F.post make) }
-    ensures { Comes P.fits_map P.slot_count (F.post make) (O.tells outside.now) (Attended P.fits_map P.slot_count (F.post make) (λ x. I.remaining x) (λ x. Q.contents x) (O.holds outside.now) (O.leads outside.now)) (map A.text words.now) result lines.old lines.new (W.contents output.old) (W.contents output.new) (E.contents errors.old) (E.contents errors.new) }
+    ensures { Comes P.fits_map P.slot_count (F.post make) (O.screen_tells outside.now) (Attended P.fits_map P.slot_count (F.post make) (λ x. I.remaining x) (λ x. Q.contents x) (O.log_holds outside.now) (O.doors_lead outside.now)) (map A.text words.now) result lines.old lines.new (W.contents output.old) (W.contents output.new) (E.contents errors.old) (E.contents errors.new) }
 {
     match options(alloc, words) {
         Ok(options) => match late(&options) {
