@@ -6,13 +6,11 @@ ghost use Rattle.std.specs.Io.{ReadsAtMost};
 use crate::folders::{ClientPipes, open_pipe};
 use crate::standing::Place;
 use std::fs::{File, Files, OpenOptions};
-use std::io::{ErrorKind, Read, Write};
+use std::io;
+use std::io::{Read, Write};
 use std::os::fd::OwnedFd;
-use std::os::unix::net::UnixStream;
 use std::process::ChildStdin;
 use std::sync::Arc;
-use std::time::{Clock, Duration};
-use std::{io, thread};
 
 /// What a client sends. Its pipe is opened at the first read, when the first line of its replies was written: a client that waits
 /// for that line before it opens its own end never joins a connection that another had. Once the service is over it is at its end.
@@ -67,65 +65,29 @@ impl<'a, T: Files<File = File>> Read for Inlet<'a, T> {
     }
 }
 
-/// How many milliseconds a reply rests before it is tried again, where its pipe is full.
-const REST: u64 = 5;
-
-/// So many rests behind the end of the service a client that does not read is told no more: a second.
-const RESTS: u32 = 200;
-
-/// Turns on that what is done with a pipe waits for nobody. A socket is what can be told so; its descriptor may be of any file.
-pub(crate) fn unwaiting(pipe: File) -> io::Result<OwnedFd> {
-    let pipe = UnixStream::from(OwnedFd::from(pipe));
-    pipe.set_nonblocking(true)?;
-    Ok(OwnedFd::from(pipe))
-}
-
-/// Where a client is told its replies, an open pipe. It rests while that is full, so that the service may end though nobody reads.
-/// A write to a client that is gone fails, and raises no signal.
+/// Where a client is told its replies, an open pipe. A write to a client that is gone fails, and raises no signal; one to a client
+/// that does not read waits.
 #[derive(Drop)]
-pub struct Outlet<'a, T: Clock> {
-    clock: &'a T,
+pub struct Outlet {
     pipes: Arc<ClientPipes>,
     pipe: ChildStdin,
-    rests: u32,
 }
 
-impl<'a, T: Clock> Outlet<'a, T> {
-    pub(crate) fn new(
-        clock: &'a T,
-        pipes: Arc<ClientPipes>,
-        pipe: File,
-    ) -> io::Result<Outlet<'a, T>> {
-        Ok(Outlet {
-            clock,
+impl Outlet {
+    pub(crate) fn new(pipes: Arc<ClientPipes>, pipe: File) -> Outlet {
+        Outlet {
             pipes,
-            pipe: ChildStdin::from(unwaiting(pipe)?),
-            rests: RESTS,
-        })
-    }
-
-    /// Rests, unless the service has been over for too long.
-    fn rest(&mut self) -> io::Result<()> {
-        if self.pipes.is_over() {
-            if self.rests == 0 {
-                return Err(io::Error::from(ErrorKind::TimedOut));
-            }
-            self.rests -= 1;
+            pipe: ChildStdin::from(OwnedFd::from(pipe)),
         }
-        thread::sleep(self.clock, Duration::from_millis(REST));
-        Ok(())
     }
 }
 
-impl<'a, T: Clock> Write for Outlet<'a, T> {
+impl Write for Outlet {
     fn write(&mut self, bytes: &[u8]) -> io::Result<usize> {
-        for _ in 0..u64::MAX {
-            match self.pipe.write(bytes) {
-                Err(fault) if fault.kind() == ErrorKind::WouldBlock => self.rest()?,
-                written => return written,
-            }
-        }
-        Err(io::Error::from(ErrorKind::TimedOut))
+        self.pipes.standing.set(Place::Writing);
+        let written = self.pipe.write(bytes);
+        self.pipes.standing.set(Place::Nowhere);
+        written
     }
 
     fn flush(&mut self) -> io::Result<()> {

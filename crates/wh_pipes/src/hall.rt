@@ -3,13 +3,12 @@
 
 ghost use Rattle.std.specs.Prelude.{◌≡◌, Bool, IfNone, IfOk, true};
 
-use crate::connection::unwaiting;
 use crate::folders::{ClientPipes, first_without_pipes, open_pipe};
 use crate::pipes::Pipes;
 use crate::standing::Place;
 use std::alloc::{AllocError, Global};
 use std::fs::{File, Files, OpenOptions};
-use std::io::Write;
+use std::io::{Read, Write};
 use std::os::fd::OwnedFd;
 use std::process::ChildStdin;
 use std::sync::atomic::AtomicBool;
@@ -33,24 +32,46 @@ pub trait Hall {
 /// How many milliseconds whoever lets threads go rests between two rounds.
 const ROUND: u64 = 20;
 
+/// A client that has not read for so many rounds does not read.
+const STILL: u64 = 50;
+
 /// Opens a pipe for both ways, which waits for nobody: whoever waits for the other end to be opened waits no longer.
-fn open_both_ways<T: Files<File = File>>(files: &T, path: &str) -> io::Result<OwnedFd> {
+fn open_both_ways<T: Files<File = File>>(files: &T, path: &str) -> io::Result<File> {
     let mut how = OpenOptions::new();
     how.read(true).write(true);
-    unwaiting(open_pipe(files, &how, path)?)
+    open_pipe(files, &how, path)
+}
+
+/// Ends a read. The line that it ends is not served any more. Where the pipe is full nobody stands in a read, and this waits until the
+/// thread closes its own end: so no other may read it.
+fn end_read<T: Files<File = File>>(files: &T, path: &str) -> io::Result<()> {
+    let both = open_both_ways(files, path)?;
+    let pipe = open_pipe(files, OpenOptions::new().write(true), path)?;
+    drop(both);
+    ChildStdin::from(OwnedFd::from(pipe)).write_all(b"\n")
+}
+
+/// Ends a write that nobody reads: a part of what stands in the pipe, which is full, is taken away. Where it is not full any more, this
+/// waits for more, or until the thread closes its own end: so no other may write to it.
+fn end_write<T: Files<File = File>>(files: &T, path: &str) -> io::Result<()> {
+    let both = open_both_ways(files, path)?;
+    let mut pipe = open_pipe(files, OpenOptions::new().read(true), path)?;
+    drop(both);
+    let mut room = [0; 65_536];
+    pipe.read(&mut room)?;
+    Ok(())
 }
 
 /// Lets one client's thread go, if it stands in a pipe.
 fn let_one_go<T: Files<File = File>>(files: &T, pipes: &ClientPipes) -> io::Result<()> {
+    let rounds = pipes.standing.rounds();
     match pipes.standing.place() {
         Place::Nowhere => Ok(()),
         Place::OpeningReplies => open_both_ways(files, pipes.replies.as_str()).map(drop),
         Place::OpeningCommands => open_both_ways(files, pipes.commands.as_str()).map(drop),
-        Place::Reading => {
-            // the line that it ends is not served any more
-            let pipe = open_both_ways(files, pipes.commands.as_str())?;
-            ChildStdin::from(pipe).write_all(b"\n")
-        }
+        Place::Reading => end_read(files, pipes.commands.as_str()),
+        Place::Writing if rounds < STILL => Ok(()),
+        Place::Writing => end_write(files, pipes.replies.as_str()),
     }
 }
 

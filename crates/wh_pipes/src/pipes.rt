@@ -28,7 +28,7 @@ pub struct Pipes<'a, T: Files<File = File> + Clock> {
 }
 
 /// One connection of a client over its pipes.
-type PipeConnection<'a, T> = Connection<Inlet<'a, T>, BufWriter<Outlet<'a, T>>>;
+type PipeConnection<'a, T> = Connection<Inlet<'a, T>, BufWriter<Outlet>>;
 
 impl<'a, T: Files<File = File> + Clock> Pipes<'a, T> {
     /// The pipes in these folders: a client's number is its place, and one without a folder never comes.
@@ -79,7 +79,7 @@ impl<'a, T: Files<File = File> + Clock> Pipes<'a, T> {
         let (Ok(for_outlet), Ok(for_inlet)) = (Arc::try_clone(pipes), Arc::try_clone(pipes)) else {
             return Err(io::Error::from(ErrorKind::OutOfMemory));
         };
-        let outlet = Outlet::new(self.rt, for_outlet, replies)?;
+        let outlet = Outlet::new(for_outlet, replies);
         let Ok(writer) = BufWriter::with_capacity(self.alloc, REPLIES_ROOM, outlet) else {
             return Err(io::Error::from(ErrorKind::OutOfMemory));
         };
@@ -90,10 +90,8 @@ impl<'a, T: Files<File = File> + Clock> Pipes<'a, T> {
     }
 }
 
-impl<'a, T: Files<File = File> + Eprint + Clock + Sync> Doors<
-    Inlet<'a, T>,
-    BufWriter<Outlet<'a, T>>,
-> for Pipes<'a, T> {
+impl<'a, T: Files<File = File> + Eprint + Clock + Sync> Doors<Inlet<'a, T>, BufWriter<Outlet>>
+    for Pipes<'a, T> {
     fn open(&self, client: u32) -> Option<PipeConnection<'a, T>> {
         let pipes = self.pipes(client)?;
         let connected = self.connect(pipes);
@@ -115,12 +113,7 @@ impl<'a, T: Files<File = File> + Eprint + Clock + Sync> Doors<
         self.is_over.store(true, SeqCst);
     }
 
-    fn leave(
-        &self,
-        client: u32,
-        outcome: &Result<Served, ServeFault>,
-        writer: BufWriter<Outlet<'a, T>>,
-    ) {
+    fn leave(&self, client: u32, outcome: &Result<Served, ServeFault>, writer: BufWriter<Outlet>) {
         drop(writer);
         if self.is_over() {
             return;

@@ -12,18 +12,25 @@ pub(crate) enum Place {
     OpeningReplies,
     OpeningCommands,
     Reading,
+    Writing,
 }
 
-/// Where a thread stands.
+/// Where a thread stands, and how long it has been seen there.
 #[derive(Drop)]
 pub(crate) struct Standing {
     place: AtomicU64,
+    steps: AtomicU64,
+    seen: AtomicU64,
+    rounds: AtomicU64,
 }
 
 impl Standing {
     pub(crate) fn new() -> Standing {
         Standing {
             place: AtomicU64::new(0),
+            steps: AtomicU64::new(0),
+            seen: AtomicU64::new(0),
+            rounds: AtomicU64::new(0),
         }
     }
 
@@ -33,7 +40,9 @@ impl Standing {
             Place::OpeningReplies => 1,
             Place::OpeningCommands => 2,
             Place::Reading => 3,
+            Place::Writing => 4,
         };
+        self.steps.fetch_add(1, SeqCst);
         self.place.store(number, SeqCst);
     }
 
@@ -42,7 +51,20 @@ impl Standing {
             1 => Place::OpeningReplies,
             2 => Place::OpeningCommands,
             3 => Place::Reading,
+            4 => Place::Writing,
             _ => Place::Nowhere,
         }
+    }
+
+    /// For how many rounds the thread has stood in one call, where whoever lets it go asks once in each round.
+    pub(crate) fn rounds(&self) -> u64 {
+        let steps = self.steps.load(SeqCst);
+        let rounds = if self.seen.swap(steps, SeqCst) == steps {
+            self.rounds.load(SeqCst).saturating_add(1)
+        } else {
+            0
+        };
+        self.rounds.store(rounds, SeqCst);
+        rounds
     }
 }

@@ -55,7 +55,7 @@ impl<'a, T: Files<File = File> + Eprint + Clock + Sync> Outside<
     FileScreen<'a, T>,
     FileJournal<'a, T>,
     Inlet<'a, T>,
-    BufWriter<Outlet<'a, T>>,
+    BufWriter<Outlet>,
     Pipes<'a, T>,
 > for Surroundings<'a, T> {
     ghost use Rattle.std.specs.Prelude.{◌≡◌, None};
