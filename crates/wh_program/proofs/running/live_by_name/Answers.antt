@@ -5,7 +5,7 @@ use Rattle.wh_program.proofs.running.live_by_name.Goals as goal
 pub returns-in-None : goal.returns-in-None
 returns-in-None g c =
     let fits = g.P.Planner.fits_map in
-    over_none fits g.P.Planner.slot_count _ (g.O.Outside.screen_tells c.args.outside.now) c.args.options.now _ _ _ _ _ _ (ap (option_map (λ s. s.now)) c.in-None.is) c.live_over-in-None.ensures
+    over_none fits g.P.Planner.slot_count _ (g.O.Outside.screen_tells c.args.outside.now) c.args.options.now _ _ _ _ _ _ (ap (option_map (λ s. s.now)) c.in-None.is) c.live_over.ensures
 
 pub returns-in-Ok : goal.returns-in-Ok
 returns-in-Ok g c =

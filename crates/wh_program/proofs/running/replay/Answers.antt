@@ -17,3 +17,18 @@ returns-in-Ok-serve_kept g c = rw c.in-Some.is (
     c.in-Ok-serve_kept.ensures.ok,
   ),
 )
+
+pub returns-in-Err-serve_kept : goal.returns-in-Err-serve_kept
+returns-in-Err-serve_kept g c = rw c.in-Some.is (
+  g.L.Journal.failed c.serve_kept.new.file,
+  g.L.Journal.synced c.serve_kept.new.file,
+  g.L.Journal.contents c.serve_kept.new.file,
+  record {
+    before = g.L.Journal.contents c.in-Some.files.site;
+    after = g.L.Journal.contents c.serve_kept.new.beside;
+    synced = g.L.Journal.synced c.serve_kept.new.beside;
+    failed = g.L.Journal.failed c.serve_kept.new.beside;
+  },
+  refl,
+  c.in-Err-serve_kept.ensures.fault,
+)
