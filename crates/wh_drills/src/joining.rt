@@ -85,6 +85,7 @@ fn crew(alloc: Global, grid: &Arc<Grid>) -> Result<Vec<Patient>, Fail> {
 }
 
 /// The warehouse that goes on with the run that the log tells.
+#[tactic(auto, using(crate::proofs::Begun::starts_of))]
 fn resumed<L: LogFile>(alloc: Global, log: &mut L) -> Result<Warehouse<Patient>, Fail>
     ensures log { IfOk result (λ warehouse. HoldsLog (L.contents log.new) warehouse.book) }
     ensures synced { IfOk result (λ _. L.synced log.new ≡ L.contents log.new) }

@@ -1,0 +1,22 @@
+-- What a run that is found in a journal starts from, and a journal behind which nothing stands yet.
+use Rattle.std.proofs.Common.{◌≡◌, ℕ, List, [], sym, subst, Option, None, Some}
+use Rattle.std.specs.Io.KnownBytes.{Appends}
+use Rattle.std.proofs.KnownBytes.{Appends-nil}
+use Rattle.wh_points.specs.Points.{Site}
+use Rattle.wh_event.specs.declared.entry.Entry.{Entry}
+use Rattle.wh_journal.specs.Journals.{lines_for}
+use Rattle.wh_continue.specs.Starting.{StartsByFile, StartsIn}
+use Rattle.wh_continue.specs.Running.{IsStartOf}
+use Rattle.wh_continue.specs.declared.starting.Start.{Start}
+
+starts_here : (site : Site) (slots : List ℕ) (file : Option (List ℕ)) (start : Start) → StartsByFile site slots file start → IsStartOf file start
+starts_here site slots None start from = tt
+starts_here site slots (Some held) start from = (site, slots, subst (λ (text : List ℕ). StartsIn site slots text start) from.text_is from.starts)
+
+pub starts_of : (site : Site) (slots : List ℕ) (file now : Option (List ℕ)) (start : Start) → StartsByFile site slots file start → now ≡ file → IsStartOf now start
+starts_of site slots file now start from same = subst (λ (f : Option (List ℕ)). IsStartOf f start) (sym same) (starts_here site slots file start from)
+
+-- the lines of no entries stand behind what a journal holds
+pub bare_start : (start now : Option (List ℕ)) (history : List Entry) → now ≡ start → history ≡ [] → Appends start now (lines_for history)
+bare_start start now history same none =
+    subst (λ (h : List Entry). Appends start now (lines_for h)) (sym none) (subst (λ (s : Option (List ℕ)). Appends s now []) same (Appends-nil now))
