@@ -10,8 +10,7 @@ ghost use Rattle.wh_claims.specs.Claim.{claim_amount};
 
 use std::alloc::AllocError;
 use std::env;
-use std::fs::{File, Files};
-use std::io::{self, BufWriter, ErrorKind, Read, Write};
+use std::io::{self, BufWriter, ErrorKind, Write};
 use std::process::ExitCode;
 use std::sync::Wait;
 use std::thread::Threads;
@@ -21,7 +20,7 @@ use wh_lines::Lines;
 use wh_options::PlannerKind;
 use wh_planner::Planner;
 use wh_planners::{Patient, Sharing};
-use wh_program::{Doors, Hall, LogFile, Outside, PlannerParts, Screen, Surroundings, end, run};
+use wh_program::{PlannerParts, end, run};
 
 /// How many bytes of output are written at a time.
 const OUTPUT_BUFFER: usize = 65_536;
@@ -50,17 +49,12 @@ fn words<R: AllocGlobal + env::Env, E: Write>(
 }
 
 /// Does what the words ask for, over the process's streams. All planners are made here.
-fn obey<
-    'w,
-    R: AllocGlobal + Print + Input + Files<File = File> + Threads + Wait + Clock + Sync,
-    S: Screen + Send + Drop,
-    L: LogFile + Send + Drop,
-    I: Read + Send + Drop,
-    Q: Write + Send + Drop,
-    D: Doors<I, Q> + Hall + Drop,
-    O: Outside<'w, S, L, I, Q, D>,
-    E: Write,
->(rt: &'w R, outside: &O, words: &'w [String], errors: &mut E) -> Status {
+fn obey<'w, R: AllocGlobal + Print + Input + Threads + Wait + Clock + Sync, E: Write>(
+    rt: &R,
+    files: &'w HostRuntime,
+    words: &'w [String],
+    errors: &mut E,
+) -> Status {
     let alloc = rt.alloc();
     let make = |parts: PlannerParts| -> Result<Box<dyn Planner>, AllocError>
         ensures on_grid { IfOk result (λ b. fits_map b parts.grid.value ≡ true) }
@@ -85,7 +79,7 @@ fn obey<
     };
     run(
         rt,
-        outside,
+        files,
         alloc,
         words,
         &mut lines,
@@ -98,7 +92,7 @@ fn obey<
 fn main(rt: HostRuntime) -> ExitCode {
     let mut errors = rt.stderr();
     let status = match words(&rt, &mut errors) {
-        Ok(words) => obey(&rt, &Surroundings::new(&rt), words.as_slice(), &mut errors),
+        Ok(words) => obey(&rt, &rt, words.as_slice(), &mut errors),
         Err(status) => status,
     };
     ExitCode::from(status.number())

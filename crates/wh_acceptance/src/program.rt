@@ -8,8 +8,6 @@ use crate::answers::{AGENTS, MAP, POINTS};
 use crate::boards::LAST;
 use std::alloc::{AllocError, AllocGlobal};
 use std::fs;
-use std::fs::{File, Files};
-use std::io::{Read, Write};
 use std::path::Path;
 use std::sync::Wait;
 use std::test::*;
@@ -19,7 +17,7 @@ use wh_lines::Lines;
 use wh_options::PlannerKind;
 use wh_planner::Planner;
 use wh_planners::{Patient, Sharing};
-use wh_program::{Doors, Hall, LogFile, Outside, PlannerParts, Screen, Surroundings, run};
+use wh_program::{PlannerParts, run};
 
 /// What a call of the program shows.
 #[derive(Drop)]
@@ -30,16 +28,12 @@ struct Shown {
 }
 
 /// Calls the program with these words behind its name.
-fn call<
-    'w,
-    R: AllocGlobal + Threads + Wait + Clock + Sync + Files<File = File>,
-    S: Screen + Send + Drop,
-    L: LogFile + Send + Drop,
-    I: Read + Send + Drop,
-    Q: Write + Send + Drop,
-    D: Doors<I, Q> + Hall + Drop,
-    O: Outside<'w, S, L, I, Q, D>,
->(rt: &'w R, outside: &O, words: &'w [&'w str], input: &[u8]) -> Result<Shown, Fail> {
+fn call<'w, R: AllocGlobal + Threads + Wait + Clock + Sync>(
+    rt: &R,
+    files: &'w HostRuntime,
+    words: &'w [&'w str],
+    input: &[u8],
+) -> Result<Shown, Fail> {
     let alloc = rt.alloc();
     let make = |parts: PlannerParts| -> Result<Box<dyn Planner>, AllocError>
         ensures on_grid { IfOk result (λ b. fits_map b parts.grid.value ≡ true) }
@@ -63,7 +57,7 @@ fn call<
     let mut errors = Vec::new(alloc);
     let status = run(
         rt,
-        outside,
+        files,
         alloc,
         words,
         &mut lines,
@@ -272,7 +266,7 @@ fn each_subcommand(rt: HostRuntime) -> Result<(), Fail> {
     for row in ROWS.iter() {
         let (points, rest) = (row.points, row.rest);
         let input = format!(in rt.alloc(); "{MAP}%%\n{points}{AGENTS}%%\n{rest}")?;
-        let shown = call(&rt, &Surroundings::new(&rt), row.words, input.as_bytes())?;
+        let shown = call(&rt, &rt, row.words, input.as_bytes())?;
         assert!(rt; shown.status == row.status, "{}", row.output);
         assert!(rt;
             shown.output.as_slice() == row.output.as_bytes(),
@@ -292,12 +286,7 @@ fn each_subcommand(rt: HostRuntime) -> Result<(), Fail> {
 #[test]
 fn mistaken_words(rt: HostRuntime) -> Result<(), Fail> {
     for word in ["fly", "--fast", "live-two"] {
-        let shown = call(
-            &rt,
-            &Surroundings::new(&rt),
-            ["warehouse", word].as_slice(),
-            b"",
-        )?;
+        let shown = call(&rt, &rt, ["warehouse", word].as_slice(), b"")?;
         assert!(rt; shown.status == 2, "{word}");
         assert!(rt; shown.output.is_empty(), "{word}");
         assert!(rt; !shown.errors.is_empty(), "{word}");
@@ -325,21 +314,11 @@ fn a_live_log_is_verified(rt: HostRuntime) -> Result<(), Fail> {
             "run 6\n",
         ),
     ] {
-        let lived = call(
-            &rt,
-            &Surroundings::new(&rt),
-            words.as_slice(),
-            input.as_bytes(),
-        )?;
+        let lived = call(&rt, &rt, words.as_slice(), input.as_bytes())?;
         assert!(rt; lived.status == 0 && lived.errors.is_empty(), "{wanted}");
         let mut log = Vec::from_slice(rt.alloc(), site.as_bytes())?;
         log.extend_from_slice(lived.output.as_slice())?;
-        let verified = call(
-            &rt,
-            &Surroundings::new(&rt),
-            ["warehouse", "verify"].as_slice(),
-            log.as_slice(),
-        )?;
+        let verified = call(&rt, &rt, ["warehouse", "verify"].as_slice(), log.as_slice())?;
         assert!(rt; verified.status == 0, "{wanted}");
         assert!(rt; verified.output.as_slice() == wanted.as_bytes(), "{wanted}");
     }
@@ -353,14 +332,13 @@ fn a_board_is_left(rt: HostRuntime) -> Result<(), Fail> {
     let input = format!(in rt.alloc(); "{MAP}%%\n{POINTS}{AGENTS}%%\n")?;
     let board = "acceptance_board";
     let words = ["warehouse", "live", "--every", "1", "--board", board];
-    let outside = Surroundings::new(&rt);
-    let shown = call(&rt, &outside, words.as_slice(), input.as_bytes())?;
+    let shown = call(&rt, &rt, words.as_slice(), input.as_bytes())?;
     assert!(rt; shown.status == 0 && shown.errors.is_empty());
     assert!(rt; fs::read(&rt, Path::new(board))?.as_slice() == LAST);
     assert!(rt; !fs::exists(&rt, Path::new("acceptance_board.new"))?);
     fs::remove_file(&rt, Path::new(board))?;
     let words = ["warehouse", "live", "--board", "acceptance_nowhere/board"];
-    let shown = call(&rt, &outside, words.as_slice(), input.as_bytes())?;
+    let shown = call(&rt, &rt, words.as_slice(), input.as_bytes())?;
     assert!(rt; shown.status == 3 && shown.output.is_empty());
     assert!(rt; shown.errors.as_slice() == b"refused X6\n".as_slice());
     Ok(())
@@ -375,7 +353,7 @@ fn no_front_of_a_log_is_one(rt: HostRuntime) -> Result<(), Fail> {
         input.extend_from_slice(&RUN.as_bytes()[..length])?;
         let verified = call(
             &rt,
-            &Surroundings::new(&rt),
+            &rt,
             ["warehouse", "verify"].as_slice(),
             input.as_slice(),
         )?;

@@ -2,4 +2,3 @@ pub mod Starved
 pub mod Whole
 mod Folders
 mod Late
-mod Screens

@@ -15,7 +15,7 @@ use Rattle.wh_options.specs.declared.chosen.VehicleOptions.{VehicleOptions}
 use Rattle.wh_convoy.specs.Convoys.{Held}
 use Rattle.wh_service.specs.Kept.{Siding}
 use Rattle.wh_program.specs.Attending.{Attended}
-use Rattle.wh_program.specs.Programs.{Did, Drove, Files, LateFiles, Lived, ReplayedOver, names_file}
+use Rattle.wh_program.specs.Programs.{Did, Drove, Files, LateFiles, Lived, ReplayedOver, names_file, silent}
 use Rattle.wh_service.specs.declared.convoys.DriveTrouble.TheVariants.{Plain}
 use Rattle.wh_service.specs.declared.parts.PlannerParts.{PlannerParts}
 
@@ -29,17 +29,17 @@ module _ {X : Type 0} (fits : X → Floor → Bool) (count : X → ℕ) (gives :
     (false, None, None, record { before = None; after = None; synced = None; failed = false }, refl, inl (tt, Keeps-refl had, refl, refl)),
   )
 
-  pub starved : {R W D : Type 0} (screens : Text → Text → Option (List (List ℕ)) → Type 0) (remaining : R → Option (List ℕ)) (contents : W → Option (List ℕ)) (logs : Text → Option (List ℕ) → Type 0) (leads : List (Option Text) → D → Type 0) (o : Options) →
-      (files : Option Files) × (is_some files ≡ names_file o) × Did fits count gives screens (Attended fits count gives remaining contents logs leads) o files (Err trouble.NoMemory) input input had had
-  starved screens remaining contents logs leads Check = (None, refl, (tt, Keeps-refl had))
-  starved screens remaining contents logs leads Verify = (None, refl, Keeps-refl had)
-  starved screens remaining contents logs leads (Live o) = (None, refl, inl (refl, refl, Keeps-refl had))
-  starved screens remaining contents logs leads (Attend o) = (None, refl, inl (refl, refl, Keeps-refl had))
-  starved screens remaining contents logs leads (Replay o) = over o o.log
+  pub starved : {R W : Type 0} (remaining : R → Option (List ℕ)) (contents : W → Option (List ℕ)) (o : Options) →
+      (files : Option Files) × (is_some files ≡ names_file o) × Did fits count gives (Attended fits count gives remaining contents) o files (Err trouble.NoMemory) input input had had
+  starved remaining contents Check = (None, refl, (tt, Keeps-refl had))
+  starved remaining contents Verify = (None, refl, Keeps-refl had)
+  starved remaining contents (Live o) = (None, refl, (silent o, inl (tt, Keeps-refl had)))
+  starved remaining contents (Attend o) = (None, refl, inl (refl, refl, Keeps-refl had))
+  starved remaining contents (Replay o) = over o o.log
 
   -- memory was wanting for the name of the file beside the board
-  pub starved_live : (screens : Text → Text → Option (List (List ℕ)) → Type 0) (o : LiveOptions) → Lived fits count gives screens o (Err trouble.NoMemory) input input had had
-  starved_live screens o = inl (refl, refl, Keeps-refl had)
+  pub starved_live : (o : LiveOptions) → Lived fits count gives o (Err trouble.NoMemory) input input had had
+  starved_live o = (silent o, inl (tt, Keeps-refl had))
 
   -- the same with vehicles
   late_over : {N : Type 0} (o : ReplayOptions) (pace : VehicleOptions) (log : Option N) →

@@ -34,7 +34,7 @@ pub record AreFolders (clients : List ClientOptions) (folders : List (Option Tex
   pub each : AllAt (IsFolderAt clients) folders
 
 -- It was so over a log file that told this and the file beside it. Here and below fits and count say what a planner answers, gives what
--- makes it, remaining and contents what a client's reader and writer tell, and files what a file of a name may tell.
+-- makes it, remaining and contents what a client's reader and writer tell.
 abbrev pub AttendsOver : {R W X : Type 0} → (X → Floor → Bool) → (X → ℕ) → (PlannerParts → Result X AllocError → Type 0) → (R → Option (List ℕ)) → (W → Option (List ℕ)) → AttendOptions → (file : Option (List ℕ)) → Siding
     → Result Status Trouble → (old new : Input) → (had has : Option (List ℕ)) → Type 0
 AttendsOver fits count gives remaining contents o file beside (Ok status) old new had has =
@@ -42,27 +42,10 @@ AttendsOver fits count gives remaining contents o file beside (Ok status) old ne
 AttendsOver fits count gives remaining contents o file beside (Err told) old new had has =
     IsWhyUnattended fits count remaining contents gives o told old new had has file beside
 
--- over a log file of the options' name, and one beside it
-pub record AttendsBy {R W X : Type 0} (fits : X → Floor → Bool) (count : X → ℕ) (gives : PlannerParts → Result X AllocError → Type 0) (remaining : R → Option (List ℕ)) (contents : W → Option (List ℕ))
-    (files : Text → Option (List ℕ) → Type 0) (o : AttendOptions) (came : Result Status Trouble) (old new : Input) (had has : Option (List ℕ)) : Type 0 where
-  pub file : Option (List ℕ)
-  pub file_is : files o.log.now file
-  pub beside : Siding
-  pub over : AttendsOver fits count gives remaining contents o file beside came old new had has
-
--- The clients came in at doors of their folders; leads says which doors are of which folders.
-pub record AttendsAt {R W D X : Type 0} (fits : X → Floor → Bool) (count : X → ℕ) (gives : PlannerParts → Result X AllocError → Type 0) (remaining : R → Option (List ℕ)) (contents : W → Option (List ℕ))
-    (files : Text → Option (List ℕ) → Type 0) (leads : List (Option Text) → D → Type 0) (o : AttendOptions) (came : Result Status Trouble) (old new : Input) (had has : Option (List ℕ)) : Type 0 where
-  pub folders : List (Option Text)
-  pub folders_are : AreFolders o.clients.items folders
-  pub doors : D
-  pub doors_are : leads folders doors
-  pub by : AttendsBy fits count gives remaining contents files o came old new had has
-
--- `live` with running clients came to this: memory was wanting for the names of files or for the doors, and nothing was read or written; or
--- it was so.
-abbrev pub Attended : {R W D X : Type 0} → (X → Floor → Bool) → (X → ℕ) → (PlannerParts → Result X AllocError → Type 0) → (R → Option (List ℕ)) → (W → Option (List ℕ))
-    → (files : Text → Option (List ℕ) → Type 0) → (leads : List (Option Text) → D → Type 0) → AttendOptions → Result Status Trouble → (old new : Input) → (had has : Option (List ℕ)) → Type 0
-Attended fits count gives remaining contents files leads o came old new had has =
+-- `live` with running clients came to this: memory was wanting for names or for the doors, and nothing was read or written; or it was so,
+-- over a log file and the one beside it.
+abbrev pub Attended : {R W X : Type 0} → (X → Floor → Bool) → (X → ℕ) → (PlannerParts → Result X AllocError → Type 0) → (R → Option (List ℕ)) → (W → Option (List ℕ))
+    → AttendOptions → Result Status Trouble → (old new : Input) → (had has : Option (List ℕ)) → Type 0
+Attended fits count gives remaining contents o came old new had has =
     ((came ≡ Err trouble.NoMemory) × (new ≡ old) × Keeps had has)
-    ⊎ AttendsAt fits count gives remaining contents files leads o came old new had has
+    ⊎ ((file : Option (List ℕ)) × (beside : Siding) × AttendsOver fits count gives remaining contents o file beside came old new had has)

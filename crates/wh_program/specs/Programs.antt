@@ -1,5 +1,5 @@
 -- What the whole program comes to: from its words and its input to its output and its status.
-use Rattle.std.specs.Prelude.{◌≡◌, ◌≢◌, ◌⊎◌, ◌≤◌, ◌++◌, ℕ, Bool, List, codes, false, IfSome, Option, Some, None, is_some, Result, Ok, Err}
+use Rattle.std.specs.Prelude.{◌≡◌, ◌≢◌, ◌⊎◌, ◌≤◌, ℕ, Bool, List, false, IfSome, Option, Some, None, is_some, option_map, Result, Ok, Err}
 use Rattle.std.specs.declared.alloc.AllocError.{AllocError}
 use Rattle.std.specs.Io.KnownBytes.{Keeps}
 use Rattle.wh_lines.specs.Input.{Input}
@@ -10,7 +10,7 @@ use Rattle.wh_edge.specs.declared.trouble.Status.{Status}
 use Rattle.wh_edge.specs.declared.trouble.Status.TheVariants.{Done, CommandLine, NoMemory}
 use Rattle.wh_edge.specs.declared.trouble.Trouble.{Trouble}
 use Rattle.wh_edge.specs.declared.trouble.Trouble.TheVariants as trouble
-use Rattle.wh_options.specs.Options.{WordsGive, board_of}
+use Rattle.wh_options.specs.Options.{WordsGive}
 use Rattle.wh_options.specs.Requests.{AsksBy, help_flags, version_flags}
 use Rattle.wh_options.specs.Setting.{Text}
 use Rattle.wh_options.specs.declared.chosen.AttendOptions.{AttendOptions}
@@ -64,20 +64,15 @@ abbrev pub LivedOver : {X : Type 0} → (X → Floor → Bool) → (X → ℕ) �
 LivedOver fits count gives options showed shows (Ok status) old new had has = (status ≡ Done) × HostsTo fits count gives options old new had has showed shows
 LivedOver fits count gives options showed shows (Err told) old new had has = IsWhyUnhosted fits count gives options told old new had has showed shows
 
--- What a run's screen tells when it is handed out: where a board is named it is of that name, with another one beside it, and else
--- there is none. Screens, here and below, says what a screen of such names tells then.
-abbrev pub IsHanded : (Text → Text → Option (List (List ℕ)) → Type 0) → Option Text → Option (Option (List (List ℕ))) → Type 0
-IsHanded screens None None = Unit {0}
-IsHanded screens (Some name) (Some showed) = screens name (name ++ codes ".new") showed
-IsHanded screens _ _ = ⊥
+-- the screen that a run has: a file tells nothing of what it is shown
+abbrev pub silent : LiveOptions → Option (Option (List (List ℕ)))
+silent options = option_map (λ name. None) options.board
 
--- `live` came to this: memory was wanting for the name of the file beside the board, and nothing was read or written; or there was
--- a run over the screen of the board's name, or over none
-abbrev pub Lived : {X : Type 0} → (X → Floor → Bool) → (X → ℕ) → (PlannerParts → Result X AllocError → Type 0) → (Text → Text → Option (List (List ℕ)) → Type 0) → LiveOptions → Result Status Trouble
+-- `live` came to this
+abbrev pub Lived : {X : Type 0} → (X → Floor → Bool) → (X → ℕ) → (PlannerParts → Result X AllocError → Type 0) → LiveOptions → Result Status Trouble
     → Input → Input → Option (List ℕ) → Option (List ℕ) → Type 0
-Lived fits count gives screens options came old new had has =
-    ((came ≡ Err trouble.NoMemory) × (new ≡ old) × Keeps had has)
-    ⊎ ((showed shows : Option (Option (List (List ℕ)))) × IsHanded screens (board_of options) showed × LivedOver fits count gives options showed shows came old new had has)
+Lived fits count gives options came old new had has =
+    (shows : Option (Option (List (List ℕ)))) × LivedOver fits count gives options (silent options) shows came old new had has
 
 -- `replay` over no file came to this
 abbrev pub Replayed : {X : Type 0} → (X → Floor → Bool) → (X → ℕ) → (PlannerParts → Result X AllocError → Type 0) → ReplayOptions → Result Status Trouble
@@ -108,13 +103,13 @@ ReplayedOver fits count gives o None came old new had has = Replayed fits count 
 ReplayedOver fits count gives o (Some files) came old new had has = Kept fits count gives o came old new had has files
 
 -- What the options ask for was done, and came to this. Guests says what `live` with running clients comes to.
-abbrev pub Did : {X : Type 0} → (X → Floor → Bool) → (X → ℕ) → (PlannerParts → Result X AllocError → Type 0) → (Text → Text → Option (List (List ℕ)) → Type 0) → (guests : AttendOptions → Result Status Trouble → Input → Input → Option (List ℕ) → Option (List ℕ) → Type 0) → Options
+abbrev pub Did : {X : Type 0} → (X → Floor → Bool) → (X → ℕ) → (PlannerParts → Result X AllocError → Type 0) → (guests : AttendOptions → Result Status Trouble → Input → Input → Option (List ℕ) → Option (List ℕ) → Type 0) → Options
     → Option Files → Result Status Trouble → Input → Input → Option (List ℕ) → Option (List ℕ) → Type 0
-Did fits count gives screens guests Check files came old new had has = Checked came old new had has
-Did fits count gives screens guests Verify files came old new had has = Verified came old new had has
-Did fits count gives screens guests (Live o) files came old new had has = Lived fits count gives screens o came old new had has
-Did fits count gives screens guests (Attend o) files came old new had has = guests o came old new had has
-Did fits count gives screens guests (Replay o) files came old new had has = ReplayedOver fits count gives o files came old new had has
+Did fits count gives guests Check files came old new had has = Checked came old new had has
+Did fits count gives guests Verify files came old new had has = Verified came old new had has
+Did fits count gives guests (Live o) files came old new had has = Lived fits count gives o came old new had has
+Did fits count gives guests (Attend o) files came old new had has = guests o came old new had has
+Did fits count gives guests (Replay o) files came old new had has = ReplayedOver fits count gives o files came old new had has
 
 -- whether the options name a log file
 abbrev pub names_file : Options → Bool
@@ -127,7 +122,7 @@ Ends (Ok status) ended had has = (ended ≡ status) × Keeps had has
 Ends (Err told) ended had has = (ended ≡ status_of told) × WritesFront had has (trouble_text told)
 
 -- The words give options without vehicles, and what these ask for was done, over a log file and the file beside it where they name one.
-pub record Obeys {X : Type 0} (fits : X → Floor → Bool) (count : X → ℕ) (gives : PlannerParts → Result X AllocError → Type 0) (screens : Text → Text → Option (List (List ℕ)) → Type 0)
+pub record Obeys {X : Type 0} (fits : X → Floor → Bool) (count : X → ℕ) (gives : PlannerParts → Result X AllocError → Type 0)
     (guests : AttendOptions → Result Status Trouble → Input → Input → Option (List ℕ) → Option (List ℕ) → Type 0)
     (words : List Text) (ended : Status) (old new : Input) (had has blamed blames : Option (List ℕ)) : Type 0 where
   pub options : Options
@@ -136,7 +131,7 @@ pub record Obeys {X : Type 0} (fits : X → Floor → Bool) (count : X → ℕ) 
   pub files : Option Files
   pub named : is_some files ≡ names_file options
   pub came : Result Status Trouble
-  pub did : Did fits count gives screens guests options files came old new had has
+  pub did : Did fits count gives guests options files came old new had has
   pub ends : Ends came ended blamed blames
 
 -- what the log, the file beside it and the file of arrivals told before anything was done
@@ -186,8 +181,8 @@ pub record Declines (words : List Text) (ended : Status) (old new : Input) : Typ
   pub unread : new ≡ old
 
 -- What the program comes to. Blamed and blames are what stood on standard error before, and stands there after.
-abbrev pub Comes : {X : Type 0} → (X → Floor → Bool) → (X → ℕ) → (PlannerParts → Result X AllocError → Type 0) → (Text → Text → Option (List (List ℕ)) → Type 0) → (guests : AttendOptions → Result Status Trouble → Input → Input → Option (List ℕ) → Option (List ℕ) → Type 0) → List Text → Status
+abbrev pub Comes : {X : Type 0} → (X → Floor → Bool) → (X → ℕ) → (PlannerParts → Result X AllocError → Type 0) → (guests : AttendOptions → Result Status Trouble → Input → Input → Option (List ℕ) → Option (List ℕ) → Type 0) → List Text → Status
     → (old new : Input) → (had has blamed blames : Option (List ℕ)) → Type 0
-Comes fits count gives screens guests words ended old new had has blamed blames =
-    Obeys fits count gives screens guests words ended old new had has blamed blames ⊎ ObeysLate fits count gives words ended old new had has blamed blames
+Comes fits count gives guests words ended old new had has blamed blames =
+    Obeys fits count gives guests words ended old new had has blamed blames ⊎ ObeysLate fits count gives words ended old new had has blamed blames
     ⊎ Declines words ended old new

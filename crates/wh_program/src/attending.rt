@@ -3,21 +3,19 @@
 ghost use Rattle.std.specs.Prelude.{◌≢◌, All, IfNone, IfOk, IfSome, map, option_map};
 ghost use Rattle.wh_service.specs.Fleets.{IsOfFleet};
 ghost use Rattle.wh_attend.specs.Guests.{AreNamed};
-ghost use Rattle.wh_program.specs.Attending.{AreFolders, AttendsBy, Attended, IsFolderOf};
+ghost use Rattle.wh_program.specs.Attending.{AreFolders, AttendsOver, Attended, IsFolderOf};
 
-use crate::outside::Outside;
 use crate::running::name_beside;
 use std::alloc::{AllocError, Global};
-use std::fs::{File, Files};
-use std::io::{Read, Write};
+use std::io::{BufWriter, Read, Write};
 use std::path::Path;
 use std::sync::Wait;
 use std::thread::Threads;
 use wh_attend::{Doors, FileJournal, Hall, LogFile, attend};
-use wh_display::Screen;
 use wh_edge::{Status, Trouble};
 use wh_lines::Lines;
 use wh_options::{AttendOptions, ClientOptions};
+use wh_pipes::{Inlet, Outlet, Pipes};
 use wh_planner::Planner;
 use wh_service::PlannerParts;
 
@@ -51,71 +49,51 @@ fn folders_of<'a>(
     Ok(folders)
 }
 
-/// Serves the clients of these folders, over the log file of the options' name and the one beside it.
-fn attend_beside<
-    'a,
-    T: Threads + Wait + Sync + Files<File = File>,
-    S: Screen,
+/// Serves running clients, who come in at these doors, over a log file and the one beside it.
+fn attend_over<
+    T: Threads + Wait + Sync,
     L: LogFile + Send + Drop,
+    B: LogFile,
     I: Read + Send + Drop,
     Q: Write + Send + Drop,
-    D: Doors<I, Q> + Hall + Drop,
-    O: Outside<'a, S, L, I, Q, D>,
+    D: Doors<I, Q> + Hall,
     R: Read,
     W: Write,
     P: Planner,
     F: Fn(PlannerParts) -> Result<P, AllocError>,
 >(
     rt: &T,
-    outside: &O,
     alloc: Global,
     lines: &mut Lines<R>,
     output: &mut W,
-    options: &AttendOptions<'a>,
-    site: &str,
+    options: &AttendOptions<'_>,
+    file: L,
+    beside: &mut B,
     doors: &D,
     make: F,
 ) -> Result<Status, Trouble>
     requires range { IsOfFleet options.now.fleet }
     requires named { AreNamed options.now.clients.items }
     requires callable { F.IsAlwaysCallable make }
-    ensures { AttendsBy P.fits_map P.slot_count (F.post make) (λ x. I.remaining x) (λ x. Q.contents x) (O.log_holds outside.now) options.now result lines.old lines.new (W.contents output.old) (W.contents output.new) }
+    ensures { AttendsOver P.fits_map P.slot_count (F.post make) (λ x. I.remaining x) (λ x. Q.contents x) options.now (L.contents file) (record { before = B.contents beside.old; after = B.contents beside.new; synced = B.synced beside.new; failed = B.failed beside.new }) result lines.old lines.new (W.contents output.old) (W.contents output.new) }
 {
-    let file = outside.log(options.log);
-    let mut beside = FileJournal::new(rt, Path::new(site));
-    match attend(
-        rt,
-        alloc,
-        lines,
-        output,
-        options,
-        file,
-        &mut beside,
-        doors,
-        make,
-    ) {
+    match attend(rt, alloc, lines, output, options, file, beside, doors, make) {
         Ok(_file) => Ok(Status::Done),
         Err(trouble) => Err(trouble),
     }
 }
 
-/// Serves running clients, who come in at the doors of their folders.
+/// Serves running clients, who come in at the pipes in their folders, over the log file of the options' name and the one beside it.
 pub(crate) fn attend_by_name<
     'a,
-    T: Threads + Wait + Sync + Files<File = File>,
-    S: Screen,
-    L: LogFile + Send + Drop,
-    I: Read + Send + Drop,
-    Q: Write + Send + Drop,
-    D: Doors<I, Q> + Hall + Drop,
-    O: Outside<'a, S, L, I, Q, D>,
+    T: Threads + Wait + Sync,
     R: Read,
     W: Write,
     P: Planner,
     F: Fn(PlannerParts) -> Result<P, AllocError>,
 >(
     rt: &T,
-    outside: &O,
+    files: &'a HostRuntime,
     alloc: Global,
     lines: &mut Lines<R>,
     output: &mut W,
@@ -125,7 +103,7 @@ pub(crate) fn attend_by_name<
     requires range { IsOfFleet options.now.fleet }
     requires named { AreNamed options.now.clients.items }
     requires callable { F.IsAlwaysCallable make }
-    ensures { Attended P.fits_map P.slot_count (F.post make) (λ x. I.remaining x) (λ x. Q.contents x) (O.log_holds outside.now) (O.doors_lead outside.now) options.now result lines.old lines.new (W.contents output.old) (W.contents output.new) }
+    ensures { Attended P.fits_map P.slot_count (F.post make) ⟦<Inlet<'a, HostRuntime> as Read>⟧.remaining ⟦<BufWriter<Outlet> as Write>⟧.contents options.now result lines.old lines.new (W.contents output.old) (W.contents output.new) }
 {
     let Ok(site) = name_beside(alloc, options.log, ".site") else {
         return Err(Trouble::NoMemory);
@@ -133,17 +111,19 @@ pub(crate) fn attend_by_name<
     let Ok(folders) = folders_of(alloc, options.clients.as_slice()) else {
         return Err(Trouble::NoMemory);
     };
-    let Ok(doors) = outside.doors(alloc, folders.as_slice()) else {
+    let Ok(doors) = Pipes::new(files, alloc, folders.as_slice()) else {
         return Err(Trouble::NoMemory);
     };
-    attend_beside(
+    let file = FileJournal::new(files, Path::new(options.log));
+    let mut beside = FileJournal::new(files, Path::new(site.as_str()));
+    attend_over(
         rt,
-        outside,
         alloc,
         lines,
         output,
         options,
-        site.as_str(),
+        file,
+        &mut beside,
         &doors,
         make,
     )

@@ -4,13 +4,9 @@
 
 mod attending;
 mod driving;
-mod outside;
 mod running;
 
-pub use outside::{Outside, Surroundings};
 pub use running::{end, run};
 
 // handed on, for callers: what the items above take
-pub use wh_attend::{Doors, Hall, LogFile};
-pub use wh_display::Screen;
 pub use wh_service::PlannerParts;

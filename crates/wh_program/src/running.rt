@@ -9,23 +9,22 @@ ghost use Rattle.wh_service.specs.Serves.{ended_by};
 
 use crate::attending::attend_by_name;
 use crate::driving::{drive_over, end_drive, late};
-use crate::outside::Outside;
 use std::alloc::{AllocError, Global};
 use std::convert::AsStr;
 use std::fmt::Display;
 use std::fs::{File, Files};
-use std::io::{Read, Write};
+use std::io::{BufWriter, Read, Write};
 use std::path::Path;
 use std::sync::Wait;
 use std::thread::Threads;
 use std::time::Clock;
-use wh_attend::{Doors, Hall};
-use wh_display::Screen;
+use wh_display::{FileScreen, Screen};
 use wh_edge::{Status, Trouble};
 use wh_lines::Lines;
 use wh_options::{
     LiveOptions, Options, Refusal, ReplayOptions, VehicleOptions, options, refusal_of,
 };
+use wh_pipes::{Inlet, Outlet};
 use wh_planner::Planner;
 use wh_service::{
     DriveTrouble, FileJournal, LogFile, PlannerParts, ended, host, judge, judge_log, serve,
@@ -144,19 +143,13 @@ fn live_over<
 fn live_by_name<
     'a,
     T: Threads + Wait + Clock + Sync,
-    S: Screen + Send + Drop,
-    L: LogFile + Send + Drop,
-    I: Read + Send + Drop,
-    Q: Write + Send + Drop,
-    D: Doors<I, Q> + Hall + Drop,
-    O: Outside<'a, S, L, I, Q, D>,
     R: Read,
     W: Write,
     P: Planner,
     F: Fn(PlannerParts) -> Result<P, AllocError>,
 >(
     rt: &T,
-    outside: &O,
+    files: &'a HostRuntime,
     alloc: Global,
     lines: &mut Lines<R>,
     output: &mut W,
@@ -166,16 +159,16 @@ fn live_by_name<
     requires range { IsOfFleet options.now.fleet }
     requires callable { F.IsAlwaysCallable make }
     requires makes { MakesPlanners P.fits_map P.slot_count (F.post make) }
-    ensures { Lived P.fits_map P.slot_count (F.post make) (O.screen_tells outside.now) options.now result lines.old lines.new (W.contents output.old) (W.contents output.new) }
+    ensures { Lived P.fits_map P.slot_count (F.post make) options.now result lines.old lines.new (W.contents output.old) (W.contents output.new) }
 {
     match options.board {
         None => {
-            let mut none: Option<S> = None;
+            let mut none: Option<FileScreen<'a, HostRuntime>> = None;
             live_over(rt, alloc, lines, output, options, &mut none, make)
         }
         Some(board) => match name_beside(alloc, board, ".new") {
             Ok(beside) => {
-                let mut screen = Some(outside.screen(board, beside));
+                let mut screen = Some(FileScreen::new(files, board, beside));
                 live_over(rt, alloc, lines, output, options, &mut screen, make)
             }
             Err(_) => Err(Trouble::NoMemory),
@@ -186,40 +179,34 @@ fn live_by_name<
 /// Does what the options ask for, a replay over these files, or over none.
 fn obey<
     'a,
-    T: Threads + Wait + Clock + Sync + Files<File = File>,
-    S: Screen + Send + Drop,
-    L: LogFile + Send + Drop,
-    I: Read + Send + Drop,
-    Q: Write + Send + Drop,
-    D: Doors<I, Q> + Hall + Drop,
-    O: Outside<'a, S, L, I, Q, D>,
+    T: Threads + Wait + Clock + Sync,
     R: Read,
     W: Write,
-    K: LogFile,
+    L: LogFile,
     P: Planner,
     F: Fn(PlannerParts) -> Result<P, AllocError>,
 >(
     rt: &T,
-    outside: &O,
+    files: &'a HostRuntime,
     alloc: Global,
     lines: &mut Lines<R>,
     output: &mut W,
     options: &Options<'a>,
-    files: &mut Option<KeptFiles<K>>,
+    kept: &mut Option<KeptFiles<L>>,
     make: F,
 ) -> Result<Status, Trouble>
     requires range { HasRange options.now }
     requires callable { F.IsAlwaysCallable make }
     requires makes { MakesPlanners P.fits_map P.slot_count (F.post make) }
-    ensures { Did P.fits_map P.slot_count (F.post make) (O.screen_tells outside.now) (Attended P.fits_map P.slot_count (F.post make) (λ x. I.remaining x) (λ x. Q.contents x) (O.log_holds outside.now) (O.doors_lead outside.now)) options.now (option_map (λ f. record { log = K.contents f.log; site = K.contents f.site }) files.old) result lines.old lines.new (W.contents output.old) (W.contents output.new) }
+    ensures { Did P.fits_map P.slot_count (F.post make) (Attended P.fits_map P.slot_count (F.post make) ⟦<Inlet<'a, HostRuntime> as Read>⟧.remaining ⟦<BufWriter<Outlet> as Write>⟧.contents) options.now (option_map (λ f. record { log = L.contents f.log; site = L.contents f.site }) kept.old) result lines.old lines.new (W.contents output.old) (W.contents output.new) }
 {
     match options {
         Options::Check => judge(rt, alloc, lines, output),
         Options::Verify => judge_log(alloc, lines, output),
-        Options::Replay(options) => replay(alloc, lines, output, options, files, make),
-        Options::Live(options) => live_by_name(rt, outside, alloc, lines, output, options, make),
+        Options::Replay(options) => replay(alloc, lines, output, options, kept, make),
+        Options::Live(options) => live_by_name(rt, files, alloc, lines, output, options, make),
         Options::Attend(options) => {
-            attend_by_name(rt, outside, alloc, lines, output, options, make)
+            attend_by_name(rt, files, alloc, lines, output, options, make)
         }
     }
 }
@@ -228,20 +215,14 @@ fn obey<
 #[tactic(auto, using(crate::proofs::Whole::is_some_map, crate::proofs::Starved::starved))]
 fn obey_by_name<
     'a,
-    T: Threads + Wait + Clock + Sync + Files<File = File>,
-    S: Screen + Send + Drop,
-    L: LogFile + Send + Drop,
-    I: Read + Send + Drop,
-    Q: Write + Send + Drop,
-    D: Doors<I, Q> + Hall + Drop,
-    O: Outside<'a, S, L, I, Q, D>,
+    T: Threads + Wait + Clock + Sync,
     R: Read,
     W: Write,
     P: Planner,
     F: Fn(PlannerParts) -> Result<P, AllocError>,
 >(
-    rt: &'a T,
-    outside: &O,
+    rt: &T,
+    files: &'a HostRuntime,
     alloc: Global,
     lines: &mut Lines<R>,
     output: &mut W,
@@ -251,16 +232,16 @@ fn obey_by_name<
     requires range { HasRange options.now }
     requires callable { F.IsAlwaysCallable make }
     requires makes { MakesPlanners P.fits_map P.slot_count (F.post make) }
-    ensures { (files : Option Files) × (is_some files ≡ names_file options.now) × Did P.fits_map P.slot_count (F.post make) (O.screen_tells outside.now) (Attended P.fits_map P.slot_count (F.post make) (λ x. I.remaining x) (λ x. Q.contents x) (O.log_holds outside.now) (O.doors_lead outside.now)) options.now files result lines.old lines.new (W.contents output.old) (W.contents output.new) }
+    ensures { (files : Option Files) × (is_some files ≡ names_file options.now) × Did P.fits_map P.slot_count (F.post make) (Attended P.fits_map P.slot_count (F.post make) ⟦<Inlet<'a, HostRuntime> as Read>⟧.remaining ⟦<BufWriter<Outlet> as Write>⟧.contents) options.now files result lines.old lines.new (W.contents output.old) (W.contents output.new) }
 {
     let Some(log) = log_name(options) else {
-        let mut none: Option<KeptFiles<FileJournal<'a, T>>> = None;
-        return obey(rt, outside, alloc, lines, output, options, &mut none, make);
+        let mut none: Option<KeptFiles<FileJournal<'a, HostRuntime>>> = None;
+        return obey(rt, files, alloc, lines, output, options, &mut none, make);
     };
     match names_beside(alloc, log) {
         Ok((site, arrivals)) => {
-            let mut files = Some(kept_files(rt, log, site.as_str(), arrivals.as_str()));
-            obey(rt, outside, alloc, lines, output, options, &mut files, make)
+            let mut kept = Some(kept_files(files, log, site.as_str(), arrivals.as_str()));
+            obey(rt, files, alloc, lines, output, options, &mut kept, make)
         }
         Err(_) => Err(Trouble::NoMemory),
     }
@@ -340,18 +321,12 @@ pub fn end<E: Write>(errors: &mut E, came: Result<Status, Trouble>) -> Status
 
 /// Does what the words ask for, over this input: the first word is the program's name. `make` makes one planner of its parts, and
 /// its error tells that memory is wanting. The answer is the status with which the program ends; one line on standard error
-/// tells what stopped it. The files of `replay` lie where `rt` finds files; the file of a board, and what running clients and their
-/// log need, where `outside` finds it.
+/// tells what stopped it. All files and pipes lie where `files` finds them: it is the process's own, since of what is handed to threads
+/// nothing may rest on a bound that is assumed of the caller's thread alone.
 #[tactic(auto, using(crate::proofs::Whole::in_range))]
 pub fn run<
     'a,
-    T: Threads + Wait + Clock + Sync + Files<File = File>,
-    S: Screen + Send + Drop,
-    L: LogFile + Send + Drop,
-    I: Read + Send + Drop,
-    Q: Write + Send + Drop,
-    D: Doors<I, Q> + Hall + Drop,
-    O: Outside<'a, S, L, I, Q, D>,
+    T: Threads + Wait + Clock + Sync,
     A: AsStr,
     R: Read,
     W: Write,
@@ -359,8 +334,8 @@ pub fn run<
     P: Planner,
     F: Fn(PlannerParts) -> Result<P, AllocError>,
 >(
-    rt: &'a T,
-    outside: &O,
+    rt: &T,
+    files: &'a HostRuntime,
     alloc: Global,
     words: &'a [A],
     lines: &mut Lines<R>,
@@ -370,16 +345,16 @@ pub fn run<
 ) -> Status
     requires callable { F.IsAlwaysCallable make }
     requires makes { MakesPlanners P.fits_map P.slot_count (F.post make) }
-    ensures { Comes P.fits_map P.slot_count (F.post make) (O.screen_tells outside.now) (Attended P.fits_map P.slot_count (F.post make) (λ x. I.remaining x) (λ x. Q.contents x) (O.log_holds outside.now) (O.doors_lead outside.now)) (map A.text words.now) result lines.old lines.new (W.contents output.old) (W.contents output.new) (E.contents errors.old) (E.contents errors.new) }
+    ensures { Comes P.fits_map P.slot_count (F.post make) (Attended P.fits_map P.slot_count (F.post make) ⟦<Inlet<'a, HostRuntime> as Read>⟧.remaining ⟦<BufWriter<Outlet> as Write>⟧.contents) (map A.text words.now) result lines.old lines.new (W.contents output.old) (W.contents output.new) (E.contents errors.old) (E.contents errors.new) }
 {
     match options(alloc, words) {
         Ok(options) => match late(&options) {
             Some((replay, pace)) => {
-                let came = drive_by_name(rt, alloc, lines, output, &replay, pace, make);
+                let came = drive_by_name(files, alloc, lines, output, &replay, pace, make);
                 end_drive(errors, came)
             }
             None => {
-                let came = obey_by_name(rt, outside, alloc, lines, output, &options, make);
+                let came = obey_by_name(rt, files, alloc, lines, output, &options, make);
                 end(errors, came)
             }
         },
