@@ -7,7 +7,7 @@ use Rattle.wh_event.specs.declared.entry.Entry.{Entry}
 use Rattle.wh_log.specs.Logs.{most_stops}
 use Rattle.wh_log.specs.Ranges.{Keeps}
 use Rattle.wh_log.specs.declared.version.Version.{Version}
-use Rattle.wh_verify.specs.Drafts.{Seen}
+use Rattle.wh_desk.specs.Drafts.{Seen}
 use Rattle.wh_continue.specs.Starting.{Begins, GoesOnFrom}
 use Rattle.wh_continue.specs.declared.starting.Start.{Start}
 use Rattle.wh_desk.specs.Lists.{AllAt}

@@ -1,14 +1,14 @@
 //! `warehouse live` with running clients, who come in by doors, over a log file.
 #![tactic(auto)]
 
-mod attend;
+mod attending;
 mod clients;
 mod ending;
 mod hall;
 mod ready;
 mod serving;
 
-pub use attend::attend;
+pub use attending::attend;
 pub use hall::Hall;
 
 // handed on, for callers: what the item above takes and speaks of
