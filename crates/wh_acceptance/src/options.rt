@@ -3,8 +3,8 @@ use clap::error::ErrorKind;
 use std::alloc::{AllocError, Global};
 use std::test::*;
 use wh_options::{
-    Fleet, LiveOptions, Options, PlannerKind, Refusal, ReplayOptions, Replies, Tail,
-    VehicleOptions, options, refusal_of,
+    AttendOptions, ClientOptions, ClientRights, Fleet, LiveOptions, Options, PlannerKind, Refusal,
+    ReplayOptions, Replies, Tail, VehicleOptions, options, refusal_of,
 };
 
 const FLEET: Fleet = Fleet {
@@ -140,7 +140,7 @@ const REPLAYS: [(&[&str], ReplayOptions<'static>); 17] = [
 ];
 
 /// Words that are refused, and the kind of the error.
-const MISTAKES: [(&[&str], ErrorKind); 34] = [
+const MISTAKES: [(&[&str], ErrorKind); 45] = [
     (&["replay", "--log"], ErrorKind::InvalidValue),
     (&["replay", "--log="], ErrorKind::InvalidValue),
     (&["replay", "--log", ""], ErrorKind::InvalidValue),
@@ -154,7 +154,12 @@ const MISTAKES: [(&[&str], ErrorKind); 34] = [
         ErrorKind::ArgumentConflict,
     ),
     (&["check", "--log", "x"], ErrorKind::UnknownArgument),
-    (&["live", "--log=x"], ErrorKind::UnknownArgument),
+    (&["live", "--log=x"], ErrorKind::MissingRequiredArgument),
+    (&["live", "--log="], ErrorKind::InvalidValue),
+    (
+        &["live", "--log=a", "--log=b", "--client=0=c"],
+        ErrorKind::ArgumentConflict,
+    ),
     (
         &["replay", "--told", "0"],
         ErrorKind::MissingRequiredArgument,
@@ -194,7 +199,37 @@ const MISTAKES: [(&[&str], ErrorKind); 34] = [
     (&["replay", "--replies", "long"], ErrorKind::InvalidValue),
     (&["replay", "--replies=Full"], ErrorKind::InvalidValue),
     (&["replay", "--replies=log"], ErrorKind::InvalidValue),
-    (&["live", "--replies=full"], ErrorKind::UnknownArgument),
+    (
+        &["live", "--replies=full"],
+        ErrorKind::MissingRequiredArgument,
+    ),
+    (&["live", "--replies=long"], ErrorKind::InvalidValue),
+    (
+        &["live", "--client", "0=c"],
+        ErrorKind::MissingRequiredArgument,
+    ),
+    (
+        &["live", "--client=nobody", "--every=5"],
+        ErrorKind::MissingRequiredArgument,
+    ),
+    (&["live", "--client"], ErrorKind::InvalidValue),
+    (&["replay", "--client=0=c"], ErrorKind::UnknownArgument),
+    (
+        &["live", "--log=a", "--client=0=c", "--every=5"],
+        ErrorKind::ArgumentConflict,
+    ),
+    (
+        &["live", "--turns=1", "--log=a", "--client=nobody"],
+        ErrorKind::ArgumentConflict,
+    ),
+    (
+        &["live", "--log=a", "--board=b", "--client=0=c"],
+        ErrorKind::ArgumentConflict,
+    ),
+    (
+        &["live", "--log=a", "--client=0=c", "--board-every=1"],
+        ErrorKind::MissingRequiredArgument,
+    ),
     (&["live", "--every", "0"], ErrorKind::ValueValidation),
     (&["live", "--every=60001"], ErrorKind::ValueValidation),
     (&["replay", "--every", "1"], ErrorKind::UnknownArgument),
@@ -217,6 +252,65 @@ const MISTAKES: [(&[&str], ErrorKind); 34] = [
         ErrorKind::ArgumentConflict,
     ),
     (&["replay", "--board=b"], ErrorKind::UnknownArgument),
+];
+
+const NO_RIGHTS: ClientRights = ClientRights {
+    submit: false,
+    token: false,
+    tick: false,
+    replace: false,
+    close: false,
+};
+
+const CLIENTS: [ClientOptions<'static>; 3] = [
+    ClientOptions {
+        number: 61,
+        folder: "pipes/a b=c",
+        rights: ClientRights {
+            submit: true,
+            ..NO_RIGHTS
+        },
+    },
+    ClientOptions {
+        number: 0,
+        folder: "ticker",
+        rights: ClientRights {
+            token: true,
+            tick: true,
+            ..NO_RIGHTS
+        },
+    },
+    ClientOptions {
+        number: 7,
+        folder: "boss",
+        rights: ClientRights {
+            submit: true,
+            token: true,
+            tick: true,
+            replace: true,
+            close: true,
+        },
+    },
+];
+
+/// Words for running clients, behind `warehouse live --log=a`, that name none, or not each its own.
+const NO_CLIENTS: [&[&str]; 16] = [
+    &["--client="],
+    &["--client", "c"],
+    &["--client", "=c"],
+    &["--client", "0="],
+    &["--client", "0=:all"],
+    &["--client", "62=c"],
+    &["--client=-1=c"],
+    &["--client=one=c"],
+    &["--client", "0=c:"],
+    &["--client", "0=c:sumbit"],
+    &["--client", "0=c:tick,"],
+    &["--client", "0=c:tick,tick"],
+    &["--client", "0=c:all,tick"],
+    &["--client=0=c", "--client=0=d"],
+    &["--client=0=c", "--client=00=d"],
+    &["--client=0=c", "--client=1=c:tick"],
 ];
 
 /// The program's name, with these words behind it.
@@ -320,6 +414,52 @@ fn every_option_of_live(rt: HostRuntime) {
         board_every: 1,
     };
     assert!(rt; gives(rt.alloc(), words.as_slice(), Options::Live(live)));
+}
+
+#[test]
+fn running_clients(rt: HostRuntime) -> Result<(), Fail> {
+    let words = [
+        "warehouse",
+        "live",
+        "--client",
+        "61=pipes/a b=c",
+        "--journal=500",
+        "--client=0=ticker:tick,token",
+        "--log",
+        "a.log",
+        "--replies=placed",
+        "--client",
+        "+07=boss:all",
+        "--spares=2",
+    ];
+    let attend = AttendOptions {
+        fleet: Fleet { spares: 2, ..FLEET },
+        journal: 500,
+        replies: Replies::Placed,
+        log: "a.log",
+        clients: Vec::from_array(rt.alloc(), CLIENTS)?,
+    };
+    assert!(rt; gives(rt.alloc(), words.as_slice(), Options::Attend(attend)));
+    let one = AttendOptions {
+        fleet: FLEET,
+        journal: 10_000,
+        replies: Replies::Short,
+        log: "x",
+        clients: Vec::from_array(rt.alloc(), [CLIENTS[0]])?,
+    };
+    let words = ["", "live", "--log=x", "--client=61=pipes/a b=c"];
+    assert!(rt; gives(rt.alloc(), words.as_slice(), Options::Attend(one)));
+    Ok(())
+}
+
+#[test]
+fn words_that_name_no_clients(rt: HostRuntime) -> Result<(), Fail> {
+    for words in NO_CLIENTS {
+        let mut all = command(rt.alloc(), &["live", "--log=a"])?;
+        all.extend_from_slice(words)?;
+        assert!(rt; is_refused(rt.alloc(), all.as_slice(), ErrorKind::ValueValidation));
+    }
+    Ok(())
 }
 
 #[test]

@@ -11,7 +11,7 @@ use Rattle.clap.specs.Faults.{built_fault, entered_fault, fault_of, level_fault,
 use Rattle.clap.specs.Simple.{App, Shape, built, names_of}
 use Rattle.clap.specs.declared.error.kind.ErrorKind.{ErrorKind}
 use Rattle.clap.specs.declared.error.kind.ErrorKind.TheVariants.{DisplayHelp, DisplayVersion}
-use Rattle.wh_options.specs.Menu.{Choices, IsMenu, menu}
+use Rattle.wh_options.specs.Menu.{Choices, IsMenu, LiveChoices, menu}
 use Rattle.wh_options.specs.Requests.{AsksBy, IsFront, help_flags, subcommand_names, version_flags}
 use Rattle.wh_options.specs.Setting.{Text}
 use Rattle.wh_options.proofs.Shapes.{bytes_same}
@@ -60,17 +60,17 @@ below_fails b name leaf after k e f =
 
 -- ---- the program's command
 
-abbrev Answers : ErrorKind → Choices → Choices → Choices → Choices → Text → List Text → List Text → Text → Type 0
+abbrev Answers : ErrorKind → Choices → Choices → Choices → LiveChoices → Text → List Text → List Text → Text → Type 0
 Answers k p t r q program front after flag = fault_of (menu p t r q) (program ∷ front ++ flag ∷ after) ≡ k ∷ []
 
 abbrev LeafAnswers : ErrorKind → Shape → List Text → Text → Type 0
 LeafAnswers k leaf after flag = level_fault leaf [] nothing_held (flag ∷ after) false [] ≡ k ∷ []
 
-top_help : (p t r q : Choices) (program : Text) (after : List Text) → Answers DisplayHelp p t r q program [] after (codes "--help") × Answers DisplayHelp p t r q program [] after (codes "-h")
+top_help : (p t r : Choices) (q : LiveChoices) (program : Text) (after : List Text) → Answers DisplayHelp p t r q program [] after (codes "--help") × Answers DisplayHelp p t r q program [] after (codes "-h")
 unfolding clap_on_literals
 top_help p t r q program after = (refl, refl)
 
-top_version : (p t r q : Choices) (program : Text) (after : List Text) → Answers DisplayVersion p t r q program [] after (codes "--version") × Answers DisplayVersion p t r q program [] after (codes "-V")
+top_version : (p t r : Choices) (q : LiveChoices) (program : Text) (after : List Text) → Answers DisplayVersion p t r q program [] after (codes "--version") × Answers DisplayVersion p t r q program [] after (codes "-V")
 unfolding clap_on_literals
 top_version p t r q program after = (refl, refl)
 
@@ -81,33 +81,33 @@ pub record AnswersAll (leaf : Shape) (after : List Text) : Type 0 where
   pub version : LeafAnswers DisplayVersion leaf after (codes "--version")
   pub short_version : LeafAnswers DisplayVersion leaf after (codes "-V")
 
-check_answers : (p t r q : Choices) (after : List Text) → AnswersAll (leaf_at 0 p t r q) after
+check_answers : (p t r : Choices) (q : LiveChoices) (after : List Text) → AnswersAll (leaf_at 0 p t r q) after
 unfolding clap_on_literals
 check_answers p t r q after = record { help = refl; short_help = refl; version = refl; short_version = refl }
 
-replay_answers : (p t r q : Choices) (after : List Text) → AnswersAll (leaf_at 1 p t r q) after
+replay_answers : (p t r : Choices) (q : LiveChoices) (after : List Text) → AnswersAll (leaf_at 1 p t r q) after
 unfolding clap_on_literals
 replay_answers p t r q after = record { help = refl; short_help = refl; version = refl; short_version = refl }
 
-verify_answers : (p t r q : Choices) (after : List Text) → AnswersAll (leaf_at 2 p t r q) after
+verify_answers : (p t r : Choices) (q : LiveChoices) (after : List Text) → AnswersAll (leaf_at 2 p t r q) after
 unfolding clap_on_literals
 verify_answers p t r q after = record { help = refl; short_help = refl; version = refl; short_version = refl }
 
-live_answers : (p t r q : Choices) (after : List Text) → AnswersAll (leaf_at 3 p t r q) after
+live_answers : (p t r : Choices) (q : LiveChoices) (after : List Text) → AnswersAll (leaf_at 3 p t r q) after
 unfolding clap_on_literals
 live_answers p t r q after = record { help = refl; short_help = refl; version = refl; short_version = refl }
 
 -- ---- any front
 
 -- one answer to a flag, at the top and at each subcommand
-pub record AnswersAt (k : ErrorKind) (p t r q : Choices) (program : Text) (after : List Text) (flag : Text) : Type 0 where
+pub record AnswersAt (k : ErrorKind) (p t r : Choices) (q : LiveChoices) (program : Text) (after : List Text) (flag : Text) : Type 0 where
   pub top : Answers k p t r q program [] after flag
   pub check : LeafAnswers k (leaf_at 0 p t r q) after flag
   pub replay : LeafAnswers k (leaf_at 1 p t r q) after flag
   pub verify : LeafAnswers k (leaf_at 2 p t r q) after flag
   pub live : LeafAnswers k (leaf_at 3 p t r q) after flag
 
-named_answers : (k : ErrorKind) (p t r q : Choices) (program : Text) (after : List Text) (flag name : Text) → AnswersAt k p t r q program after flag → list_any (bytes_eq name) subcommand_names ≡ true
+named_answers : (k : ErrorKind) (p t r : Choices) (q : LiveChoices) (program : Text) (after : List Text) (flag name : Text) → AnswersAt k p t r q program after flag → list_any (bytes_eq name) subcommand_names ≡ true
     → Answers k p t r q program (name ∷ []) after flag
 named_answers k p t r q program after flag name a e =
     one_of_four (λ n. Answers k p t r q program (n ∷ []) after flag) (codes "check") (codes "replay") (codes "verify") (codes "live") name e
@@ -116,16 +116,16 @@ named_answers k p t r q program after flag name a e =
     (below_fails (built (menu p t r q)) (codes "verify") (leaf_at 2 p t r q) (flag ∷ after) k (verify_enters p t r q) a.verify)
     (below_fails (built (menu p t r q)) (codes "live") (leaf_at 3 p t r q) (flag ∷ after) k (live_enters p t r q) a.live)
 
-front_answers : (k : ErrorKind) (p t r q : Choices) (program : Text) (after : List Text) (flag : Text) (front : List Text) → AnswersAt k p t r q program after flag → IsFront front → Answers k p t r q program front after flag
+front_answers : (k : ErrorKind) (p t r : Choices) (q : LiveChoices) (program : Text) (after : List Text) (flag : Text) (front : List Text) → AnswersAt k p t r q program after flag → IsFront front → Answers k p t r q program front after flag
 front_answers k p t r q program after flag front a (inl none) = subst (λ f. Answers k p t r q program f after flag) (sym none) a.top
 front_answers k p t r q program after flag front a (inr some) = subst (λ f. Answers k p t r q program f after flag) (sym some.1) (named_answers k p t r q program after flag some.0 a some.2)
 
-flag_answers : (k : ErrorKind) (p t r q : Choices) (program : Text) (after : List Text) (one other flag : Text) (front : List Text) → AnswersAt k p t r q program after one → AnswersAt k p t r q program after other
+flag_answers : (k : ErrorKind) (p t r : Choices) (q : LiveChoices) (program : Text) (after : List Text) (one other flag : Text) (front : List Text) → AnswersAt k p t r q program after one → AnswersAt k p t r q program after other
     → list_any (bytes_eq flag) (one ∷ other ∷ []) ≡ true → IsFront front → Answers k p t r q program front after flag
 flag_answers k p t r q program after one other flag front a b is at =
     one_of_two (λ f. Answers k p t r q program front after f) one other flag is (front_answers k p t r q program after one front a at) (front_answers k p t r q program after other front b at)
 
-menu_helps : (p t r q : Choices) (words : List Text) → AsksBy help_flags words → fault_of (menu p t r q) words ≡ DisplayHelp ∷ []
+menu_helps : (p t r : Choices) (q : LiveChoices) (words : List Text) → AsksBy help_flags words → fault_of (menu p t r q) words ≡ DisplayHelp ∷ []
 menu_helps p t r q words asks =
     let top = top_help p t r q asks.program asks.after in
     let check = check_answers p t r q asks.after in
@@ -138,7 +138,7 @@ menu_helps p t r q words asks =
     (record { top = top.1; check = check.short_help; replay = replay.short_help; verify = verify.short_help; live = live.short_help })
     asks.is_flag asks.is_front)
 
-menu_tells_version : (p t r q : Choices) (words : List Text) → AsksBy version_flags words → fault_of (menu p t r q) words ≡ DisplayVersion ∷ []
+menu_tells_version : (p t r : Choices) (q : LiveChoices) (words : List Text) → AsksBy version_flags words → fault_of (menu p t r q) words ≡ DisplayVersion ∷ []
 menu_tells_version p t r q words asks =
     let top = top_version p t r q asks.program asks.after in
     let check = check_answers p t r q asks.after in

@@ -18,13 +18,12 @@ use Rattle.clap.specs.Simple.{App, Shape, built, entered, filled, label_of, name
 use Rattle.clap.specs.declared.builder.action.ArgAction.TheVariants.{Append, Set}
 use Rattle.clap.specs.declared.builder.value_parser.ValueParser.TheVariants as vp
 use Rattle.wh_options.specs.Setting.{IsInPlace, IsLine, Setting, Spelling, StandsBy, alone, apart, has_some, is_switch, joined, may_repeat, single_names, spelled, value_of}
-use Rattle.wh_options.specs.Options.{EachGives, GivesFleet, GivesFile, GivesLive, GivesNumber, GivesPlanner, GivesReplay, GivesReplies, GivesTail, MayGive, IsWritten, WordsGive, board_of, default_turns, live_names, log_of, planner_text, replay_names, replies_text, tail_text}
-use Rattle.wh_options.specs.Menu.{Choices, IsMenu, choice_rule, file_rule, menu, number_rule, planner_words, replies_words, switch_rule, tail_words}
+use Rattle.wh_options.specs.Options.{EachGives, EachSays, GivesFleet, GivesFile, GivesNumber, GivesPlanner, GivesReplay, GivesReplies, GivesTail, MayGive, IsWritten, SaysLive, WordsGive, all_live_names, board_of, default_turns, log_of, planner_text, replay_names, replies_text, tail_text}
+use Rattle.wh_options.specs.Menu.{Choices, IsMenu, LiveChoices, choice_rule, file_rule, many_rule, menu, number_rule, planner_words, replies_words, switch_rule, tail_words}
 use Rattle.wh_options.specs.declared.chosen.Options.{Options}
-use Rattle.wh_options.specs.declared.chosen.Options.TheVariants.{Check, Replay, Verify, Live}
+use Rattle.wh_options.specs.declared.chosen.Options.TheVariants.{Attend, Check, Replay, Verify, Live}
 use Rattle.wh_options.specs.declared.chosen.Fleet.{Fleet}
 use Rattle.wh_options.specs.declared.chosen.ReplayOptions.{ReplayOptions}
-use Rattle.wh_options.specs.declared.chosen.LiveOptions.{LiveOptions}
 use Rattle.wh_options.specs.declared.chosen.PlannerKind.{PlannerKind}
 use Rattle.wh_options.specs.declared.chosen.PlannerKind.TheVariants.{Near, Patient}
 use Rattle.wh_options.specs.declared.chosen.Tail.{Tail}
@@ -36,9 +35,10 @@ use Rattle.wh_options.proofs.Leaf.{ArePlain, IsOption, IsSwitch, Suits, held_by,
 use Rattle.wh_options.proofs.Turns.{idle_at}
 use Rattle.wh_options.proofs.Words.{IsFine, self_same}
 use Rattle.wh_options.proofs.Rows.{rows_more, use_is, with_value_of}
-use Rattle.wh_options.proofs.Singles.{choice_option, file_option, is_single, number_option, single_parts, switch_is}
+use Rattle.wh_options.proofs.Singles.{choice_option, file_option, is_single, many_option, number_option, single_parts, switch_is}
 use Rattle.wh_options.proofs.Spells.{AllTaken, none_both, settings_fine}
 use Rattle.wh_options.proofs.Top.{stopped_walk}
+use Rattle.wh_options.proofs.Attending.{says_of_attend, says_of_live}
 use Rattle.wh_options.proofs.Menus.{asking_plain, leaf_at, live_plain, replay_plain}
 
 -- ---- one use
@@ -214,19 +214,19 @@ top_fine b name leaf after e f =
 
 -- ---- the program's command
 
-pub check_enters : (p t r q : Choices) → Enters (built (menu p t r q)) (codes "check") (leaf_at 0 p t r q)
+pub check_enters : (p t r : Choices) (q : LiveChoices) → Enters (built (menu p t r q)) (codes "check") (leaf_at 0 p t r q)
 unfolding walked defaults_fault
 check_enters p t r q = record { turns = refl; stops = refl; found = refl; defaults = refl; checks = λ rows. refl }
 
-pub replay_enters : (p t r q : Choices) → Enters (built (menu p t r q)) (codes "replay") (leaf_at 1 p t r q)
+pub replay_enters : (p t r : Choices) (q : LiveChoices) → Enters (built (menu p t r q)) (codes "replay") (leaf_at 1 p t r q)
 unfolding walked defaults_fault
 replay_enters p t r q = record { turns = refl; stops = refl; found = refl; defaults = refl; checks = λ rows. refl }
 
-pub verify_enters : (p t r q : Choices) → Enters (built (menu p t r q)) (codes "verify") (leaf_at 2 p t r q)
+pub verify_enters : (p t r : Choices) (q : LiveChoices) → Enters (built (menu p t r q)) (codes "verify") (leaf_at 2 p t r q)
 unfolding walked defaults_fault
 verify_enters p t r q = record { turns = refl; stops = refl; found = refl; defaults = refl; checks = λ rows. refl }
 
-pub live_enters : (p t r q : Choices) → Enters (built (menu p t r q)) (codes "live") (leaf_at 3 p t r q)
+pub live_enters : (p t r : Choices) (q : LiveChoices) → Enters (built (menu p t r q)) (codes "live") (leaf_at 3 p t r q)
 unfolding walked defaults_fault
 live_enters p t r q = record { turns = refl; stops = refl; found = refl; defaults = refl; checks = λ rows. refl }
 
@@ -419,7 +419,7 @@ fleet_valid s settings choices fleet others words gives planner slots bank spare
   ]
 ]
 
-vehicles_valid : (p t r q : Choices) (settings : List Setting) (o : ReplayOptions) → GivesReplay settings o
+vehicles_valid : (p t r : Choices) (q : LiveChoices) (settings : List Setting) (o : ReplayOptions) → GivesReplay settings o
     → (x : Setting) → IsGiven settings x → list_any (bytes_eq x.name) (drop 8 replay_names) ≡ true → IsValid (leaf_at 1 p t r q) x
 vehicles_valid p t r q settings o gives x value e = elim (either_true _ _ e) [
   | inl is ↦ valid_switch (leaf_at 1 p t r q) x (codes "vehicles") (bytes_same _ _ is) refl refl refl refl refl value.1
@@ -432,7 +432,7 @@ vehicles_valid p t r q settings o gives x value e = elim (either_true _ _ e) [
   ]
 ]
 
-replay_valid : (p t r q : Choices) (settings : List Setting) (o : ReplayOptions) → texts p.now ≡ planner_words → texts t.now ≡ tail_words → texts r.now ≡ replies_words → GivesReplay settings o
+replay_valid : (p t r : Choices) (q : LiveChoices) (settings : List Setting) (o : ReplayOptions) → texts p.now ≡ planner_words → texts t.now ≡ tail_words → texts r.now ≡ replies_words → GivesReplay settings o
     → (x : Setting) → list_any (bytes_eq x.name) replay_names ≡ true → IsGiven settings x → IsValid (leaf_at 1 p t r q) x
 replay_valid p t r q settings o planners tails words gives x listed value =
     fleet_valid (leaf_at 1 p t r q) settings p o.fleet (drop 4 replay_names) planners gives.fleet refl refl refl refl x value
@@ -450,34 +450,51 @@ replay_valid p t r q settings o planners tails words gives x listed value =
       ]
     ]) listed
 
-board_valid : (p t r q : Choices) (settings : List Setting) (o : LiveOptions) → GivesLive settings o
-    → (x : Setting) → IsGiven settings x → list_any (bytes_eq x.name) (drop 7 live_names) ≡ true → IsValid (leaf_at 3 p t r q) x
-board_valid p t r q settings o gives x value e = elim (either_true _ _ e) [
-  | inl is ↦ valid_file (leaf_at 3 p t r q) settings x (codes "board") (board_of o) (bytes_same _ _ is) value refl refl refl refl gives.board
+valid_many : (s : Shape) (x : Setting) (name : Text) → x.name ≡ name → IsInPlace x → arg_by_long s.rules name ≡ Some (filled (many_rule name)) → has_some name ≡ true → has_byte 61 name ≡ false → is_switch name ≡ false → may_repeat name ≡ true
+    → IsValid s x
+valid_many s x name is stands found some plain no_switch many = valid_setting s x name (filled (many_rule name)) is found (many_option name many) some plain no_switch refl stands
+
+attend_valid : (p t r : Choices) (q : LiveChoices) (settings : List Setting) → texts q.replies.now ≡ replies_words → (says : SaysLive settings)
+    → (x : Setting) → IsGiven settings x → list_any (bytes_eq x.name) (drop 9 all_live_names) ≡ true → IsValid (leaf_at 3 p t r q) x
+attend_valid p t r q settings words says x value e = elim (either_true _ _ e) [
+  | inl is ↦ valid_file (leaf_at 3 p t r q) settings x (codes "log") says.log (bytes_same _ _ is) value refl refl refl refl says.gives_log
   | inr f ↦ elim (either_true _ _ f) [
-    | inl is ↦ valid_number (leaf_at 3 p t r q) settings x (codes "board-every") 1 60000 100 o.board_every (bytes_same _ _ is) value refl refl refl refl (lit< tt) gives.board_every
-    | inr none ↦ absurd (true≢false (sym none))
+    | inl is ↦ valid_replies (leaf_at 3 p t r q) settings x q.replies says.replies (bytes_same _ _ is) value refl words says.gives_replies
+    | inr g ↦ elim (either_true _ _ g) [
+      | inl is ↦ valid_many (leaf_at 3 p t r q) x (codes "client") (bytes_same _ _ is) value.1 refl refl refl refl refl
+      | inr none ↦ absurd (true≢false (sym none))
+    ]
   ]
 ]
 
-live_valid : (p t r q : Choices) (settings : List Setting) (o : LiveOptions) → texts q.now ≡ planner_words → GivesLive settings o
-    → (x : Setting) → list_any (bytes_eq x.name) live_names ≡ true → IsGiven settings x → IsValid (leaf_at 3 p t r q) x
-live_valid p t r q settings o planners gives x listed value =
-    fleet_valid (leaf_at 3 p t r q) settings q o.fleet (drop 4 live_names) planners gives.fleet refl refl refl refl x value
+board_valid : (p t r : Choices) (q : LiveChoices) (settings : List Setting) → texts q.replies.now ≡ replies_words → (says : SaysLive settings)
+    → (x : Setting) → IsGiven settings x → list_any (bytes_eq x.name) (drop 7 all_live_names) ≡ true → IsValid (leaf_at 3 p t r q) x
+board_valid p t r q settings words says x value e = elim (either_true _ _ e) [
+  | inl is ↦ valid_file (leaf_at 3 p t r q) settings x (codes "board") (board_of says.live) (bytes_same _ _ is) value refl refl refl refl says.board
+  | inr f ↦ elim (either_true _ _ f) [
+    | inl is ↦ valid_number (leaf_at 3 p t r q) settings x (codes "board-every") 1 60000 100 says.live.board_every (bytes_same _ _ is) value refl refl refl refl (lit< tt) says.board_every
+    | inr g ↦ attend_valid p t r q settings words says x value g
+  ]
+]
+
+live_valid : (p t r : Choices) (q : LiveChoices) (settings : List Setting) → texts q.planners.now ≡ planner_words → texts q.replies.now ≡ replies_words → (says : SaysLive settings)
+    → (x : Setting) → list_any (bytes_eq x.name) all_live_names ≡ true → IsGiven settings x → IsValid (leaf_at 3 p t r q) x
+live_valid p t r q settings planners words says x listed value =
+    fleet_valid (leaf_at 3 p t r q) settings q.planners says.live.fleet (drop 4 all_live_names) planners says.fleet refl refl refl refl x value
     (λ e. elim (either_true _ _ e) [
-      | inl is ↦ valid_number (leaf_at 3 p t r q) settings x (codes "turns") 1 100000 (default_turns o.every) o.turns (bytes_same _ _ is) value refl refl refl refl (lit< tt) gives.turns
+      | inl is ↦ valid_number (leaf_at 3 p t r q) settings x (codes "turns") 1 100000 (default_turns says.live.every) says.live.turns (bytes_same _ _ is) value refl refl refl refl (lit< tt) says.turns
       | inr f ↦ elim (either_true _ _ f) [
-        | inl is ↦ valid_number (leaf_at 3 p t r q) settings x (codes "journal") 1 1000000 10000 o.journal (bytes_same _ _ is) value refl refl refl refl (lit< tt) gives.journal
+        | inl is ↦ valid_number (leaf_at 3 p t r q) settings x (codes "journal") 1 1000000 10000 says.live.journal (bytes_same _ _ is) value refl refl refl refl (lit< tt) says.journal
         | inr g ↦ elim (either_true _ _ g) [
-          | inl is ↦ valid_may (leaf_at 3 p t r q) settings x (codes "every") 1 60000 o.every (bytes_same _ _ is) value refl refl refl refl (lit< tt) gives.every
-          | inr h ↦ board_valid p t r q settings o gives x value h
+          | inl is ↦ valid_may (leaf_at 3 p t r q) settings x (codes "every") 1 60000 says.live.every (bytes_same _ _ is) value refl refl refl refl (lit< tt) says.every
+          | inr h ↦ board_valid p t r q settings words says x value h
         ]
       ]
     ]) listed
 
 -- ---- the whole line
 
-line_fine : (p t r q : Choices) (words : List Text) (name told : Text) (settings : List Setting) (leaf : Shape) → told ≡ name → Enters (built (menu p t r q)) name leaf → ArePlain leaf.rules
+line_fine : (p t r : Choices) (q : LiveChoices) (words : List Text) (name told : Text) (settings : List Setting) (leaf : Shape) → told ≡ name → Enters (built (menu p t r q)) name leaf → ArePlain leaf.rules
     → ((rows : List Row) → check_fault leaf rows false ≡ []) → AllTaken leaf settings [] → IsLine words told settings → fault_of (menu p t r q) words ≡ []
 line_fine p t r q words name told settings leaf is enters all checks taken line =
     let after : line.after ≡ flat_map spelled settings ++ line.spelling.rest = line.spelling.words_are in
@@ -487,40 +504,49 @@ line_fine p t r q words name told settings leaf is enters all checks taken line 
     let built_fine : fault_of (menu p t r q) (line.program ∷ name ∷ line.after) ≡ [] = top_fine (built (menu p t r q)) name leaf line.after enters (level_fine leaf line.after all checks fine_after) in
     subst (λ ws. fault_of (menu p t r q) ws ≡ []) (sym whole) built_fine
 
-replay_fine : (p t r q : Choices) (words : List Text) (name : Text) (settings : List Setting) (o : ReplayOptions) → texts p.now ≡ planner_words → texts t.now ≡ tail_words → texts r.now ≡ replies_words
+replay_fine : (p t r : Choices) (q : LiveChoices) (words : List Text) (name : Text) (settings : List Setting) (o : ReplayOptions) → texts p.now ≡ planner_words → texts t.now ≡ tail_words → texts r.now ≡ replies_words
     → name ≡ codes "replay" → IsLine words name settings → GivesReplay settings o → fault_of (menu p t r q) words ≡ []
 replay_fine p t r q words name settings o planners tails replies is line gives =
     let valid = all_zip _ _ _ (replay_valid p t r q settings o planners tails replies gives) settings gives.only (each_given settings line.once line.spelling.in_place) in
     line_fine p t r q words (codes "replay") name settings (leaf_at 1 p t r q) is (replay_enters p t r q) (replay_plain p t r q) (λ rows. refl)
     (valid_taken (leaf_at 1 p t r q) settings [] (replay_plain p t r q) refl valid (none_fresh settings) line.once) line
 
-live_fine : (p t r q : Choices) (words : List Text) (name : Text) (settings : List Setting) (o : LiveOptions) → texts q.now ≡ planner_words
-    → name ≡ codes "live" → IsLine words name settings → GivesLive settings o → fault_of (menu p t r q) words ≡ []
-live_fine p t r q words name settings o planners is line gives =
-    let valid = all_zip _ _ _ (live_valid p t r q settings o planners gives) settings gives.only (each_given settings line.once line.spelling.in_place) in
+live_fine : (p t r : Choices) (q : LiveChoices) (words : List Text) (name : Text) (settings : List Setting) → texts q.planners.now ≡ planner_words → texts q.replies.now ≡ replies_words
+    → name ≡ codes "live" → IsLine words name settings → SaysLive settings → fault_of (menu p t r q) words ≡ []
+live_fine p t r q words name settings planners replies is line says =
+    let valid = all_zip _ _ _ (live_valid p t r q settings planners replies says) settings says.only (each_given settings line.once line.spelling.in_place) in
     line_fine p t r q words (codes "live") name settings (leaf_at 3 p t r q) is (live_enters p t r q) (live_plain p t r q) (λ rows. refl)
     (valid_taken (leaf_at 3 p t r q) settings [] (live_plain p t r q) refl valid (none_fresh settings) line.once) line
 
--- also where the options do not go together
-menu_fine : (p t r q : Choices) (words : List Text) (name : Text) (settings : List Setting) (o : Options) → texts p.now ≡ planner_words → texts t.now ≡ tail_words → texts r.now ≡ replies_words → texts q.now ≡ planner_words
+menu_fine : (p t r : Choices) (q : LiveChoices) (words : List Text) (name : Text) (settings : List Setting) (o : Options) → texts p.now ≡ planner_words → texts t.now ≡ tail_words → texts r.now ≡ replies_words → texts q.planners.now ≡ planner_words → texts q.replies.now ≡ replies_words
     → IsLine words name settings → EachGives name settings o → fault_of (menu p t r q) words ≡ []
-menu_fine p t r q words name settings Check planners tails replies others line gives =
+menu_fine p t r q words name settings Check planners tails replies others told line gives =
     line_fine p t r q words (codes "check") name settings (leaf_at 0 p t r q) gives.0 (check_enters p t r q) asking_plain (λ rows. refl)
     (subst (λ xs. AllTaken (leaf_at 0 p t r q) xs []) (sym gives.1) tt) line
-menu_fine p t r q words name settings Verify planners tails replies others line gives =
+menu_fine p t r q words name settings Verify planners tails replies others told line gives =
     line_fine p t r q words (codes "verify") name settings (leaf_at 2 p t r q) gives.0 (verify_enters p t r q) asking_plain (λ rows. refl)
     (subst (λ xs. AllTaken (leaf_at 2 p t r q) xs []) (sym gives.1) tt) line
-menu_fine p t r q words name settings (Replay o) planners tails replies others line gives =
+menu_fine p t r q words name settings (Replay o) planners tails replies others told line gives =
     replay_fine p t r q words name settings o planners tails replies gives.0 line gives.1
-menu_fine p t r q words name settings (Live o) planners tails replies others line gives =
-    live_fine p t r q words name settings o others gives.0 line gives.1
+menu_fine p t r q words name settings (Live o) planners tails replies others told line gives =
+    live_fine p t r q words name settings others told gives.0 line (says_of_live settings o gives.1)
+menu_fine p t r q words name settings (Attend o) planners tails replies others told line gives =
+    live_fine p t r q words name settings others told gives.0 line (says_of_attend settings o gives.1)
+
+-- also where the options do not go together
+menu_said : (p t r : Choices) (q : LiveChoices) (words : List Text) (name : Text) (settings : List Setting) → texts p.now ≡ planner_words → texts t.now ≡ tail_words → texts r.now ≡ replies_words → texts q.planners.now ≡ planner_words → texts q.replies.now ≡ replies_words
+    → IsLine words name settings → EachSays name settings → fault_of (menu p t r q) words ≡ []
+menu_said p t r q words name settings planners tails replies others told line (inl said) = replay_fine p t r q words name settings said.1 planners tails replies said.0 line said.2
+menu_said p t r q words name settings planners tails replies others told line (inr said) = live_fine p t r q words name settings others told said.0 line said.1
 
 -- words whose options each say something are not refused
-pub each_is_taken : (a : App) (words : List Text) (name : Text) (settings : List Setting) (o : Options) → IsMenu a → IsLine words name settings → EachGives name settings o → fault_of a words ≡ []
-each_is_taken a words name settings o m line gives =
+pub said_is_taken : (a : App) (words : List Text) (name : Text) (settings : List Setting) → IsMenu a → IsLine words name settings → EachSays name settings → fault_of a words ≡ []
+said_is_taken a words name settings m line says =
     subst (λ (x : App). fault_of x words ≡ []) (sym m.is)
-    (menu_fine m.planners m.tails m.replies m.others words name settings o m.planner_texts m.tail_texts m.replies_texts m.other_texts line gives)
+    (menu_said m.planners m.tails m.replies m.others words name settings m.planner_texts m.tail_texts m.replies_texts m.other_texts m.other_replies line says)
 
 -- words that give options are not refused
 pub given_is_taken : (a : App) (words : List Text) (o : Options) → IsMenu a → WordsGive words o → fault_of a words ≡ []
-given_is_taken a words o m gives = each_is_taken a words gives.0 gives.1 o m gives.2 gives.3.0
+given_is_taken a words o m gives =
+    subst (λ (x : App). fault_of x words ≡ []) (sym m.is)
+    (menu_fine m.planners m.tails m.replies m.others words gives.0 gives.1 o m.planner_texts m.tail_texts m.replies_texts m.other_texts m.other_replies gives.2 gives.3.0)

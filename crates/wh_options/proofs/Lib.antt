@@ -9,6 +9,8 @@ pub mod Top
 pub mod Values
 pub mod Names
 pub mod Singles
+pub mod Restricts
+pub mod Attending
 pub mod Menus
 pub mod Spells
 pub mod Exact

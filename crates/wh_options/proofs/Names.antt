@@ -1,13 +1,13 @@
 -- Names of options, as the words of a command line can tell them.
-use Rattle.std.proofs.Common.{◌≡◌, List, [], ◌∷◌, refl, sym, ap, ◌∙◌, Bool, true, false, ◌||◌, not, true≢false, subst}
+use Rattle.std.proofs.Common.{◌≡◌, List, [], ◌∷◌, refl, sym, ap, ◌∙◌, inl, inr, Bool, true, false, ◌||◌, not, true≢false, subst}
 use Rattle.std.specs.List.{AllByRecursion, list_all, list_any}
 use Rattle.std.specs.Str.{bytes_eq}
 use Rattle.clap.proofs.WalkLemmas.{both}
 use Rattle.clap.specs.Lexer.{has_byte}
 use Rattle.wh_options.specs.Setting.{Setting, Text}
-use Rattle.wh_options.specs.Options.{EachGives, HasOnly, live_names, replay_names}
+use Rattle.wh_options.specs.Options.{EachGives, EachSays, HasOnly, all_live_names, attend_names, live_names, replay_names}
 use Rattle.wh_options.specs.declared.chosen.Options.{Options}
-use Rattle.wh_options.specs.declared.chosen.Options.TheVariants.{Check, Replay, Verify, Live}
+use Rattle.wh_options.specs.declared.chosen.Options.TheVariants.{Attend, Check, Replay, Verify, Live}
 use Rattle.wh_options.proofs.Shapes.{bytes_same}
 use Rattle.wh_options.proofs.Words.{self_same}
 
@@ -29,7 +29,7 @@ listed_step : (test : Text → Bool) (n m : Text) (ms : List Text) (b : Bool) �
 listed_step test n m ms true e here f rest = ap test (bytes_same n m e) ∙ here
 listed_step test n m ms false e here f rest = rest f
 
-listed_passes : (test : Text → Bool) (n : Text) (names : List Text) → list_all test names ≡ true → list_any (bytes_eq n) names ≡ true → test n ≡ true
+pub listed_passes : (test : Text → Bool) (n : Text) (names : List Text) → list_all test names ≡ true → list_any (bytes_eq n) names ≡ true → test n ≡ true
 listed_passes test n [] all any = cc
 listed_passes test n (m ∷ ms) all any = listed_step test n m ms (bytes_eq n m) refl (both _ _ all).0 any (listed_passes test n ms (both _ _ all).1)
 
@@ -43,3 +43,8 @@ gives_named name xs Check m = subst Named (sym m.1) tt
 gives_named name xs Verify m = subst Named (sym m.1) tt
 gives_named name xs (Replay o) m = only_named replay_names xs refl m.1.only
 gives_named name xs (Live o) m = only_named live_names xs refl m.1.only
+gives_named name xs (Attend o) m = only_named attend_names xs refl m.1.only
+
+pub says_named : (name : Text) (xs : List Setting) → EachSays name xs → Named xs
+says_named name xs (inl said) = only_named replay_names xs refl said.2.only
+says_named name xs (inr said) = only_named all_live_names xs refl said.1.only

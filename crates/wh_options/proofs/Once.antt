@@ -1,13 +1,18 @@
 -- Words give at most one set of options.
 use Rattle.std.proofs.Common.{◌≡◌, ◌≤◌, ℕ, List, [], ◌∷◌, ◌++◌, drop, refl, sym, ap, ap₂, ◌∙◌, Bool, true, false, cond, None, Some, Option, subst, inl, inr, codes, not, true≢false, append_assoc}
 use Rattle.std.specs.Prelude.{MatchOption, filter, map, slice_get}
-use Rattle.std.specs.List.{AllByRecursion, after_first, before_first, flat_map}
+use Rattle.std.specs.List.{AllByRecursion, AllZip, after_first, before_first, flat_map}
 use Rattle.std.specs.Str.{bytes_eq}
 use Rattle.clap.specs.Lexer.{has_byte}
 use Rattle.wh_options.specs.Setting.{Closes, IsInPlace, IsLine, Setting, Spelling, StandsBy, Text, alone, apart, is_switch, joined, spelled, spelled_by, value_of, values_of}
-use Rattle.wh_options.specs.Options.{AreSame, EachGives, GivesFleet, GivesNumber, GivesPlanner, GivesReplies, GivesTail, MayGive, GivesVehicles, IsWritten, WordsGive, default_turns, planner_text, replies_text, tail_text}
+use Rattle.wh_options.specs.Options.{AreSame, EachGives, GivesAttend, GivesFleet, GivesLive, GivesNumber, GivesPlanner, GivesReplay, GivesReplies, GivesTail, MayGive, GivesVehicles, IsWritten, WordsGive, default_turns, planner_text, replies_text, tail_text}
 use Rattle.wh_options.specs.declared.chosen.Options.{Options}
-use Rattle.wh_options.specs.declared.chosen.Options.TheVariants.{Check, Replay, Verify, Live}
+use Rattle.wh_options.specs.declared.chosen.Options.TheVariants.{Attend, Check, Replay, Verify, Live}
+use Rattle.wh_options.specs.declared.chosen.AttendOptions.{AttendOptions}
+use Rattle.wh_options.specs.declared.chosen.LiveOptions.{LiveOptions}
+use Rattle.wh_options.specs.declared.chosen.ReplayOptions.{ReplayOptions}
+use Rattle.wh_client.specs.Clients.{GivesClient}
+use Rattle.wh_client.proofs.Listed.{clients_once}
 use Rattle.wh_options.specs.declared.chosen.Fleet.{Fleet}
 use Rattle.wh_options.specs.declared.chosen.VehicleOptions.{VehicleOptions}
 use Rattle.wh_options.specs.declared.chosen.PlannerKind.{PlannerKind}
@@ -19,6 +24,8 @@ use Rattle.wh_options.specs.declared.chosen.Replies.TheVariants.{Short, Full, Pl
 use Rattle.wh_options.proofs.Shapes.{is_equals}
 use Rattle.wh_options.proofs.Spells.{cut_at_equals, has_equals}
 use Rattle.wh_options.proofs.Rows.{first_value}
+use Rattle.wh_options.proofs.Values.{some_same}
+use Rattle.wh_options.proofs.Attending.{has_client, no_client}
 use Rattle.wh_options.proofs.Names.{Named, gives_named, other_word, plain_name}
 
 -- ---- one setting
@@ -228,38 +235,70 @@ fleet_once xs ys f g agree a b =
     let spares = number_once xs ys (codes "spares") 0 0 16 f.spares g.spares agree a.spares b.spares in
     λ i. record { planner = planner i; slots = slots i; bank = bank i; spares = spares i }
 
-gives_once : (name told : Text) (xs ys : List Setting) (o p : Options) → name ≡ told → Agree xs ys → EachGives name xs o → EachGives told ys p → AreSame o p
-gives_once name told xs ys Check Check is agree m n = refl
-gives_once name told xs ys Check (Replay p) is agree m n = absurd (other_word (codes "check") (codes "replay") refl (sym m.0 ∙ is ∙ n.0))
-gives_once name told xs ys Check Verify is agree m n = absurd (other_word (codes "check") (codes "verify") refl (sym m.0 ∙ is ∙ n.0))
-gives_once name told xs ys Check (Live p) is agree m n = absurd (other_word (codes "check") (codes "live") refl (sym m.0 ∙ is ∙ n.0))
-gives_once name told xs ys (Replay o) Check is agree m n = absurd (other_word (codes "replay") (codes "check") refl (sym m.0 ∙ is ∙ n.0))
-gives_once name told xs ys (Replay o) (Replay p) is agree m n =
-    let fleet = fleet_once xs ys o.fleet p.fleet agree m.1.fleet n.1.fleet in
-    let tail = tail_once xs ys o.tail p.tail agree m.1.tail n.1.tail in
-    let replies = replies_once xs ys o.replies p.replies agree m.1.replies n.1.replies in
-    let told = may_once xs ys (codes "told") 0 999999999 o.told p.told agree m.1.told n.1.told in
-    (fleet, tail, replies, m.1.log.is ∙ agree (codes "log") ∙ sym n.1.log.is, told, vehicles_once xs ys o.vehicles p.vehicles agree m.1.vehicles n.1.vehicles)
-gives_once name told xs ys (Replay o) Verify is agree m n = absurd (other_word (codes "replay") (codes "verify") refl (sym m.0 ∙ is ∙ n.0))
-gives_once name told xs ys (Replay o) (Live p) is agree m n = absurd (other_word (codes "replay") (codes "live") refl (sym m.0 ∙ is ∙ n.0))
-gives_once name told xs ys Verify Check is agree m n = absurd (other_word (codes "verify") (codes "check") refl (sym m.0 ∙ is ∙ n.0))
-gives_once name told xs ys Verify (Replay p) is agree m n = absurd (other_word (codes "verify") (codes "replay") refl (sym m.0 ∙ is ∙ n.0))
-gives_once name told xs ys Verify Verify is agree m n = refl
-gives_once name told xs ys Verify (Live p) is agree m n = absurd (other_word (codes "verify") (codes "live") refl (sym m.0 ∙ is ∙ n.0))
-gives_once name told xs ys (Live o) Check is agree m n = absurd (other_word (codes "live") (codes "check") refl (sym m.0 ∙ is ∙ n.0))
-gives_once name told xs ys (Live o) (Replay p) is agree m n = absurd (other_word (codes "live") (codes "replay") refl (sym m.0 ∙ is ∙ n.0))
-gives_once name told xs ys (Live o) Verify is agree m n = absurd (other_word (codes "live") (codes "verify") refl (sym m.0 ∙ is ∙ n.0))
-gives_once name told xs ys (Live o) (Live p) is agree m n =
-    let fleet = fleet_once xs ys o.fleet p.fleet agree m.1.fleet n.1.fleet in
-    let every = may_once xs ys (codes "every") 1 60000 o.every p.every agree m.1.every n.1.every in
-    let other : GivesNumber ys (codes "turns") (default_turns o.every) 1 100000 p.turns = subst (λ e. GivesNumber ys (codes "turns") (default_turns e) 1 100000 p.turns) (sym every) n.1.turns in
-    let turns = number_once xs ys (codes "turns") (default_turns o.every) 1 100000 o.turns p.turns agree m.1.turns other in
-    let journal = number_once xs ys (codes "journal") 10000 1 1000000 o.journal p.journal agree m.1.journal n.1.journal in
-    let board_every = number_once xs ys (codes "board-every") 100 1 60000 o.board_every p.board_every agree m.1.board_every n.1.board_every in
-    (fleet, turns, journal, every, m.1.board.is ∙ agree (codes "board") ∙ sym n.1.board.is, board_every)
+replay_once : (xs ys : List Setting) (o p : ReplayOptions) → Agree xs ys → GivesReplay xs o → GivesReplay ys p → AreSame (Replay o) (Replay p)
+replay_once xs ys o p agree m n =
+    let fleet = fleet_once xs ys o.fleet p.fleet agree m.fleet n.fleet in
+    let tail = tail_once xs ys o.tail p.tail agree m.tail n.tail in
+    let replies = replies_once xs ys o.replies p.replies agree m.replies n.replies in
+    let told = may_once xs ys (codes "told") 0 999999999 o.told p.told agree m.told n.told in
+    (fleet, tail, replies, m.log.is ∙ agree (codes "log") ∙ sym n.log.is, told, vehicles_once xs ys o.vehicles p.vehicles agree m.vehicles n.vehicles)
+
+live_once : (xs ys : List Setting) (o p : LiveOptions) → Agree xs ys → GivesLive xs o → GivesLive ys p → AreSame (Live o) (Live p)
+live_once xs ys o p agree m n =
+    let fleet = fleet_once xs ys o.fleet p.fleet agree m.fleet n.fleet in
+    let every = may_once xs ys (codes "every") 1 60000 o.every p.every agree m.every n.every in
+    let other : GivesNumber ys (codes "turns") (default_turns o.every) 1 100000 p.turns = subst (λ e. GivesNumber ys (codes "turns") (default_turns e) 1 100000 p.turns) (sym every) n.turns in
+    let turns = number_once xs ys (codes "turns") (default_turns o.every) 1 100000 o.turns p.turns agree m.turns other in
+    let journal = number_once xs ys (codes "journal") 10000 1 1000000 o.journal p.journal agree m.journal n.journal in
+    let board_every = number_once xs ys (codes "board-every") 100 1 60000 o.board_every p.board_every agree m.board_every n.board_every in
+    (fleet, turns, journal, every, m.board.is ∙ agree (codes "board") ∙ sym n.board.is, board_every)
+
+attend_once : (xs ys : List Setting) (o p : AttendOptions) → AllAgree xs ys → GivesAttend xs o → GivesAttend ys p → AreSame (Attend o) (Attend p)
+attend_once xs ys o p all m n =
+    let agree = all_agree xs ys all in
+    let fleet = fleet_once xs ys o.fleet p.fleet agree m.fleet n.fleet in
+    let journal = number_once xs ys (codes "journal") 10000 1 1000000 o.journal p.journal agree m.journal n.journal in
+    let replies = replies_once xs ys o.replies p.replies agree m.replies n.replies in
+    let log : Some o.log.now ≡ Some p.log.now = m.log.is ∙ agree (codes "log") ∙ sym n.log.is in
+    let other : AllZip GivesClient (values_of (codes "client") xs) p.clients.items = subst (λ ts. AllZip GivesClient ts p.clients.items) (sym (all (codes "client"))) n.clients.each in
+    (fleet, journal, replies, some_same o.log.now p.log.now log, clients_once (values_of (codes "client") xs) o.clients.items p.clients.items m.clients.each other)
+
+-- settings do not give options of running clients and options without
+not_both_ways : (xs ys : List Setting) (o : LiveOptions) (p : AttendOptions) → Agree xs ys → GivesLive xs o → GivesAttend ys p → ⊥
+not_both_ways xs ys o p agree m n = has_client ys p n (sym (agree (codes "client")) ∙ no_client xs o m)
+
+apart_so : (name told one other : Text) → name ≡ told → bytes_eq one other ≡ false → name ≡ one → told ≡ other → ⊥
+apart_so name told one other is differs m n = other_word one other differs (sym m ∙ is ∙ n)
+
+gives_once : (name told : Text) (xs ys : List Setting) (o p : Options) → name ≡ told → AllAgree xs ys → EachGives name xs o → EachGives told ys p → AreSame o p
+gives_once name told xs ys Check Check is all m n = refl
+gives_once name told xs ys Check (Replay p) is all m n = absurd (apart_so name told (codes "check") (codes "replay") is refl m.0 n.0)
+gives_once name told xs ys Check Verify is all m n = absurd (apart_so name told (codes "check") (codes "verify") is refl m.0 n.0)
+gives_once name told xs ys Check (Live p) is all m n = absurd (apart_so name told (codes "check") (codes "live") is refl m.0 n.0)
+gives_once name told xs ys Check (Attend p) is all m n = absurd (apart_so name told (codes "check") (codes "live") is refl m.0 n.0)
+gives_once name told xs ys (Replay o) Check is all m n = absurd (apart_so name told (codes "replay") (codes "check") is refl m.0 n.0)
+gives_once name told xs ys (Replay o) (Replay p) is all m n = replay_once xs ys o p (all_agree xs ys all) m.1 n.1
+gives_once name told xs ys (Replay o) Verify is all m n = absurd (apart_so name told (codes "replay") (codes "verify") is refl m.0 n.0)
+gives_once name told xs ys (Replay o) (Live p) is all m n = absurd (apart_so name told (codes "replay") (codes "live") is refl m.0 n.0)
+gives_once name told xs ys (Replay o) (Attend p) is all m n = absurd (apart_so name told (codes "replay") (codes "live") is refl m.0 n.0)
+gives_once name told xs ys Verify Check is all m n = absurd (apart_so name told (codes "verify") (codes "check") is refl m.0 n.0)
+gives_once name told xs ys Verify (Replay p) is all m n = absurd (apart_so name told (codes "verify") (codes "replay") is refl m.0 n.0)
+gives_once name told xs ys Verify Verify is all m n = refl
+gives_once name told xs ys Verify (Live p) is all m n = absurd (apart_so name told (codes "verify") (codes "live") is refl m.0 n.0)
+gives_once name told xs ys Verify (Attend p) is all m n = absurd (apart_so name told (codes "verify") (codes "live") is refl m.0 n.0)
+gives_once name told xs ys (Live o) Check is all m n = absurd (apart_so name told (codes "live") (codes "check") is refl m.0 n.0)
+gives_once name told xs ys (Live o) (Replay p) is all m n = absurd (apart_so name told (codes "live") (codes "replay") is refl m.0 n.0)
+gives_once name told xs ys (Live o) Verify is all m n = absurd (apart_so name told (codes "live") (codes "verify") is refl m.0 n.0)
+gives_once name told xs ys (Live o) (Live p) is all m n = live_once xs ys o p (all_agree xs ys all) m.1 n.1
+gives_once name told xs ys (Live o) (Attend p) is all m n = absurd (not_both_ways xs ys o p (all_agree xs ys all) m.1 n.1)
+gives_once name told xs ys (Attend o) Check is all m n = absurd (apart_so name told (codes "live") (codes "check") is refl m.0 n.0)
+gives_once name told xs ys (Attend o) (Replay p) is all m n = absurd (apart_so name told (codes "live") (codes "replay") is refl m.0 n.0)
+gives_once name told xs ys (Attend o) Verify is all m n = absurd (apart_so name told (codes "live") (codes "verify") is refl m.0 n.0)
+gives_once name told xs ys (Attend o) (Live p) is all m n = absurd (not_both_ways ys xs p o (λ id. sym (all_agree xs ys all id)) n.1 m.1)
+gives_once name told xs ys (Attend o) (Attend p) is all m n = attend_once xs ys o p all m.1 n.1
 
 -- words give at most one set of options
 pub given_once : (words : List Text) (o p : Options) → WordsGive words o → WordsGive words p → AreSame o p
 given_once words o p a b =
     let line = one_line words a.0 b.0 a.1 b.1 (gives_named a.0 a.1 o a.3.0) (gives_named b.0 b.1 p b.3.0) a.2 b.2 in
-    gives_once a.0 b.0 a.1 b.1 o p line.0 (all_agree a.1 b.1 line.1) a.3.0 b.3.0
+    gives_once a.0 b.0 a.1 b.1 o p line.0 line.1 a.3.0 b.3.0

@@ -4,7 +4,7 @@ use Rattle.clap.proofs.WalkLemmas.{both}
 use Rattle.clap.specs.Simple.{filled}
 use Rattle.clap.specs.declared.builder.action.ArgAction.TheVariants.{Append, Set}
 use Rattle.wh_options.specs.Setting.{Text, is_switch, may_repeat}
-use Rattle.wh_options.specs.Menu.{Choices, choice_rule, file_rule, number_rule, switch_rule}
+use Rattle.wh_options.specs.Menu.{Choices, choice_rule, file_rule, many_rule, number_rule, switch_rule}
 use Rattle.wh_options.proofs.Leaf.{IsOption, IsSwitch}
 
 -- an option of a value, given once at most
@@ -31,6 +31,9 @@ choice_option name choices single = record { short = refl; short_aliases = refl;
 
 pub file_option : (name : Text) → is_single name ≡ true → IsOption (filled (file_rule name))
 file_option name single = record { short = refl; short_aliases = refl; action = sets_once name single; least = refl; most = refl; missing = refl }
+
+pub many_option : (name : Text) → may_repeat name ≡ true → IsOption (filled (many_rule name))
+many_option name many = record { short = refl; short_aliases = refl; action = rw many refl; least = refl; most = refl; missing = refl }
 
 pub switch_is : (name : Text) → may_repeat name ≡ false → IsSwitch (filled (switch_rule name))
 switch_is name once = record { short = refl; short_aliases = refl; action = refl; once = once; least = refl; most = refl; missing = refl }

@@ -4,7 +4,7 @@ use Rattle.std.specs.Borrow.{Bor}
 use Rattle.clap.specs.Words.{App, Rule, app_of, new_app, new_rule, with_rule, with_subcommand}
 use Rattle.clap.specs.Walk.{texts}
 use Rattle.clap.specs.declared.builder.command.Command.TheViews.{out-Command as fields_of}
-use Rattle.clap.specs.declared.builder.action.ArgAction.TheVariants.{Set}
+use Rattle.clap.specs.declared.builder.action.ArgAction.TheVariants.{Append, Set}
 use Rattle.clap.specs.declared.builder.command.Command.{Command}
 use Rattle.clap.specs.declared.builder.value_parser.ValueParser.TheVariants as vp
 use Rattle.wh_options.specs.Setting.{Text}
@@ -49,6 +49,15 @@ switch_rule name = record (new_rule name) {
   missing = codes "true" ∷ [];
 }
 
+-- an option that may be given many times, each time with a text
+abbrev pub many_rule : Text → Rule
+many_rule name = record (new_rule name) {
+  long = Some name;
+  action = Some Append;
+  value_names = 1;
+  parser = Some vp.String;
+}
+
 abbrev pub planner_words : List Text
 planner_words = codes "near" ∷ codes "patient" ∷ []
 
@@ -86,10 +95,20 @@ abbrev pub with_board_rules : App → App
 with_board_rules a =
     with_rule (with_rule a (file_rule (codes "board"))) (number_rule (codes "board-every") 1 60000)
 
-abbrev pub live_app : Choices → App
-live_app planners = with_board_rules (with_rule (with_rule (with_rule (fleet_app (codes "live") planners)
-    (number_rule (codes "turns") 1 100000)) (number_rule (codes "journal") 1 1000000))
-    (number_rule (codes "every") 1 60000))
+-- the options of running clients
+abbrev pub with_attend_rules : Choices → App → App
+with_attend_rules replies a = with_rule (with_rule (with_rule a (file_rule (codes "log")))
+    (choice_rule (codes "replies") replies)) (many_rule (codes "client"))
+
+-- the words that options of `live` choose from
+pub record LiveChoices : Type 0 where
+  pub planners : Choices
+  pub replies : Choices
+
+abbrev pub live_app : LiveChoices → App
+live_app choices = with_attend_rules choices.replies (with_board_rules (with_rule (with_rule (with_rule
+    (fleet_app (codes "live") choices.planners) (number_rule (codes "turns") 1 100000))
+    (number_rule (codes "journal") 1 1000000)) (number_rule (codes "every") 1 60000)))
 
 -- a subcommand must follow, and each command tells the version
 abbrev pub with_settings : App → App
@@ -98,7 +117,7 @@ with_settings a = record a {
 }
 
 -- the whole command
-abbrev pub menu : Choices → Choices → Choices → Choices → App
+abbrev pub menu : Choices → Choices → Choices → LiveChoices → App
 menu planners tails replies others =
     with_subcommand (with_subcommand (with_subcommand (with_subcommand
     (with_settings (new_app (codes "warehouse")))
@@ -125,9 +144,10 @@ pub record IsReplayCommand (c : Command) : Type 0 where
   pub is : HasShape c (replay_app planners tails replies)
 
 pub record IsLiveCommand (c : Command) : Type 0 where
-  pub planners : Choices
-  pub planner_texts : texts planners.now ≡ planner_words
-  pub is : HasShape c (live_app planners)
+  pub choices : LiveChoices
+  pub planner_texts : texts choices.planners.now ≡ planner_words
+  pub replies_texts : texts choices.replies.now ≡ replies_words
+  pub is : HasShape c (live_app choices)
 
 -- a command that has the subcommand `replay` besides
 pub record AddsReplay (b c : Command) : Type 0 where
@@ -141,18 +161,20 @@ pub record AddsReplay (b c : Command) : Type 0 where
 
 -- a command that has the subcommand `live` besides
 pub record AddsLive (b c : Command) : Type 0 where
-  pub planners : Choices
-  pub planner_texts : texts planners.now ≡ planner_words
-  pub is : app_of c ≡ with_subcommand (app_of b) (live_app planners).top
+  pub choices : LiveChoices
+  pub planner_texts : texts choices.planners.now ≡ planner_words
+  pub replies_texts : texts choices.replies.now ≡ replies_words
+  pub is : app_of c ≡ with_subcommand (app_of b) (live_app choices).top
 
 -- the command of the program
 pub record IsMenu (a : App) : Type 0 where
   pub planners : Choices
   pub tails : Choices
   pub replies : Choices
-  pub others : Choices
+  pub others : LiveChoices
   pub planner_texts : texts planners.now ≡ planner_words
   pub tail_texts : texts tails.now ≡ tail_words
   pub replies_texts : texts replies.now ≡ replies_words
-  pub other_texts : texts others.now ≡ planner_words
+  pub other_texts : texts others.planners.now ≡ planner_words
+  pub other_replies : texts others.replies.now ≡ replies_words
   pub is : a ≡ menu planners tails replies others

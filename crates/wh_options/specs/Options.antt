@@ -1,9 +1,11 @@
 -- Which options the words of a command line give.
 use Rattle.std.specs.Prelude.{◌≡◌, ◌≢◌, ◌≤◌, ◌⊎◌, ℕ, List, [], ◌∷◌, Option, Some, None, MatchOption, codes, option_map, true}
-use Rattle.std.specs.List.{AllByRecursion, list_any}
+use Rattle.std.specs.List.{AllByRecursion, AllZip, list_any}
 use Rattle.std.specs.Str.{bytes_eq}
 use Rattle.std.specs.Str.Parse.{IsNumeral, digits_value, without_leading_plus}
-use Rattle.wh_options.specs.Setting.{IsLine, Setting, Text, value_of}
+use Rattle.wh_options.specs.Setting.{IsLine, Setting, Text, value_of, values_of}
+use Rattle.wh_client.specs.Clients.{GiveClients, IsSameClient}
+use Rattle.wh_client.specs.declared.client.ClientOptions.{ClientOptions}
 use Rattle.wh_options.specs.declared.chosen.PlannerKind.{PlannerKind}
 use Rattle.wh_options.specs.declared.chosen.PlannerKind.TheVariants.{Near, Patient}
 use Rattle.wh_options.specs.declared.chosen.Tail.{Tail}
@@ -14,8 +16,9 @@ use Rattle.wh_options.specs.declared.chosen.Fleet.{Fleet}
 use Rattle.wh_options.specs.declared.chosen.VehicleOptions.{VehicleOptions}
 use Rattle.wh_options.specs.declared.chosen.ReplayOptions.{ReplayOptions}
 use Rattle.wh_options.specs.declared.chosen.LiveOptions.{LiveOptions}
+use Rattle.wh_options.specs.declared.chosen.AttendOptions.{AttendOptions}
 use Rattle.wh_options.specs.declared.chosen.Options.{Options}
-use Rattle.wh_options.specs.declared.chosen.Options.TheVariants.{Check, Replay, Verify, Live}
+use Rattle.wh_options.specs.declared.chosen.Options.TheVariants.{Attend, Check, Replay, Verify, Live}
 
 -- the text is n in decimal digits, perhaps after a plus
 abbrev pub IsWritten : ℕ → Text → Type 0
@@ -106,6 +109,17 @@ abbrev pub live_names : List Text
 live_names = codes "planner" ∷ codes "slots" ∷ codes "bank" ∷ codes "spares" ∷ codes "turns"
     ∷ codes "journal" ∷ codes "every" ∷ codes "board" ∷ codes "board-every" ∷ []
 
+-- the options of `live` with running clients
+abbrev pub attend_names : List Text
+attend_names = codes "planner" ∷ codes "slots" ∷ codes "bank" ∷ codes "spares" ∷ codes "journal"
+    ∷ codes "log" ∷ codes "replies" ∷ codes "client" ∷ []
+
+-- all options of `live`, with running clients or without
+abbrev pub all_live_names : List Text
+all_live_names = codes "planner" ∷ codes "slots" ∷ codes "bank" ∷ codes "spares" ∷ codes "turns"
+    ∷ codes "journal" ∷ codes "every" ∷ codes "board" ∷ codes "board-every" ∷ codes "log"
+    ∷ codes "replies" ∷ codes "client" ∷ []
+
 -- what each setting of `replay` says by itself
 pub record GivesReplay (settings : List Setting) (o : ReplayOptions) : Type 0 where
   pub only : HasOnly replay_names settings
@@ -131,12 +145,23 @@ pub record GivesLive (settings : List Setting) (o : LiveOptions) : Type 0 where
   pub board : GivesFile settings (codes "board") (board_of o)
   pub board_every : GivesNumber settings (codes "board-every") 100 1 60000 o.board_every
 
+-- what the settings of `live` say with running clients: at least one, and a log
+pub record GivesAttend (settings : List Setting) (o : AttendOptions) : Type 0 where
+  pub only : HasOnly attend_names settings
+  pub fleet : GivesFleet settings o.fleet
+  pub journal : GivesNumber settings (codes "journal") 10000 1 1000000 o.journal
+  pub replies : GivesReplies settings o.replies
+  pub log : GivesFile settings (codes "log") (Some o.log.now)
+  pub clients : GiveClients (values_of (codes "client") settings) o.clients.items
+  pub some : o.clients.items ≢ []
+
 -- what each setting of a subcommand says by itself
 abbrev pub EachGives : Text → List Setting → Options → Type 0
 EachGives name settings Check = (name ≡ codes "check") × (settings ≡ [])
 EachGives name settings (Replay o) = (name ≡ codes "replay") × GivesReplay settings o
 EachGives name settings Verify = (name ≡ codes "verify") × (settings ≡ [])
 EachGives name settings (Live o) = (name ≡ codes "live") × GivesLive settings o
+EachGives name settings (Attend o) = (name ≡ codes "live") × GivesAttend settings o
 
 -- one is given, and the other is not
 abbrev pub Lacks : (Text → Option Text) → Text → Text → Type 0
@@ -151,6 +176,9 @@ ReplayLacks given = Lacks given (codes "told") (codes "log")
 -- an option of `live` is given without the one that it belongs to
 abbrev pub LiveLacks : (Text → Option Text) → Type 0
 LiveLacks given = Lacks given (codes "board-every") (codes "board")
+    ⊎ (Lacks given (codes "client") (codes "log")
+    ⊎ (Lacks given (codes "log") (codes "client")
+    ⊎ Lacks given (codes "replies") (codes "client")))
 
 -- an option of this subcommand is given without the one that it belongs to
 abbrev pub LacksAny : Text → (Text → Option Text) → Type 0
@@ -167,19 +195,64 @@ abbrev pub WordsGive : List Text → Options → Type 0
 WordsGive words options = (name : Text) × (settings : List Setting)
     × IsLine words name settings × Means name settings options
 
--- words whose settings each say something by itself, while one lacks the other that it belongs to
-pub record IsAmiss (words : List Text) : Type 0 where
+-- each setting of `live` says something by itself, whatever stands beside it; only whether its texts name clients is
+-- left open
+pub record SaysLive (settings : List Setting) : Type 0 where
+  pub live : LiveOptions
+  pub replies : Replies
+  pub log : Option Text
+  pub only : HasOnly all_live_names settings
+  pub fleet : GivesFleet settings live.fleet
+  pub turns : GivesNumber settings (codes "turns") (default_turns live.every) 1 100000 live.turns
+  pub journal : GivesNumber settings (codes "journal") 10000 1 1000000 live.journal
+  pub every : MayGive settings (codes "every") 1 60000 live.every
+  pub board : GivesFile settings (codes "board") (board_of live)
+  pub board_every : GivesNumber settings (codes "board-every") 100 1 60000 live.board_every
+  pub gives_replies : GivesReplies settings replies
+  pub gives_log : GivesFile settings (codes "log") log
+
+-- each setting of `replay` or `live` says something by itself
+abbrev pub EachSays : Text → List Setting → Type 0
+EachSays name settings = ((name ≡ codes "replay") × (o : ReplayOptions) × GivesReplay settings o)
+    ⊎ ((name ≡ codes "live") × SaysLive settings)
+
+-- an option that clients do not go with is given beside them
+abbrev pub Clashes : (Text → Option Text) → Type 0
+Clashes given = (given (codes "client") ≢ None)
+    × ((given (codes "turns") ≢ None) ⊎ ((given (codes "every") ≢ None)
+    ⊎ ((given (codes "board") ≢ None) ⊎ (given (codes "board-every") ≢ None))))
+
+-- a way in which the settings of a subcommand, by what each name and `client` are given, do not go together
+abbrev pub Way : Type 1
+Way = Text → (Text → Option Text) → List Text → Type 0
+
+-- one lacks the other that it belongs to
+abbrev pub IsLacking : Way
+IsLacking name given clients = LacksAny name given
+
+-- none lacks another, and one clashes with clients
+abbrev pub IsClashing : Way
+IsClashing name given clients = (name ≡ codes "live") × (¬ LiveLacks given) × Clashes given
+
+-- none lacks another or clashes with clients, and the texts given for clients name none, or not each its own
+abbrev pub IsClientless : Way
+IsClientless name given clients = (name ≡ codes "live") × (¬ LiveLacks given) × (¬ Clashes given)
+    × (given (codes "client") ≢ None) × ((cs : List ClientOptions) → ¬ GiveClients clients cs)
+
+-- words whose settings each say something by itself, while they do not go together in this way
+pub record IsAmiss (Goes : Way) (words : List Text) : Type 0 where
   pub name : Text
   pub settings : List Setting
-  pub options : Options
   pub line : IsLine words name settings
-  pub each : EachGives name settings options
-  pub lacks : LacksAny name (λ id. value_of id settings)
+  pub each : EachSays name settings
+  pub amiss : Goes name (λ id. value_of id settings) (values_of (codes "client") settings)
 
--- the same options: a file's name counts by its text, wherever that text lies
+-- the same options: a name of a file or a folder counts by its text, wherever that text lies
 abbrev pub AreSame : Options → Options → Type 0
 AreSame (Replay o) (Replay p) = (o.fleet ≡ p.fleet) × (o.tail ≡ p.tail) × (o.replies ≡ p.replies)
     × (log_of o ≡ log_of p) × (o.told ≡ p.told) × (o.vehicles ≡ p.vehicles)
 AreSame (Live o) (Live p) = (o.fleet ≡ p.fleet) × (o.turns ≡ p.turns) × (o.journal ≡ p.journal)
     × (o.every ≡ p.every) × (board_of o ≡ board_of p) × (o.board_every ≡ p.board_every)
+AreSame (Attend o) (Attend p) = (o.fleet ≡ p.fleet) × (o.journal ≡ p.journal) × (o.replies ≡ p.replies)
+    × (o.log.now ≡ p.log.now) × AllZip IsSameClient o.clients.items p.clients.items
 AreSame o p = o ≡ p

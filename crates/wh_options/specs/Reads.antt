@@ -1,10 +1,14 @@
 -- How the values that `clap` found are read.
-use Rattle.std.specs.Prelude.{◌≡◌, ◌≢◌, ◌<◌, ◌^◌, ℕ, Option, Some, None, MatchOption, if◌then◌else◌, codes}
+use Rattle.std.specs.Prelude.{◌≡◌, ◌≢◌, ◌⊎◌, ◌<◌, ◌^◌, ℕ, List, [], Option, Some, None, MatchOption, Result, Ok, Err, if◌then◌else◌, codes, unwrap_or}
 use Rattle.std.specs.Str.{bytes_eq}
 use Rattle.std.specs.Str.Parse.{IsNumeral, digits_value, without_leading_plus}
-use Rattle.clap.specs.Words.{Text}
-use Rattle.wh_options.specs.Options.{LiveLacks, ReplayLacks, board_of, default_turns, log_of}
+use Rattle.clap.specs.Words.{Row, Text, all_of}
+use Rattle.clap.specs.declared.error.kind.ErrorKind.{ErrorKind}
+use Rattle.clap.specs.declared.error.kind.ErrorKind.TheVariants.{ArgumentConflict, MissingRequiredArgument, ValueValidation}
+use Rattle.wh_client.specs.Clients.{GiveClients}
+use Rattle.wh_options.specs.Options.{Clashes, IsClashing, IsClientless, IsLacking, LiveLacks, ReplayLacks, Way, board_of, default_turns, log_of}
 use Rattle.wh_options.specs.declared.mistake.Mistake.{Mistake}
+use Rattle.wh_options.specs.declared.mistake.Mistake.TheVariants.{AheadWithoutVehicles, BehindWithoutVehicles, BoardEveryWithClient, BoardEveryWithoutBoard, BoardWithClient, ClientWithoutLog, EveryWithClient, LogWithoutClient, NoClients, RepliesWithoutClient, ToldWithoutLog, TurnsWithClient}
 use Rattle.wh_options.specs.declared.chosen.PlannerKind.{PlannerKind}
 use Rattle.wh_options.specs.declared.chosen.PlannerKind.TheVariants.{Near, Patient}
 use Rattle.wh_options.specs.declared.chosen.Tail.{Tail}
@@ -15,8 +19,9 @@ use Rattle.wh_options.specs.declared.chosen.Fleet.{Fleet}
 use Rattle.wh_options.specs.declared.chosen.VehicleOptions.{VehicleOptions}
 use Rattle.wh_options.specs.declared.chosen.ReplayOptions.{ReplayOptions}
 use Rattle.wh_options.specs.declared.chosen.LiveOptions.{LiveOptions}
+use Rattle.wh_options.specs.declared.chosen.AttendOptions.{AttendOptions}
 use Rattle.wh_options.specs.declared.chosen.Options.{Options}
-use Rattle.wh_options.specs.declared.chosen.Options.TheVariants.{Check, Replay, Verify, Live}
+use Rattle.wh_options.specs.declared.chosen.Options.TheVariants.{Attend, Check, Replay, Verify, Live}
 
 -- n is the number that the text writes, where it writes one of 32 bits
 abbrev pub ReadsNumber : Option Text → ℕ → ℕ → Type 0
@@ -74,13 +79,54 @@ pub record ReadsLive (given : Text → Option Text) (o : LiveOptions) : Type 0 w
   pub board : board_of o ≡ given (codes "board")
   pub board_every : ReadsNumber (given (codes "board-every")) 100 o.board_every
 
--- the subcommand and what was found for its arguments, as options
-abbrev pub Reads : Text → (Text → Option Text) → Options → Type 0
-Reads name given Check = (name ≢ codes "replay") × (name ≢ codes "live") × (name ≢ codes "verify")
-Reads name given (Replay o) = (name ≡ codes "replay") × ReadsReplay given o × (¬ ReplayLacks given)
-Reads name given Verify = name ≡ codes "verify"
-Reads name given (Live o) = (name ≡ codes "live") × ReadsLive given o × (¬ LiveLacks given)
+-- the options of `live` with running clients, read from what was found, and from all that was found for `client`
+pub record ReadsAttend (given : Text → Option Text) (clients : List Text) (o : AttendOptions) : Type 0 where
+  pub fleet : ReadsFleet given o.fleet
+  pub journal : ReadsNumber (given (codes "journal")) 10000 o.journal
+  pub replies : o.replies ≡ replies_of (given (codes "replies"))
+  pub log : Some o.log.now ≡ given (codes "log")
+  pub clients_are : GiveClients clients o.clients.items
 
--- no option was found without the one that it belongs to, or that is the mistake
-abbrev pub Judges : ((Text → Option Text) → Type 0) → (Text → Option Text) → Option Mistake → Type 0
-Judges Lack given found = MatchOption found (¬ Lack given) (λ mistake. Lack given)
+-- the subcommand and what was found for its arguments, as options
+abbrev pub Reads : Text → (Text → Option Text) → List Text → Options → Type 0
+Reads name given clients Check = (name ≢ codes "replay") × (name ≢ codes "live") × (name ≢ codes "verify")
+Reads name given clients (Replay o) = (name ≡ codes "replay") × ReadsReplay given o × (¬ ReplayLacks given)
+Reads name given clients Verify = name ≡ codes "verify"
+Reads name given clients (Live o) = (name ≡ codes "live") × ReadsLive given o × (¬ LiveLacks given)
+    × (given (codes "log") ≡ None)
+Reads name given clients (Attend o) = (name ≡ codes "live") × ReadsAttend given clients o × (¬ LiveLacks given)
+    × (¬ Clashes given)
+
+-- the kind of error that tells of a mistake
+abbrev pub kind_of_mistake : Mistake → ErrorKind
+kind_of_mistake ToldWithoutLog = MissingRequiredArgument
+kind_of_mistake BehindWithoutVehicles = MissingRequiredArgument
+kind_of_mistake AheadWithoutVehicles = MissingRequiredArgument
+kind_of_mistake BoardEveryWithoutBoard = MissingRequiredArgument
+kind_of_mistake ClientWithoutLog = MissingRequiredArgument
+kind_of_mistake LogWithoutClient = MissingRequiredArgument
+kind_of_mistake RepliesWithoutClient = MissingRequiredArgument
+kind_of_mistake TurnsWithClient = ArgumentConflict
+kind_of_mistake EveryWithClient = ArgumentConflict
+kind_of_mistake BoardWithClient = ArgumentConflict
+kind_of_mistake BoardEveryWithClient = ArgumentConflict
+kind_of_mistake NoClients = ValueValidation
+
+-- the options do not go together, and an error of this kind tells so
+abbrev pub IsTold : ErrorKind → Way
+IsTold kind name given clients = (IsLacking name given clients × (kind ≡ MissingRequiredArgument))
+    ⊎ ((IsClashing name given clients × (kind ≡ ArgumentConflict))
+    ⊎ (IsClientless name given clients × (kind ≡ ValueValidation)))
+
+-- nothing of this was found, or a mistake that an error of this kind tells of
+abbrev pub Judges : ErrorKind → ((Text → Option Text) → Type 0) → (Text → Option Text) → Option Mistake → Type 0
+Judges kind Wrong given found = MatchOption found (¬ Wrong given) (λ mistake. Wrong given × (kind_of_mistake mistake ≡ kind))
+
+-- all the texts that were found for `client`
+abbrev pub clients_in : List Row → List Text
+clients_in rows = unwrap_or (all_of (codes "client") rows) []
+
+-- the options of `live`, or the mistake in them
+abbrev pub ReadsLine : (Text → Option Text) → List Text → Result Options Mistake → Type 0
+ReadsLine given clients (Ok o) = Reads (codes "live") given clients o
+ReadsLine given clients (Err mistake) = IsTold (kind_of_mistake mistake) (codes "live") given clients

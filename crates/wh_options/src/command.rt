@@ -1,7 +1,7 @@
 //! The command line as `clap` is told of it: the subcommands, their options and the help texts.
 ghost use Rattle.std.specs.Prelude.{◌≡◌, IfOk, codes, false};
 ghost use Rattle.clap.specs.Words.{App, app_of, new_app, rule_of, with_rule, with_subcommand};
-ghost use Rattle.wh_options.specs.Menu.{AddsLive, AddsReplay, choice_rule, file_rule, number_rule, switch_rule, HasShape, IsFleetCommand, IsLiveCommand, IsMenu, IsReplayCommand, with_board_rules, with_log_rules, with_settings, with_telling_rules, with_vehicle_rules};
+ghost use Rattle.wh_options.specs.Menu.{AddsLive, AddsReplay, choice_rule, file_rule, many_rule, number_rule, switch_rule, HasShape, IsFleetCommand, IsLiveCommand, IsMenu, IsReplayCommand, with_attend_rules, with_board_rules, with_log_rules, with_settings, with_telling_rules, with_vehicle_rules};
 
 use clap::builder::ValueParser;
 use clap::{Arg, ArgAction, Command};
@@ -52,6 +52,19 @@ fn file_arg<'a>(alloc: Global, name: &'a str, help: &'a str) -> Arg<'a>
         .help(help)
         .action(ArgAction::Set)
         .value_parser(ValueParser::NonEmptyString)
+}
+
+// An option that may be given many times, each time with a text.
+fn many_arg<'a>(alloc: Global, name: &'a str, value: &'a str, help: &'a str) -> Arg<'a>
+    ensures rule { rule_of result ≡ many_rule name.entry.now }
+    ensures local { result.global ≡ false }
+{
+    Arg::new(alloc, name)
+        .long(name)
+        .value_name(value)
+        .help(help)
+        .action(ArgAction::Append)
+        .value_parser(ValueParser::String)
 }
 
 // An option without a value: where it is given, it is found with the value `true`.
@@ -111,6 +124,19 @@ fn with_file<'a>(
     ensures { (a : App) → HasShape command.entry a → IfOk result (λ c. HasShape c (with_rule a (file_rule name.entry.now))) }
 {
     command.arg(file_arg(alloc, name, help))
+}
+
+// The command with one option more, as of many_arg.
+fn with_many<'a>(
+    alloc: Global,
+    command: Command<'a>,
+    name: &'a str,
+    value: &'a str,
+    help: &'a str,
+) -> Result<Command<'a>, AllocError>
+    ensures { (a : App) → HasShape command.entry a → IfOk result (λ c. HasShape c (with_rule a (many_rule name.entry.now))) }
+{
+    command.arg(many_arg(alloc, name, value, help))
 }
 
 // A subcommand with the options of a fleet. Defaults are named in the help texts and applied by
@@ -199,6 +225,25 @@ fn with_board<'a>(alloc: Global, command: Command<'a>) -> Result<Command<'a>, Al
     with_number(alloc, command, "board-every", 1, 60_000, help)
 }
 
+// The running clients, and what goes with them.
+fn with_attending<'a>(
+    alloc: Global,
+    command: Command<'a>,
+    replies: &'a [&'a str],
+) -> Result<Command<'a>, AllocError>
+    ensures { (a : App) → HasShape command.entry a → IfOk result (λ c. HasShape c (with_attend_rules replies.entry a)) }
+{
+    let help =
+        "With --client: keeps the log of the run in FILE, and goes on from the log that FILE has";
+    let command = with_file(alloc, command, "log", help)?;
+    let help =
+        "With --client: how a reply is told: short, of a path its end; full, each cell; placed, full behind its entry's number and the clock [default: short]";
+    let command = with_choice(alloc, command, "replies", replies, help)?;
+    let help =
+        "A running client: N=FOLDER or N=FOLDER:RIGHTS, with two named pipes in FOLDER, `in` and `out`; N is 0 to 61; RIGHTS are words of submit,token,tick,replace,close by commas, or all [default: submit]; many times";
+    with_many(alloc, command, "client", "CLIENT", help)
+}
+
 /// The subcommand `live`.
 pub(crate) fn live_command<'a>(alloc: Global) -> Result<Command<'a>, AllocError>
     ensures { IfOk result IsLiveCommand }
@@ -208,12 +253,14 @@ pub(crate) fn live_command<'a>(alloc: Global) -> Result<Command<'a>, AllocError>
     let help =
         "Requests of each agent, and ticks of the clock, 1 to 100000 [default: 64; with --every 100000]";
     let command = with_number(alloc, command, "turns", 1, 100_000, help)?;
-    let help = "Entries that the log may have, 1 to 1000000 [default: 10000]";
+    let help =
+        "Entries that the log may have, with --client entries more, 1 to 1000000 [default: 10000]";
     let command = with_number(alloc, command, "journal", 1, 1_000_000, help)?;
     let help =
         "One worker for all agents and the clock, in place of a thread for each: rests N milliseconds behind each turn, 1 to 60000; ends where no task is open or under way";
     let command = with_number(alloc, command, "every", 1, 60_000, help)?;
-    with_board(alloc, command)
+    let command = with_board(alloc, command)?;
+    with_attending(alloc, command, REPLIES.as_slice())
 }
 
 // The command with one subcommand more, which has no options.

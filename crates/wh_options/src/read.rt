@@ -1,19 +1,23 @@
 //! From the words of a command line to the options that they give.
-ghost use Rattle.std.specs.Prelude.{◌≡◌, IfErr, IfOk, IsErrAnd, List, Some, codes, map, option_map, ℕ};
+ghost use Rattle.std.specs.Prelude.{◌≡◌, IfErr, IfOk, IsErrAnd, List, MatchOption, Some, codes, map, option_map, ℕ};
 ghost use Rattle.clap.specs.Words.{Row, Text, first_of, first_value, found_of, kind_of, rows_of, subcommand_rows_of};
-ghost use Rattle.wh_options.specs.Options.{AreSame, IsAmiss, LacksAny, WordsGive, default_turns};
+ghost use Rattle.wh_client.specs.Clients.{GiveClients};
+ghost use Rattle.wh_client.specs.declared.client.ClientOptions.{ClientOptions};
+ghost use Rattle.wh_options.specs.Options.{AreSame, IsAmiss, IsClashing, IsClientless, IsLacking, WordsGive, default_turns};
 ghost use Rattle.wh_options.specs.Requests.{AsksBy, IsKind, help_flags, version_flags};
-ghost use Rattle.wh_options.specs.Reads.{Reads, ReadsFleet, ReadsLive, ReadsNumber, ReadsReplay, MayRead, ReadsVehicles, planner_of, replies_of, tail_of};
+ghost use Rattle.wh_options.specs.Reads.{IsTold, MayRead, Reads, ReadsAttend, ReadsFleet, ReadsLine, ReadsLive, ReadsNumber, ReadsReplay, ReadsVehicles, clients_in, kind_of_mistake, planner_of, replies_of, tail_of};
 
 use crate::chosen::{
-    Fleet, LiveOptions, Options, PlannerKind, ReplayOptions, Replies, Tail, VehicleOptions,
+    AttendOptions, Fleet, LiveOptions, Options, PlannerKind, ReplayOptions, Replies, Tail,
+    VehicleOptions,
 };
 use crate::command::warehouse_command;
-use crate::mistake::{Mistake, mistake_of_live, mistake_of_replay};
+use crate::mistake::{Mistake, clash_of_live, mistake_of_live, mistake_of_replay};
 use clap::error::ErrorKind;
 use clap::{ArgMatches, Error};
-use std::alloc::Global;
+use std::alloc::{AllocError, Global};
 use std::convert::AsStr;
+use wh_client::{ClientOptions, clients_of};
 
 fn number(matches: &ArgMatches<'_>, name: &str, default: u32) -> u32
     ensures { ReadsNumber (first_value (found_of matches.now) name.now) default result }
@@ -150,31 +154,87 @@ fn live_options<'a>(matches: &ArgMatches<'a>) -> LiveOptions<'a>
     }
 }
 
+// The clients that the texts name, where each names one of its own.
+fn clients<'a>(
+    alloc: Global,
+    live: &ArgMatches<'a>,
+) -> Result<Option<Vec<ClientOptions<'a>>>, AllocError>
+    ensures { IfOk result (λ found. MatchOption found
+        ((cs : List ClientOptions) → ¬ GiveClients (clients_in (rows_of (found_of live.now))) cs)
+        (λ clients. GiveClients (clients_in (rows_of (found_of live.now))) clients.items)) }
+{
+    clients_of(alloc, live.get_strs("client").unwrap_or(&[]))
+}
+
+// The options of `live` with running clients, where the texts name some.
+fn attend_options<'a>(
+    alloc: Global,
+    live: &ArgMatches<'a>,
+    log: &'a str,
+) -> Result<Option<AttendOptions<'a>>, AllocError>
+    ensures { Some log.now ≡ first_value (found_of live.now) (codes "log") → IfOk result (λ found. MatchOption found
+        ((cs : List ClientOptions) → ¬ GiveClients (clients_in (rows_of (found_of live.now))) cs)
+        (ReadsAttend (first_value (found_of live.now)) (clients_in (rows_of (found_of live.now))))) }
+{
+    let Some(clients) = clients(alloc, live)? else {
+        return Ok(None);
+    };
+    Ok(Some(AttendOptions {
+        fleet: fleet(live),
+        journal: number(live, "journal", 10_000),
+        replies: replies(live),
+        log,
+        clients,
+    }))
+}
+
+// What the matches of `live` say. A log goes with running clients alone.
+fn read_live<'a>(
+    alloc: Global,
+    live: &ArgMatches<'a>,
+) -> Result<Result<Options<'a>, Mistake>, AllocError>
+    ensures { IfOk result (ReadsLine (first_value (found_of live.now)) (clients_in (rows_of (found_of live.now)))) }
+{
+    if let Some(mistake) = mistake_of_live(live) {
+        return Ok(Err(mistake));
+    }
+    if let Some(mistake) = clash_of_live(live) {
+        return Ok(Err(mistake));
+    }
+    let Some(log) = live.get_str("log") else {
+        return Ok(Ok(Options::Live(live_options(live))));
+    };
+    match attend_options(alloc, live, log)? {
+        Some(attend) => Ok(Ok(Options::Attend(attend))),
+        None => Ok(Err(Mistake::NoClients)),
+    }
+}
+
 // What the subcommand's matches say.
-fn read_options<'a>(matches: &ArgMatches<'a>) -> Result<Options<'a>, Mistake>
-    ensures read { IfOk result (λ o. (name : Text) (rows : List Row)
+fn read_options<'a>(
+    alloc: Global,
+    matches: &ArgMatches<'a>,
+) -> Result<Result<Options<'a>, Mistake>, AllocError>
+    ensures read { IfOk result (λ read. IfOk read (λ o. (name : Text) (rows : List Row)
         → subcommand_rows_of matches.now ≡ Some (name, rows)
-        → Reads name (λ id. first_of id rows) o) }
-    ensures mistaken { IfErr result (λ _. (name : Text) (rows : List Row)
+        → Reads name (λ id. first_of id rows) (clients_in rows) o)) }
+    ensures mistaken { IfOk result (λ read. IfErr read (λ mistake. (name : Text) (rows : List Row)
         → subcommand_rows_of matches.now ≡ Some (name, rows)
-        → LacksAny name (λ id. first_of id rows)) }
+        → IsTold (kind_of_mistake mistake) name (λ id. first_of id rows) (clients_in rows))) }
 {
     if let Some(replay) = matches.subcommand_matches("replay") {
         return match mistake_of_replay(replay) {
-            Some(mistake) => Err(mistake),
-            None => Ok(Options::Replay(replay_options(replay))),
+            Some(mistake) => Ok(Err(mistake)),
+            None => Ok(Ok(Options::Replay(replay_options(replay)))),
         };
     }
     if let Some(live) = matches.subcommand_matches("live") {
-        return match mistake_of_live(live) {
-            Some(mistake) => Err(mistake),
-            None => Ok(Options::Live(live_options(live))),
-        };
+        return read_live(alloc, live);
     }
     if matches.subcommand_matches("verify").is_some() {
-        return Ok(Options::Verify);
+        return Ok(Ok(Options::Verify));
     }
-    Ok(Options::Check)
+    Ok(Ok(Options::Check))
 }
 
 /// The options that the words of a command line give; the first word is the program's name, and may
@@ -193,8 +253,14 @@ pub fn options<'a, W: AsStr>(alloc: Global, words: &'a [W]) -> Result<Options<'a
     ensures refused { IfErr result (λ e. (o : Options) → WordsGive (map W.text words.now) o
         → kind_of e ≡ ErrorKind.OutOfMemory) }
     // Where an option is given without the one that it belongs to, that is told.
-    ensures lacking { IsAmiss (map W.text words.now)
+    ensures lacking { IsAmiss IsLacking (map W.text words.now)
         → IsErrAnd result (IsKind ErrorKind.MissingRequiredArgument) }
+    // Where an option is given that does not go with running clients, that is told.
+    ensures clashing { IsAmiss IsClashing (map W.text words.now)
+        → IsErrAnd result (IsKind ErrorKind.ArgumentConflict) }
+    // Where the texts given for clients name none, or not each its own, that is told.
+    ensures clientless { IsAmiss IsClientless (map W.text words.now)
+        → IsErrAnd result (IsKind ErrorKind.ValueValidation) }
     // Words that ask for help by a flag are answered with help, whatever follows.
     ensures help { AsksBy help_flags (map W.text words.now)
         → IsErrAnd result (IsKind ErrorKind.DisplayHelp) }
@@ -203,7 +269,7 @@ pub fn options<'a, W: AsStr>(alloc: Global, words: &'a [W]) -> Result<Options<'a
         → IsErrAnd result (IsKind ErrorKind.DisplayVersion) }
 {
     let matches = warehouse_command(alloc)?.try_get_matches_from(words)?;
-    match read_options(&matches) {
+    match read_options(alloc, &matches)? {
         Ok(options) => Ok(options),
         Err(mistake) => Err(mistake.error(alloc)?),
     }

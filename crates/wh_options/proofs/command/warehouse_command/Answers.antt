@@ -18,10 +18,11 @@ returns c =
       planners = replay.planners;
       tails = replay.tails;
       replies = replay.replies;
-      others = live.planners;
+      others = live.choices;
       planner_texts = replay.planner_texts;
       tail_texts = replay.tail_texts;
       replies_texts = replay.replies_texts;
       other_texts = live.planner_texts;
-      is = live.is ∙ ap (λ a. with_subcommand a (live_app live.planners).top) verify_in;
+      other_replies = live.replies_texts;
+      is = live.is ∙ ap (λ a. with_subcommand a (live_app live.choices).top) verify_in;
     }) c.with_live.ensures
