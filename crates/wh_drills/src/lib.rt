@@ -12,6 +12,8 @@ mod desks;
 #[cfg(test)]
 mod gates;
 #[cfg(test)]
+mod joining;
+#[cfg(test)]
 mod parts;
 #[cfg(test)]
 mod serving;

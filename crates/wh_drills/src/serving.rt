@@ -162,12 +162,14 @@ fn serve<
     requires added { publisher.added ≡ past_of warehouse.book }
     requires shown { publisher.shown ≡ past_of warehouse.book }
     requires start { Some journal.held.items ≡ S.start }
+    requires bare { journal.held.items ≡ [] }
+    requires unsynced { journal.safe ≡ 0 }
     requires callers { N.callers ≡ length clients.items }
     requires two { length clients.items ≡ 2 }
 {
     let front = publisher.front().again();
     let (desk, passes) = Desk::<N, H, P>::open(alloc, warehouse, cells, publisher, 2)?;
-    let scribe = Scribe::<N, S, MemoryJournal>::new(journal, &front);
+    let scribe = Scribe::<N, S, MemoryJournal>::new(journal, &front, 0);
     match serve_clients::<_, _, _, _, _, _, R, W, _>(
         rt,
         alloc,
@@ -195,7 +197,9 @@ fn serve_made<
     W: Write + Send + Drop,
     D: Doors<R, W>,
 >(rt: &X, alloc: Global, journal: MemoryJournal, doors: &D, make: &F) -> Result<Kept, Fail>
-    requires { F.IsAlwaysCallable make.now }
+    requires callable { F.IsAlwaysCallable make.now }
+    requires bare { journal.held.items ≡ [] }
+    requires unsynced { journal.safe ≡ 0 }
 {
     let warehouse = staffed(alloc, make)?;
     let cells = Cells::new(alloc, 10)?;
@@ -212,7 +216,10 @@ fn serve_two<
     R: Read + Send + Drop,
     W: Write + Send + Drop,
     D: Doors<R, W>,
->(rt: &X, alloc: Global, journal: MemoryJournal, doors: &D) -> Result<Kept, Fail> {
+>(rt: &X, alloc: Global, journal: MemoryJournal, doors: &D) -> Result<Kept, Fail>
+    requires bare { journal.held.items ≡ [] }
+    requires unsynced { journal.safe ≡ 0 }
+{
     let make = |parts: Parts| -> Result<Patient, AllocError> {
         Ok(Patient::new(parts.grid, parts.claim))
     };

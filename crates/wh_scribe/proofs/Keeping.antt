@@ -1,6 +1,6 @@
 -- What a page keeps: of a history's lines, when an entry is appended and when it is synced.
 use Rattle.std.proofs.Common.{◌≡◌, ℕ, zero, suc, ◌+◌, ◌≤◌, ◌<◌, ◌⊎◌, inl, inr, List, [], ◌∷◌, ◌++◌, length, take, drop, refl, ap, sym, ◌∙◌, arith, subst, Option, Some, slice_get, Bool, true, false}
-use Rattle.std.proofs.lemmas.List.{take-append-le}
+use Rattle.std.proofs.lemmas.List.{take-append-le, take_all}
 use Rattle.std.proofs.lemmas.Option.{slice_get_within}
 use Rattle.std.specs.Io.KnownBytes.{Appends, Keeps}
 use Rattle.std.proofs.KnownBytes.{Appends-nil, Appends-trans, Appends-kept}
@@ -100,14 +100,18 @@ begins p q (inl e) = inl e.1
 begins p q (inr e) = inr e.1
 
 module _ {X : Type 0} (contents synced : X → Option (List ℕ)) (book : Book) (start : Option (List ℕ)) where
-  pub page_opened : (journal : X) (known : Known) → known.book ≡ book → contents journal ≡ start → PageKeeps contents synced book start (standing journal known 0 0 false)
-  page_opened journal known is at_start = record {
-    book_is = is;
-    within = omega arith;
-    safe_within = omega arith;
-    holds = subst (λ s. Appends s (contents journal) []) at_start (Appends-nil (contents journal));
-    safe = λ some. absurd (omega (arith, some));
-  }
+  pub page_opened : (journal : X) (known : Known) (written : ℕ) → known.book ≡ book → written ≡ length known.past.history → Appends start (contents journal) (lines_for known.past.history) → synced journal ≡ contents journal
+      → PageKeeps contents synced book start (standing journal known written written false)
+  page_opened journal known written is many lines same =
+      let all : take written known.past.history ≡ known.past.history = take_all written known.past.history (omega (arith, many)) in
+      let holds : Appends start (contents journal) (lines_for (take written known.past.history)) = subst (λ (xs : List Entry). Appends start (contents journal) (lines_for xs)) (sym all) lines in
+      record {
+        book_is = is;
+        within = omega (arith, many);
+        safe_within = omega arith;
+        holds = holds;
+        safe = subst (λ b. Appends start b (lines_for (take written known.past.history))) (sym same) holds;
+      }
 
   pub page_failed : (journal : X) (known : Known) (written safe : ℕ) (failed : Bool) → PageKeeps contents synced book start (standing journal known written safe failed) → PageKeeps contents synced book start (standing journal known written safe true)
   page_failed journal known written safe failed k = record {
@@ -120,11 +124,11 @@ module _ {X : Type 0} (contents synced : X → Option (List ℕ)) (book : Book) 
 
   -- what is synced of one history is synced of the other
   safe_same : (journal then : X) (known more : Known) (written safe : ℕ) (entry : Entry) → Extends known.past more.past ⊎ Extends more.past known.past → written ≤ length known.past.history → safe ≤ written → slice_get more.past.history written ≡ Some entry
-      → Keeps (synced journal) (synced then) → (0 < safe → Appends start (synced journal) (lines_for (take safe known.past.history))) → 0 < safe → Appends start (synced then) (lines_for (take safe more.past.history))
-  safe_same journal then known more written safe entry meets within less at kept is some =
+      → Keeps (synced journal) (synced then) → Appends start (synced journal) (lines_for (take safe known.past.history)) → Appends start (synced then) (lines_for (take safe more.past.history))
+  safe_same journal then known more written safe entry meets within less at kept is =
       let there : written < length more.past.history = slice_get_within more.past.history written entry at in
       let same : take safe known.past.history ≡ take safe more.past.history = same_take known.past.history more.past.history safe (begins known.past more.past meets) (omega arith) (omega arith) in
-      subst (λ xs. Appends start (synced then) (lines_for xs)) same (Appends-kept start (synced journal) (synced then) (lines_for (take safe known.past.history)) (is some) kept)
+      subst (λ xs. Appends start (synced then) (lines_for xs)) same (Appends-kept start (synced journal) (synced then) (lines_for (take safe known.past.history)) is kept)
 
   pub page_grown : (journal then : X) (known more : Known) (written safe : ℕ) (entry : Entry) → PageKeeps contents synced book start (standing journal known written safe false) → more.book ≡ book → Extends known.past more.past ⊎ Extends more.past known.past
       → slice_get more.past.history written ≡ Some entry → Appends (contents journal) (contents then) (lines_for (entry ∷ [])) → Keeps (synced journal) (synced then) → PageKeeps contents synced book start (standing then more (written + 1) safe false)
@@ -184,7 +188,7 @@ module _ {X : Type 0} (contents synced : X → Option (List ℕ)) (book : Book) 
         within = k.within;
         safe_within = omega arith;
         holds = holds;
-        safe = λ some. subst (λ b. Appends start b (lines_for (take written known.past.history))) (sym is) holds;
+        safe = subst (λ b. Appends start b (lines_for (take written known.past.history))) (sym is) holds;
       }
 
   pub page_unsynced : (journal then : X) (known : Known) (written safe : ℕ) → PageKeeps contents synced book start (standing journal known written safe false) → Keeps (contents journal) (contents then) → Keeps (synced journal) (synced then)
@@ -194,7 +198,7 @@ module _ {X : Type 0} (contents synced : X → Option (List ℕ)) (book : Book) 
     within = k.within;
     safe_within = k.safe_within;
     holds = holds_failed false start (contents then) known.past.history written (Appends-kept start (contents journal) (contents then) (lines_for (take written known.past.history)) k.holds kept);
-    safe = λ some. Appends-kept start (synced journal) (synced then) (lines_for (take safe known.past.history)) (k.safe some) same;
+    safe = Appends-kept start (synced journal) (synced then) (lines_for (take safe known.past.history)) k.safe same;
   }
 
   -- an entry of which somebody knows is kept where so many are synced
@@ -207,5 +211,5 @@ module _ {X : Type 0} (contents synced : X → Option (List ℕ)) (book : Book) 
         stands = at;
         journal = page.journal;
         more = drop (position + 1) (take page.synced page.known.past.history);
-        safe = safe_up_to start (synced page.journal) page.known.past.history other.past.history page.synced position entry (begins page.known.past other.past meets) less within at (k.safe (omega (arith, less)));
+        safe = safe_up_to start (synced page.journal) page.known.past.history other.past.history page.synced position entry (begins page.known.past other.past meets) less within at k.safe;
       }

@@ -1,8 +1,10 @@
 -- What the journal holds of the history that the clients left.
-use Rattle.std.proofs.Common.{◌≡◌, ℕ, zero, suc, ◌<◌, ◌≤◌, List, [], ◌∷◌, ◌++◌, length, take, drop, refl, ap, sym, ◌∙◌, inl, arith, subst, Option, Bool, true, false}
+use Rattle.std.proofs.Common.{◌≡◌, ℕ, zero, suc, ◌<◌, ◌≤◌, List, [], ◌∷◌, ◌++◌, length, take, drop, refl, ap, sym, ◌∙◌, inl, arith, subst, Option, None, Some, Bool, true, false}
 use Rattle.std.proofs.lemmas.List.{take_all, length-append}
+use Rattle.std.proofs.lemmas.Option.{same_Some}
 use Rattle.std.specs.Io.KnownBytes.{Appends}
 use mathlib.Core.List.{IsPrefix}
+use Rattle.wh_desk.specs.Drafts.{Seen}
 use Rattle.wh_event.specs.declared.entry.Entry.{Entry}
 use Rattle.wh_lines.specs.Output.{WritesFront}
 use Rattle.wh_lines.proofs.Written.{front_first}
@@ -10,7 +12,9 @@ use Rattle.wh_journal.specs.Journals.{lines_for}
 use Rattle.wh_journal.proofs.Rounded.{lines_append}
 use Rattle.wh_scribe.specs.Keeping.{Holds}
 use Rattle.wh_scribe.proofs.Keeping.{same_take}
-use Rattle.wh_serve.specs.Runs.{IsJournalOf}
+use Rattle.wh_journal.specs.Surviving.{HoldsLog}
+use Rattle.wh_journal.proofs.Surviving.{begun_grown}
+use Rattle.wh_serve.specs.Runs.{IsJournalOf, first_lines}
 
 next_begins : {A : Type 0} (xs rest : List A) (k : ℕ) → (more : List A) × (take 1 (drop k (xs ++ rest)) ≡ take 1 (drop k xs) ++ more)
 next_begins [] rest zero = (take 1 rest, refl)
@@ -45,7 +49,7 @@ open_holds false start now known written e h = h
 open_holds true start now known written e h = absurd (cc (e))
 
 pub journal_is : (start now synced : Option (List ℕ)) (known history : List Entry) (written safe : ℕ) (failed is_whole : Bool) → IsPrefix known history
-    → written ≤ length known → Holds failed start now known written → safe ≤ written → (0 < safe → Appends start synced (lines_for (take safe known)))
+    → written ≤ length known → Holds failed start now known written → safe ≤ written → Appends start synced (lines_for (take safe known))
     → (is_whole ≡ true → (failed ≡ false) × (written ≡ length history) × (safe ≡ length history))
     → IsJournalOf start now synced history is_whole
 journal_is start now synced known history written safe failed is_whole begins within h safe_within outlives whole =
@@ -56,5 +60,10 @@ journal_is start now synced known history written safe failed is_whole begins wi
       failed = failed;
       holds = holds_more failed start now known history written begins within (omega (arith, within, long)) h;
       whole = λ is. (let w = whole is in all_of start now known history written begins within w.1 (open_holds failed start now known written w.0 h));
-      safe = λ is some. (let w = whole is in all_of start synced known history safe begins (omega (arith, safe_within, within)) w.2 (outlives (omega (arith, some, w.2))));
+      safe = λ is. (let w = whole is in all_of start synced known history safe begins (omega (arith, safe_within, within)) w.2 outlives);
     }
+
+-- a journal that is the book's log has the lines of its entries behind the first two lines
+pub log_begun : (journal : Option (List ℕ)) (book : Seen) → HoldsLog journal book → Appends (first_lines journal book) journal (lines_for book.history)
+log_begun None book h = tt
+log_begun (Some text) book h = same_Some _ _ h ∙ begun_grown (record { clock = book.opening.clock; slots = book.opening.slots; entries = [] }) book.history

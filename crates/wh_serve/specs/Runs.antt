@@ -13,7 +13,7 @@ use Rattle.wh_desk.specs.Calls.{InOrder, NoneWantsPath}
 use Rattle.wh_words.specs.Lines.{text_of as lines_text}
 use Rattle.wh_log.specs.declared.version.Version.TheVariants.{Two}
 use Rattle.wh_log.specs.Torn.{begun_lines}
-use Rattle.wh_token.specs.Drafts.{Seen}
+use Rattle.wh_desk.specs.Drafts.{Seen}
 use Rattle.wh_journal.specs.Journals.{lines_for}
 use Rattle.wh_scribe.specs.Keeping.{Holds}
 use Rattle.wh_scribe.specs.declared.scribe.Kept.{Kept}

@@ -118,8 +118,9 @@ fn calls<N: DeskName, S: JournalName, J: Journal + Drop, H: Wait + Drop, R: Wait
     requires shown { publisher.shown ≡ past_of warehouse.book }
     requires callers { N.callers ≡ 1 }
     requires start { J.contents journal ≡ S.start }
+    requires synced { J.synced journal ≡ J.contents journal }
 {
-    let scribe = Scribe::<N, S, J>::new(journal, publisher.front());
+    let scribe = Scribe::<N, S, J>::new(journal, publisher.front(), 0);
     let (desk, mut passes) = Desk::<N, H, Patient>::open(alloc, warehouse, cells, publisher, 1)?;
     let mut pass = passes.pop().ok_or("a pass")?;
     let told = three(rt, alloc, &scribe, &desk, &mut pass);
@@ -152,7 +153,9 @@ fn called<J: Journal + Drop, R: Wait>(
     alloc: Global,
     capacity: u64,
     journal: J,
-) -> Result<Session<J>, Fail> {
+) -> Result<Session<J>, Fail>
+    requires synced { J.synced journal ≡ J.contents journal }
+{
     let warehouse = opened(alloc)?;
     let cells = Cells::new(alloc, capacity)?;
     let publisher = Publisher::new(alloc, rt, warehouse.book())?;
