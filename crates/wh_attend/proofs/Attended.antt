@@ -5,6 +5,7 @@ use Rattle.std.specs.declared.alloc.AllocError.{AllocError}
 use Rattle.std.specs.Io.KnownBytes.{Appends, Keeps}
 use Rattle.std.proofs.KnownBytes.{Keeps-refl}
 use Rattle.wh_lines.specs.Input.{Input}
+use Rattle.wh_lines.specs.Output.{WritesFront}
 use Rattle.wh_grid.specs.Grids.{Floor}
 use Rattle.wh_points.specs.Points.{Site}
 use Rattle.wh_event.specs.declared.entry.Entry.{Entry}
@@ -100,3 +101,13 @@ stands_at before aside text bytes found still same stands =
 
 pub stands_as : (before : Option (List ℕ)) (text bytes : List ℕ) (found : Beside) → bytes ≡ text → StandsBeside before bytes found → StandsBeside before text found
 stands_as before text bytes found same stands = subst (λ (t : List ℕ). StandsBeside before t found) same stands
+
+pub opens_as : (before after : Option (List ℕ)) (text bytes : List ℕ) → bytes ≡ text → Opens before after bytes → Opens before after text
+opens_as before after text bytes same opens = subst (λ (t : List ℕ). Opens before after t) same opens
+
+pub leaves_as : (before after : Option (List ℕ)) (text bytes : List ℕ) → bytes ≡ text → LeavesFront before after bytes → LeavesFront before after text
+leaves_as before after text bytes same left = subst (λ (t : List ℕ). LeavesFront before after t) same left
+
+-- a front of the log was written
+pub written_short : (told : Trouble) (log text : List ℕ) (had has : Option (List ℕ)) → told ≡ trouble.Unwritten → text ≡ log → WritesFront had has text → IsWhyUntold told log had has
+written_short told log text had has is same front = subst (λ (t : Trouble). IsWhyUntold t log had has) (sym is) (subst (λ (t : List ℕ). WritesFront had has t) same front)
