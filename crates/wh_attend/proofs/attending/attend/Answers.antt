@@ -1,12 +1,16 @@
-use Rattle.std.proofs.Common.{List, All, ◌<◌, ◌≡◌, ap, sym, subst}
+use Rattle.std.proofs.Common.{All, ◌<◌, inl, length, sym, subst}
+use Rattle.std.proofs.KnownBytes.{Keeps-refl}
 use Rattle.wh_event.specs.declared.entry.Entry.{Entry}
-use Rattle.wh_verify.specs.Drafts.{Seen}
+use Rattle.wh_desk.specs.Drafts.{Seen}
 use Rattle.wh_journal.specs.Surviving.{HoldsLog}
 use Rattle.wh_attend.proofs.Attended.{attends, leaves_as, no_history, opens_as, stands_at, stops, stops_aside, untold}
 use Rattle.wh_attend.proofs.attending.attend.Goals as goal
 
 pub keep_beside-requires : goal.keep_beside-requires
-keep_beside-requires g c κs within = stands_at _ _ _ _ _ c.in-Ok.ensures.same_beside c.as_slice.ensures.value c.in-Ok.ensures.ok.1.stands
+keep_beside-requires g c = record { stands = stands_at _ _ _ _ _ c.in-Ok.ensures.same_beside c.as_slice.ensures.value c.in-Ok.ensures.ok.1.stands }
+
+pub returns-in-Err-clause-fault : goal.returns-in-Err-clause-fault
+returns-in-Err-clause-fault g c = inl (c.in-Err.ensures.fault, Keeps-refl _, c.in-Err.ensures.same_beside)
 
 pub returns-in-Err-keep_beside-clause-fault : goal.returns-in-Err-keep_beside-clause-fault
 returns-in-Err-keep_beside-clause-fault g c =
@@ -19,8 +23,8 @@ returns-in-Err-begin-clause-fault g c =
     stops _ _ _ _ _ _ _ _ _ _ r.0 c.in-Ok.ready r.1 _ c.in-Ok.ensures.same_beside (opens_as _ _ _ _ c.as_slice.ensures.value c.in-Ok-keep_beside.ensures.ok) c.in-Ok-keep_beside.ensures.synced
     _ _ c.in-Err-begin.ensures.fault
 
-pub returns-in-Err-serve_all-clause-fault : goal.returns-in-Err-serve_all-clause-fault
-returns-in-Err-serve_all-clause-fault g c =
+pub returns-clause-fault : goal.returns-clause-fault
+returns-clause-fault g c =
     let r = c.in-Ok.ensures.ok in
     stops _ _ _ _ _ _ _ _ _ _ r.0 c.in-Ok.ready r.1 _ c.in-Ok.ensures.same_beside (opens_as _ _ _ _ c.as_slice.ensures.value c.in-Ok-keep_beside.ensures.ok) c.in-Ok-keep_beside.ensures.synced
     _ _ (no_history _ c.in-Err-serve_all.ensures.fault)
