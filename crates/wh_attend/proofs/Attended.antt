@@ -5,12 +5,15 @@ use Rattle.std.specs.declared.alloc.AllocError.{AllocError}
 use Rattle.std.specs.Io.KnownBytes.{Appends, Keeps}
 use Rattle.std.proofs.KnownBytes.{Keeps-refl}
 use Rattle.wh_lines.specs.Input.{Input}
+use Rattle.wh_lines.specs.Output.{WritesFront}
 use Rattle.wh_grid.specs.Grids.{Floor}
 use Rattle.wh_points.specs.Points.{Site}
 use Rattle.wh_event.specs.declared.entry.Entry.{Entry}
-use Rattle.wh_verify.specs.Drafts.{Seen}
+use Rattle.wh_desk.specs.Drafts.{Seen}
 use Rattle.wh_desk.specs.Pasts.{Origin, origin_of}
 use Rattle.wh_journal.specs.Surviving.{StaysLog}
+use Rattle.wh_continue.specs.Besides.{StandsBeside}
+use Rattle.wh_continue.specs.declared.beside.Beside.{Beside}
 use Rattle.wh_continue.specs.Running.{LeavesFront, Opens, last_line}
 use Rattle.wh_edge.specs.declared.trouble.Trouble.{Trouble}
 use Rattle.wh_edge.specs.declared.trouble.Trouble.TheVariants as trouble
@@ -90,3 +93,21 @@ module _ {R W X : Type 0} (fits : X → Floor → Bool) (count : X → ℕ) (rem
           → IfErr said (λ (told : Trouble). IsWhyUnattended fits count remaining contents gives options told old new had has file beside)
       untold (Ok f) had has why = tt
       untold (Err told) had has why = inr (inr (inr (record { site = site; run = run; ready = ready; is_set = set; final = final; serves = serves; why = why })))
+
+-- what stands beside the log, by another name of the text and of the file
+pub stands_at : (before aside : Option (List ℕ)) (text bytes : List ℕ) (found : Beside) → aside ≡ before → bytes ≡ text → StandsBeside before text found → StandsBeside aside bytes found
+stands_at before aside text bytes found still same stands =
+    subst (λ (b : Option (List ℕ)). StandsBeside b bytes found) (sym still) (subst (λ (t : List ℕ). StandsBeside before t found) (sym same) stands)
+
+pub stands_as : (before : Option (List ℕ)) (text bytes : List ℕ) (found : Beside) → bytes ≡ text → StandsBeside before bytes found → StandsBeside before text found
+stands_as before text bytes found same stands = subst (λ (t : List ℕ). StandsBeside before t found) same stands
+
+pub opens_as : (before after : Option (List ℕ)) (text bytes : List ℕ) → bytes ≡ text → Opens before after bytes → Opens before after text
+opens_as before after text bytes same opens = subst (λ (t : List ℕ). Opens before after t) same opens
+
+pub leaves_as : (before after : Option (List ℕ)) (text bytes : List ℕ) → bytes ≡ text → LeavesFront before after bytes → LeavesFront before after text
+leaves_as before after text bytes same left = subst (λ (t : List ℕ). LeavesFront before after t) same left
+
+-- a front of the log was written
+pub written_short : (told : Trouble) (log text : List ℕ) (had has : Option (List ℕ)) → told ≡ trouble.Unwritten → text ≡ log → WritesFront had has text → IsWhyUntold told log had has
+written_short told log text had has is same front = subst (λ (t : Trouble). IsWhyUntold t log had has) (sym is) (subst (λ (t : List ℕ). WritesFront had has t) same front)

@@ -1,3 +1,4 @@
 mod Attended
 mod Callers
+mod Sending
 mod Wholes

@@ -8,7 +8,7 @@ use Rattle.wh_log.specs.declared.version.Version.TheVariants.{Two}
 use Rattle.wh_log.specs.Logs.{head_line, start_line}
 use Rattle.wh_log.specs.Spelling.{entry_line}
 use Rattle.wh_log.proofs.Fronts.{text-append}
-use Rattle.wh_verify.specs.Drafts.{Seen}
+use Rattle.wh_desk.specs.Drafts.{Seen}
 use Rattle.wh_desk.specs.Pasts.{Origin, origin_of}
 use Rattle.wh_journal.specs.Journals.{lines_for}
 use Rattle.wh_journal.specs.Surviving.{IsLogOfBook, StaysLog}

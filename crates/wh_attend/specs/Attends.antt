@@ -19,7 +19,7 @@ use Rattle.wh_options.specs.declared.chosen.AttendOptions.{AttendOptions}
 use Rattle.wh_options.specs.declared.chosen.Replies.{Replies}
 use Rattle.wh_options.specs.declared.chosen.Replies.TheVariants as replies
 use Rattle.wh_desk.specs.Pasts.{origin_of}
-use Rattle.wh_verify.specs.Drafts.{Seen}
+use Rattle.wh_desk.specs.Drafts.{Seen}
 use Rattle.wh_serve.specs.Runs.{IsWhyUnserved, ServedFrom}
 use Rattle.wh_serve.specs.Texts.{receipt_text}
 use Rattle.wh_serve.specs.declared.form.Form.{Form}

@@ -7,12 +7,24 @@ ghost use Rattle.wh_attend.specs.Attends.{IsWhyUntold, log_of};
 
 use std::alloc::Global;
 use std::io::Write;
-use wh_continue::{LogFile, end_log};
+use wh_continue::{LogFile, Warehouse, end_log};
 use wh_edge::Trouble;
 use wh_log::{NoMemory, log_text};
 use wh_planner::Planner;
 use wh_serve::Ran;
 use wh_service::{keep_trouble, write_text};
+
+/// The log of the warehouse's run. The error is want of memory.
+fn text_of<P: Planner>(alloc: Global, warehouse: &Warehouse<P>) -> Result<Vec<u8>, Trouble>
+    ensures ok { IfOk result (λ text. text.items ≡ log_of warehouse.now.book) }
+    ensures fault { IfErr result (λ told. told ≡ Trouble.NoMemory) }
+{
+    let clock = warehouse.start();
+    match log_text(alloc, clock, warehouse.first_slots(), warehouse.history()) {
+        Ok(text) => Ok(text),
+        Err(NoMemory) => Err(Trouble::NoMemory),
+    }
+}
 
 /// Gives the log its last line, and then writes all of it. Where the journal has failed neither is done.
 pub(crate) fn end_run<L: LogFile + Drop, W: Write, P: Planner>(
@@ -40,11 +52,9 @@ pub(crate) fn end_run<L: LogFile + Drop, W: Write, P: Planner>(
         Ok(()) => {}
         Err(fault) => return Err(keep_trouble(fault)),
     }
-    let clock = warehouse.start();
-    let slots = warehouse.first_slots();
-    let text = match log_text(alloc, clock, slots, warehouse.history()) {
+    let text = match text_of(alloc, warehouse) {
         Ok(text) => text,
-        Err(NoMemory) => return Err(Trouble::NoMemory),
+        Err(trouble) => return Err(trouble),
     };
     match write_text(output, text.as_slice()) {
         Ok(()) => Ok(journal),

@@ -1,13 +1,13 @@
 //! `warehouse live` with running clients, who come in by doors, over a log file.
 #![tactic(auto)]
 
-mod attend;
+mod attending;
 mod clients;
 mod ending;
 mod ready;
 mod serving;
 
-pub use attend::attend;
+pub use attending::attend;
 
 // handed on, for callers: what the item above takes and speaks of
 pub use wh_continue::{FileJournal, LogFile};

@@ -8,7 +8,7 @@ ghost use Rattle.wh_service.specs.Fleets.{IsOfFleet};
 ghost use Rattle.wh_attend.specs.Guests.{AreNamed};
 ghost use Rattle.wh_attend.specs.Attends.{IsFollowed, IsReady, IsWhyUnready};
 
-use crate::clients::{Staff, staff};
+use crate::clients::{Staff, make_staff};
 use std::alloc::{AllocError, Global};
 use std::io::Read;
 use std::sync::Arc;
@@ -95,7 +95,7 @@ pub(crate) fn prepare<
         Ok(started) => started,
         Err(trouble) => return Err(trouble),
     };
-    let Staff { planners, clients } = match staff(alloc, options, &grid, &start, make) {
+    let Staff { planners, clients } = match make_staff(alloc, options, &grid, &start, make) {
         Ok(staff) => staff,
         Err(trouble) => return Err(trouble),
     };

@@ -62,7 +62,7 @@ fn begin<L: LogFile, P: Planner>(
 
 /// Reads a site, finds out from the log file and the file beside it what the run starts from, makes one planner for each agent, with the
 /// slots that its state tells, and those that stand by for clients, keeps the site's text beside the log, and serves running clients, who
-/// come in at the doors, over the log. Each has the rights that its word gave it, and may have its share of the entries that the journal may
+/// come in at the doors, over the log; of a run that was closed nobody is served. Each has the rights that its word gave it, and may have its share of the entries that the journal may
 /// have more; a client that nobody named may do nothing. When all are through the file is given the line that ends the log, and the log of
 /// the whole run, old entries and new ones, is written. What stands in the log outlives a kill, and no reply is told before its entry was
 /// synced. `make` makes one planner of its parts, and its error tells that memory is wanting. What can go wrong is told in this order: the
@@ -120,6 +120,10 @@ pub fn attend<
         Ok(warehouse) => warehouse,
         Err(trouble) => return Err(trouble),
     };
+    if warehouse.closed() {
+        // nobody could be told anything more than that
+        doors.end();
+    }
     let form = form_of(options.replies);
     let more = options.journal;
     match serve_all(rt, alloc, form, warehouse, clients, more, file, doors) {

@@ -1,0 +1,54 @@
+use Rattle.std.proofs.Common.{inl, inr, refl}
+use Rattle.std.specs.Arc.{arc_value}
+use Rattle.wh_points.specs.Points.{Site}
+use Rattle.wh_service.proofs.Lasting.{kept_at}
+use Rattle.wh_attend.proofs.Attended.{stands_as}
+use Rattle.wh_attend.proofs.Callers.{callers_few}
+use Rattle.wh_attend.proofs.ready.prepare.Goals as goal
+
+pub make_staff-requires-clause-callers : goal.make_staff-requires-clause-callers
+make_staff-requires-clause-callers g c κs within =
+    let site : Site = record { grid = arc_value c.in_ok-grid.grid; layout = c.in-Ok.kept.site.points } in
+    callers_few c.args.options.now.fleet site _ c.in-Ok-start_aside.started.0 c.in-Ok-start_aside.ensures.ok
+
+pub returns-in-Err-make_staff-clause-fault : goal.returns-in-Err-make_staff-clause-fault
+returns-in-Err-make_staff-clause-fault g c =
+    let site : Site = record { grid = arc_value c.in_ok-grid.grid; layout = c.in-Ok.kept.site.points } in
+    inr (inr (inl (
+      c.in-Ok.ensures.alone,
+      record {
+        site = site;
+        text = c.in-Ok.kept.text.items;
+        site_read = kept_at _ _ _ _ c.in_ok-grid.ensures.ok refl c.in-Ok.ensures.ok;
+        why = inr (record {
+          start = c.in-Ok-start_aside.started.0;
+          starts = c.in-Ok-start_aside.ensures.ok;
+          why = c.in-Err-make_staff.ensures.fault;
+        });
+      },
+    )))
+
+pub returns-in-Some-clause-fault : goal.returns-in-Some-clause-fault
+returns-in-Some-clause-fault g c =
+    let site : Site = record { grid = arc_value c.in_ok-grid.grid; layout = c.in-Ok.kept.site.points } in
+    inr (inr (inr (
+      c.in-Some.client,
+      refl,
+      record {
+        site = site;
+        run = record {
+          text = c.in-Ok.kept.text;
+          found = c.in-Ok-start_aside.started.1;
+          start = c.in-Ok-start_aside.started.0;
+          planners = c.in-Ok-make_staff.staff.planners;
+          clients = c.in-Ok-make_staff.staff.clients;
+        };
+        ready = record {
+          site_read = kept_at _ _ _ _ c.in_ok-grid.ensures.ok refl c.in-Ok.ensures.ok;
+          alone = c.in-Ok.ensures.alone;
+          stands = stands_as _ _ _ _ c.as_slice-bytes.ensures.value c.in-Ok-start_aside.ensures.stands;
+          starts = c.in-Ok-start_aside.ensures.ok;
+          staffed = c.in-Ok-make_staff.ensures.ok;
+        };
+      },
+    )))
