@@ -21,4 +21,4 @@ history_send P q p = search (sendable, crosses, warehouse_send, front_send) dept
 
 pub ran_send : (L P : RattleType) (q : Planning P.Denot) → IsSend L → IsSend P → IsSend (ran.the_row L P q)
 ran_send L P q a b =
-    declared_send (ran.the_type L P q) (history_send P q b, (search (sendable, crosses) depth 60 fits 20000, (a, (search sendable depth 20, tt))))
+    declared_send (ran.the_type L P q) (history_send P q b, (search (sendable, crosses) depth 60 fits 20000, (search sendable depth 20, (search sendable depth 20, tt))))
