@@ -1,6 +1,7 @@
 -- What a service is handed may cross to a thread, and what it leaves may come back, where their parts may.
 use denote.RattleType.{RattleType}
 use denote.Param.Send.{IsSend, sendable}
+use denote.Param.SendFields.{declared_send}
 use Rattle.std.proofs.Crossing.{crosses}
 use Rattle.wh_planner.specs.declared.planner.Planner.{Ghosts as Planning}
 use Rattle.wh_desk.proofs.Sharing.{front_send, warehouse_send}
@@ -19,4 +20,5 @@ pub history_send : (P : RattleType) (q : Planning P.Denot) → IsSend P → IsSe
 history_send P q p = search (sendable, crosses, warehouse_send, front_send) depth 60 fits 20000
 
 pub ran_send : (L P : RattleType) (q : Planning P.Denot) → IsSend L → IsSend P → IsSend (ran.the_row L P q)
-ran_send L P q a b = search (sendable, crosses, history_send) depth 60 fits 20000
+ran_send L P q a b =
+    declared_send (ran.the_type L P q) (history_send P q b, (search (sendable, crosses) depth 60 fits 20000, (search sendable depth 20, (search sendable depth 20, tt))))

@@ -1,5 +1,5 @@
 use Rattle.std.proofs.Crossing.{crosses}
-use denote.Param.Send.{given_send, sendable}
+use denote.Param.Send.{sendable}
 use Rattle.wh_desk.proofs.Sharing.{warehouse_send}
 use Rattle.wh_attend.proofs.Sending.{client_send, ran_send, trouble_send}
 use Rattle.wh_attend.proofs.serving.serve_all.Goals as goal
@@ -16,4 +16,4 @@ pub join-came-requires-send-A : goal.join-came-requires-send-A
 join-came-requires-send-A g c κs within =
     let p = c.type_bounds.send-P in
     let l = c.type_bounds.send-L in
-    search (sendable, crosses, ran_send, trouble_send, given_send) depth 30 fits 20000
+    search (sendable, crosses, ran_send, trouble_send) depth 30 fits 20000
