@@ -1,9 +1,8 @@
 use Rattle.std.proofs.Common.{◌≡◌, ◌∙◌, ap, arith, map}
 use Rattle.std.specs.Prelude.{option_map}
 use Rattle.std.proofs.lemmas.List.{length-map, map_push}
-use Rattle.wh_attend.proofs.Callers.{at_end}
 use Rattle.wh_program.specs.Attending.{IsFolderAt}
-use Rattle.wh_program.proofs.Folders.{found_at}
+use Rattle.wh_program.proofs.Folders.{at_end, found_at}
 use Rattle.wh_program.proofs.attending.folders_of.Goals as goal
 
 pub loop-number-preserved : goal.loop-number-preserved

@@ -1,7 +1,7 @@
 use Rattle.std.proofs.Common.{inl, inr, map, subst}
 use Rattle.wh_options.specs.Options.{WordsGive}
 use Rattle.wh_options.specs.declared.chosen.Options.{Options}
-use Rattle.wh_program.proofs.Whole.{declines}
+use Rattle.wh_program.proofs.Whole.{declines, in_range}
 use Rattle.wh_program.proofs.running.run.Goals as goal
 
 -- a replay with vehicles
@@ -19,7 +19,10 @@ returns-in-Some g c =
       ends = c.end_drive.ensures;
     }))
 
-pub returns-in-Err : goal.returns-in-Err
-returns-in-Err g c =
+pub returns : goal.returns
+returns g c =
     inr (inr (declines _ _ _ _ _ _ c.decline-came.result _ _ _ _ c.decline-came.ensures.0 c.refusal_of.ensures.asked c.refusal_of.ensures.memory c.decline-came.ensures.1 c.end-in-Err.ensures
     c.in-Err.ensures.refused c.in-Err.ensures.help c.in-Err.ensures.version))
+
+pub obey_by_name-came-requires-clause-range : goal.obey_by_name-came-requires-clause-range
+obey_by_name-came-requires-clause-range g c κs within = in_range (map g.A.AsStr.text c.args.words.now) _ c.in-Ok.ensures.ok
