@@ -1,6 +1,6 @@
 -- What a run that is found in a journal starts from, and a journal behind which nothing stands yet.
 use Rattle.std.proofs.Common.{◌≡◌, ◌<◌, ℕ, Bool, true, false, All, List, [], refl, sym, subst, Option, None, Some}
-use Rattle.std.specs.Prelude.{not}
+use mathlib.Core.Bool.{not}
 use Rattle.std.specs.Io.KnownBytes.{Appends}
 use Rattle.std.proofs.KnownBytes.{Appends-nil}
 use Rattle.wh_points.specs.Points.{Site}
@@ -27,4 +27,4 @@ pub callers_of : (seen history : List Entry) (clients : ℕ) (one : Bool) → se
     → All (λ (entry : Entry). entry.caller < clients) history
 callers_of seen history clients true same alone is all =
     subst (λ (n : ℕ). All (λ (entry : Entry). entry.caller < n) history) (sym alone) (subst (λ (h : List Entry). All (λ (entry : Entry). entry.caller < 1) h) same (all refl))
-callers_of seen history clients false same alone is all = absurd (grind (is))
+callers_of seen history clients false same alone is all = absurd (cc (is))
