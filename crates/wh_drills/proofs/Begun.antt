@@ -1,6 +1,5 @@
 -- What a run that is found in a journal starts from, and a journal behind which nothing stands yet.
-use Rattle.std.proofs.Common.{◌≡◌, ◌<◌, ℕ, Bool, true, false, All, List, [], refl, sym, subst, Option, None, Some}
-use mathlib.Core.Bool.{not}
+use Rattle.std.proofs.Common.{◌≡◌, ◌<◌, ℕ, Bool, true, All, List, [], sym, subst, Option, None, Some}
 use Rattle.std.specs.Io.KnownBytes.{Appends}
 use Rattle.std.proofs.KnownBytes.{Appends-nil}
 use Rattle.wh_points.specs.Points.{Site}
@@ -23,8 +22,7 @@ bare_start start now history same none =
     subst (λ (h : List Entry). Appends start now (lines_for h)) (sym none) (subst (λ (s : Option (List ℕ)). Appends s now []) same (Appends-nil now))
 
 -- entries that were found to be one caller's, beside one client
-pub callers_of : (seen history : List Entry) (clients : ℕ) (one : Bool) → seen ≡ history → clients ≡ 1 → not one ≡ false → (one ≡ true → All (λ (entry : Entry). entry.caller < 1) seen)
+pub callers_of : (seen history : List Entry) (clients : ℕ) (one : Bool) → seen ≡ history → clients ≡ 1 → one ≡ true → (one ≡ true → All (λ (entry : Entry). entry.caller < 1) seen)
     → All (λ (entry : Entry). entry.caller < clients) history
-callers_of seen history clients true same alone is all =
-    subst (λ (n : ℕ). All (λ (entry : Entry). entry.caller < n) history) (sym alone) (subst (λ (h : List Entry). All (λ (entry : Entry). entry.caller < 1) h) same (all refl))
-callers_of seen history clients false same alone is all = absurd (cc (is))
+callers_of seen history clients one same alone is all =
+    subst (λ (n : ℕ). All (λ (entry : Entry). entry.caller < n) history) (sym alone) (subst (λ (h : List Entry). All (λ (entry : Entry). entry.caller < 1) h) same (all is))
