@@ -8,8 +8,6 @@ use crate::standing::Place;
 use std::fs::{File, Files, OpenOptions};
 use std::io;
 use std::io::{Read, Write};
-use std::os::fd::OwnedFd;
-use std::process::ChildStdin;
 use std::sync::Arc;
 
 /// What a client sends. Its pipe is opened at the first read, when the first line of its replies was written: a client that waits
@@ -65,20 +63,17 @@ impl<'a, T: Files<File = File>> Read for Inlet<'a, T> {
     }
 }
 
-/// Where a client is told its replies, an open pipe. A write to a client that is gone fails, and raises no signal; one to a client
-/// that does not read waits.
+/// Where a client is told its replies, an open pipe. A write to a client that is gone fails; one to a client that does not read
+/// waits.
 #[derive(Drop)]
 pub struct Outlet {
     pipes: Arc<ClientPipes>,
-    pipe: ChildStdin,
+    pipe: File,
 }
 
 impl Outlet {
     pub(crate) fn new(pipes: Arc<ClientPipes>, pipe: File) -> Outlet {
-        Outlet {
-            pipes,
-            pipe: ChildStdin::from(OwnedFd::from(pipe)),
-        }
+        Outlet { pipes, pipe }
     }
 }
 

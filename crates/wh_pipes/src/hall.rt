@@ -9,8 +9,6 @@ use crate::standing::Place;
 use std::alloc::{AllocError, Global};
 use std::fs::{File, Files, OpenOptions};
 use std::io::{Read, Write};
-use std::os::fd::OwnedFd;
-use std::process::ChildStdin;
 use std::sync::atomic::AtomicBool;
 use std::sync::atomic::Ordering::SeqCst;
 use std::time::{Clock, Duration};
@@ -46,9 +44,9 @@ fn open_both_ways<T: Files<File = File>>(files: &T, path: &str) -> io::Result<Fi
 /// thread closes its own end: so no other may read it.
 fn end_read<T: Files<File = File>>(files: &T, path: &str) -> io::Result<()> {
     let both = open_both_ways(files, path)?;
-    let pipe = open_pipe(files, OpenOptions::new().write(true), path)?;
+    let mut pipe = open_pipe(files, OpenOptions::new().write(true), path)?;
     drop(both);
-    ChildStdin::from(OwnedFd::from(pipe)).write_all(b"\n")
+    pipe.write_all(b"\n")
 }
 
 /// Ends a write that nobody reads: a part of what stands in the pipe, which is full, is taken away. Where it is not full any more, this
