@@ -12,6 +12,7 @@ use std::time::Clock;
 use wh_edge::Trouble;
 use wh_lines::Lines;
 use wh_options::{Fleet, LiveOptions, PlannerKind};
+use wh_planner::Planner;
 use wh_planners::Patient;
 use wh_service::{PlannerParts, Screen, ShowFault, host};
 
@@ -61,10 +62,14 @@ fn one_turn<R: Threads + Wait + Clock + Sync>(
     alloc: Global,
     room: usize,
 ) -> Result<Left, Fail> {
-    let make = |parts: PlannerParts| -> Result<Patient, AllocError>
-        ensures on_grid { IfOk result (λ p. Patient.fits_map p parts.grid.value ≡ true) }
-        ensures has_slots { IfOk result (λ p. Patient.slot_count p ≡ claim_amount parts.claim) }
-    { Ok(Patient::new(parts.grid, parts.claim)) };
+    let make = |parts: PlannerParts| -> Result<Box<dyn Planner>, AllocError>
+        ensures on_grid { IfOk result (λ b. fits_map b parts.grid.value ≡ true) }
+        ensures has_slots { IfOk result (λ b. slot_count b ≡ claim_amount parts.claim) }
+    {
+        let PlannerParts { grid, claim, .. } = parts;
+        let planner: Box<dyn Planner> = Box::new(alloc, Patient::new(grid, claim))?;
+        Ok(planner)
+    };
     let options = LiveOptions {
         fleet: Fleet {
             planner: PlannerKind::Patient,

@@ -474,10 +474,14 @@ fn mistakes(rt: HostRuntime) -> Result<(), Fail> {
 /// What a request for help or the version is answered; of other words it is empty.
 fn asked(alloc: Global, words: &[&str]) -> Result<String, AllocError> {
     match options(alloc, words) {
-        Err(error) if refusal_of(&error) == Refusal::Asked && !error.use_stderr() => {
-            format!(in alloc; "{error}")
+        Err(error) => {
+            if refusal_of(&error) == Refusal::Asked && !error.use_stderr() {
+                format!(in alloc; "{error}")
+            } else {
+                Ok(String::new(alloc))
+            }
         }
-        _ => Ok(String::new(alloc)),
+        Ok(_options) => Ok(String::new(alloc)),
     }
 }
 
@@ -503,8 +507,14 @@ fn help_and_version(rt: HostRuntime) -> Result<(), Fail> {
 /// What is told of a mistake; of other words it is empty.
 fn told(alloc: Global, words: &[&str]) -> Result<String, AllocError> {
     match options(alloc, words) {
-        Err(error) if refusal_of(&error) == Refusal::Mistake => format!(in alloc; "{error}"),
-        _ => Ok(String::new(alloc)),
+        Err(error) => {
+            if refusal_of(&error) == Refusal::Mistake {
+                format!(in alloc; "{error}")
+            } else {
+                Ok(String::new(alloc))
+            }
+        }
+        Ok(_options) => Ok(String::new(alloc)),
     }
 }
 

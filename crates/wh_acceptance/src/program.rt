@@ -28,10 +28,10 @@ struct Shown {
 }
 
 /// Calls the program with these words behind its name.
-fn call<'w, R: AllocGlobal + Threads + Wait + Clock + Sync>(
+fn call<R: AllocGlobal + Threads + Wait + Clock + Sync>(
     rt: &R,
-    files: &'w HostRuntime,
-    words: &'w [&'w str],
+    files: &HostRuntime,
+    words: &[&str],
     input: &[u8],
 ) -> Result<Shown, Fail> {
     let alloc = rt.alloc();
