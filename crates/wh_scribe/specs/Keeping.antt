@@ -1,5 +1,5 @@
 -- what a journal keeps of a history, from its start
-use Rattle.std.specs.Prelude.{◌≡◌, ℕ, ◌+◌, ◌<◌, ◌≤◌, Bool, true, false, List, ◌++◌, length, take, drop, Option, Some, slice_get}
+use Rattle.std.specs.Prelude.{◌≡◌, ℕ, ◌+◌, ◌≤◌, Bool, true, false, List, ◌++◌, length, take, drop, Option, Some, slice_get}
 use Rattle.std.specs.Io.KnownBytes.{Appends}
 use Rattle.logbook.specs.Pages.{Book}
 use Rattle.wh_event.specs.declared.entry.Entry.{Entry}
@@ -17,14 +17,21 @@ pub record IsKept {X : Type 0} (synced : X → Option (List ℕ)) (start : Optio
   pub more : List Entry
   pub safe : Appends start (synced journal) (lines_for (take (position + 1) history ++ more))
 
--- the lines of the first entries of the history, so many, and then maybe a front of the next one's line
+-- In some state of the journal what it had synced was what it held at the start, and then the lines of the first entries of this
+-- history, so many, and maybe of more entries.
+pub record KeepsFirst {X : Type 0} (synced : X → Option (List ℕ)) (start : Option (List ℕ)) (history : List Entry) (count : ℕ) : Type 0 where
+  pub journal : X
+  pub more : List Entry
+  pub safe : Appends start (synced journal) (lines_for (take count history ++ more))
+
+-- the lines of the first entries of the history, so many, and then maybe a front of the lines of the next ones
 pub record HoldsFront (start now : Option (List ℕ)) (history : List Entry) (written : ℕ) : Type 0 where
   pub whole : Option (List ℕ)
   pub lines : Appends start whole (lines_for (take written history))
-  pub front : WritesFront whole now (lines_for (take 1 (drop written history)))
+  pub front : WritesFront whole now (lines_for (drop written history))
 
 -- A journal that held this at the start holds this now: behind it the lines of the first entries of the history, so many; once
--- it has failed, a front of the next one's line may follow.
+-- it has failed, a front of the lines of the next ones may follow.
 abbrev pub Holds : Bool → (start now : Option (List ℕ)) → List Entry → ℕ → Type 0
 Holds false start now history written = Appends start now (lines_for (take written history))
 Holds true start now history written = HoldsFront start now history written
@@ -49,10 +56,31 @@ pub record PageKeeps {X : Type 0} (contents synced : X → Option (List ℕ)) (b
 abbrev pub standing : {X : Type 0} → X → Known → ℕ → ℕ → Bool → Standing X
 standing journal known written synced failed = record { journal = journal; known = known; written = written; synced = synced; failed = failed }
 
--- the entry at the position, the next one, was written, and the journal had not failed and has not
-pub record Follows {X : Type 0} (before after : Standing X) (position : ℕ) : Type 0 where
-  pub turn : position ≡ before.written
-  pub more : after.written ≡ position + 1
-  pub was_open : before.failed ≡ false
-  pub is_open : after.failed ≡ false
-  pub synced : after.synced ≡ before.synced
+-- The lines that wait: what is known of the history, so many of whose entries are entered, and of these the lines of so many
+-- were taken.
+pub record Stretch : Type 0 where
+  pub known : Known
+  pub taken : ℕ
+  pub entered : ℕ
+
+-- the lines of the entries of the history from one place up to another
+abbrev pub lines_between : List Entry → ℕ → ℕ → List ℕ
+lines_between history taken entered = lines_for (drop taken (take entered history))
+
+-- No more is entered than the history of this book has, and no more is taken than is entered. The text is the lines of the
+-- entries that are entered and not taken.
+pub record StretchKeeps (book : Book) (lines : Stretch) (text : List ℕ) : Type 0 where
+  pub book_is : lines.known.book ≡ book
+  pub within : lines.entered ≤ length lines.known.past.history
+  pub taken_within : lines.taken ≤ lines.entered
+  pub text_is : text ≡ lines_between lines.known.past.history lines.taken lines.entered
+
+abbrev pub stretch : Known → ℕ → ℕ → Stretch
+stretch known taken entered = record { known = known; taken = taken; entered = entered }
+
+-- the entry at the position, the next one, was entered, and what is known now is of this history
+pub record Enters (before after : Stretch) (history : List Entry) (position : ℕ) : Type 0 where
+  pub turn : position ≡ before.entered
+  pub more : after.entered ≡ position + 1
+  pub taken : after.taken ≡ before.taken
+  pub known : after.known.past.history ≡ history

@@ -3,7 +3,7 @@
 
 ghost use Rattle.std.specs.Prelude.{◌≡◌, IfOk, IfErr, OnErr, length};
 ghost use Rattle.wh_event.specs.declared.event.Command.{Command as Asked};
-ghost use Rattle.wh_desk.specs.Calls.{Called, Refuses};
+ghost use Rattle.wh_desk.specs.Calls.{Called, IsClockAt, Refuses};
 ghost use Rattle.wh_scribe.specs.Calls.{Receives};
 
 use std::alloc::Global;
@@ -19,8 +19,8 @@ pub enum CallFault {
     Refused(DeskFault),
     /// The journal had failed before: no call was made.
     Failed,
-    /// The entry stands in the history, and not for certain in the journal, which failed at it, or before it was synced. It is
-    /// told to nobody.
+    /// The entry stands in the history, and not for certain in the journal, which failed at it, or before it was synced, or
+    /// memory was wanting for its line. It is told to nobody.
     Unkept,
 }
 
@@ -34,6 +34,7 @@ pub(crate) fn call_desk<N: DeskName, H: Wait + Drop, P: Planner, X: Wait>(
     spares: &mut Vec<P>,
 ) -> Result<Receipt, DeskFault>
     ensures called { IfOk result (λ r. Called N.origin pass.old command pass.new r.position r.entry) }
+    ensures clock { IfOk result (λ r. IsClockAt N.origin pass.new.known r.position r.clock) }
     ensures ok { IfOk result (λ r. Receives P.fits_map P.slot_count N.origin.site.grid command pass.old spares.old.items (r.position, r.entry) pass.new spares.new.items) }
     ensures left { IfErr result (λ fault. Refuses (length N.cells) pass.old fault pass.new) }
     ensures spares { OnErr result (spares.new.items ≡ spares.old.items) }
@@ -57,6 +58,7 @@ fn lend<N: DeskName, H: Wait + Drop, P: Planner, X: Wait>(
     spares: &mut Vec<P>,
 ) -> Result<Receipt, DeskFault>
     ensures called { IfOk result (λ r. Called N.origin pass.old (Asked.Replace agent) pass.new r.position r.entry) }
+    ensures clock { IfOk result (λ r. IsClockAt N.origin pass.new.known r.position r.clock) }
     ensures ok { IfOk result (λ r. Receives P.fits_map P.slot_count N.origin.site.grid (Asked.Replace agent) pass.old spares.old.items (r.position, r.entry) pass.new spares.new.items) }
     ensures left { IfErr result (λ fault. Refuses (length N.cells) pass.old fault pass.new) }
     ensures spares { OnErr result (spares.new.items ≡ spares.old.items) }

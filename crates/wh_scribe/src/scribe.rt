@@ -4,34 +4,35 @@
 ghost use Rattle.std.specs.Prelude.{◌≡◌, ◌<◌, ◌≤◌, true, IfOk, IfErr, Some, length, slice_get, take};
 ghost use Rattle.std.specs.Io.KnownBytes.{Appends};
 ghost use Rattle.wh_journal.specs.Journals.{lines_for};
-ghost use Rattle.wh_desk.specs.Lists.{IsRunFrom};
+ghost use Rattle.wh_desk.specs.Calls.{IsClockAt};
 ghost use Rattle.wh_scribe.specs.Calls.{Leaves, Receives};
-ghost use Rattle.wh_scribe.specs.Keeping.{Holds, IsKept};
+ghost use Rattle.wh_scribe.specs.Keeping.{Holds, IsKept, KeepsFirst};
 
 use crate::calling::CallFault;
+use crate::keeper::Keeper;
 use crate::name::JournalName;
+use crate::order::Order;
 use crate::page::Page;
 use std::alloc::Global;
-use std::sync::atomic::{AtomicU64, Ordering};
-use std::sync::{Condvar, Mutex, MutexGuard, Wait};
+use std::sync::{Mutex, Wait};
 use wh_desk::{Desk, DeskName, Front, Pass, Receipt};
 use wh_event::Command;
 use wh_journal::Journal;
 use wh_planner::Planner;
 
-/// A journal that each call of a desk goes through. Entries come into it in the history's order, and one sync serves all calls
-/// that wait for one. `coming` counts the calls that are on their way to append: the last of them syncs for all, and so does one
-/// that the desk refuses. Each thread has at most one call under way, and waits where it was not refused, so that one of these
-/// comes; no clause says so.
+/// A journal that each call of a desk goes through. Calls are made one after another, under one lock, and each leaves its entry's
+/// line there. Under another lock the lines that wait are appended and synced, so that no call is held up by the disk. Whoever has
+/// a receipt takes that lock: either another thread kept its entry meanwhile, or it keeps all that wait. Who holds the journal's
+/// lock may take the calls' lock, and never the other way round.
 #[derive(Drop)]
 pub struct Scribe<N: DeskName, S: JournalName, J: Journal + Drop> {
-    page: Mutex<Page<N, S, J>>,
-    coming: AtomicU64,
-    settled: Condvar,
+    order: Mutex<Order<N>>,
+    keeper: Mutex<Keeper<N, S, J>>,
 }
 
-/// What a scribe leaves: the journal, what was known of the history when an entry was last appended, how many of its first
-/// entries were written, how many of these were synced, and whether the journal failed, or an entry came that was not the next.
+/// What a scribe leaves: the journal, what was known of the history when lines were last appended, how many of its first
+/// entries were written, how many of these were synced, and whether the journal failed, an entry came that was not the next, or
+/// memory was wanting for an entry's line.
 #[derive(Drop)]
 pub struct Kept<J: Journal + Drop> {
     pub journal: J,
@@ -44,22 +45,22 @@ pub struct Kept<J: Journal + Drop> {
 impl<N: DeskName, S: JournalName, J: Journal + Drop> Scribe<N, S, J> {
     /// Over the journal as it stands, before the first call of a desk. The front is of the desk's book, and knows of the entries
     /// that are there already, so many, whose lines the journal has behind what it held at its start, all of it synced.
-    pub fn new(journal: J, front: &Front, written: u64) -> Scribe<N, S, J>
+    pub fn new(alloc: Global, journal: J, front: &Front, written: u64) -> Scribe<N, S, J>
         requires book { front.now.book ≡ N.book }
         requires written { written ≡ length front.now.past.history }
         requires start { Appends S.start (J.contents journal) (lines_for front.now.past.history) }
         requires synced { J.synced journal ≡ J.contents journal }
     {
         Scribe {
-            page: Mutex::new(Page::new(journal, front, written)),
-            coming: AtomicU64::new(0),
-            settled: Condvar::new(),
+            order: Mutex::new(Order::new(alloc, front, written)),
+            keeper: Mutex::new(Keeper::new(alloc, journal, front, written)),
         }
     }
 
     /// One call of the desk for the command. Its receipt is told once its entry's line is synced, and with it those of all
     /// entries before. A Replace is lent the last spare planner, which goes back to its place where the desk refused. It may wait
-    /// for the lock, and for the sync. Once the journal has failed, nothing is appended any more, and no receipt is told.
+    /// for other calls, and with a receipt for the sync; one that is refused waits for no sync. E90 also where there is no memory
+    /// for a line. Once the journal has failed, nothing is appended any more, and no receipt is told.
     pub fn call<H: Wait + Drop, P: Planner, X: Wait>(
         &self,
         rt: &X,
@@ -71,20 +72,16 @@ impl<N: DeskName, S: JournalName, J: Journal + Drop> Scribe<N, S, J> {
     ) -> Result<Receipt, CallFault>
         ensures ok { IfOk result (λ r. Receives P.fits_map P.slot_count N.origin.site.grid command pass.old spares.old.items (r.position, r.entry) pass.new spares.new.items) }
         ensures kept { IfOk result (λ r. IsKept (λ x. J.synced x) S.start N.origin pass.new.known r.position r.entry) }
+        ensures clock { IfOk result (λ r. IsClockAt N.origin pass.new.known r.position r.clock) }
         ensures left { IfErr result (λ fault. Leaves P.fits_map P.slot_count N.origin.site.grid (length N.cells) command pass.old spares.old.items fault pass.new spares.new.items) }
     {
-        self.coming.fetch_add(1, Ordering::SeqCst);
-        let mut page = self.page.lock(rt);
-        let outcome = page.enter(rt, alloc, desk, pass, command, spares);
-        // A call that was refused waits for nothing, so its thread may come again at once: it syncs for those who wait.
-        let is_last = self.coming.fetch_sub(1, Ordering::SeqCst) == 1;
-        if is_last || outcome.is_err() {
-            page.sync();
-            self.settled.notify_all();
-        }
+        let outcome = self
+            .order
+            .lock(rt)
+            .enter(rt, alloc, desk, pass, command, spares);
         match outcome {
             Ok(receipt) => {
-                if self.settle(rt, page, pass.front(), receipt.position) {
+                if self.keeps(rt, pass.front(), receipt.position + 1) {
                     Ok(receipt)
                 } else {
                     Err(CallFault::Unkept)
@@ -94,21 +91,32 @@ impl<N: DeskName, S: JournalName, J: Journal + Drop> Scribe<N, S, J> {
         }
     }
 
-    /// Waits until the entry there is synced or the journal has failed, and says whether it is synced.
-    fn settle<X: Wait>(
-        &self,
-        rt: &X,
-        page: MutexGuard<'_, Page<N, S, J>>,
-        known: &Front,
-        position: u64,
-    ) -> bool
+    /// Whether the first entries of a history of the desk, so many, are synced. Those that are entered, and not yet synced, it
+    /// appends and syncs first. It may wait for calls, and for the sync.
+    pub fn keeps<X: Wait>(&self, rt: &X, known: &Front, count: u64) -> bool
         requires { known.now.book ≡ N.book }
-        ensures { result ≡ true → (entry : _) → IsRunFrom N.origin known.now.past.history → slice_get known.now.past.history position ≡ Some entry → IsKept (λ x. J.synced x) S.start N.origin known.now.past.history position entry }
+        ensures { result ≡ true → KeepsFirst (λ x. J.synced x) S.start known.now.past.history count }
     {
-        let page = self
-            .settled
-            .wait_while(rt, page, |page| page.is_waiting(position));
-        page.has_kept(known, position)
+        let mut keeper = self.keeper.lock(rt);
+        if keeper.page.lacks(count) {
+            keeper.take(&mut self.order.lock(rt));
+            keeper.keep();
+            if keeper.page.failed {
+                self.order.lock(rt).failed = true;
+            }
+        }
+        keeper.page.has_kept(known, count)
+    }
+
+    /// Whether all entries are synced whose calls had come back from the desk: those that are not it appends and syncs first. Never where
+    /// no call is made any more. It may wait as `keeps` does.
+    pub fn keeps_all<X: Wait>(&self, rt: &X) -> bool {
+        let order = self.order.lock(rt);
+        let is_open = !order.failed;
+        let front = order.waiting.front().again();
+        let entered = order.waiting.entered();
+        drop(order);
+        is_open && self.keeps(rt, &front, entered)
     }
 
     /// Gives the journal back. With the front the caller compares it with what else is known of the desk's history.
@@ -119,7 +127,9 @@ impl<N: DeskName, S: JournalName, J: Journal + Drop> Scribe<N, S, J> {
         ensures safe_within { result.synced ≤ result.written }
         ensures safe { Appends S.start (J.synced result.journal) (lines_for (take result.synced result.front.past.history)) }
     {
-        let Scribe { page, .. } = self;
+        let Scribe { order, keeper } = self;
+        let Order { failed: shut, .. } = order.into_inner();
+        let Keeper { page, .. } = keeper.into_inner();
         let Page {
             journal,
             front,
@@ -127,13 +137,13 @@ impl<N: DeskName, S: JournalName, J: Journal + Drop> Scribe<N, S, J> {
             synced,
             failed,
             ..
-        } = page.into_inner();
+        } = page;
         Kept {
             journal,
             front,
             written,
             synced,
-            failed,
+            failed: failed || shut,
         }
     }
 }

@@ -84,10 +84,13 @@ enum Told {
     Unkept,
 }
 
-/// What three calls told, what the scribe left, and how many entries the desk had.
+/// What three calls told, whether the first 1, 2, 3 and 4 entries were kept then, and whether all were, what the scribe left, and
+/// how many entries the desk had.
 #[derive(Drop)]
 struct Session<J: Journal + Drop> {
     told: [Told; 3],
+    keeps: [bool; 4],
+    keeps_all: bool,
     kept: Kept<J>,
     entries: u64,
 }
@@ -101,7 +104,8 @@ fn told_by(outcome: Result<Receipt, CallFault>) -> Told {
     }
 }
 
-/// A request, a tick and a close at a desk of one caller, through a scribe over the journal.
+/// A request, a tick and a close at a desk of one caller, through a scribe over the journal; and where another call is made
+/// beside it, behind the request.
 fn calls<N: DeskName, S: JournalName, J: Journal + Drop, H: Wait + Drop, R: Wait>(
     rt: &R,
     alloc: Global,
@@ -109,6 +113,7 @@ fn calls<N: DeskName, S: JournalName, J: Journal + Drop, H: Wait + Drop, R: Wait
     cells: Cells,
     publisher: Publisher<H>,
     journal: J,
+    beside: bool,
 ) -> Result<Session<J>, Fail>
     requires origin { origin_of warehouse.book ≡ N.origin }
     requires history { warehouse.book.history ≡ [] }
@@ -120,12 +125,20 @@ fn calls<N: DeskName, S: JournalName, J: Journal + Drop, H: Wait + Drop, R: Wait
     requires start { J.contents journal ≡ S.start }
     requires synced { J.synced journal ≡ J.contents journal }
 {
-    let scribe = Scribe::<N, S, J>::new(journal, publisher.front(), 0);
+    let scribe = Scribe::<N, S, J>::new(alloc, journal, publisher.front(), 0);
     let (desk, mut passes) = Desk::<N, H, Patient>::open(alloc, warehouse, cells, publisher, 1)?;
     let mut pass = passes.pop().ok_or("a pass")?;
-    let told = three(rt, alloc, &scribe, &desk, &mut pass);
+    let told = three(rt, alloc, &scribe, &desk, &mut pass, beside);
+    let keeps = [
+        scribe.keeps(rt, pass.front(), 1),
+        scribe.keeps(rt, pass.front(), 2),
+        scribe.keeps(rt, pass.front(), 3),
+        scribe.keeps(rt, pass.front(), 4),
+    ];
     Ok(Session {
         told,
+        keeps,
+        keeps_all: scribe.keeps_all(rt),
         kept: scribe.into_journal(),
         entries: pass.len(),
     })
@@ -138,10 +151,14 @@ fn three<N: DeskName, S: JournalName, J: Journal + Drop, H: Wait + Drop, R: Wait
     scribe: &Scribe<N, S, J>,
     desk: &Desk<N, H, Patient>,
     pass: &mut Pass<N>,
+    beside: bool,
 ) -> [Told; 3] {
     let mut spares = Vec::new(alloc);
     let request = Command::Token { agent: 0 };
     let first = told_by(scribe.call(rt, alloc, desk, pass, request, &mut spares));
+    if beside {
+        let _receipt = desk.tick(rt, alloc, pass);
+    }
     let second = told_by(scribe.call(rt, alloc, desk, pass, Command::Tick, &mut spares));
     let third = told_by(scribe.call(rt, alloc, desk, pass, Command::Close, &mut spares));
     [first, second, third]
@@ -153,13 +170,14 @@ fn called<J: Journal + Drop, R: Wait>(
     alloc: Global,
     capacity: u64,
     journal: J,
+    beside: bool,
 ) -> Result<Session<J>, Fail>
     requires synced { J.synced journal ≡ J.contents journal }
 {
     let warehouse = opened(alloc)?;
     let cells = Cells::new(alloc, capacity)?;
     let publisher = Publisher::new(alloc, rt, warehouse.book())?;
-    calls::<Brand, Brand, _, _, _>(rt, alloc, warehouse, cells, publisher, journal)
+    calls::<Brand, Brand, _, _, _>(rt, alloc, warehouse, cells, publisher, journal, beside)
 }
 
 /// Whether these were the calls, and these counts were left.
@@ -179,9 +197,10 @@ fn is_left<J: Journal + Drop>(
 #[test]
 fn entries_are_kept(rt: HostRuntime) -> Result<(), Fail> {
     let alloc = rt.alloc();
-    let session = called(&rt, alloc, 3, MemoryJournal::new(alloc))?;
+    let session = called(&rt, alloc, 3, MemoryJournal::new(alloc), false)?;
     let told = [Told::At(0), Told::At(1), Told::At(2)];
     assert!(rt; is_left(&session, told, 3, 3, false));
+    assert!(rt; session.keeps == [true, true, true, false]);
     let journal = &session.kept.journal;
     assert!(rt; journal.held.as_slice() == THREE && journal.safe == THREE.len());
     Ok(())
@@ -190,9 +209,10 @@ fn entries_are_kept(rt: HostRuntime) -> Result<(), Fail> {
 #[test]
 fn a_refused_call_is_not_kept(rt: HostRuntime) -> Result<(), Fail> {
     let alloc = rt.alloc();
-    let session = called(&rt, alloc, 2, MemoryJournal::new(alloc))?;
+    let session = called(&rt, alloc, 2, MemoryJournal::new(alloc), false)?;
     let told = [Told::At(0), Told::At(1), Told::Refused];
     assert!(rt; is_left(&session, told, 2, 2, false));
+    assert!(rt; session.keeps == [true, true, false, false]);
     let journal = &session.kept.journal;
     assert!(rt; journal.held.as_slice() == TWO && journal.safe == TWO.len());
     Ok(())
@@ -201,10 +221,37 @@ fn a_refused_call_is_not_kept(rt: HostRuntime) -> Result<(), Fail> {
 #[test]
 fn nothing_is_kept_behind_a_fault(rt: HostRuntime) -> Result<(), Fail> {
     let alloc = rt.alloc();
-    let session = called(&rt, alloc, 3, Weak::new(alloc, 1))?;
+    let session = called(&rt, alloc, 3, Weak::new(alloc, 1), false)?;
     let told = [Told::At(0), Told::Unkept, Told::Failed];
     assert!(rt; is_left(&session, told, 2, 1, true));
+    assert!(rt; session.keeps == [true, false, false, false]);
     let journal = &session.kept.journal;
     assert!(rt; journal.held.as_slice() == BEGUN && journal.safe == ONE.len());
+    Ok(())
+}
+
+#[test]
+fn a_call_beside_the_scribe_ends_it(rt: HostRuntime) -> Result<(), Fail> {
+    let alloc = rt.alloc();
+    let session = called(&rt, alloc, 4, MemoryJournal::new(alloc), true)?;
+    let told = [Told::At(0), Told::Unkept, Told::Failed];
+    assert!(rt; is_left(&session, told, 3, 1, true));
+    assert!(rt; session.keeps == [true, false, false, false]);
+    let journal = &session.kept.journal;
+    assert!(rt; journal.held.as_slice() == ONE && journal.safe == ONE.len());
+    Ok(())
+}
+
+#[test]
+fn all_is_kept_until_a_fault(rt: HostRuntime) -> Result<(), Fail> {
+    let alloc = rt.alloc();
+    let session = called(&rt, alloc, 3, MemoryJournal::new(alloc), false)?;
+    assert!(rt; session.keeps_all && session.kept.synced == session.entries);
+    let refused = called(&rt, alloc, 2, MemoryJournal::new(alloc), false)?;
+    assert!(rt; refused.keeps_all, "a refused call has no entry");
+    let failed = called(&rt, alloc, 3, Weak::new(alloc, 1), false)?;
+    assert!(rt; !failed.keeps_all, "the journal has failed");
+    let beside = called(&rt, alloc, 4, MemoryJournal::new(alloc), true)?;
+    assert!(rt; !beside.keeps_all, "an entry was not entered");
     Ok(())
 }
