@@ -24,13 +24,13 @@ use Rattle.wh_crew.proofs.Crews.{all_at, all_worked, ended_order, with_cause}
 -- the worker's caller stays, whatever it did
 pub works_caller : (cells turns : ℕ) (known : Past) (had has : Received) (ended : Result ℕ DeskFault) → WorksBeside cells turns known had has ended → has.caller ≡ had.caller
 works_caller cells turns known had has (Ok taken) w = w.does.caller_is
-works_caller cells turns known had has (Err fault) w = (refused_keeps cells w.does.between fault has w.does.refused).0 ∙ w.does.does.caller_is
+works_caller cells turns known had has (Err fault) w = (refused_keeps cells w.does.between fault has w.does.left).0 ∙ w.does.does.caller_is
 
 -- why its turns ended before it was through
 pub why_stopped : (cells turns : ℕ) (known : Past) (history : List Entry) (had has : Received) (ended : Result ℕ DeskFault) → WorksBeside cells turns known had has ended
     → IfErr ended (λ fault. (fault ≡ DeskFault.Full) ⊎ (fault ≡ DeskFault.NoMemory)) → IsPrefix has.known history → length history ≤ cells → IfErr ended (IsWhyStopped cells history)
 why_stopped cells turns known history had has (Ok taken) w why begins within = tt
-why_stopped cells turns known history had has (Err DeskFault.Full) w why begins within = omega (arith, refused_full cells w.does.between has w.does.refused, prefix_length has.known history begins, within)
+why_stopped cells turns known history had has (Err DeskFault.Full) w why begins within = omega (arith, refused_full cells w.does.between has w.does.left, prefix_length has.known history begins, within)
 why_stopped cells turns known history had has (Err DeskFault.NoMemory) w why begins within = tt
 why_stopped cells turns known history had has (Err DeskFault.Stale) w (inl e) begins within = absurd (cc e)
 why_stopped cells turns known history had has (Err DeskFault.Stale) w (inr e) begins within = absurd (cc e)

@@ -8,7 +8,6 @@ use Rattle.wh_event.specs.declared.event.Command.{Command}
 use Rattle.wh_board.specs.Pasts.{Past, Extends}
 use Rattle.wh_board.specs.declared.board.Board.{Board}
 use Rattle.wh_desk.specs.Lists.{Received}
-use Rattle.wh_desk.specs.declared.answer.DeskFault.{DeskFault}
 use Rattle.wh_crew.specs.Turns.{turn_of, turns_of, Does, DoesUntil, EndsIdle, Looks, LooksUntil, MayTurn, TakesTurns, TakesUntil, TakesBeside, RefusedBeside}
 use Rattle.wh_crew.specs.declared.agents.Pace.{Pace}
 use Rattle.wh_crew.proofs.Turning.{Taking, does_more, still_seen, taking_more, taking_stops, until_more}
@@ -25,10 +24,10 @@ beside_more known later a b c turns took taking more looks =
     taking_more false known later a b c turns taking more turn.0 turn.1 turn.2
 
 -- a call of a turn beside others was refused
-pub beside_stops : (cells : ℕ) (pace : Pace) (known later : Past) (fault : DeskFault) (a b c : Received) (turns : ℕ) → pace.ends_idle ≡ false → Taking false known a b turns → turns < pace.turns → Extends known later
-    → LooksUntil cells false later fault b c → RefusedBeside cells pace.turns later fault a c
-beside_stops cells pace known later fault a b c turns beside taking less more looks =
-    let until = taking_stops cells pace known later fault a b c turns (subst (λ (i : Bool). Taking i known a b turns) (sym beside) taking) less more (subst (λ (i : Bool). LooksUntil cells i later fault b c) (sym beside) looks) in
+pub beside_stops : {F : Type 0} (leaves : Command → Received → F → Received → Type 0) (pace : Pace) (known later : Past) (fault : F) (a b c : Received) (turns : ℕ) → pace.ends_idle ≡ false → Taking false known a b turns → turns < pace.turns → Extends known later
+    → LooksUntil leaves false later fault b c → RefusedBeside leaves pace.turns later fault a c
+beside_stops leaves pace known later fault a b c turns beside taking less more looks =
+    let until = taking_stops leaves pace known later fault a b c turns (subst (λ (i : Bool). Taking i known a b turns) (sym beside) taking) less more (subst (λ (i : Bool). LooksUntil leaves i later fault b c) (sym beside) looks) in
     record {
       boards = until.boards;
       seen = subst (λ (i : Bool). All (MayTurn i later) until.boards) beside until.seen;
@@ -62,13 +61,13 @@ takes_both turns beside taken one two known later a b c is_one is_two all first 
 }
 
 -- turns beside others, and then alone, up to a call that was refused
-pub refused_alone : (cells turns beside : ℕ) (one two : Pace) (known later : Past) (fault : DeskFault) (a b c : Received) → one.ends_idle ≡ false → two.ends_idle ≡ true → beside + two.turns ≡ turns
-    → TakesTurns one known a b beside → Extends known later → TakesUntil cells two later fault b c → RefusedBeside cells turns later fault a c
-refused_alone cells turns beside one two known later fault a b c is_one is_two all first more then = record {
+pub refused_alone : {F : Type 0} (leaves : Command → Received → F → Received → Type 0) (turns beside : ℕ) (one two : Pace) (known later : Past) (fault : F) (a b c : Received) → one.ends_idle ≡ false → two.ends_idle ≡ true → beside + two.turns ≡ turns
+    → TakesTurns one known a b beside → Extends known later → TakesUntil leaves two later fault b c → RefusedBeside leaves turns later fault a c
+refused_alone leaves turns beside one two known later fault a b c is_one is_two all first more then = record {
   boards = first.boards ++ then.boards;
   seen = All-append (MayTurn false later) first.boards then.boards
       (still_seen false known later first.boards more (subst (λ (i : Bool). All (MayTurn i known) first.boards) is_one first.seen))
       (any_turn later then.boards (subst (λ (i : Bool). All (MayTurn i later) then.boards) is_two then.seen));
-  does = subst (λ (l : List Command). DoesUntil cells l fault a c) (turns_append first.boards then.boards) (until_more first.does then.does);
+  does = subst (λ (l : List Command). DoesUntil leaves l fault a c) (turns_append first.boards then.boards) (until_more first.does then.does);
   count = omega (arith, length-append first.boards then.boards, first.count, then.count, all);
 }

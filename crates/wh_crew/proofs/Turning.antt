@@ -1,40 +1,30 @@
 -- Calls one after another, and turns of the agents' worker.
-use Rattle.std.proofs.Common.{◌≡◌, ℕ, zero, suc, ◌+◌, ◌<◌, ◌≤◌, Bool, List, [], ◌∷◌, ◌++◌, length, take, Some, slice_get, cond, ◌==◌, Result, Ok, Err, OnOk, IfErr, refl, ap, sym, ◌∙◌, subst, arith, append_assoc, inl, inr}
-use Rattle.std.proofs.lemmas.List.{map-append, append-nil, length_push, take_all}
+use Rattle.std.proofs.Common.{◌≡◌, ℕ, ◌+◌, ◌<◌, Bool, List, [], ◌∷◌, ◌++◌, length, refl, ap, sym, ◌∙◌, subst, arith, append_assoc, inl, inr}
+use Rattle.std.proofs.lemmas.List.{map-append, append-nil, length_push}
 use Rattle.std.proofs.lemmas.Grind.{flat_map-append}
 use Rattle.std.proofs.lemmas.List.Elements.{All-cons, All-nil, All-weaker, All-append}
 use Rattle.std.specs.List.{All}
 use mathlib.Core.List.{IsPrefix}
 use Rattle.wh_event.specs.declared.entry.Entry.{Entry}
 use Rattle.wh_event.specs.declared.event.Command.{Command}
-use Rattle.wh_event.specs.declared.event.Command.TheVariants.{Token, Tick}
 use Rattle.wh_board.specs.Pasts.{Past, Extends}
 use Rattle.wh_board.specs.declared.board.Board.{Board}
-use Rattle.wh_board.specs.declared.board.Shown.{Shown}
 use Rattle.wh_board.proofs.Fronts.{prefix_self, prefix_trans}
 use Rattle.wh_board.proofs.Chains.{extends_trans}
-use Rattle.wh_desk.specs.Pasts.{Origin}
 use Rattle.wh_desk.specs.Lists.{Received}
-use Rattle.wh_desk.specs.Calls.{Called, Refuses}
-use Rattle.wh_desk.specs.declared.answer.DeskFault.{DeskFault}
 use Rattle.wh_crew.specs.Work.{command_of, commands_of}
-use Rattle.wh_crew.specs.Turns.{asks, asks_from, turn_of, turns_of, Does, DoesUntil, MayTurn, EndsIdle, TakesTurns, TakesUntil, LooksUntil}
+use Rattle.wh_crew.specs.Turns.{turn_of, turns_of, Does, DoesUntil, MayTurn, EndsIdle, TakesTurns, TakesUntil, LooksUntil}
 use Rattle.wh_crew.specs.declared.agents.Pace.{Pace}
-use Rattle.wh_crew.proofs.Calls.{command_back}
 
 -- ---- calls
 
 pub does_nothing : (p : Received) → Does [] p p
 does_nothing p = record { caller_is = refl; received = []; goes_on = sym (append-nil p.list); commands_are = refl; known = prefix_self p.known }
 
-pub does_one : {origin : Origin} {command : Command} {had has : Received} {position : ℕ} {entry : Entry} → Called origin had command has position entry → Does (command ∷ []) had has
-does_one {origin} {command} {had} {has} {position} {entry} called = record {
-  caller_is = called.has_caller;
-  received = (position, entry) ∷ [];
-  goes_on = called.has_list;
-  commands_are = ap (λ (c : Command). c ∷ []) (ap command_of called.command_is.1 ∙ command_back command called.command_is.0);
-  known = subst (λ (l : List Entry). IsPrefix had.known l) (sym called.has_known) called.goes_on;
-}
+-- a pass gained one receipt, which answers the command
+pub does_receipt : {command : Command} {had has : Received} (x : ℕ × Entry) → command_of x.1.event ≡ command → has.caller ≡ had.caller → has.list ≡ had.list ++ x ∷ [] → IsPrefix had.known has.known → Does (command ∷ []) had has
+does_receipt {command} {had} {has} x answers caller_is gained known =
+    record { caller_is = caller_is; received = x ∷ []; goes_on = gained; commands_are = ap (λ (c : Command). c ∷ []) answers; known = known }
 
 pub does_more : {xs ys : List Command} {a b c : Received} → Does xs a b → Does ys b c → Does (xs ++ ys) a c
 does_more {xs} {ys} {a} {b} {c} p q = record {
@@ -45,93 +35,31 @@ does_more {xs} {ys} {a} {b} {c} p q = record {
   known = prefix_trans a.known b.known c.known p.known q.known;
 }
 
-pub until_one : (cells : ℕ) (command : Command) (fault : DeskFault) (had has : Received) → Refuses cells had fault has → DoesUntil cells (command ∷ []) fault had has
-until_one cells command fault had has refused = record { done = []; next = command; rest = []; parts = refl; between = had; does = does_nothing had; refused = refused }
-
-pub until_more : {cells : ℕ} {xs ys : List Command} {fault : DeskFault} {a b c : Received} → Does xs a b → DoesUntil cells ys fault b c → DoesUntil cells (xs ++ ys) fault a c
-until_more {cells} {xs} {ys} {fault} {a} {b} {c} p q = record {
+pub until_more : {F : Type 0} {leaves : Command → Received → F → Received → Type 0} {xs ys : List Command} {fault : F} {a b c : Received} → Does xs a b → DoesUntil leaves ys fault b c → DoesUntil leaves (xs ++ ys) fault a c
+until_more {F} {leaves} {xs} {ys} {fault} {a} {b} {c} p q = record {
   done = xs ++ q.done;
   next = q.next;
   rest = q.rest;
   parts = ap (λ (l : List Command). xs ++ l) q.parts ∙ sym (append_assoc xs q.done (q.next ∷ q.rest));
   between = q.between;
   does = does_more p q.does;
-  refused = q.refused;
+  left = q.left;
 }
 
-pub until_front : {cells : ℕ} {xs : List Command} (ys : List Command) {fault : DeskFault} {a b : Received} → DoesUntil cells xs fault a b → DoesUntil cells (xs ++ ys) fault a b
-until_front {cells} {xs} ys {fault} {a} {b} q = record {
-  done = q.done;
-  next = q.next;
-  rest = q.rest ++ ys;
-  parts = ap (λ (l : List Command). l ++ ys) q.parts ∙ append_assoc q.done (q.next ∷ q.rest) ys;
-  between = q.between;
-  does = q.does;
-  refused = q.refused;
+-- what is left of the commands, once the first of them were done
+pub record Going (commands : List Command) (had has : Received) (left : List Command) : Type 0 where
+  pub done : List Command
+  pub parts : commands ≡ done ++ left
+  pub does : Does done had has
+
+pub going_more : {commands left rest : List Command} {command : Command} {a b c : Received} → Going commands a b left → left ≡ command ∷ rest → Does (command ∷ []) b c → Going commands a c rest
+going_more {commands} {left} {rest} {command} going next now = record {
+  done = going.done ++ command ∷ [];
+  parts = going.parts ∙ ap (λ (l : List Command). going.done ++ l) next ∙ sym (append_assoc going.done (command ∷ []) rest);
+  does = does_more going.does now;
 }
 
 -- ---- turns
-
--- the agents up to one, this one, and those behind it
-asks_parts : (start : ℕ) (agents : List Shown) (k : ℕ) (shown : Shown) → slice_get agents k ≡ Some shown
-    → (asks_from start (take (k + 1) agents) ≡ asks_from start (take k agents) ++ asks (start + k) shown)
-    × ((rest : List Command) × (asks_from start agents ≡ asks_from start (take (k + 1) agents) ++ rest))
-asks_parts start [] k shown at = absurd (cc)
-asks_parts start (x ∷ xs) zero shown at =
-    let here : x ≡ shown = cc at in (
-      append-nil (asks start x) ∙ ap (λ (s : Shown). asks start s) here ∙ ap (λ i. asks i shown) (omega arith),
-      (asks_from (start + 1) xs, ap (λ (l : List Command). l ++ asks_from (start + 1) xs) (sym (append-nil (asks start x)))),
-    )
-asks_parts start (x ∷ xs) (suc k) shown at =
-    let more = asks_parts (start + 1) xs k shown at in
-    let n : (start + 1) + k ≡ start + suc k = omega arith in
-    let m : suc k + 1 ≡ suc (k + 1) = omega arith in (
-      ap (λ i. asks_from start (take i (x ∷ xs))) m
-          ∙ ap (λ (l : List Command). asks start x ++ l) (more.0 ∙ ap (λ i. asks_from (start + 1) (take k xs) ++ asks i shown) n)
-          ∙ sym (append_assoc (asks start x) (asks_from (start + 1) (take k xs)) (asks (start + suc k) shown)),
-      (
-        more.1.0,
-        ap (λ (l : List Command). asks start x ++ l) more.1.1
-            ∙ sym (append_assoc (asks start x) (asks_from (start + 1) (take (k + 1) xs)) more.1.0)
-            ∙ ap (λ i. asks_from start (take i (x ∷ xs)) ++ more.1.0) (sym m),
-      ),
-    )
-
-module _ {a b : Received} (agents : List Shown) (k : ℕ) (shown : Shown) (at : slice_get agents k ≡ Some shown) (before : Does (asks_from 0 (take k agents)) a b) where
-  -- one agent more was asked
-  pub asks_more : {c : Received} → Does (asks k shown) b c → Does (asks_from 0 (take (k + 1) agents)) a c
-  asks_more {c} now =
-      let parts = asks_parts 0 agents k shown at in
-      let n : 0 + k ≡ k = omega arith in
-      subst (λ (l : List Command). Does l a c) (sym (parts.0 ∙ ap (λ i. asks_from 0 (take k agents) ++ asks i shown) n)) (does_more before now)
-
-  -- its call was refused
-  pub turn_stops : {cells : ℕ} {fault : DeskFault} {c : Received} → DoesUntil cells (asks k shown) fault b c → DoesUntil cells (turn_of agents) fault a c
-  turn_stops {cells} {fault} {c} now =
-      let parts = asks_parts 0 agents k shown at in
-      let n : 0 + k ≡ k = omega arith in
-      let front : asks_from 0 (take k agents) ++ asks k shown ≡ asks_from 0 (take (k + 1) agents) = sym (parts.0 ∙ ap (λ i. asks_from 0 (take k agents) ++ asks i shown) n) in
-      let rest = parts.1.0 in
-      let all : (asks_from 0 (take k agents) ++ asks k shown) ++ (rest ++ Tick ∷ []) ≡ turn_of agents =
-      ap (λ (l : List Command). l ++ (rest ++ Tick ∷ [])) front ∙ sym (append_assoc (asks_from 0 (take (k + 1) agents)) rest (Tick ∷ [])) ∙ ap (λ (l : List Command). l ++ Tick ∷ []) (sym parts.1.1) in
-      subst (λ (l : List Command). DoesUntil cells l fault a c) all (until_front (rest ++ Tick ∷ []) (until_more before now))
-
--- all agents were asked, and then the clock ticked, or its call was refused
-module _ {a b : Received} (agents : List Shown) (k : ℕ) (all : length agents ≤ k) (before : Does (asks_from 0 (take k agents)) a b) where
-  asked_all : Does (asks_from 0 agents) a b
-  asked_all = subst (λ (l : List Shown). Does (asks_from 0 l) a b) (take_all k agents all) before
-
-  pub turn_done : {A E : Type 0} (c : Received) (r : Result A E) → OnOk r (Does (Tick ∷ []) b c) → OnOk r (Does (turn_of agents) a c)
-  turn_done c (Ok x) now = does_more asked_all now
-  turn_done c (Err e) now = tt
-
-  pub turn_ends : {A : Type 0} (c : Received) (cells : ℕ) (r : Result A DeskFault) → IfErr r (λ fault. DoesUntil cells (Tick ∷ []) fault b c) → IfErr r (λ fault. DoesUntil cells (turn_of agents) fault a c)
-  turn_ends c cells (Ok x) now = tt
-  turn_ends c cells (Err fault) now = until_more asked_all now
-
--- an agent with no steps left asks
-pub asks_due : (agent : ℕ) (shown : Shown) → shown.steps_left ≡ 0 → asks agent shown ≡ Token agent ∷ []
-asks_due agent shown due = ap (λ n. cond (n == 0) (Token agent ∷ []) []) due
 
 -- a board that was seen is one of a beginning of what is known later
 pub still_seen : (ends_idle : Bool) (known later : Past) (boards : List Board) → Extends known later → All (MayTurn ends_idle known) boards → All (MayTurn ends_idle later) boards
@@ -166,12 +94,12 @@ taking_more ends_idle known later a b c turns t more board may does = record {
   count = omega (arith, length_push t.boards board, t.count);
 }
 
-pub taking_stops : (cells : ℕ) (pace : Pace) (known later : Past) (fault : DeskFault) (a b c : Received) (turns : ℕ) → Taking pace.ends_idle known a b turns → turns < pace.turns → Extends known later
-    → LooksUntil cells pace.ends_idle later fault b c → TakesUntil cells pace later fault a c
-taking_stops cells pace known later fault a b c turns t less more looks = record {
+pub taking_stops : {F : Type 0} (leaves : Command → Received → F → Received → Type 0) (pace : Pace) (known later : Past) (fault : F) (a b c : Received) (turns : ℕ) → Taking pace.ends_idle known a b turns → turns < pace.turns → Extends known later
+    → LooksUntil leaves pace.ends_idle later fault b c → TakesUntil leaves pace later fault a c
+taking_stops leaves pace known later fault a b c turns t less more looks = record {
   boards = t.boards ++ looks.0 ∷ [];
   seen = all_push pace.ends_idle later t.boards looks.0 (still_seen pace.ends_idle known later t.boards more t.seen) looks.1;
-  does = subst (λ (l : List Command). DoesUntil cells l fault a c) (turns_push t.boards looks.0) (until_more t.does looks.2);
+  does = subst (λ (l : List Command). DoesUntil leaves l fault a c) (turns_push t.boards looks.0) (until_more t.does looks.2);
   count = omega (arith, length_push t.boards looks.0, t.count, less);
 }
 

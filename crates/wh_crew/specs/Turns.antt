@@ -1,5 +1,5 @@
 -- turns of the agents' worker
-use Rattle.std.specs.Prelude.{◌≡◌, ◌⊎◌, ℕ, ◌+◌, ◌==◌, ◌<◌, ◌≤◌, Bool, true, false, List, [], ◌∷◌, ◌++◌, length, cond, All, MatchBool, Result, Ok, Err}
+use Rattle.std.specs.Prelude.{◌≡◌, ◌⊎◌, ℕ, ◌+◌, ◌==◌, ◌<◌, ◌≤◌, Bool, true, false, List, [], ◌∷◌, ◌++◌, length, drop, cond, All, MatchBool, Result, Ok, Err}
 use Rattle.std.specs.List.{flat_map}
 use mathlib.Core.List.{IsPrefix}
 use Rattle.wh_event.specs.declared.entry.Entry.{Entry}
@@ -28,6 +28,10 @@ asks_from agent (shown ∷ agents) = asks agent shown ++ asks_from (agent + 1) a
 abbrev pub turn_of : List Shown → List Command
 turn_of agents = asks_from 0 agents ++ Tick ∷ []
 
+-- what is left of a turn once the agents before this one were asked for, and then the clock has ticked
+abbrev pub left_of : Bool → ℕ → List Shown → List Command
+left_of has_ticked agent agents = cond has_ticked [] (asks_from agent (drop agent agents) ++ Tick ∷ [])
+
 -- a turn for each of the boards, one after another
 abbrev pub turns_of : List Board → List Command
 turns_of boards = flat_map (λ board. turn_of board.agents.items) boards
@@ -44,15 +48,15 @@ pub record Does (commands : List Command) (had has : Received) : Type 0 where
   pub commands_are : commands_of received ≡ commands
   pub known : IsPrefix had.known has.known
 
--- it did so for the first of them, and the desk refused the next one
-pub record DoesUntil (cells : ℕ) (commands : List Command) (fault : DeskFault) (had has : Received) : Type 0 where
+-- it did so for the first of them, and the call for the next one told no receipt, and left what such a call leaves
+pub record DoesUntil {F : Type 0} (leaves : Command → Received → F → Received → Type 0) (commands : List Command) (fault : F) (had has : Received) : Type 0 where
   pub done : List Command
   pub next : Command
   pub rest : List Command
   pub parts : commands ≡ done ++ next ∷ rest
   pub between : Received
   pub does : Does done had between
-  pub refused : Refuses cells between fault has
+  pub left : leaves next between fault has
 
 -- a turn may be taken at this board: it shows a beginning of what is known, and where a worker ends idle, something to do
 pub record MayTurn (ends_idle : Bool) (known : Past) (board : Board) : Type 0 where
@@ -60,6 +64,10 @@ pub record MayTurn (ends_idle : Bool) (known : Past) (board : Board) : Type 0 wh
   pub begins : Extends past known
   pub shows : IsBoardOf past board
   pub has_work : ends_idle ≡ true → IsIdle board → ⊥
+
+-- the commands are those of a turn at a board where one may be taken
+abbrev pub IsTurn : Bool → Past → List Command → Type 0
+IsTurn ends_idle known commands = (board : Board) × MayTurn ends_idle known board × (commands ≡ turn_of board.agents.items)
 
 -- what is known shows no task that is open or under way, and the worker ends then
 pub record EndsIdle (ends_idle : Bool) (known : Past) : Type 0 where
@@ -73,10 +81,10 @@ abbrev pub Looks : Bool → Past → Received → Received → Bool → Type 0
 Looks ends_idle known had has took =
     MatchBool took ((board : Board) × MayTurn ends_idle known board × Does (turn_of board.agents.items) had has) ((has ≡ had) × EndsIdle ends_idle known)
 
--- a look at a board, and a turn there in which the desk refused a call
-abbrev pub LooksUntil : ℕ → Bool → Past → DeskFault → Received → Received → Type 0
-LooksUntil cells ends_idle known fault had has =
-    (board : Board) × MayTurn ends_idle known board × DoesUntil cells (turn_of board.agents.items) fault had has
+-- a look at a board, and a turn there up to a call that told no receipt
+abbrev pub LooksUntil : {F : Type 0} → (Command → Received → F → Received → Type 0) → Bool → Past → F → Received → Received → Type 0
+LooksUntil leaves ends_idle known fault had has =
+    (board : Board) × MayTurn ends_idle known board × DoesUntil leaves (turn_of board.agents.items) fault had has
 
 -- So many turns were taken, each at a board that shows a beginning of what is known: all that may be, or fewer, up to where
 -- nothing was to be done.
@@ -87,11 +95,11 @@ pub record TakesTurns (pace : Pace) (known : Past) (had has : Received) (turns :
   pub count : length boards ≡ turns
   pub ends : (turns ≡ pace.turns) ⊎ ((turns < pace.turns) × EndsIdle pace.ends_idle known)
 
--- turns were taken so, and in one of them the desk refused a call
-pub record TakesUntil (cells : ℕ) (pace : Pace) (known : Past) (fault : DeskFault) (had has : Received) : Type 0 where
+-- turns were taken so, up to a call in one of them that told no receipt
+pub record TakesUntil {F : Type 0} (leaves : Command → Received → F → Received → Type 0) (pace : Pace) (known : Past) (fault : F) (had has : Received) : Type 0 where
   pub boards : List Board
   pub seen : All (MayTurn pace.ends_idle known) boards
-  pub does : DoesUntil cells (turns_of boards) fault had has
+  pub does : DoesUntil leaves (turns_of boards) fault had has
   pub count : length boards ≤ pace.turns
 
 -- Beside others turns were taken while those were at work, and more once they were through: all that may be, or fewer, up to
@@ -106,17 +114,21 @@ pub record TakesBeside (turns : ℕ) (known : Past) (had has : Received) (taken 
   pub count : length (beside ++ alone) ≡ taken
   pub ends : (taken ≡ turns) ⊎ ((taken < turns) × EndsIdle true known)
 
--- turns were taken so, and in one of them the desk refused a call
-pub record RefusedBeside (cells turns : ℕ) (known : Past) (fault : DeskFault) (had has : Received) : Type 0 where
+-- turns were taken so, up to a call in one of them that told no receipt
+pub record RefusedBeside {F : Type 0} (leaves : Command → Received → F → Received → Type 0) (turns : ℕ) (known : Past) (fault : F) (had has : Received) : Type 0 where
   pub boards : List Board
   pub seen : All (MayTurn false known) boards
-  pub does : DoesUntil cells (turns_of boards) fault had has
+  pub does : DoesUntil leaves (turns_of boards) fault had has
   pub count : length boards ≤ turns
+
+-- what a call that the desk refuses leaves, whatever the command, where there are so many cells
+abbrev pub refusal_leaves : ℕ → Command → Received → DeskFault → Received → Type 0
+refusal_leaves cells command had fault has = Refuses cells had fault has
 
 -- what the agents' worker did beside others: the turns that it took, or those up to a call that the desk refused
 abbrev pub WorksBeside : ℕ → ℕ → Past → Received → Received → Result ℕ DeskFault → Type 0
 WorksBeside cells turns known had has (Ok taken) = TakesBeside turns known had has taken
-WorksBeside cells turns known had has (Err fault) = RefusedBeside cells turns known fault had has
+WorksBeside cells turns known had has (Err fault) = RefusedBeside (refusal_leaves cells) turns known fault had has
 
 -- What the agents' worker, which had this pass, has in the whole history: the answers to what it did, and nothing else. What it
 -- saw are boards of beginnings of that history.

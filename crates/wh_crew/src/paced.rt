@@ -9,7 +9,7 @@ ghost use Rattle.wh_desk.specs.Pasts.{origin_of, past_of};
 ghost use Rattle.wh_desk.specs.Lists.{AllAt, Received};
 ghost use Rattle.wh_desk.specs.Calls.{InOrder, NoneWantsPath};
 ghost use Rattle.wh_desk.specs.declared.answer.DeskFault.{DeskFault};
-ghost use Rattle.wh_crew.specs.Turns.{IsWhyStopped, RefusedBeside, TakesTurns, TurnsIn, WorksBeside};
+ghost use Rattle.wh_crew.specs.Turns.{IsWhyStopped, RefusedBeside, TakesTurns, TurnsIn, WorksBeside, refusal_leaves};
 ghost use Rattle.wh_crew.specs.Work.{AllWorked, MissedWithCause, ReportAt};
 
 use crate::agents::{Pace, look_and_turn, run_agents};
@@ -63,7 +63,7 @@ fn turns_beside<N: DeskName, H: Wait + Drop, P: Planner, R: Wait + Clock>(
 ) -> Result<u32, DeskFault>
     ensures few { IfOk result (λ taken. taken ≤ turns) }
     ensures ok { IfOk result (λ taken. TakesTurns (record { turns = taken; ends_idle = false; pause = pause }) viewer.new.past pass.old pass.new taken) }
-    ensures err { IfErr result (λ fault. RefusedBeside (length N.cells) turns viewer.new.past fault pass.old pass.new) }
+    ensures err { IfErr result (λ fault. RefusedBeside (refusal_leaves (length N.cells)) turns viewer.new.past fault pass.old pass.new) }
     ensures later { Extends viewer.old.past viewer.new.past }
     ensures book { viewer.new.book ≡ viewer.old.book }
 {

@@ -34,7 +34,7 @@ impl Bell {
     }
 
     /// Rests so long, or until it is rung. Whether it was rung.
-    fn rest<R: Wait + Clock>(&self, rt: &R, pause: Duration) -> bool {
+    pub fn rest<R: Wait + Clock>(&self, rt: &R, pause: Duration) -> bool {
         let resting = self.is_rung.lock(rt);
         let (woken, _) = self
             .rung

@@ -8,30 +8,30 @@ use Rattle.wh_display.specs.Texts.{board_text}
 use Rattle.wh_display.specs.declared.screen.ShowFault.{ShowFault}
 use Rattle.wh_display.specs.declared.watching.Watched.{Watched}
 use Rattle.wh_display.proofs.Sights.{Watching, shows_more, watching_fails, watching_renews}
-use Rattle.wh_live.specs.Displays.{BoardsShown, FirstShown, ShownBeside, ShowsLast}
+use Rattle.wh_live.specs.Displays.{BoardsShown, FirstShown, ShownFrom, ShowsLast}
 use Rattle.wh_edge.specs.declared.trouble.Trouble.{Trouble}
 use Rattle.wh_edge.specs.declared.trouble.Trouble.TheVariants as trouble
 use Rattle.wh_live.specs.Lives.{IsWhyDead, IsWhyUnlived, IsWhyUnshown}
 
 -- the first board, those of the watch, and the last
-pub shown_beside : (origin : Origin) (history : List Entry) (known : Past) (watched : Watched) (had first mid has : Option (List (List ℕ))) (last : Result Unit ShowFault)
-    → FirstShown (record { origin = origin; history = [] }) had first → Watches (record { origin = origin; history = [] }) known watched first mid
+pub shown_from : (origin : Origin) (earlier history : List Entry) (known : Past) (watched : Watched) (had first mid has : Option (List (List ℕ))) (last : Result Unit ShowFault)
+    → FirstShown (record { origin = origin; history = earlier }) had first → Watches (record { origin = origin; history = earlier }) known watched first mid
     → Extends known (record { origin = origin; history = history }) → ShowsLast (record { origin = origin; history = history }) watched.shown last mid has
-    → ShownBeside origin history last had has
-shown_beside origin history known watched had first mid has last begin watches more ends = go last ends.ok ends.err
+    → ShownFrom origin earlier history last had has
+shown_from origin earlier history known watched had first mid has last begin watches more ends = go last ends.ok ends.err
   where
     start : Past
-    start = record { origin = origin; history = [] }
+    start = record { origin = origin; history = earlier }
 
-    watching : Watching (record { origin = origin; history = [] }) known watched.shown first mid
+    watching : Watching (record { origin = origin; history = earlier }) known watched.shown first mid
     watching = record { sights = watches.sights; in_turn = watches.in_turn; texts = watches.texts; entries = watches.entries }
 
-    go : (r : Result Unit ShowFault) → OnOk r (Renews (Some watched.shown) ends.board mid has) → OnErr r (Shows mid has []) → ShownBeside origin history r had has
+    go : (r : Result Unit ShowFault) → OnOk r (Renews (Some watched.shown) ends.board mid has) → OnErr r (Shows mid has []) → ShownFrom origin earlier history r had has
     go (Ok done) renews none =
         let all = watching_renews watching more ends.board ends.is_board renews in
         record {
-          opening = begin.board;
-          opening_is = begin.is_board;
+          at_first = begin.board;
+          at_first_is = begin.is_board;
           sights = all.watching.sights;
           in_turn = all.watching.in_turn;
           texts = shows_more had first has (board_text begin.board ∷ []) (texts_of all.watching.sights) begin.texts all.watching.texts;
@@ -40,8 +40,8 @@ shown_beside origin history known watched had first mid has last begin watches m
     go (Err fault) renews none =
         let still = watching_fails watching more none in
         record {
-          opening = begin.board;
-          opening_is = begin.is_board;
+          at_first = begin.board;
+          at_first_is = begin.is_board;
           sights = still.sights;
           in_turn = still.in_turn;
           texts = shows_more had first has (board_text begin.board ∷ []) (texts_of still.sights) begin.texts still.texts;
@@ -49,12 +49,12 @@ shown_beside origin history known watched had first mid has last begin watches m
         }
 
 -- the same of a run whose opening and whole past are told otherwise
-pub shown_of_run : (origin : Origin) (history : List Entry) (opening whole before known : Past) (watched : Watched) (had first mid has : Option (List (List ℕ))) (last : Result Unit ShowFault)
-    → opening ≡ record { origin = origin; history = [] } → whole ≡ record { origin = origin; history = history } → before ≡ opening
+pub shown_of_run : (origin : Origin) (earlier history : List Entry) (opening whole before known : Past) (watched : Watched) (had first mid has : Option (List (List ℕ))) (last : Result Unit ShowFault)
+    → opening ≡ record { origin = origin; history = earlier } → whole ≡ record { origin = origin; history = history } → before ≡ opening
     → FirstShown opening had first → Watches before known watched first mid → Extends known whole → ShowsLast whole watched.shown last mid has
-    → ShownBeside origin history last had has
-shown_of_run origin history opening whole before known watched had first mid has last begun done stood begin watches more ends =
-    shown_beside origin history known watched had first mid has last
+    → ShownFrom origin earlier history last had has
+shown_of_run origin earlier history opening whole before known watched had first mid has last begun done stood begin watches more ends =
+    shown_from origin earlier history known watched had first mid has last
     (subst (λ (p : Past). FirstShown p had first) begun begin)
     (subst (λ (p : Past). Watches p known watched first mid) (stood ∙ begun) watches)
     (subst (λ (p : Past). Extends known p) done more)

@@ -24,22 +24,30 @@ pub record ShowsLast (whole : Past) (shown : ℕ) (last : Result Unit ShowFault)
   pub ok : OnOk last (Renews (Some shown) board had has)
   pub err : OnErr last (Shows had has [])
 
--- What a screen was shown beside a run with this history: the board of the opening, and then boards that were seen in turn, each of a
--- longer beginning of the history than the one before. Where the last one was shown, it is the board of the whole history.
-pub record ShownBeside (origin : Origin) (history : List Entry) (last : Result Unit ShowFault) (had has : Option (List (List ℕ))) : Type 0 where
-  pub opening : Board
-  pub opening_is : IsBoardOf (record { origin = origin; history = [] }) opening
+-- What a screen was shown beside a run that went on from an earlier history: the board of that, and then boards that were seen in turn,
+-- each of a longer beginning of the history than the one before. Where the last one was shown, it is the board of the whole history.
+pub record ShownFrom (origin : Origin) (earlier history : List Entry) (last : Result Unit ShowFault) (had has : Option (List (List ℕ))) : Type 0 where
+  pub at_first : Board
+  pub at_first_is : IsBoardOf (record { origin = origin; history = earlier }) at_first
   pub sights : List Sight
-  pub in_turn : InTurn (record { origin = origin; history = [] }) (record { origin = origin; history = history }) sights
-  pub texts : Shows had has (board_text opening ∷ texts_of sights)
-  pub last_is : OnOk last (last_of (record { origin = origin; history = [] }) (pasts_of sights) ≡ record { origin = origin; history = history })
+  pub in_turn : InTurn (record { origin = origin; history = earlier }) (record { origin = origin; history = history }) sights
+  pub texts : Shows had has (board_text at_first ∷ texts_of sights)
+  pub last_is : OnOk last (last_of (record { origin = origin; history = earlier }) (pasts_of sights) ≡ record { origin = origin; history = history })
 
--- Where there is a screen, boards were shown on it beside a run with this history. Had is what screens tell before, if there is one,
--- and has what they tell then.
+-- beside a run from its opening
+abbrev pub ShownBeside : Origin → List Entry → Result Unit ShowFault → (had has : Option (List (List ℕ))) → Type 0
+ShownBeside origin history last had has = ShownFrom origin [] history last had has
+
+-- Where there is a screen, boards were shown on it beside a run that went on from an earlier history. Had is what screens tell before,
+-- if there is one, and has what they tell then.
+abbrev pub BoardsFrom : Origin → List Entry → List Entry → Result Unit ShowFault → (had has : Option (Option (List (List ℕ)))) → Type 0
+BoardsFrom origin earlier history last None has = (last ≡ Ok tt) × (has ≡ None)
+BoardsFrom origin earlier history last (Some had) None = ⊥
+BoardsFrom origin earlier history last (Some had) (Some has) = ShownFrom origin earlier history last had has
+
+-- beside a run from its opening
 abbrev pub BoardsShown : Origin → List Entry → Result Unit ShowFault → (had has : Option (Option (List (List ℕ)))) → Type 0
-BoardsShown origin history last None has = (last ≡ Ok tt) × (has ≡ None)
-BoardsShown origin history last (Some had) None = ⊥
-BoardsShown origin history last (Some had) (Some has) = ShownBeside origin history last had has
+BoardsShown origin history last had has = BoardsFrom origin [] history last had has
 
 -- what is told of a board that is not shown
 abbrev pub trouble_of_show : ShowFault → Trouble

@@ -29,10 +29,10 @@ pub struct Display<S> {
 
 /// A screen on which the boards of a run were shown.
 #[derive(Drop)]
-pub(crate) struct Shown<S> {
-    pub(crate) screen: S,
+pub struct Shown<S> {
+    pub screen: S,
     /// Whether the board of the whole history is there, or why it is not.
-    pub(crate) last: Result<(), ShowFault>,
+    pub last: Result<(), ShowFault>,
 }
 
 /// What is told of a board that is not shown.
@@ -48,13 +48,14 @@ pub fn trouble_of_show(fault: ShowFault) -> Trouble
 
 /// What watches a run: a viewer, and a screen on which its first board is shown.
 #[derive(Drop)]
-struct Watcher<S> {
-    viewer: Viewer,
-    screen: S,
+pub struct Watcher<S> {
+    pub viewer: Viewer,
+    pub screen: S,
 }
 
-/// Shows the board of a warehouse with no entry, and gives a viewer of what is published of it.
-fn set_up<S: Screen + Drop, H: Wait + Drop, P: Planner>(
+/// Shows the board of a warehouse as it stands, whatever stood on the screen, and gives a viewer of what is published of it: to be
+/// called before a desk takes the warehouse and its publisher. Trouble: X6 where the board is not shown, and E90.
+pub fn set_up<S: Screen + Drop, H: Wait + Drop, P: Planner>(
     alloc: Global,
     warehouse: &Warehouse<P>,
     publisher: &mut Publisher<H>,
@@ -78,23 +79,26 @@ fn set_up<S: Screen + Drop, H: Wait + Drop, P: Planner>(
     }
 }
 
-/// What a watch beside a run leaves.
+/// What a watch beside a run leaves: the viewer, the screen, and how it ended.
 #[derive(Drop)]
-struct Seen<S> {
-    viewer: Viewer,
-    screen: S,
-    watched: Watched,
+pub struct Seen<S> {
+    pub viewer: Viewer,
+    pub screen: S,
+    pub watched: Watched,
 }
 
-/// A watch by a viewer that knows of no entry yet.
-fn watch_run<S: Screen, T: Wait + Clock>(
+/// Watches a run, in a thread of its own, until the bell is rung, and looks a last time then (`watch`). The viewer knows of so many
+/// entries, and their board is on the screen. It rests so long behind each look, waits for the bell alone, and holds no caller of the
+/// desk up.
+pub fn watch_run<S: Screen, T: Wait + Clock>(
     rt: &T,
     alloc: Global,
     watcher: Watcher<S>,
+    shown: u64,
     bell: &Bell,
     pause: Duration,
 ) -> Seen<S>
-    requires { watcher.viewer.past.history ≡ [] }
+    requires { shown ≡ length watcher.viewer.past.history }
     ensures shows { Watches watcher.viewer.past result.viewer.past result.watched (S.shown watcher.screen) (S.shown result.screen) }
     ensures book { result.viewer.book ≡ watcher.viewer.book }
 {
@@ -102,7 +106,7 @@ fn watch_run<S: Screen, T: Wait + Clock>(
         mut viewer,
         mut screen,
     } = watcher;
-    let watched = watch(rt, alloc, &mut viewer, &mut screen, 0, bell, pause);
+    let watched = watch(rt, alloc, &mut viewer, &mut screen, shown, bell, pause);
     Seen {
         viewer,
         screen,
@@ -110,9 +114,10 @@ fn watch_run<S: Screen, T: Wait + Clock>(
     }
 }
 
-/// Shows the board of the whole history, if it has not as many entries as the one shown last. E95: the viewer knows of what was
-/// not done.
-fn show_whole<S: Screen + Drop, P: Planner>(
+/// Shows the board of the whole history, once the watch is over and the desk has given that back, if it has not as many entries as
+/// the one shown last. The viewer is of the same desk. Where the screen fails, the answer says so; the history stands. E95: the viewer
+/// knows of what was not done.
+pub fn show_whole<S: Screen + Drop, P: Planner>(
     alloc: Global,
     history: &History<P>,
     seen: Seen<S>,
@@ -179,7 +184,7 @@ pub(crate) fn work_shown<
         || -> Seen<S>
             requires { watcher.viewer.past.history ≡ [] }
             ensures { Watches watcher.viewer.past result.viewer.past result.watched (S.shown watcher.screen) (S.shown result.screen) × (result.viewer.book ≡ watcher.viewer.book) }
-        { watch_run(rt, alloc, watcher, &bell, pause) },
+        { watch_run(rt, alloc, watcher, 0, &bell, pause) },
         || -> Result<History<P>, Trouble>
             requires { (warehouse.book.history ≡ []) × (publisher.added ≡ past_of warehouse.book) × (publisher.shown ≡ past_of warehouse.book) × (length works.items ≤ 64) }
             ensures { IfOk result (λ h. WorkedBy P.fits_map P.slot_count works.items (option_map (λ p. p.turns) pace) (length cells) (origin_of warehouse.book) h.warehouse.book.history h.warehouse.book.state × (origin_of h.warehouse.book ≡ origin_of warehouse.book) × (h.front.book ≡ publisher.book) × (h.front.past ≡ past_of h.warehouse.book)) × IfErr result IsWhyDead }

@@ -7,12 +7,13 @@ mod run;
 mod works;
 
 pub use clients::{MAX_WORKERS, SCRIPT_LIMIT, read_clients};
-pub use display::{Display, trouble_of_show};
-pub use run::{Ran, run_crew};
+pub use display::{Display, Seen, Shown, Watcher, set_up, show_whole, trouble_of_show, watch_run};
+pub use run::{Ran, run_crew, trouble_of};
 pub use works::works_of;
 
 // handed on, for callers: what the items below take, return and speak of
 pub use wh_crew::{
-    Cells, Desk, DeskFault, DeskName, Front, Missed, Pace, Pass, Publisher, Receipt, Viewer,
+    Cells, Desk, DeskFault, DeskName, Front, History, Missed, Pace, Pass, Publisher, Receipt,
+    Viewer, Warehouse,
 };
-pub use wh_display::{Screen, ShowFault};
+pub use wh_display::{Bell, Screen, ShowFault, Watched};

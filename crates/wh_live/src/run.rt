@@ -35,7 +35,7 @@ impl Gate for Open {
 }
 
 /// What is told of a crew that came to no history.
-fn trouble_of(fault: CrewFault) -> Trouble
+pub fn trouble_of(fault: CrewFault) -> Trouble
     ensures value { result ≡ trouble_of fault }
     ensures why { IsWhyDead result }
 {

@@ -1,6 +1,6 @@
 use Rattle.std.proofs.Common.{◌<◌, ◌∙◌, Bool, length, refl, rules, subst}
 use Rattle.wh_board.proofs.Chains.{extends_self, extends_trans}
-use Rattle.wh_crew.specs.Turns.{Looks}
+use Rattle.wh_crew.specs.Turns.{Looks, refusal_leaves}
 use Rattle.wh_crew.proofs.Turning.{taking_none, taking_more, taking_stops}
 use Rattle.wh_crew.proofs.agents.run_agents.Goals as goal
 
@@ -14,7 +14,7 @@ loop-turn-init g c = record {
 pub returns-in-Err-clause-err : goal.returns-in-Err-clause-err
 returns-in-Err-clause-err g c =
     let less : c.loop-turn.turn < c.args.pace.turns = search rules in
-    taking_stops (length g.N.DeskName.cells) c.args.pace c.loop-turn.viewer.past c.look_and_turn.new.viewer.past c.in-Err.fault c.args.pass.now c.loop-turn.pass c.look_and_turn.new.pass c.loop-turn.turn
+    taking_stops (refusal_leaves (length g.N.DeskName.cells)) c.args.pace c.loop-turn.viewer.past c.look_and_turn.new.viewer.past c.in-Err.fault c.args.pass.now c.loop-turn.pass c.look_and_turn.new.pass c.loop-turn.turn
     c.loop-turn.invariant.taking less c.in-Err.ensures.later c.in-Err.ensures.err
 
 pub loop-turn-preserved : goal.loop-turn-preserved

@@ -1,7 +1,10 @@
-use Rattle.std.proofs.Common.{take}
-use Rattle.wh_crew.specs.Turns.{Does, asks_from}
+use Rattle.std.proofs.Common.{length}
+use Rattle.wh_crew.proofs.Turning.{Going}
 use Rattle.wh_crew.proofs.agents.take_turn.Given as goal
 
--- the agents so far were asked
-abbrev pub invariant-loop-agent : goal.invariant-loop-agent
-invariant-loop-agent g l = Does (asks_from 0 (take l.agent l.fn.agents)) l.fn.pass l.pass
+-- the first commands were done, and these are left
+abbrev pub invariant-loop-command : goal.invariant-loop-command
+invariant-loop-command g l = Going l.fn.turn l.fn.pass l.pass l.turn
+
+abbrev pub decreases-loop-command : goal.decreases-loop-command
+decreases-loop-command g l = length l.turn

@@ -1,5 +1,6 @@
 use Rattle.std.proofs.Common.{refl, false, ◌<◌, ◌+◌, ◌∙◌, rules, length}
 use Rattle.wh_board.proofs.Chains.{extends_self, extends_trans}
+use Rattle.wh_crew.specs.Turns.{refusal_leaves}
 use Rattle.wh_crew.proofs.Turning.{taking_none, taken_all}
 use Rattle.wh_crew.proofs.Pacing.{beside_more, beside_stops}
 use Rattle.wh_crew.proofs.paced.turns_beside.Goals as goal
@@ -14,7 +15,7 @@ loop-turn-init g c = record {
 pub returns-in-Err-clause-err : goal.returns-in-Err-clause-err
 returns-in-Err-clause-err g c =
     let less : c.loop-turn.turn < c.args.turns = search rules in
-    beside_stops (length g.N.DeskName.cells) (record { turns = c.args.turns; ends_idle = false; pause = c.args.pause }) c.loop-turn.viewer.past c.look_and_turn.new.viewer.past c.in-Err.fault
+    beside_stops (refusal_leaves (length g.N.DeskName.cells)) (record { turns = c.args.turns; ends_idle = false; pause = c.args.pause }) c.loop-turn.viewer.past c.look_and_turn.new.viewer.past c.in-Err.fault
     c.args.pass.now c.loop-turn.pass c.look_and_turn.new.pass c.loop-turn.turn refl c.loop-turn.invariant.taking less c.in-Err.ensures.later c.in-Err.ensures.err
 
 pub returns-then-through-clause-ok : goal.returns-then-through-clause-ok

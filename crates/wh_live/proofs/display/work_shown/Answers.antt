@@ -1,4 +1,4 @@
-use Rattle.std.proofs.Common.{List, ap}
+use Rattle.std.proofs.Common.{List, [], ap}
 use Rattle.std.proofs.lemmas.Result.{IfOk-at_ok}
 use Rattle.wh_event.specs.declared.entry.Entry.{Entry}
 use Rattle.wh_board.specs.Pasts.{Origin}
@@ -12,7 +12,7 @@ returns-in-Ok-show_whole-clause-shown g c =
     let origin : Origin = origin_of book in
     let history : List Entry = c.in-Ok-came.history.warehouse.book.history in
     let came = IfOk-at_ok _ c.in-Ok-came.is c.join-seen.ensures.second.0 in
-    shown_of_run origin history (past_of book) (past_of c.in-Ok-came.history.warehouse.book) _ _ _ _ _ _ _ _
+    shown_of_run origin [] history (past_of book) (past_of c.in-Ok-came.history.warehouse.book) _ _ _ _ _ _ _ _
     (ap (λ (h : List Entry). record { origin = origin; history = h }) c.requires.history)
     (ap (λ (o : Origin). record { origin = o; history = history }) came.1)
     c.in-Ok.ensures.past c.in-Ok.ensures.first c.join-seen.ensures.first.0 c.in-Ok-show_whole.ensures.begins c.in-Ok-show_whole.ensures.last
