@@ -49,7 +49,7 @@ SENTENCES = {
     'E8': 'The warehouse is closed: nothing changes any more.',
     'E9': 'The planner that was to take the place is of another map.',
     'E10': 'No spare planner is there: --spares N says how many there are.',
-    'E11': 'The journal is full, or this client has used up its share of it: no more events can be entered (--journal N of `live`).',
+    'E11': 'The journal is full, or this client has used up its share of it: no more events can be entered (--journal N and --share N of `live`).',
     'E90': 'Memory is wanting. As a reply: the command changed nothing, and may be sent again. On standard error: the program ended with status 4.',
     'E91': 'A receipt or the book had a value at this position already. A library call says it, and no subcommand.',
     'E92': 'No place for a viewer is left; there are 64. A library call says it, and no subcommand.',

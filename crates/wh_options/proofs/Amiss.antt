@@ -10,7 +10,7 @@ use Rattle.wh_options.specs.declared.chosen.Options.{Options}
 use Rattle.wh_options.specs.declared.chosen.Options.TheVariants.{Attend, Check, Replay, Verify, Live}
 use Rattle.wh_options.proofs.Names.{Named, gives_named, other_word, says_named}
 use Rattle.wh_options.proofs.Menus.{Mistaken, told_as}
-use Rattle.wh_options.proofs.Attending.{no_clash, no_client}
+use Rattle.wh_options.proofs.Attending.{no_client}
 use Rattle.wh_options.proofs.Once.{all_agree, one_line}
 
 -- what some settings are told of is told of others that give the same
@@ -32,7 +32,7 @@ clash_never name xs Check gives clash = other_than name (codes "check") (codes "
 clash_never name xs (Replay o) gives clash = other_than name (codes "replay") (codes "live") refl gives.0 clash.0
 clash_never name xs Verify gives clash = other_than name (codes "verify") (codes "live") refl gives.0 clash.0
 clash_never name xs (Live o) gives clash = clash.2.0 (no_client xs o gives.1)
-clash_never name xs (Attend o) gives clash = no_clash xs o gives.1 clash.2
+clash_never name xs (Attend o) gives clash = gives.1.agree clash.2
 
 none_never : (name : Text) (xs : List Setting) (o : Options) → EachGives name xs o → IsClientless name (λ id. value_of id xs) (values_of (codes "client") xs) → ⊥
 none_never name xs Check gives none = other_than name (codes "check") (codes "live") refl gives.0 none.0

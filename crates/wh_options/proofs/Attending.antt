@@ -1,13 +1,13 @@
 -- Running clients: what is found for them, and what settings say of them.
 use Rattle.std.proofs.Common.{◌≡◌, List, [], ◌∷◌, refl, sym, Bool, true, false, cond, None, Some, Option, subst, inl, inr, codes}
 use Rattle.std.specs.Prelude.{◌≢◌, MatchOption, find, option_map, unwrap_or}
-use Rattle.std.specs.List.{AllZip, list_any}
+use Rattle.std.specs.List.{AllZip}
 use Rattle.std.specs.Str.{bytes_eq}
 use Rattle.clap.specs.Walk.{Row, all_of}
 use Rattle.wh_client.specs.Clients.{GivesClient, Text}
 use Rattle.wh_client.specs.declared.client.ClientOptions.{ClientOptions}
 use Rattle.wh_options.specs.Setting.{Setting, value_of, values_of}
-use Rattle.wh_options.specs.Options.{Clashes, GivesAttend, GivesLive, GivesReplies, LiveLacks, SaysLive, all_live_names, attend_names, live_names, replies_text}
+use Rattle.wh_options.specs.Options.{GivesAttend, GivesLive, GivesReplies, LiveLacks, SaysLive, all_live_names, live_names, replies_text}
 use Rattle.wh_options.specs.declared.chosen.LiveOptions.{LiveOptions}
 use Rattle.wh_options.specs.declared.chosen.AttendOptions.{AttendOptions}
 use Rattle.wh_options.specs.declared.chosen.Replies.TheVariants.{Short}
@@ -44,29 +44,20 @@ has_client settings o gives = values_some (codes "client") settings (some_texts 
 pub no_client : (settings : List Setting) (o : LiveOptions) → GivesLive settings o → value_of (codes "client") settings ≡ None
 no_client settings o gives = unlisted (codes "client") live_names settings refl gives.only
 
--- beside running clients no option is given that clashes with them
-pub no_clash : (settings : List Setting) (o : AttendOptions) → GivesAttend settings o → Clashes (λ id. value_of id settings) → ⊥
-no_clash settings o gives clashes = elim clashes.1 [
-  | inl turns ↦ turns (unlisted (codes "turns") attend_names settings refl gives.only)
-  | inr a ↦ elim a [
-    | inl every ↦ every (unlisted (codes "every") attend_names settings refl gives.only)
-    | inr b ↦ elim b [
-      | inl board ↦ board (unlisted (codes "board") attend_names settings refl gives.only)
-      | inr looks ↦ looks (unlisted (codes "board-every") attend_names settings refl gives.only)
-    ]
-  ]
-]
-
 -- ---- what each says by itself
 
 short_replies : (settings : List Setting) → value_of (codes "replies") settings ≡ None → GivesReplies settings Short
 short_replies settings none = subst (λ v. MatchOption v (Short ≡ Short) (λ text. text ≡ replies_text Short)) (sym none) refl
+
+none_given : (settings : List Setting) (name : Text) (P : Type 0) (Q : Text → Type 0) → value_of name settings ≡ None → P → MatchOption (value_of name settings) P Q
+none_given settings name P Q none p = subst (λ v. MatchOption v P Q) (sym none) p
 
 pub says_of_live : (settings : List Setting) (o : LiveOptions) → GivesLive settings o → SaysLive settings
 says_of_live settings o gives = record {
   live = o;
   replies = Short;
   log = None;
+  share = None;
   only = only_more live_names all_live_names settings refl gives.only;
   fleet = gives.fleet;
   turns = gives.turns;
@@ -76,28 +67,26 @@ says_of_live settings o gives = record {
   board_every = gives.board_every;
   gives_replies = short_replies settings (unlisted (codes "replies") live_names settings refl gives.only);
   gives_log = record { is = sym (unlisted (codes "log") live_names settings refl gives.only); named = λ e. cc };
+  gives_share = none_given settings (codes "share") _ _ (unlisted (codes "share") live_names settings refl gives.only) refl;
 }
 
-none_given : (settings : List Setting) (name : Text) (P : Type 0) (Q : Text → Type 0) → value_of name settings ≡ None → P → MatchOption (value_of name settings) P Q
-none_given settings name P Q none p = subst (λ v. MatchOption v P Q) (sym none) p
-
 pub says_of_attend : (settings : List Setting) (o : AttendOptions) → GivesAttend settings o → SaysLive settings
-says_of_attend settings o gives =
-    let none : (name : Text) → list_any (bytes_eq name) attend_names ≡ false → value_of name settings ≡ None = λ name never. unlisted name attend_names settings never gives.only in
-    record {
-      live = record { fleet = o.fleet; turns = 64; journal = o.journal; every = None; board = None; board_every = 100 };
-      replies = o.replies;
-      log = Some o.log.now;
-      only = only_more attend_names all_live_names settings refl gives.only;
-      fleet = gives.fleet;
-      turns = none_given settings (codes "turns") _ _ (none (codes "turns") refl) refl;
-      journal = gives.journal;
-      every = none_given settings (codes "every") _ _ (none (codes "every") refl) refl;
-      board = record { is = sym (none (codes "board") refl); named = λ e. cc };
-      board_every = none_given settings (codes "board-every") _ _ (none (codes "board-every") refl) refl;
-      gives_replies = gives.replies;
-      gives_log = gives.log;
-    }
+says_of_attend settings o gives = record {
+  live = record { fleet = o.fleet; turns = o.turns; journal = o.journal; every = o.every; board = o.board; board_every = o.board_every };
+  replies = o.replies;
+  log = Some o.log.now;
+  share = o.share;
+  only = gives.only;
+  fleet = gives.fleet;
+  turns = gives.turns;
+  journal = gives.journal;
+  every = gives.every;
+  board = gives.board;
+  board_every = gives.board_every;
+  gives_replies = gives.replies;
+  gives_log = gives.log;
+  gives_share = gives.share;
+}
 
 -- ---- what goes together
 
@@ -109,14 +98,7 @@ pub no_log_no_client : (given : Text → Option Text) → (LiveLacks given → �
 no_log_no_client given never log = none_of (given (codes "client")) (λ some. never (inr (inl (some, log))))
 
 pub no_client_no_replies : (given : Text → Option Text) → (LiveLacks given → ⊥) → given (codes "client") ≡ None → given (codes "replies") ≡ None
-no_client_no_replies given never client = none_of (given (codes "replies")) (λ some. never (inr (inr (inr (some, client)))))
+no_client_no_replies given never client = none_of (given (codes "replies")) (λ some. never (inr (inr (inr (inl (some, client))))))
 
--- nothing that clashes with clients is given beside them
-pub none_clashes : (given : Text → Option Text) → (Clashes given → ⊥) → given (codes "client") ≢ None
-    → (given (codes "turns") ≡ None) × (given (codes "every") ≡ None) × (given (codes "board") ≡ None) × (given (codes "board-every") ≡ None)
-none_clashes given never client = (
-  none_of _ (λ some. never (client, inl some)),
-  none_of _ (λ some. never (client, inr (inl some))),
-  none_of _ (λ some. never (client, inr (inr (inl some)))),
-  none_of _ (λ some. never (client, inr (inr (inr some)))),
-)
+pub no_client_no_share : (given : Text → Option Text) → (LiveLacks given → ⊥) → given (codes "client") ≡ None → given (codes "share") ≡ None
+no_client_no_share given never client = none_of (given (codes "share")) (λ some. never (inr (inr (inr (inr (some, client))))))

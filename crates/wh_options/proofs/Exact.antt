@@ -461,8 +461,11 @@ attend_valid p t r q settings words says x value e = elim (either_true _ _ e) [
   | inr f ↦ elim (either_true _ _ f) [
     | inl is ↦ valid_replies (leaf_at 3 p t r q) settings x q.replies says.replies (bytes_same _ _ is) value refl words says.gives_replies
     | inr g ↦ elim (either_true _ _ g) [
-      | inl is ↦ valid_many (leaf_at 3 p t r q) x (codes "client") (bytes_same _ _ is) value.1 refl refl refl refl refl
-      | inr none ↦ absurd (true≢false (sym none))
+      | inl is ↦ valid_may (leaf_at 3 p t r q) settings x (codes "share") 1 1000000 says.share (bytes_same _ _ is) value refl refl refl refl (lit< tt) says.gives_share
+      | inr h ↦ elim (either_true _ _ h) [
+        | inl is ↦ valid_many (leaf_at 3 p t r q) x (codes "client") (bytes_same _ _ is) value.1 refl refl refl refl refl
+        | inr none ↦ absurd (true≢false (sym none))
+      ]
     ]
   ]
 ]

@@ -7,7 +7,7 @@ use Rattle.clap.specs.Faults.{fault_of, is_simple_and_free, level_fault}
 use Rattle.clap.specs.Simple.{App, Shape, built, filled, help_rule, is_simple, label_of, new_shape, subcommand_of, version_rule}
 use Rattle.clap.specs.Walk.{Row, Rule, Text, action_of, answers_to, arg_by_long, first_of, nothing_held, rows_after, settled, texts, walk, has_long}
 use Rattle.wh_options.specs.Setting.{IsLine, IsSpelled, Setting, is_switch, may_repeat, single_names, value_of, values_of}
-use Rattle.wh_options.specs.Options.{GivesAttend, GivesFleet, GivesLive, HasOnly, LacksAny, LiveLacks, Clashes, Means, ReplayLacks, WordsGive, all_live_names, attend_names, board_of, default_turns, live_names, log_of, replay_names}
+use Rattle.wh_options.specs.Options.{GivesAttend, GivesFleet, GivesLive, HasOnly, LacksAny, LiveLacks, Clashes, Means, ReplayLacks, WordsGive, all_live_names, attend_board_of, board_of, default_turns, live_names, log_of, replay_names}
 use Rattle.wh_options.specs.Reads.{IsTold, Reads, ReadsAttend, ReadsFleet, ReadsLive, clients_in}
 use Rattle.wh_options.specs.Menu.{Choices, IsMenu, LiveChoices, choice_rule, file_rule, many_rule, menu, number_rule, planner_words, replies_words, switch_rule, tail_words}
 use Rattle.clap.specs.declared.error.kind.ErrorKind.{ErrorKind}
@@ -26,7 +26,7 @@ use Rattle.wh_options.proofs.Top.{IsMenuApp, level_parts, menu_entered}
 use Rattle.wh_options.proofs.Singles.{choice_option, file_option, is_single, many_option, number_option, single_parts, switch_is}
 use Rattle.wh_options.proofs.Names.{Named, only_named, other_word}
 use Rattle.wh_options.proofs.Restricts.{but, only_but, some_is, some_values}
-use Rattle.wh_options.proofs.Attending.{all_in, log_has_client, no_client_no_replies, no_log_no_client, none_clashes, some_clients}
+use Rattle.wh_options.proofs.Attending.{all_in, log_has_client, no_client_no_replies, no_client_no_share, no_log_no_client, some_clients}
 use Rattle.wh_options.proofs.Values.{some_same, file_given, no_settings, number_given, only_names, planner_given, replies_given, tail_given, may_given, vehicles_given}
 
 -- ---- any subcommand
@@ -216,8 +216,8 @@ file_plain name single = option_plain _ refl refl refl refl (file_option name si
 many_plain : (name : Text) → may_repeat name ≡ true → is_switch name ≡ false → IsPlainRule (filled (many_rule name))
 many_plain name many no_switch = option_plain _ refl refl refl refl (many_option name many) no_switch
 
-attend_plain : (q : LiveChoices) → ArePlain (filled (file_rule (codes "log")) ∷ filled (choice_rule (codes "replies") q.replies) ∷ filled (many_rule (codes "client")) ∷ Flags)
-attend_plain q = (file_plain (codes "log") refl, (choice_plain (codes "replies") q.replies refl, (many_plain (codes "client") refl refl, asking_plain)))
+attend_plain : (q : LiveChoices) → ArePlain (filled (file_rule (codes "log")) ∷ filled (choice_rule (codes "replies") q.replies) ∷ filled (number_rule (codes "share") 1 1000000) ∷ filled (many_rule (codes "client")) ∷ Flags)
+attend_plain q = (file_plain (codes "log") refl, (choice_plain (codes "replies") q.replies refl, (number_plain (codes "share") 1 1000000 refl, (many_plain (codes "client") refl refl, asking_plain))))
 
 switch_plain : (name : Text) → is_switch name ≡ true → may_repeat name ≡ false → IsPlainRule (filled (switch_rule name))
 switch_plain name is_one once = record { long = refl; aliases = refl; index = refl; defaults = refl; kind = inr (inl (switch_is name once, is_one)) }
@@ -273,15 +273,10 @@ live_only : (settings : List Setting) → HasOnly all_live_names settings → (L
 live_only settings only never log =
     let client = no_log_no_client (λ id. value_of id settings) never log in
     let replies = no_client_no_replies (λ id. value_of id settings) never client in
-    only_but (codes "replies") (but (codes "log") (but (codes "client") all_live_names)) settings replies
-    (only_but (codes "log") (but (codes "client") all_live_names) settings log (only_but (codes "client") all_live_names settings client only))
-
-attend_only : (settings : List Setting) → HasOnly all_live_names settings → (Clashes (λ id. value_of id settings) → ⊥) → value_of (codes "client") settings ≢ None → HasOnly attend_names settings
-attend_only settings only never client =
-    let none = none_clashes (λ id. value_of id settings) never client in
-    let paced = only_but (codes "every") (but (codes "turns") all_live_names) settings none.1 (only_but (codes "turns") all_live_names settings none.0 only) in
-    only_but (codes "board-every") (but (codes "board") (but (codes "every") (but (codes "turns") all_live_names))) settings none.3
-    (only_but (codes "board") (but (codes "every") (but (codes "turns") all_live_names)) settings none.2 paced)
+    let share = no_client_no_share (λ id. value_of id settings) never client in
+    only_but (codes "replies") (but (codes "log") (but (codes "share") (but (codes "client") all_live_names))) settings replies
+    (only_but (codes "log") (but (codes "share") (but (codes "client") all_live_names)) settings log
+    (only_but (codes "share") (but (codes "client") all_live_names) settings share (only_but (codes "client") all_live_names settings client only)))
 
 live_given : (p t r : Choices) (q : LiveChoices) (rest : List Text) (o : LiveOptions) (says : LeafSays (leaf_at 3 p t r q) rest) → texts q.planners.now ≡ planner_words
     → ReadsLive (λ id. first_of id (rows_after (leaf_at 3 p t r q).rules [] rest)) o → HasOnly live_names says.settings → GivesLive says.settings o
@@ -301,20 +296,31 @@ live_given p t r q rest o says planners reads only = record {
 }
 
 attend_given : (p t r : Choices) (q : LiveChoices) (rest : List Text) (o : AttendOptions) (says : LeafSays (leaf_at 3 p t r q) rest) → texts q.planners.now ≡ planner_words → texts q.replies.now ≡ replies_words
-    → ReadsAttend (λ id. first_of id (rows_after (leaf_at 3 p t r q).rules [] rest)) (clients_in (rows_after (leaf_at 3 p t r q).rules [] rest)) o → value_of (codes "client") says.settings ≢ None → HasOnly attend_names says.settings → GivesAttend says.settings o
-attend_given p t r q rest o says planners replies reads client only =
+    → ReadsAttend (λ id. first_of id (rows_after (leaf_at 3 p t r q).rules [] rest)) (clients_in (rows_after (leaf_at 3 p t r q).rules [] rest)) o → value_of (codes "client") says.settings ≢ None → (Clashes (λ id. value_of id says.settings) → ⊥) → GivesAttend says.settings o
+attend_given p t r q rest o says planners replies reads client agree =
     let clients : GiveClients (values_of (codes "client") says.settings) o.clients.items = subst (λ ts. GiveClients ts o.clients.items) (clients_said (leaf_at 3 p t r q) rest says) reads.clients_are in
     record {
-      only = only;
+      only = all_only p t r q rest says;
       fleet = fleet_given (leaf_at 3 p t r q) rest q.planners o.fleet (live_fleet p t r q) planners says reads.fleet;
       journal = number_given (leaf_at 3 p t r q).rules says.settings (codes "journal") 1 1000000 10000 o.journal (lit< tt) says.taken (filled (number_rule (codes "journal") 1 1000000)) refl refl refl
           (first_of (codes "journal") (rows_after (leaf_at 3 p t r q).rules [] rest)) (says.first (codes "journal")) reads.journal;
+      share = may_given (leaf_at 3 p t r q).rules says.settings (codes "share") 1 1000000 o.share (lit< tt) says.taken (filled (number_rule (codes "share") 1 1000000)) refl refl refl
+          (first_of (codes "share") (rows_after (leaf_at 3 p t r q).rules [] rest)) (says.first (codes "share")) reads.share;
       replies = replies_given (leaf_at 3 p t r q).rules says.settings o.replies says.taken q.replies replies (filled (choice_rule (codes "replies") q.replies)) refl refl refl
           (first_of (codes "replies") (rows_after (leaf_at 3 p t r q).rules [] rest)) (says.first (codes "replies")) reads.replies;
       log = file_given (leaf_at 3 p t r q).rules says.settings (codes "log") (Some o.log.now) says.taken (filled (file_rule (codes "log"))) refl refl
           (first_of (codes "log") (rows_after (leaf_at 3 p t r q).rules [] rest)) (says.first (codes "log")) reads.log;
+      every = may_given (leaf_at 3 p t r q).rules says.settings (codes "every") 1 60000 o.every (lit< tt) says.taken (filled (number_rule (codes "every") 1 60000)) refl refl refl
+          (first_of (codes "every") (rows_after (leaf_at 3 p t r q).rules [] rest)) (says.first (codes "every")) reads.every;
+      turns = number_given (leaf_at 3 p t r q).rules says.settings (codes "turns") 1 100000 (default_turns o.every) o.turns (lit< tt) says.taken (filled (number_rule (codes "turns") 1 100000)) refl refl refl
+          (first_of (codes "turns") (rows_after (leaf_at 3 p t r q).rules [] rest)) (says.first (codes "turns")) reads.turns;
+      board = file_given (leaf_at 3 p t r q).rules says.settings (codes "board") (attend_board_of o) says.taken (filled (file_rule (codes "board"))) refl refl
+          (first_of (codes "board") (rows_after (leaf_at 3 p t r q).rules [] rest)) (says.first (codes "board")) reads.board;
+      board_every = number_given (leaf_at 3 p t r q).rules says.settings (codes "board-every") 1 60000 100 o.board_every (lit< tt) says.taken (filled (number_rule (codes "board-every") 1 60000)) refl refl refl
+          (first_of (codes "board-every") (rows_after (leaf_at 3 p t r q).rules [] rest)) (says.first (codes "board-every")) reads.board_every;
       clients = clients;
       some = some_clients (values_of (codes "client") says.settings) o.clients.items clients.each (some_values (codes "client") says.settings client);
+      agree = agree;
     }
 
 live_means : (p t r : Choices) (q : LiveChoices) (rest : List Text) (o : Options) (says : LeafSays (leaf_at 3 p t r q) rest) → texts q.planners.now ≡ planner_words → texts q.replies.now ≡ replies_words
@@ -332,7 +338,7 @@ live_means p t r q rest (Attend o) says planners replies reads =
     let never = same_lacks (λ id. value_of id says.settings) (λ id. first_of id (rows_after (leaf_at 3 p t r q).rules [] rest)) says.first reads.2 in
     let clash : Clashes (λ id. value_of id says.settings) → ⊥ = λ clashes. reads.3 (lacks_as Clashes (λ id. value_of id says.settings) (λ id. first_of id (rows_after (leaf_at 3 p t r q).rules [] rest)) (λ id. sym (says.first id)) clashes) in
     let client = log_has_client (λ id. value_of id says.settings) never (some_is (value_of (codes "log") says.settings) o.log.now (reads.1.log ∙ says.first (codes "log"))) in (
-      (refl, attend_given p t r q rest o says planners replies reads.1 client (attend_only says.settings (all_only p t r q rest says) clash client)),
+      (refl, attend_given p t r q rest o says planners replies reads.1 client clash),
       live_lacks (λ id. value_of id says.settings) (λ id. first_of id (rows_after (leaf_at 3 p t r q).rules [] rest)) says.first reads.2,
     )
 

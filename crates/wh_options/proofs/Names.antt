@@ -5,7 +5,7 @@ use Rattle.std.specs.Str.{bytes_eq}
 use Rattle.clap.proofs.WalkLemmas.{both}
 use Rattle.clap.specs.Lexer.{has_byte}
 use Rattle.wh_options.specs.Setting.{Setting, Text}
-use Rattle.wh_options.specs.Options.{EachGives, EachSays, HasOnly, all_live_names, attend_names, live_names, replay_names}
+use Rattle.wh_options.specs.Options.{EachGives, EachSays, HasOnly, all_live_names, live_names, replay_names}
 use Rattle.wh_options.specs.declared.chosen.Options.{Options}
 use Rattle.wh_options.specs.declared.chosen.Options.TheVariants.{Attend, Check, Replay, Verify, Live}
 use Rattle.wh_options.proofs.Shapes.{bytes_same}
@@ -43,7 +43,7 @@ gives_named name xs Check m = subst Named (sym m.1) tt
 gives_named name xs Verify m = subst Named (sym m.1) tt
 gives_named name xs (Replay o) m = only_named replay_names xs refl m.1.only
 gives_named name xs (Live o) m = only_named live_names xs refl m.1.only
-gives_named name xs (Attend o) m = only_named attend_names xs refl m.1.only
+gives_named name xs (Attend o) m = only_named all_live_names xs refl m.1.only
 
 pub says_named : (name : Text) (xs : List Setting) → EachSays name xs → Named xs
 says_named name xs (inl said) = only_named replay_names xs refl said.2.only

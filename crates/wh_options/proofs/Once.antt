@@ -259,9 +259,24 @@ attend_once xs ys o p all m n =
     let fleet = fleet_once xs ys o.fleet p.fleet agree m.fleet n.fleet in
     let journal = number_once xs ys (codes "journal") 10000 1 1000000 o.journal p.journal agree m.journal n.journal in
     let replies = replies_once xs ys o.replies p.replies agree m.replies n.replies in
+    let share = may_once xs ys (codes "share") 1 1000000 o.share p.share agree m.share n.share in
     let log : Some o.log.now ≡ Some p.log.now = m.log.is ∙ agree (codes "log") ∙ sym n.log.is in
-    let other : AllZip GivesClient (values_of (codes "client") xs) p.clients.items = subst (λ ts. AllZip GivesClient ts p.clients.items) (sym (all (codes "client"))) n.clients.each in
-    (fleet, journal, replies, some_same o.log.now p.log.now log, clients_once (values_of (codes "client") xs) o.clients.items p.clients.items m.clients.each other)
+    let every = may_once xs ys (codes "every") 1 60000 o.every p.every agree m.every n.every in
+    let counted : GivesNumber ys (codes "turns") (default_turns o.every) 1 100000 p.turns = subst (λ e. GivesNumber ys (codes "turns") (default_turns e) 1 100000 p.turns) (sym every) n.turns in
+    let turns = number_once xs ys (codes "turns") (default_turns o.every) 1 100000 o.turns p.turns agree m.turns counted in
+    let board_every = number_once xs ys (codes "board-every") 100 1 60000 o.board_every p.board_every agree m.board_every n.board_every in
+    let other : AllZip GivesClient (values_of (codes "client") xs) p.clients.items = subst (λ ts. AllZip GivesClient ts p.clients.items) (sym (all (codes "client"))) n.clients.each in (
+      fleet,
+      journal,
+      share,
+      replies,
+      some_same o.log.now p.log.now log,
+      every,
+      turns,
+      m.board.is ∙ agree (codes "board") ∙ sym n.board.is,
+      board_every,
+      clients_once (values_of (codes "client") xs) o.clients.items p.clients.items m.clients.each other,
+    )
 
 -- settings do not give options of running clients and options without
 not_both_ways : (xs ys : List Setting) (o : LiveOptions) (p : AttendOptions) → Agree xs ys → GivesLive xs o → GivesAttend ys p → ⊥

@@ -97,8 +97,8 @@ with_board_rules a =
 
 -- the options of running clients
 abbrev pub with_attend_rules : Choices → App → App
-with_attend_rules replies a = with_rule (with_rule (with_rule a (file_rule (codes "log")))
-    (choice_rule (codes "replies") replies)) (many_rule (codes "client"))
+with_attend_rules replies a = with_rule (with_rule (with_rule (with_rule a (file_rule (codes "log")))
+    (choice_rule (codes "replies") replies)) (number_rule (codes "share") 1 1000000)) (many_rule (codes "client"))
 
 -- the words that options of `live` choose from
 pub record LiveChoices : Type 0 where

@@ -1,5 +1,5 @@
 -- Which options the words of a command line give.
-use Rattle.std.specs.Prelude.{◌≡◌, ◌≢◌, ◌≤◌, ◌⊎◌, ℕ, List, [], ◌∷◌, Option, Some, None, MatchOption, codes, option_map, true}
+use Rattle.std.specs.Prelude.{◌≡◌, ◌≢◌, ◌≤◌, ◌⊎◌, ◌||◌, ℕ, Bool, List, [], ◌∷◌, ◌++◌, Option, Some, None, MatchOption, codes, option_map, true}
 use Rattle.std.specs.List.{AllByRecursion, AllZip, list_any}
 use Rattle.std.specs.Str.{bytes_eq}
 use Rattle.std.specs.Str.Parse.{IsNumeral, digits_value, without_leading_plus}
@@ -67,6 +67,10 @@ log_of o = option_map (λ s. s.now) o.log
 abbrev pub board_of : LiveOptions → Option Text
 board_of o = option_map (λ s. s.now) o.board
 
+-- the same, beside running clients
+abbrev pub attend_board_of : AttendOptions → Option Text
+attend_board_of o = option_map (λ s. s.now) o.board
+
 -- the file named by this option, if one is, by a name that is not empty
 pub record GivesFile (settings : List Setting) (option : Text) (file : Option Text) : Type 0 where
   pub is : file ≡ value_of option settings
@@ -109,16 +113,11 @@ abbrev pub live_names : List Text
 live_names = codes "planner" ∷ codes "slots" ∷ codes "bank" ∷ codes "spares" ∷ codes "turns"
     ∷ codes "journal" ∷ codes "every" ∷ codes "board" ∷ codes "board-every" ∷ []
 
--- the options of `live` with running clients
-abbrev pub attend_names : List Text
-attend_names = codes "planner" ∷ codes "slots" ∷ codes "bank" ∷ codes "spares" ∷ codes "journal"
-    ∷ codes "log" ∷ codes "replies" ∷ codes "client" ∷ []
-
--- all options of `live`, with running clients or without
+-- all options of `live`; each may stand beside running clients
 abbrev pub all_live_names : List Text
 all_live_names = codes "planner" ∷ codes "slots" ∷ codes "bank" ∷ codes "spares" ∷ codes "turns"
     ∷ codes "journal" ∷ codes "every" ∷ codes "board" ∷ codes "board-every" ∷ codes "log"
-    ∷ codes "replies" ∷ codes "client" ∷ []
+    ∷ codes "replies" ∷ codes "share" ∷ codes "client" ∷ []
 
 -- what each setting of `replay` says by itself
 pub record GivesReplay (settings : List Setting) (o : ReplayOptions) : Type 0 where
@@ -145,15 +144,42 @@ pub record GivesLive (settings : List Setting) (o : LiveOptions) : Type 0 where
   pub board : GivesFile settings (codes "board") (board_of o)
   pub board_every : GivesNumber settings (codes "board-every") 100 1 60000 o.board_every
 
+-- one is given, and the other is not
+abbrev pub Lacks : (Text → Option Text) → Text → Text → Type 0
+Lacks given one other = (given one ≢ None) × (given other ≡ None)
+
+-- a board in this file would replace a log in that one, or the site's text beside it: the board is written to FILE.new
+-- and then named FILE, and beside the log stands FILE.site
+abbrev pub covers : (board log : Text) → Bool
+covers board log = bytes_eq board log || (bytes_eq log (board ++ codes ".new") || bytes_eq board (log ++ codes ".site"))
+
+-- the board is given a file of the log
+pub record CoversLog (given : Text → Option Text) : Type 0 where
+  pub board : Text
+  pub log : Text
+  pub board_is : given (codes "board") ≡ Some board
+  pub log_is : given (codes "log") ≡ Some log
+  pub covered : covers board log ≡ true
+
+-- beside running clients the worker's turns are counted, and there is no worker; or the board is given a file of the log
+abbrev pub Clashes : (Text → Option Text) → Type 0
+Clashes given = (given (codes "client") ≢ None) × (Lacks given (codes "turns") (codes "every") ⊎ CoversLog given)
+
 -- what the settings of `live` say with running clients: at least one, and a log
 pub record GivesAttend (settings : List Setting) (o : AttendOptions) : Type 0 where
-  pub only : HasOnly attend_names settings
+  pub only : HasOnly all_live_names settings
   pub fleet : GivesFleet settings o.fleet
   pub journal : GivesNumber settings (codes "journal") 10000 1 1000000 o.journal
+  pub share : MayGive settings (codes "share") 1 1000000 o.share
   pub replies : GivesReplies settings o.replies
   pub log : GivesFile settings (codes "log") (Some o.log.now)
+  pub every : MayGive settings (codes "every") 1 60000 o.every
+  pub turns : GivesNumber settings (codes "turns") (default_turns o.every) 1 100000 o.turns
+  pub board : GivesFile settings (codes "board") (attend_board_of o)
+  pub board_every : GivesNumber settings (codes "board-every") 100 1 60000 o.board_every
   pub clients : GiveClients (values_of (codes "client") settings) o.clients.items
   pub some : o.clients.items ≢ []
+  pub agree : ¬ Clashes (λ id. value_of id settings)
 
 -- what each setting of a subcommand says by itself
 abbrev pub EachGives : Text → List Setting → Options → Type 0
@@ -162,10 +188,6 @@ EachGives name settings (Replay o) = (name ≡ codes "replay") × GivesReplay se
 EachGives name settings Verify = (name ≡ codes "verify") × (settings ≡ [])
 EachGives name settings (Live o) = (name ≡ codes "live") × GivesLive settings o
 EachGives name settings (Attend o) = (name ≡ codes "live") × GivesAttend settings o
-
--- one is given, and the other is not
-abbrev pub Lacks : (Text → Option Text) → Text → Text → Type 0
-Lacks given one other = (given one ≢ None) × (given other ≡ None)
 
 -- an option of `replay` is given without the one that it belongs to
 abbrev pub ReplayLacks : (Text → Option Text) → Type 0
@@ -178,7 +200,8 @@ abbrev pub LiveLacks : (Text → Option Text) → Type 0
 LiveLacks given = Lacks given (codes "board-every") (codes "board")
     ⊎ (Lacks given (codes "client") (codes "log")
     ⊎ (Lacks given (codes "log") (codes "client")
-    ⊎ Lacks given (codes "replies") (codes "client")))
+    ⊎ (Lacks given (codes "replies") (codes "client")
+    ⊎ Lacks given (codes "share") (codes "client"))))
 
 -- an option of this subcommand is given without the one that it belongs to
 abbrev pub LacksAny : Text → (Text → Option Text) → Type 0
@@ -201,6 +224,7 @@ pub record SaysLive (settings : List Setting) : Type 0 where
   pub live : LiveOptions
   pub replies : Replies
   pub log : Option Text
+  pub share : Option ℕ
   pub only : HasOnly all_live_names settings
   pub fleet : GivesFleet settings live.fleet
   pub turns : GivesNumber settings (codes "turns") (default_turns live.every) 1 100000 live.turns
@@ -210,17 +234,12 @@ pub record SaysLive (settings : List Setting) : Type 0 where
   pub board_every : GivesNumber settings (codes "board-every") 100 1 60000 live.board_every
   pub gives_replies : GivesReplies settings replies
   pub gives_log : GivesFile settings (codes "log") log
+  pub gives_share : MayGive settings (codes "share") 1 1000000 share
 
 -- each setting of `replay` or `live` says something by itself
 abbrev pub EachSays : Text → List Setting → Type 0
 EachSays name settings = ((name ≡ codes "replay") × (o : ReplayOptions) × GivesReplay settings o)
     ⊎ ((name ≡ codes "live") × SaysLive settings)
-
--- an option that clients do not go with is given beside them
-abbrev pub Clashes : (Text → Option Text) → Type 0
-Clashes given = (given (codes "client") ≢ None)
-    × ((given (codes "turns") ≢ None) ⊎ ((given (codes "every") ≢ None)
-    ⊎ ((given (codes "board") ≢ None) ⊎ (given (codes "board-every") ≢ None))))
 
 -- a way in which the settings of a subcommand, by what each name and `client` are given, do not go together
 abbrev pub Way : Type 1
@@ -230,11 +249,11 @@ Way = Text → (Text → Option Text) → List Text → Type 0
 abbrev pub IsLacking : Way
 IsLacking name given clients = LacksAny name given
 
--- none lacks another, and one clashes with clients
+-- none lacks another, and what is given beside clients clashes
 abbrev pub IsClashing : Way
 IsClashing name given clients = (name ≡ codes "live") × (¬ LiveLacks given) × Clashes given
 
--- none lacks another or clashes with clients, and the texts given for clients name none, or not each its own
+-- none lacks another and nothing clashes, and the texts given for clients name none, or not each its own
 abbrev pub IsClientless : Way
 IsClientless name given clients = (name ≡ codes "live") × (¬ LiveLacks given) × (¬ Clashes given)
     × (given (codes "client") ≢ None) × ((cs : List ClientOptions) → ¬ GiveClients clients cs)
@@ -253,6 +272,7 @@ AreSame (Replay o) (Replay p) = (o.fleet ≡ p.fleet) × (o.tail ≡ p.tail) × 
     × (log_of o ≡ log_of p) × (o.told ≡ p.told) × (o.vehicles ≡ p.vehicles)
 AreSame (Live o) (Live p) = (o.fleet ≡ p.fleet) × (o.turns ≡ p.turns) × (o.journal ≡ p.journal)
     × (o.every ≡ p.every) × (board_of o ≡ board_of p) × (o.board_every ≡ p.board_every)
-AreSame (Attend o) (Attend p) = (o.fleet ≡ p.fleet) × (o.journal ≡ p.journal) × (o.replies ≡ p.replies)
-    × (o.log.now ≡ p.log.now) × AllZip IsSameClient o.clients.items p.clients.items
+AreSame (Attend o) (Attend p) = (o.fleet ≡ p.fleet) × (o.journal ≡ p.journal) × (o.share ≡ p.share) × (o.replies ≡ p.replies)
+    × (o.log.now ≡ p.log.now) × (o.every ≡ p.every) × (o.turns ≡ p.turns) × (attend_board_of o ≡ attend_board_of p)
+    × (o.board_every ≡ p.board_every) × AllZip IsSameClient o.clients.items p.clients.items
 AreSame o p = o ≡ p

@@ -6,9 +6,9 @@ use Rattle.clap.specs.Words.{Row, Text, all_of}
 use Rattle.clap.specs.declared.error.kind.ErrorKind.{ErrorKind}
 use Rattle.clap.specs.declared.error.kind.ErrorKind.TheVariants.{ArgumentConflict, MissingRequiredArgument, ValueValidation}
 use Rattle.wh_client.specs.Clients.{GiveClients}
-use Rattle.wh_options.specs.Options.{Clashes, IsClashing, IsClientless, IsLacking, LiveLacks, ReplayLacks, Way, board_of, default_turns, log_of}
+use Rattle.wh_options.specs.Options.{Clashes, IsClashing, IsClientless, IsLacking, LiveLacks, ReplayLacks, Way, attend_board_of, board_of, default_turns, log_of}
 use Rattle.wh_options.specs.declared.mistake.Mistake.{Mistake}
-use Rattle.wh_options.specs.declared.mistake.Mistake.TheVariants.{AheadWithoutVehicles, BehindWithoutVehicles, BoardEveryWithClient, BoardEveryWithoutBoard, BoardWithClient, ClientWithoutLog, EveryWithClient, LogWithoutClient, NoClients, RepliesWithoutClient, ToldWithoutLog, TurnsWithClient}
+use Rattle.wh_options.specs.declared.mistake.Mistake.TheVariants.{AheadWithoutVehicles, BehindWithoutVehicles, BoardCoversLog, BoardEveryWithoutBoard, ClientWithoutLog, LogWithoutClient, NoClients, RepliesWithoutClient, ShareWithoutClient, ToldWithoutLog, TurnsWithClient}
 use Rattle.wh_options.specs.declared.chosen.PlannerKind.{PlannerKind}
 use Rattle.wh_options.specs.declared.chosen.PlannerKind.TheVariants.{Near, Patient}
 use Rattle.wh_options.specs.declared.chosen.Tail.{Tail}
@@ -83,8 +83,13 @@ pub record ReadsLive (given : Text → Option Text) (o : LiveOptions) : Type 0 w
 pub record ReadsAttend (given : Text → Option Text) (clients : List Text) (o : AttendOptions) : Type 0 where
   pub fleet : ReadsFleet given o.fleet
   pub journal : ReadsNumber (given (codes "journal")) 10000 o.journal
+  pub share : MayRead (given (codes "share")) o.share
   pub replies : o.replies ≡ replies_of (given (codes "replies"))
   pub log : Some o.log.now ≡ given (codes "log")
+  pub every : MayRead (given (codes "every")) o.every
+  pub turns : ReadsNumber (given (codes "turns")) (default_turns o.every) o.turns
+  pub board : attend_board_of o ≡ given (codes "board")
+  pub board_every : ReadsNumber (given (codes "board-every")) 100 o.board_every
   pub clients_are : GiveClients clients o.clients.items
 
 -- the subcommand and what was found for its arguments, as options
@@ -106,10 +111,9 @@ kind_of_mistake BoardEveryWithoutBoard = MissingRequiredArgument
 kind_of_mistake ClientWithoutLog = MissingRequiredArgument
 kind_of_mistake LogWithoutClient = MissingRequiredArgument
 kind_of_mistake RepliesWithoutClient = MissingRequiredArgument
+kind_of_mistake ShareWithoutClient = MissingRequiredArgument
 kind_of_mistake TurnsWithClient = ArgumentConflict
-kind_of_mistake EveryWithClient = ArgumentConflict
-kind_of_mistake BoardWithClient = ArgumentConflict
-kind_of_mistake BoardEveryWithClient = ArgumentConflict
+kind_of_mistake BoardCoversLog = ArgumentConflict
 kind_of_mistake NoClients = ValueValidation
 
 -- the options do not go together, and an error of this kind tells so

@@ -95,12 +95,23 @@ pub struct LiveOptions<'a> {
 pub struct AttendOptions<'a> {
     /// The planners of the run; each client has its own `spares`.
     pub fleet: Fleet,
-    /// How many entries more the history may have, 1 to 1000000; the clients share them equally.
+    /// How many entries more the history may have, 1 to 1000000.
     pub journal: u32,
+    /// How many entries more each client may have, 1 to 1000000; if none is named, the clients share those of `journal` equally.
+    pub share: Option<u32>,
     /// How the replies are told.
     pub replies: Replies,
     /// The name of the file that keeps the run's log; never empty.
     pub log: &'a str,
+    /// How many milliseconds the worker of all agents and the clock rests behind each turn, 1 to 60000, if there is one beside
+    /// the clients.
+    pub every: Option<u32>,
+    /// At most how many turns that worker takes, 1 to 100000; without it, of no account.
+    pub turns: u32,
+    /// The name of the file that shows the board while the run lasts, if one is to; never empty, and none of the log's.
+    pub board: Option<&'a str>,
+    /// How many milliseconds at least lie between two looks at the board, 1 to 60000.
+    pub board_every: u32,
     /// The clients, 1 to 62; no two have one number or one folder.
     pub clients: Vec<ClientOptions<'a>>,
 }

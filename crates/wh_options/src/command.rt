@@ -218,7 +218,7 @@ fn with_board<'a>(alloc: Global, command: Command<'a>) -> Result<Command<'a>, Al
     ensures { (a : App) → HasShape command.entry a → IfOk result (λ c. HasShape c (with_board_rules a)) }
 {
     let help =
-        "Shows the board in FILE while the run lasts: counts of tasks, and where each agent is; FILE is replaced as a whole";
+        "Shows the board in FILE while the run lasts: counts of tasks, and where each agent is, with --client by the entries that are synced; FILE is replaced as a whole, and is no file of the log";
     let command = with_file(alloc, command, "board", help)?;
     let help =
         "With --board: rests N milliseconds at least between two looks, 1 to 60000 [default: 100]";
@@ -240,6 +240,9 @@ fn with_attending<'a>(
         "With --client: how a reply is told: short, of a path its end; full, each cell; placed, full behind its entry's number and the clock [default: short]";
     let command = with_choice(alloc, command, "replies", replies, help)?;
     let help =
+        "With --client: entries more that each client may have, 1 to 1000000 [default: an equal part of --journal]";
+    let command = with_number(alloc, command, "share", 1, 1_000_000, help)?;
+    let help =
         "A running client: N=FOLDER or N=FOLDER:RIGHTS, with two named pipes in FOLDER, `in` and `out`; N is 0 to 61; RIGHTS are words of submit,token,tick,replace,close by commas, or all [default: submit]; many times";
     with_many(alloc, command, "client", "CLIENT", help)
 }
@@ -251,13 +254,13 @@ pub(crate) fn live_command<'a>(alloc: Global) -> Result<Command<'a>, AllocError>
     let about = "Runs clients, agents and a clock in threads (input: map, points, scripts)";
     let command = fleet_command(alloc, "live", about)?;
     let help =
-        "Requests of each agent, and ticks of the clock, 1 to 100000 [default: 64; with --every 100000]";
+        "Requests of each agent, and ticks of the clock; with --every, turns of the worker at most; with --client, beside --every alone; 1 to 100000 [default: 64; with --every 100000]";
     let command = with_number(alloc, command, "turns", 1, 100_000, help)?;
     let help =
         "Entries that the log may have, with --client entries more, 1 to 1000000 [default: 10000]";
     let command = with_number(alloc, command, "journal", 1, 1_000_000, help)?;
     let help =
-        "One worker for all agents and the clock, in place of a thread for each: rests N milliseconds behind each turn, 1 to 60000; ends where no task is open or under way";
+        "One worker for all agents and the clock, in place of a thread for each, with --client beside the clients: rests N milliseconds behind each turn, 1 to 60000; without --client it ends where no task is open or under way";
     let command = with_number(alloc, command, "every", 1, 60_000, help)?;
     let command = with_board(alloc, command)?;
     with_attending(alloc, command, REPLIES.as_slice())

@@ -1,7 +1,8 @@
 //! Options of a subcommand that do not go together.
-ghost use Rattle.std.specs.Prelude.{◌≡◌, IfOk, codes, is_some};
+ghost use Rattle.std.specs.Prelude.{◌≡◌, ◌++◌, IfOk, MatchBool, codes, is_some};
+ghost use Rattle.std.specs.Str.{bytes_eq};
 ghost use Rattle.clap.specs.Words.{first_value, found_of, kind_of};
-ghost use Rattle.wh_options.specs.Options.{Clashes, LiveLacks, ReplayLacks};
+ghost use Rattle.wh_options.specs.Options.{Clashes, CoversLog, LiveLacks, ReplayLacks, covers};
 ghost use Rattle.wh_options.specs.Reads.{Judges, kind_of_mistake};
 
 use crate::command::{live_command, replay_command};
@@ -26,14 +27,12 @@ pub(crate) enum Mistake {
     LogWithoutClient,
     /// How replies are told, and there are no running clients.
     RepliesWithoutClient,
-    /// Turns beside running clients.
+    /// How many entries each running client may have, and there are none.
+    ShareWithoutClient,
+    /// Turns beside running clients, and no worker that takes them.
     TurnsWithClient,
-    /// One worker for all agents beside running clients.
-    EveryWithClient,
-    /// A board beside running clients.
-    BoardWithClient,
-    /// How often a board is looked at beside running clients.
-    BoardEveryWithClient,
+    /// A board in a file of the log.
+    BoardCoversLog,
     /// Texts that do not name clients, each by a number and a folder of its own.
     NoClients,
 }
@@ -52,17 +51,14 @@ impl Mistake {
             Mistake::RepliesWithoutClient => {
                 "the argument '--replies <WORD>' needs '--client <CLIENT>'"
             }
+            Mistake::ShareWithoutClient => {
+                "the argument '--share <N>' needs '--client <CLIENT>'"
+            }
             Mistake::TurnsWithClient => {
-                "the argument '--turns <N>' cannot be used with '--client <CLIENT>'"
+                "the argument '--turns <N>' cannot be used with '--client <CLIENT>', unless '--every <N>' is given"
             }
-            Mistake::EveryWithClient => {
-                "the argument '--every <N>' cannot be used with '--client <CLIENT>'"
-            }
-            Mistake::BoardWithClient => {
-                "the argument '--board <FILE>' cannot be used with '--client <CLIENT>'"
-            }
-            Mistake::BoardEveryWithClient => {
-                "the argument '--board-every <N>' cannot be used with '--client <CLIENT>'"
+            Mistake::BoardCoversLog => {
+                "the argument '--board <FILE>' cannot be used with '--log <FILE>' where the board would replace the log, or FILE.site beside it"
             }
             Mistake::NoClients => {
                 "invalid value for '--client <CLIENT>': each wants N=FOLDER or N=FOLDER:RIGHTS, with a number from 0 to 61 and a folder of its own"
@@ -80,11 +76,9 @@ impl Mistake {
             | Mistake::BoardEveryWithoutBoard
             | Mistake::ClientWithoutLog
             | Mistake::LogWithoutClient
-            | Mistake::RepliesWithoutClient => ErrorKind::MissingRequiredArgument,
-            Mistake::TurnsWithClient
-            | Mistake::EveryWithClient
-            | Mistake::BoardWithClient
-            | Mistake::BoardEveryWithClient => ErrorKind::ArgumentConflict,
+            | Mistake::RepliesWithoutClient
+            | Mistake::ShareWithoutClient => ErrorKind::MissingRequiredArgument,
+            Mistake::TurnsWithClient | Mistake::BoardCoversLog => ErrorKind::ArgumentConflict,
             Mistake::NoClients => ErrorKind::ValueValidation,
         }
     }
@@ -150,25 +144,49 @@ pub(crate) fn mistake_of_live(live: &ArgMatches<'_>) -> Option<Mistake>
     if is_given(live, "replies") && !has_client {
         return Some(Mistake::RepliesWithoutClient);
     }
+    if is_given(live, "share") && !has_client {
+        return Some(Mistake::ShareWithoutClient);
+    }
     None
 }
 
-/// Which option of `live` is given beside running clients, and does not go with them, if one is.
+/// Whether a name is another with this end behind it.
+fn is_beside(name: &str, other: &str, end: &str) -> bool
+    ensures { result ≡ bytes_eq name.now (other.now ++ end.now) }
+{
+    match name.as_bytes().strip_suffix(end.as_bytes()) {
+        Some(front) => front == other.as_bytes(),
+        None => false,
+    }
+}
+
+/// Whether a board in this file would replace a log in that one, or the site's text beside it.
+fn covers(board: &str, log: &str) -> bool
+    ensures { result ≡ covers board.now log.now }
+{
+    board == log || is_beside(log, board, ".new") || is_beside(board, log, ".site")
+}
+
+/// Whether the board is given a file of the log.
+fn board_covers_log(live: &ArgMatches<'_>) -> bool
+    ensures { MatchBool result (CoversLog (first_value (found_of live.now))) (¬ CoversLog (first_value (found_of live.now))) }
+{
+    match (live.get_str("board"), live.get_str("log")) {
+        (Some(board), Some(log)) => covers(board, log),
+        _ => false,
+    }
+}
+
+/// What is given beside running clients, and does not go with them, if anything is.
 pub(crate) fn clash_of_live(live: &ArgMatches<'_>) -> Option<Mistake>
     ensures { Judges ErrorKind.ArgumentConflict Clashes (first_value (found_of live.now)) result }
 {
     let has_client = is_given(live, "client");
-    if is_given(live, "turns") && has_client {
+    if is_given(live, "turns") && !is_given(live, "every") && has_client {
         return Some(Mistake::TurnsWithClient);
     }
-    if is_given(live, "every") && has_client {
-        return Some(Mistake::EveryWithClient);
-    }
-    if is_given(live, "board") && has_client {
-        return Some(Mistake::BoardWithClient);
-    }
-    if is_given(live, "board-every") && has_client {
-        return Some(Mistake::BoardEveryWithClient);
+    if board_covers_log(live) && has_client {
+        return Some(Mistake::BoardCoversLog);
     }
     None
 }

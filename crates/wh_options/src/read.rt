@@ -179,11 +179,17 @@ fn attend_options<'a>(
     let Some(clients) = clients(alloc, live)? else {
         return Ok(None);
     };
+    let every = number_if_given(live, "every");
     Ok(Some(AttendOptions {
         fleet: fleet(live),
         journal: number(live, "journal", 10_000),
+        share: number_if_given(live, "share"),
         replies: replies(live),
         log,
+        every,
+        turns: number(live, "turns", default_turns(every)),
+        board: live.get_str("board"),
+        board_every: number(live, "board-every", 100),
         clients,
     }))
 }
@@ -255,7 +261,7 @@ pub fn options<'a, W: AsStr>(alloc: Global, words: &'a [W]) -> Result<Options<'a
     // Where an option is given without the one that it belongs to, that is told.
     ensures lacking { IsAmiss IsLacking (map W.text words.now)
         → IsErrAnd result (IsKind ErrorKind.MissingRequiredArgument) }
-    // Where an option is given that does not go with running clients, that is told.
+    // Where what is given beside running clients does not go with them, that is told.
     ensures clashing { IsAmiss IsClashing (map W.text words.now)
         → IsErrAnd result (IsKind ErrorKind.ArgumentConflict) }
     // Where the texts given for clients name none, or not each its own, that is told.
