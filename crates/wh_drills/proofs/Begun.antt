@@ -1,5 +1,6 @@
--- What a run that is found in a journal starts from, and a journal behind which nothing stands yet.
-use Rattle.std.proofs.Common.{◌≡◌, ◌<◌, ℕ, Bool, true, All, List, [], sym, subst, Option, None, Some}
+-- What a run that is found in a journal starts from, a journal behind which nothing stands yet, and how few callers one client and
+-- a worker are.
+use Rattle.std.proofs.Common.{◌≡◌, ◌≤◌, ℕ, List, [], length, sym, subst, arith, Option, None, Some}
 use Rattle.std.specs.Io.KnownBytes.{Appends}
 use Rattle.std.proofs.KnownBytes.{Appends-nil}
 use Rattle.wh_points.specs.Points.{Site}
@@ -8,6 +9,8 @@ use Rattle.wh_journal.specs.Journals.{lines_for}
 use Rattle.wh_continue.specs.Starting.{StartsByFile, StartsIn}
 use Rattle.wh_continue.specs.Running.{IsStartOf}
 use Rattle.wh_continue.specs.declared.starting.Start.{Start}
+use Rattle.wh_crew.specs.declared.agents.Pace.{Pace}
+use Rattle.wh_host.specs.Pacing.{callers_of}
 
 starts_here : (site : Site) (slots : List ℕ) (file : Option (List ℕ)) (start : Start) → StartsByFile site slots file start → IsStartOf file start
 starts_here site slots None start from = tt
@@ -21,8 +24,7 @@ pub bare_start : (start now : Option (List ℕ)) (history : List Entry) → now 
 bare_start start now history same none =
     subst (λ (h : List Entry). Appends start now (lines_for h)) (sym none) (subst (λ (s : Option (List ℕ)). Appends s now []) same (Appends-nil now))
 
--- entries that were found to be one caller's, beside one client
-pub callers_of : (seen history : List Entry) (clients : ℕ) (one : Bool) → seen ≡ history → clients ≡ 1 → one ≡ true → (one ≡ true → All (λ (entry : Entry). entry.caller < 1) seen)
-    → All (λ (entry : Entry). entry.caller < clients) history
-callers_of seen history clients one same alone is all =
-    subst (λ (n : ℕ). All (λ (entry : Entry). entry.caller < n) history) (sym alone) (subst (λ (h : List Entry). All (λ (entry : Entry). entry.caller < 1) h) same (all is))
+-- one client, and maybe a worker, are at most 64 callers
+pub few_callers : {C : Type 0} (clients : List C) (pace : Option Pace) → length clients ≡ 1 → callers_of clients pace ≤ 64
+few_callers clients None one = omega (arith, one)
+few_callers clients (Some pace) one = omega (arith, one)

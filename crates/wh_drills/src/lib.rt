@@ -12,9 +12,15 @@ mod desks;
 #[cfg(test)]
 mod gates;
 #[cfg(test)]
+mod hosting;
+#[cfg(test)]
+mod houses;
+#[cfg(test)]
 mod joining;
 #[cfg(test)]
 mod parts;
+#[cfg(test)]
+mod screens;
 #[cfg(test)]
 mod serving;
 #[cfg(test)]

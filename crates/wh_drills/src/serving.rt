@@ -20,8 +20,8 @@ use wh_journal::MemoryJournal;
 use wh_planner::Planner;
 use wh_planners::Patient;
 use wh_serve::{
-    Allowance, Client, Connection, Doors, End, Form, JournalName, Rights, Scribe, ServeFault,
-    Served, serve_clients,
+    Allowance, CallFault, Client, Connection, Doors, End, Form, Full, JournalName, Rights, Scribe,
+    ServeFault, Served, serve_clients,
 };
 
 /// What client 0 sends first: the line that was begun is no command.
@@ -51,6 +51,8 @@ struct Bytes<'a, X: Wait> {
     gone: AtomicU64,
     over: AtomicU64,
     limits: AtomicU64,
+    /// How often the doors were told what is not to come here.
+    odd: AtomicU64,
     left: Mutex<Vec<Left>>,
 }
 
@@ -92,6 +94,14 @@ impl<'a, X: Wait + Sync> Doors<&'static [u8], Vec<u8>> for Bytes<'a, X> {
 
     fn end(&self) {
         self.over.fetch_add(1, SeqCst);
+    }
+
+    fn is_full(&self, _client: u32, _what: Full) {
+        self.odd.fetch_add(1, SeqCst);
+    }
+
+    fn worker_ends(&self, _why: CallFault) {
+        self.odd.fetch_add(1, SeqCst);
     }
 
     fn leave(&self, client: u32, outcome: &Result<Served, ServeFault>, writer: Vec<u8>) {
@@ -169,20 +179,20 @@ fn serve<
 {
     let front = publisher.front().again();
     let (desk, passes) = Desk::<N, H, P>::open(alloc, warehouse, cells, publisher, 2)?;
-    let scribe = Scribe::<N, S, MemoryJournal>::new(journal, &front, 0);
+    let scribe = Scribe::<N, S, MemoryJournal>::new(alloc, journal, &front, 0);
     match serve_clients::<_, _, _, _, _, _, R, W, _>(
         rt,
         alloc,
         Form::Short,
-        desk,
+        &desk,
         &scribe,
         passes,
         clients,
         doors,
     ) {
-        Ok(hosted) => Ok(Kept {
+        Ok(reports) => Ok(Kept {
             journal: scribe.into_journal().journal,
-            connections: hosted.connections,
+            connections: reports.connections,
         }),
         Err(_) => Err("two threads, and memory".into()),
     }
@@ -276,6 +286,7 @@ fn shut<'a, X: Wait>(rt: &'a X, alloc: Global) -> Bytes<'a, X> {
         gone: AtomicU64::new(0),
         over: AtomicU64::new(0),
         limits: AtomicU64::new(0),
+        odd: AtomicU64::new(0),
         left: Mutex::new(Vec::new(alloc)),
     }
 }
@@ -285,7 +296,7 @@ fn client_comes_again(rt: HostRuntime) -> Result<(), Fail> {
     let doors = shut(&rt, rt.alloc());
     let journal = MemoryJournal::new(rt.alloc());
     let kept = serve_two::<_, &'static [u8], Vec<u8>, _>(&rt, rt.alloc(), journal, &doors)?;
-    assert_eq!(rt; doors.limits.load(SeqCst), 0);
+    assert_eq!(rt; (doors.limits.load(SeqCst), doors.odd.load(SeqCst)), (0, 0));
     assert!(rt; as_told(doors.left.lock(&rt).as_slice()));
     // Client 0 was asked for twice and client 1 twice, in vain once; and the close ended it, once.
     let counts = (
@@ -317,10 +328,8 @@ fn journal_has_failed(rt: HostRuntime) -> Result<(), Fail> {
     let mut journal = MemoryJournal::new(rt.alloc());
     journal.has_failed = true;
     let kept = serve_two::<_, &'static [u8], Vec<u8>, _>(&rt, rt.alloc(), journal, &doors)?;
-    assert_eq!(rt;
-        (doors.limits.load(SeqCst), doors.over.load(SeqCst)),
-        (0, 1)
-    );
+    assert_eq!(rt; (doors.limits.load(SeqCst), doors.odd.load(SeqCst)), (0, 0));
+    assert_eq!(rt; doors.over.load(SeqCst), 1);
     assert!(rt; nobody_told(doors.left.lock(&rt).as_slice()));
     assert!(rt; kept.journal.held.is_empty());
     Ok(())

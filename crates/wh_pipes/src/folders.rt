@@ -10,13 +10,16 @@ use std::os::unix::fs::{FileTypeExt, MetadataExt};
 use std::sync::Arc;
 use std::sync::atomic::AtomicBool;
 use std::sync::atomic::Ordering::SeqCst;
+use wh_serve::Full;
 
-/// The two pipes of one client, where its thread stands in them, and whether the service is over.
+/// The two pipes of one client, where its thread stands in them, whether it was told what is full, and whether the service is over.
 #[derive(Drop)]
 pub(crate) struct ClientPipes {
     pub(crate) commands: String,
     pub(crate) replies: String,
     pub(crate) standing: Standing,
+    share_told: AtomicBool,
+    journal_told: AtomicBool,
     is_over: Arc<AtomicBool>,
 }
 
@@ -30,12 +33,23 @@ impl ClientPipes {
             commands: joined(alloc, folder, "/in")?,
             replies: joined(alloc, folder, "/out")?,
             standing: Standing::new(),
+            share_told: AtomicBool::new(false),
+            journal_told: AtomicBool::new(false),
             is_over,
         })
     }
 
     pub(crate) fn is_over(&self) -> bool {
         self.is_over.load(SeqCst)
+    }
+
+    /// Whether this is told for the first time, so that a client that asks on and on does not flood the log.
+    pub(crate) fn is_first(&self, what: Full) -> bool {
+        let told = match what {
+            Full::Share => &self.share_told,
+            Full::Journal => &self.journal_told,
+        };
+        !told.swap(true, SeqCst)
     }
 }
 

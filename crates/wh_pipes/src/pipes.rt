@@ -12,8 +12,9 @@ use std::sync::Arc;
 use std::sync::atomic::AtomicBool;
 use std::sync::atomic::Ordering::SeqCst;
 use std::time::Clock;
+use wh_desk::DeskFault;
 use wh_replay::ReplayFault;
-use wh_serve::{Connection, Doors, End, ServeFault, Served};
+use wh_serve::{CallFault, Connection, Doors, End, Full, ServeFault, Served};
 
 /// How many bytes of replies wait at most before they are written.
 const REPLIES_ROOM: usize = 4_096;
@@ -111,6 +112,41 @@ impl<'a, T: Files<File = File> + Eprint + Clock + Sync> Doors<Inlet<'a, T>, BufW
 
     fn end(&self) {
         self.is_over.store(true, SeqCst);
+    }
+
+    fn is_full(&self, client: u32, what: Full) {
+        let Some(pipes) = self.pipes(client) else {
+            return;
+        };
+        if !pipes.is_first(what) {
+            return;
+        }
+        let told = match what {
+            Full::Share => eprintln!(self.rt; "client {client}: its share of the entries is used"),
+            Full::Journal => eprintln!(self.rt; "client {client}: the journal is full"),
+        };
+        let _ = told;
+    }
+
+    fn worker_ends(&self, why: CallFault) {
+        let told = match why {
+            CallFault::Refused(DeskFault::Full) => {
+                eprintln!(self.rt; "agents and clock: refused E11")
+            }
+            CallFault::Refused(DeskFault::NoMemory) => {
+                eprintln!(self.rt; "agents and clock: refused E90")
+            }
+            CallFault::Refused(DeskFault::CellTaken) => {
+                eprintln!(self.rt; "agents and clock: refused E91")
+            }
+            CallFault::Refused(DeskFault::Stale) => {
+                eprintln!(self.rt; "agents and clock: refused E95")
+            }
+            CallFault::Failed | CallFault::Unkept => {
+                eprintln!(self.rt; "agents and clock: refused X5")
+            }
+        };
+        let _ = told;
     }
 
     fn leave(&self, client: u32, outcome: &Result<Served, ServeFault>, writer: BufWriter<Outlet>) {

@@ -170,11 +170,11 @@ module _ {X : Type 0} (may : Allowance) (cells : ℕ) (fits : X → Floor → Bo
       subst (λ (k : Result (Option Command) LineFault). Gives may cells fits count grid (asked k) (answers text k) old spares old spares (line_text fault ∷ [])) e
       (gives_nothing may cells fits count grid (answers text (Err fault)) old spares)
 
-  pub answered_receipt : (old : Received) (spares : List X) (command : Command) (receipt : ℕ × Entry) (new : Received) (rest : List X)
-      → Ok (Some command) ≡ line → MayCall may (length old.list) command → Receives fits count grid command old spares receipt new rest → Gives may cells fits count grid (asked line) (answers text line) old spares new rest (text receipt ∷ [])
-  answered_receipt old spares command receipt new rest e fine r =
-      subst (λ (k : Result (Option Command) LineFault). Gives may cells fits count grid (asked k) (answers text k) old spares new rest (text receipt ∷ [])) e
-      (record { outcomes = Ok receipt ∷ []; replies_are = refl; made = (rest, (fine, r.answers, r.takes), refl); caller_is = r.caller_is; gained = r.gained; known = r.known; filled = λ full. absurd (no_full receipt full) })
+  pub answered_receipt : (old : Received) (spares : List X) (command : Command) (receipt : ℕ × Entry) (new : Received) (rest : List X) (told : List ℕ) → told ≡ text receipt
+      → Ok (Some command) ≡ line → MayCall may (length old.list) command → Receives fits count grid command old spares receipt new rest → Gives may cells fits count grid (asked line) (answers text line) old spares new rest (told ∷ [])
+  answered_receipt old spares command receipt new rest told is e fine r =
+      subst (λ (k : Result (Option Command) LineFault). Gives may cells fits count grid (asked k) (answers text k) old spares new rest (told ∷ [])) e
+      (record { outcomes = Ok receipt ∷ []; replies_are = ap (λ (t : List ℕ). t ∷ []) is; made = (rest, (fine, r.answers, r.takes), refl); caller_is = r.caller_is; gained = r.gained; known = r.known; filled = λ full. absurd (no_full receipt full) })
 
   pub answered_without : (old : Received) (spares : List X) (command : Command) (why : NoReceipt) (new : Received) (rest : List X)
       → Ok (Some command) ≡ line → IsWhyNone may (length old.list) command why → Leaves cells old why new → rest ≡ spares → Gives may cells fits count grid (asked line) (answers text line) old spares new rest (without_text why ∷ [])
@@ -196,4 +196,4 @@ module _ {X : Type 0} (may : Allowance) (cells : ℕ) (fits : X → Floor → Bo
       → Ok (Some command) ≡ line → MayCall may (length old.list) command → (receipt : ℕ × Entry) × Receives fits count grid command old spares receipt new rest
       → (replies : List (List ℕ)) × Gives may cells fits count grid (asked line) (answers text line) old spares new rest replies × (length replies ≤ 1)
   answered_untold old spares command new rest e fine r =
-      (text r.0 ∷ [], answered_receipt old spares command r.0 new rest e fine r.1, omega arith)
+      (text r.0 ∷ [], answered_receipt old spares command r.0 new rest (text r.0) refl e fine r.1, omega arith)

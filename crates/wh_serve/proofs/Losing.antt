@@ -25,6 +25,8 @@ use Rattle.wh_serve.specs.declared.call.Came.TheVariants as came
 use Rattle.wh_serve.specs.declared.client.Unserved.{Unserved}
 use Rattle.wh_serve.specs.declared.client.Unserved.TheVariants as unserved
 use Rattle.wh_serve.specs.declared.served.ServeFault.TheVariants.{Unjournaled}
+use mathlib.Core.List.{IsPrefix}
+use Rattle.wh_board.proofs.Fronts.{prefix_self}
 use Rattle.wh_serve.proofs.Giving.{answered_untold}
 use Rattle.wh_serve.proofs.Serving.{output_line, stops_line}
 
@@ -34,6 +36,13 @@ pub loses_of : {X : Type 0} (may : Allowance) (cells : ℕ) (fits : X → Floor 
 loses_of may cells fits count grid text line command old spares new rest lost.Failed e c = c
 loses_of may cells fits count grid text line command old spares new rest lost.Unkept e c =
     answered_untold may cells fits count grid text line old spares command new rest e c.0 c.1
+
+-- what the pass knows of goes on, also where its line was not answered
+pub unserves_known : {X : Type 0} (may : Allowance) (cells : ℕ) (fits : X → Floor → Bool) (count : X → ℕ) (grid : Floor) (text : ℕ × Entry → List ℕ) (line : Result (Option Command) LineFault)
+    (old : Received) (spares : List X) (new : Received) (rest : List X) (had has : Option (List ℕ)) (why : Unserved) → Unserves may cells fits count grid text line old spares new rest had has why → IsPrefix old.known new.known
+unserves_known may cells fits count grid text line old spares new rest had has unserved.Unwritten s = s.gives.known
+unserves_known may cells fits count grid text line old spares new rest had has (unserved.Lost lost.Failed) s = subst (λ (p : Received). IsPrefix old.known p.known) (sym s.0.0) (prefix_self old.known)
+unserves_known may cells fits count grid text line old spares new rest had has (unserved.Lost lost.Unkept) s = s.0.1.known
 
 module _ {X : Type 0} (may : Allowance) (cells : ℕ) (fits : X → Floor → Bool) (count : X → ℕ) (grid : Floor) (text : ℕ × Entry → List ℕ)
     (i j k : Input) (old : Received) (spares : List X) (mid : Received) (held : List X) (new : Received) (rest : List X) (a b c d : Option (List ℕ)) (n : ℕ) (kept : List ℕ)

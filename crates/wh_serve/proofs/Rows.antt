@@ -1,25 +1,42 @@
 -- A client over one connection after another.
-use Rattle.std.proofs.Common.{◌≡◌, ◌+◌, ◌⊎◌, ℕ, List, [], ◌∷◌, ◌++◌, length, refl, ap, sym, ◌∙◌, inl, inr, arith, Option, Result, Ok, Err, Bool}
+use Rattle.std.proofs.Common.{◌≡◌, ◌+◌, ℕ, List, [], ◌∷◌, ◌++◌, refl, ap, sym, ◌∙◌, inl, inr, arith, subst, Option, Result, Ok, Err, Bool}
 use Rattle.std.proofs.lemmas.List.{length_push}
 use Rattle.std.specs.Prelude.{IfOk, IfErr}
 use Rattle.wh_lines.specs.Input.{Input}
 use Rattle.wh_grid.specs.Grids.{Floor}
 use Rattle.wh_event.specs.declared.entry.Entry.{Entry}
 use Rattle.wh_desk.specs.Lists.{Received}
+use mathlib.Core.List.{IsPrefix}
+use Rattle.wh_board.proofs.Fronts.{prefix_self}
+use Rattle.wh_serve.specs.Texts.{InEach}
 use Rattle.wh_serve.specs.Sessions.{ServesAll, Stops}
 use Rattle.wh_serve.specs.Rows.{Fared, Session, Visit, Row, Visits, Attended}
 use Rattle.wh_serve.specs.declared.allowance.Allowance.{Allowance}
 use Rattle.wh_serve.specs.declared.served.Served.{Served}
 use Rattle.wh_serve.specs.declared.served.ServeFault.{ServeFault}
 use Rattle.wh_serve.specs.declared.threads.Client.{Client}
-use Rattle.wh_serve.proofs.Hosts.{KeepsCaller}
 
-pub fared_of : {X : Type 0} (may : Allowance) (cells : ℕ) (fits : X → Floor → Bool) (count : X → ℕ) (grid : Floor) (text : ℕ × Entry → List ℕ) (outcome : Result Served ServeFault) (before after : Input) (old : Received) (spares : List X) (new : Received) (rest : List X) (had has : Option (List ℕ))
-    → IfOk outcome (λ r. ServesAll may cells fits count grid text before after old spares new rest had has r.replies r.end)
-    → IfErr outcome (λ fault. Stops may cells fits count grid text fault before after old spares new rest had has)
-    → Fared may cells fits count grid text outcome before after old spares new rest had has
+pub fared_of : {X : Type 0} (may : Allowance) (cells : ℕ) (fits : X → Floor → Bool) (count : X → ℕ) (grid : Floor) (text : List Entry → ℕ × Entry → List ℕ) (outcome : Result Served ServeFault) (before after : Input) (old : Received) (spares : List X) (new : Received) (rest : List X) (had has : Option (List ℕ))
+    → IfOk outcome (λ r. InEach new.known (λ history. ServesAll may cells fits count grid (text history) before after old spares new rest had has r.replies r.end))
+    → IfErr outcome (λ fault. InEach new.known (λ history. Stops may cells fits count grid (text history) fault before after old spares new rest had has))
+    → InEach new.known (λ history. Fared may cells fits count grid (text history) outcome before after old spares new rest had has)
 fared_of may cells fits count grid text (Ok served) before after old spares new rest had has s t = s
 fared_of may cells fits count grid text (Err fault) before after old spares new rest had has s t = t
+
+-- ---- what is known goes on
+
+fared_known : {X : Type 0} (may : Allowance) (cells : ℕ) (fits : X → Floor → Bool) (count : X → ℕ) (grid : Floor) (text : ℕ × Entry → List ℕ) (outcome : Result Served ServeFault) (before after : Input) (old : Received) (spares : List X) (new : Received) (rest : List X) (had has : Option (List ℕ))
+    → Fared may cells fits count grid text outcome before after old spares new rest had has → IsPrefix old.known new.known
+fared_known may cells fits count grid text (Ok served) before after old spares new rest had has f = f.output.known
+fared_known may cells fits count grid text (Err fault) before after old spares new rest had has f = f.output.known
+
+pub session_known : {R W X : Type 0} (may : Allowance) (cells : ℕ) (fits : X → Floor → Bool) (count : X → ℕ) (grid : Floor) (text : ℕ × Entry → List ℕ) (remaining : R → Option (List ℕ)) (contents : W → Option (List ℕ))
+    (reader : R) (writer : W) (outcome : Result Served ServeFault) (left : W) (had : Received) (spares : List X) (has : Received) (rest : List X)
+    → Session may cells fits count grid text remaining contents reader writer outcome left had spares has rest → IsPrefix had.known has.known
+session_known may cells fits count grid text remaining contents reader writer outcome left had spares has rest (inl s) =
+    fared_known may cells fits count grid text outcome s.before s.after had spares has rest s.told (contents left) s.fared
+session_known may cells fits count grid text remaining contents reader writer outcome left had spares has rest (inr s) =
+    subst (λ (p : Received). IsPrefix had.known p.known) (sym s.same) (prefix_self had.known)
 
 -- ---- the caller stays
 
@@ -67,6 +84,6 @@ module _ {R W X : Type 0} (may : Allowance) (cells : ℕ) (fits : X → Floor �
 
 -- who is served keeps the caller
 pub attended_caller : {R W X : Type 0} (cells : ℕ) (fits : X → Floor → Bool) (count : X → ℕ) (grid : Floor) (text : ℕ × Entry → List ℕ) (remaining : R → Option (List ℕ)) (contents : W → Option (List ℕ))
-    → KeepsCaller (λ (c : Client X) had has n. Attended cells fits count grid text remaining contents c had has n)
+    (client : Client X) (had has : Received) (n : ℕ) → Attended cells fits count grid text remaining contents client had has n → has.caller ≡ had.caller
 attended_caller cells fits count grid text remaining contents client had has n a =
     row_caller client.allowance cells fits count grid text remaining contents a.visits.visits had client.spares.items has a.rest a.visits.row

@@ -1,9 +1,9 @@
 -- A client that is served line by line.
-use Rattle.std.proofs.Common.{◌≡◌, ◌+◌, ◌≤◌, ◌<◌, ℕ, List, [], ◌∷◌, ◌++◌, length, refl, sym, ap, ◌∙◌, arith, subst, Option, Some, None, append_assoc, append-nil, Bool, true, Result}
+use Rattle.std.proofs.Common.{◌≡◌, ◌+◌, ◌≤◌, ℕ, List, [], ◌∷◌, ◌++◌, length, refl, sym, ap, ◌∙◌, arith, subst, Option, Some, None, append_assoc, append-nil, Bool, true, Result}
 use Rattle.std.proofs.lemmas.List.{length-append}
 use Rattle.std.specs.Prelude.{IfSome}
 use Rattle.std.specs.Io.KnownBytes.{Appends, Keeps, Consumes, IsAtEnd}
-use Rattle.std.proofs.KnownBytes.{Consumes-whole, Keeps-refl, Consumes-nil, Consumes-trans, Appends-nil, Appends-trans, Appends-kept}
+use Rattle.std.proofs.KnownBytes.{Keeps-refl, Consumes-nil, Consumes-trans, Appends-nil, Appends-trans, Appends-kept}
 use Rattle.wh_text.specs.Lines.{lines_of, without_cr}
 use Rattle.wh_text.proofs.CutLemmas.{lines-feed}
 use Rattle.wh_lines.specs.Text.{IsPlain, short_line}

@@ -5,7 +5,9 @@ use Rattle.wh_event.specs.declared.entry.Entry.{Entry}
 use Rattle.wh_event.specs.declared.event.Command.{Command}
 use Rattle.wh_desk.specs.Lists.{Received}
 use Rattle.wh_desk.specs.Calls.{Refuses}
+use Rattle.wh_desk.specs.Pasts.{Origin}
 use Rattle.wh_scribe.specs.Calls.{Receives}
+use Rattle.wh_serve.specs.Texts.{InEach, clock_at}
 use Rattle.wh_serve.specs.Allowances.{MayCall, IsWhyNone}
 use Rattle.wh_serve.specs.declared.allowance.Allowance.{Allowance}
 use Rattle.wh_serve.specs.declared.call.NoReceipt.{NoReceipt}
@@ -30,3 +32,9 @@ Comes may cells fits count grid command had spares has left (came.Without why) =
 Comes may cells fits count grid command had spares has left (came.Lost lost.Failed) = (has ≡ had) × (left ≡ spares)
 Comes may cells fits count grid command had spares has left (came.Lost lost.Unkept) =
     MayCall may (length had.list) command × ((receipt : ℕ × Entry) × Receives fits count grid command had spares receipt has left)
+
+-- a receipt tells the clock before its place
+abbrev pub TellsClock : Origin → List Entry → Came → Type 0
+TellsClock origin known (came.Receipt receipt) = InEach known (λ history. receipt.clock ≡ clock_at origin history receipt.position)
+TellsClock origin known (came.Without why) = Unit {0}
+TellsClock origin known (came.Lost why) = Unit {0}

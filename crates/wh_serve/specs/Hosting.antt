@@ -1,8 +1,6 @@
--- that clients were served by one history
-use Rattle.std.specs.Prelude.{◌≡◌, ℕ, List, length, Some, slice_get}
-use mathlib.Core.List.{IsPrefix}
-use Rattle.wh_event.specs.declared.entry.Entry.{Entry}
-use Rattle.wh_desk.specs.Lists.{Received, entries_of}
+-- that each client was served
+use Rattle.std.specs.Prelude.{◌≡◌, ℕ, List, Some, slice_get}
+use Rattle.wh_desk.specs.Lists.{Received}
 
 -- the client and the pass are those at place i
 pub record IsDue {C : Type 0} (clients : List C) (passes : List Received) (i : ℕ) (client : C) (had : Received) : Type 0 where
@@ -14,19 +12,9 @@ abbrev pub ReportAt : {C : Type 0} → (C → Received → Received → ℕ → 
 ReportAt {C} serves clients passes i has connections =
     (client : C) (had : Received) → slice_get clients i ≡ Some client → slice_get passes i ≡ Some had → serves client had has connections
 
--- a client was served by what is the caller's in the history, and knows of a beginning of it
-pub record ServedBy {C : Type 0} (serves : C → Received → Received → ℕ → Type 0) (history : List Entry) (caller : ℕ)
-    (client : C) (had : Received) (connections : ℕ) : Type 0 where
-  pub has : Received
-  pub caller_is : has.caller ≡ caller
-  pub list_is : has.list ≡ entries_of history caller
-  pub knows : IsPrefix has.known history
-  pub served : serves client had has connections
-
--- each client was served by what is its caller's in the history
-pub record AllServed {C : Type 0} (serves : C → Received → Received → ℕ → Type 0) (clients : List C) (passes : List Received)
-    (history : List Entry) (connections : List ℕ) : Type 0 where
-  pub one_each : length connections ≡ length clients
-  pub each : (i : ℕ) (client : C) (had : Received) (times : ℕ) →
-      slice_get clients i ≡ Some client → slice_get passes i ≡ Some had → slice_get connections i ≡ Some times →
-      ServedBy serves history i client had times
+-- Each client was served with the pass at its place, over so many connections as stand at its place, and its pass was left as it
+-- stands there in the second list of passes.
+abbrev pub AllReported : {C : Type 0} → (C → Received → Received → ℕ → Type 0) → List C → List Received → List Received → List ℕ → Type 0
+AllReported {C} serves clients passes left connections =
+    (i : ℕ) (client : C) (had has : Received) (times : ℕ) → slice_get clients i ≡ Some client → slice_get passes i ≡ Some had
+    → slice_get left i ≡ Some has → slice_get connections i ≡ Some times → serves client had has times

@@ -1,7 +1,7 @@
 //! One command of a client: a call of the desk through the journal, where it may make one.
 
 ghost use Rattle.std.specs.Prelude.{length};
-ghost use Rattle.wh_serve.specs.Calls.{Comes};
+ghost use Rattle.wh_serve.specs.Calls.{Comes, TellsClock};
 
 use crate::allowance::Allowance;
 use std::alloc::Global;
@@ -61,7 +61,8 @@ pub(crate) fn call_allowed<
     command: Command,
     spares: &mut Vec<P>,
 ) -> Came
-    ensures { Comes may (length N.cells) P.fits_map P.slot_count N.origin.site.grid command pass.old spares.old.items pass.new spares.new.items result }
+    ensures came { Comes may (length N.cells) P.fits_map P.slot_count N.origin.site.grid command pass.old spares.old.items pass.new spares.new.items result }
+    ensures clock { TellsClock N.origin pass.new.known result }
 {
     if !may.rights.allow(&command) {
         return Came::Without(NoReceipt::Barred);

@@ -6,7 +6,7 @@ ghost use Rattle.wh_lines.specs.Text.{short_line};
 ghost use Rattle.wh_lines.specs.Input.{left};
 ghost use Rattle.wh_replay.specs.Answers.{said, text_of};
 ghost use Rattle.wh_replay.specs.Scripts.{WritesFront, fault_of};
-ghost use Rattle.wh_serve.specs.Texts.{receipt_text};
+ghost use Rattle.wh_serve.specs.Texts.{InEach, receipt_text};
 ghost use Rattle.wh_serve.specs.Tellings.{texts};
 ghost use Rattle.wh_serve.specs.Sessions.{Serves, ServesAll, Outputs, Stops};
 ghost use Rattle.wh_serve.specs.Losses.{Unserves, unserved_fault};
@@ -14,15 +14,15 @@ ghost use Rattle.wh_serve.specs.Losses.{Unserves, unserved_fault};
 use crate::allowance::Allowance;
 use crate::call::Lost;
 use crate::doors::Doors;
-use crate::form::Form;
 use crate::served::{End, ServeFault, Served};
-use crate::told::{Told, answer, closes, write_told};
+use crate::told::{Told, answer, closes, full_of, write_told};
 use std::alloc::Global;
 use std::io::{Read, Write};
 use std::sync::Wait;
 use wh_desk::{Desk, DeskName, Pass};
 use wh_journal::Journal;
 use wh_lines::{CommandLine, LineFault, Lines, Next, ReadFault};
+use wh_log::Form;
 use wh_planner::Planner;
 use wh_replay::{ReplayFault, WriteFault};
 use wh_scribe::{JournalName, Scribe};
@@ -72,6 +72,13 @@ fn pass_on<R: Read, W: Write, D: Doors<R, W>>(
     }
 }
 
+/// Where a command was not carried out since something is full, the operator is told.
+fn tell_operator<R: Read, W: Write, D: Doors<R, W>>(told: &Told, doors: &D, number: u32) {
+    if let Some(what) = full_of(told) {
+        doors.is_full(number, what);
+    }
+}
+
 /// Why a line was not answered.
 #[derive(Clone, Copy, Debug, PartialEq, Eq)]
 enum Unserved {
@@ -113,15 +120,17 @@ fn serve_line<
     pass: &mut Pass<N>,
     spares: &mut Vec<P>,
     doors: &D,
+    number: u32,
 ) -> Result<u64, Unserved>
-    ensures ok { IfOk result (λ count. Serves may (length N.cells) P.fits_map P.slot_count N.origin.site.grid (receipt_text form) (said (short_line line.now)) pass.old spares.old.items pass.new spares.new.items (W.contents writer.old) (W.contents writer.new) count) }
+    ensures ok { IfOk result (λ count. InEach pass.new.known (λ history. Serves may (length N.cells) P.fits_map P.slot_count N.origin.site.grid (receipt_text form N.origin history) (said (short_line line.now)) pass.old spares.old.items pass.new spares.new.items (W.contents writer.old) (W.contents writer.new) count)) }
     ensures few { IfOk result (λ count. count ≤ 1) }
-    ensures err { IfErr result (λ why. Unserves may (length N.cells) P.fits_map P.slot_count N.origin.site.grid (receipt_text form) (said (short_line line.now)) pass.old spares.old.items pass.new spares.new.items (W.contents writer.old) (W.contents writer.new) why) }
+    ensures err { IfErr result (λ why. InEach pass.new.known (λ history. Unserves may (length N.cells) P.fits_map P.slot_count N.origin.site.grid (receipt_text form N.origin history) (said (short_line line.now)) pass.old spares.old.items pass.new spares.new.items (W.contents writer.old) (W.contents writer.new) why)) }
 {
     let told = match answer(rt, alloc, form, may, line, desk, scribe, pass, spares) {
         Ok(told) => told,
         Err(lost) => return Err(Unserved::Lost(lost)),
     };
+    tell_operator(&told, doors, number);
     match pass_on(form, writer, &told, doors) {
         Ok(count) => Ok(count),
         Err(_) => Err(Unserved::Unwritten),
@@ -150,10 +159,11 @@ fn serve_all<
     pass: &mut Pass<N>,
     spares: &mut Vec<P>,
     doors: &D,
+    number: u32,
 ) -> Result<Served, ServeFault>
     requires { lines.old.failed ≡ false }
-    ensures ok { IfOk result (λ r. ServesAll may (length N.cells) P.fits_map P.slot_count N.origin.site.grid (receipt_text form) lines.old lines.new pass.old spares.old.items pass.new spares.new.items (W.contents writer.old) (W.contents writer.new) r.replies r.end) }
-    ensures fault { IfErr result (λ fault. Stops may (length N.cells) P.fits_map P.slot_count N.origin.site.grid (receipt_text form) fault lines.old lines.new pass.old spares.old.items pass.new spares.new.items (W.contents writer.old) (W.contents writer.new)) }
+    ensures ok { IfOk result (λ r. InEach pass.new.known (λ history. ServesAll may (length N.cells) P.fits_map P.slot_count N.origin.site.grid (receipt_text form N.origin history) lines.old lines.new pass.old spares.old.items pass.new spares.new.items (W.contents writer.old) (W.contents writer.new) r.replies r.end)) }
+    ensures fault { IfErr result (λ fault. InEach pass.new.known (λ history. Stops may (length N.cells) P.fits_map P.slot_count N.origin.site.grid (receipt_text form N.origin history) fault lines.old lines.new pass.old spares.old.items pass.new spares.new.items (W.contents writer.old) (W.contents writer.new))) }
 {
     let mut line = CommandLine::new();
     let mut replies = 0;
@@ -171,7 +181,7 @@ fn serve_all<
                     });
                 }
                 match serve_line(
-                    rt, alloc, form, may, &line, writer, desk, scribe, pass, spares, doors,
+                    rt, alloc, form, may, &line, writer, desk, scribe, pass, spares, doors, number,
                 ) {
                     Ok(count) => replies += count,
                     Err(why) => return Err(unserved_fault(why)),
@@ -210,7 +220,9 @@ fn let_go<R: Read, W: Write, D: Doors<R, W>>(doors: &D, fault: ServeFault) {
 /// last spare. Each reply is a line; the writer is flushed before each read, which may wait.
 ///
 /// A receipt is told once the journal keeps its entry. Where the journal has failed the client is told nothing more, and the service
-/// ends.
+/// ends. Each command that came to E11 is told to the doors too, with the client's number.
+///
+/// A receipt's place and clock are those of the history that the pass knows then, and of each that goes on from it.
 ///
 /// A call may wait for the desk's lock, and for the journal. A line takes no memory of its own. A call whose reply could not be
 /// written stands, and so does one at which the journal failed.
@@ -236,14 +248,15 @@ pub fn serve_client<
     pass: &mut Pass<N>,
     spares: &mut Vec<P>,
     doors: &D,
+    number: u32,
 ) -> Result<Served, ServeFault>
     // What was written is the output of the whole lines that were read, told by the receipts that the pass gained, in order.
-    ensures ok { IfOk result (λ r. ServesAll may (length N.cells) P.fits_map P.slot_count N.origin.site.grid (receipt_text form) lines.old lines.new pass.old spares.old.items pass.new spares.new.items (W.contents writer.old) (W.contents writer.new) r.replies r.end) }
+    ensures ok { IfOk result (λ r. InEach pass.new.known (λ history. ServesAll may (length N.cells) P.fits_map P.slot_count N.origin.site.grid (receipt_text form N.origin history) lines.old lines.new pass.old spares.old.items pass.new spares.new.items (W.contents writer.old) (W.contents writer.new) r.replies r.end)) }
     // Where the reader tells its bytes, these are what was read, to the last line feed.
-    ensures output { IfOk result (λ r. IfSome (left lines.old) (λ script. Outputs may (length N.cells) P.fits_map P.slot_count N.origin.site.grid (receipt_text form) script pass.old spares.old.items pass.new spares.new.items (W.contents writer.old) (W.contents writer.new) r.replies r.end)) }
+    ensures output { IfOk result (λ r. InEach pass.new.known (λ history. IfSome (left lines.old) (λ script. Outputs may (length N.cells) P.fits_map P.slot_count N.origin.site.grid (receipt_text form N.origin history) script pass.old spares.old.items pass.new spares.new.items (W.contents writer.old) (W.contents writer.new) r.replies r.end))) }
     // On a fault this holds of a beginning of what came, of whole lines: all replies but the last were written, and the cause is a
     // true one.
-    ensures fault { IfErr result (λ fault. Stops may (length N.cells) P.fits_map P.slot_count N.origin.site.grid (receipt_text form) fault lines.old lines.new pass.old spares.old.items pass.new spares.new.items (W.contents writer.old) (W.contents writer.new)) }
+    ensures fault { IfErr result (λ fault. InEach pass.new.known (λ history. Stops may (length N.cells) P.fits_map P.slot_count N.origin.site.grid (receipt_text form N.origin history) fault lines.old lines.new pass.old spares.old.items pass.new spares.new.items (W.contents writer.old) (W.contents writer.new))) }
     // After a fault there is nothing more.
     ensures failed { OnErr result (lines.new.failed ≡ true) }
     ensures again { lines.old.failed ≡ true → (result ≡ Err (ServeFault.Cut ReplayFault.Broken)) × (lines.new ≡ lines.old) × (pass.new ≡ pass.old) × (spares.new.items ≡ spares.old.items) × Keeps (W.contents writer.old) (W.contents writer.new) }
@@ -252,7 +265,7 @@ pub fn serve_client<
         return Err(ServeFault::Cut(ReplayFault::Broken));
     }
     match serve_all(
-        rt, alloc, form, may, lines, writer, desk, scribe, pass, spares, doors,
+        rt, alloc, form, may, lines, writer, desk, scribe, pass, spares, doors, number,
     ) {
         Ok(served) => Ok(served),
         Err(fault) => {

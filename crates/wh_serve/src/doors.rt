@@ -3,6 +3,7 @@
 
 use crate::served::{ServeFault, Served};
 use std::io::{Read, Write};
+use wh_scribe::CallFault;
 
 /// One connection of a client: what it sends, and where it is told its replies.
 #[derive(Drop)]
@@ -11,7 +12,16 @@ pub struct Connection<R, W> {
     pub writer: W,
 }
 
-/// Where clients come in, each over one connection after another. All is called in the client's own thread.
+/// What is full, so that a command was not carried out.
+#[derive(Clone, Copy, Debug, PartialEq, Eq)]
+pub enum Full {
+    /// The client has as many entries as may be its own.
+    Share,
+    /// The journal has as many entries as it has places.
+    Journal,
+}
+
+/// Where clients come in, each over one connection after another. All that names a client is called in its own thread.
 pub trait Doors<R: Read, W: Write>: Sync {
     /// The client's next connection. It may take as long as the client does. `None`: no more are to come.
     fn open(&self, client: u32) -> Option<Connection<R, W>>;
@@ -22,6 +32,12 @@ pub trait Doors<R: Read, W: Write>: Sync {
     /// A client was told that the warehouse is closed, or nobody can be told anything more: the others are to be let go, wherever
     /// they stand.
     fn end(&self);
+
+    /// A command of the client was answered E11: its share of the entries is used, or the journal is full. Told at each such command.
+    fn is_full(&self, client: u32, what: Full);
+
+    /// The worker for all agents and the clock, where there is one beside the clients, ends here, at a call that told no receipt.
+    fn worker_ends(&self, why: CallFault);
 
     /// A connection is over, told at once, with how the client was served. Whoever takes the writer drops it, so that its other end is
     /// told that no more comes.

@@ -1,18 +1,13 @@
 //! Clients that are served at once: a thread for each, all over one desk and its journal.
 
-ghost use Rattle.std.specs.Prelude.{◌≡◌, ◌<◌, ◌≤◌, [], ℕ, All, IfOk, length, map, vec_len, vec_capacity, Some, slice_get};
-ghost use Rattle.wh_core.specs.Laws.{IsOpening};
-ghost use Rattle.wh_core.specs.Steps.{Run};
-ghost use Rattle.wh_desk.specs.Pasts.{origin_of, past_of};
+ghost use Rattle.std.specs.Prelude.{◌≡◌, ◌≤◌, [], ℕ, IfOk, length, map, vec_len, vec_capacity, Some, slice_get};
 ghost use Rattle.wh_desk.specs.Lists.{AllAt};
-ghost use Rattle.wh_desk.specs.Calls.{InOrder, NoneWantsPath};
-ghost use Rattle.wh_serve.specs.Texts.{receipt_text};
+ghost use Rattle.wh_serve.specs.Texts.{InEach, receipt_text};
 ghost use Rattle.wh_serve.specs.Rows.{Attended};
-ghost use Rattle.wh_serve.specs.Hosting.{IsDue, ReportAt, AllServed};
+ghost use Rattle.wh_serve.specs.Hosting.{AllReported, IsDue, ReportAt};
 
 use crate::allowance::Allowance;
 use crate::doors::{Connection, Doors};
-use crate::form::Form;
 use crate::start::{Start, Word};
 use crate::visits::serve_visits;
 use std::alloc::{AllocError, Global};
@@ -23,8 +18,9 @@ use std::sync::Wait;
 use std::thread;
 use std::thread::{Promise, PromisedHandle, Scope, Threads};
 use wh_crew::CrewFault;
-use wh_desk::{Desk, DeskName, History, Pass};
+use wh_desk::{Desk, DeskName, Pass};
 use wh_journal::Journal;
+use wh_log::Form;
 use wh_planner::Planner;
 use wh_scribe::{JournalName, Scribe};
 
@@ -52,10 +48,10 @@ pub struct Due<N: DeskName, R, W, P> {
 }
 
 impl<N: DeskName, R: Read, W: Write, P: Planner> Promise<Report<N>> for Due<N, R, W, P> {
-    ghost use Rattle.wh_serve.specs.Texts.{receipt_text};
+    ghost use Rattle.wh_serve.specs.Texts.{InEach, receipt_text};
     ghost use Rattle.wh_serve.specs.Rows.{Attended};
 
-    ghost kept_by = { λ due r. Attended (length N.cells) P.fits_map P.slot_count N.origin.site.grid (receipt_text due.form) (λ x. R.remaining x) (λ x. W.contents x) due.client.value due.had.value r.pass r.connections };
+    ghost kept_by = { λ due r. InEach r.pass.known (λ history. Attended (length N.cells) P.fits_map P.slot_count N.origin.site.grid (receipt_text due.form N.origin history) (λ x. R.remaining x) (λ x. W.contents x) due.client.value due.had.value r.pass r.connections) };
 }
 
 /// One client from its first connection to its last, with its pass moved in and out.
@@ -80,7 +76,7 @@ fn serve_whole<
     doors: &D,
     number: u32,
 ) -> Report<N>
-    ensures { Attended (length N.cells) P.fits_map P.slot_count N.origin.site.grid (receipt_text form) (λ x. R.remaining x) (λ x. W.contents x) client pass result.pass result.connections }
+    ensures { InEach result.pass.known (λ history. Attended (length N.cells) P.fits_map P.slot_count N.origin.site.grid (receipt_text form N.origin history) (λ x. R.remaining x) (λ x. W.contents x) client pass result.pass result.connections) }
 {
     let Client {
         mut spares,
@@ -124,7 +120,7 @@ fn serve_at<
     number: u32,
     word: Word,
 ) -> Report<N>
-    ensures served { Attended (length N.cells) P.fits_map P.slot_count N.origin.site.grid (receipt_text form) (λ x. R.remaining x) (λ x. W.contents x) client pass result.pass result.connections }
+    ensures served { InEach result.pass.known (λ history. Attended (length N.cells) P.fits_map P.slot_count N.origin.site.grid (receipt_text form N.origin history) (λ x. R.remaining x) (λ x. W.contents x) client pass result.pass result.connections) }
     ensures stopped { word ≡ Word.Stop → (result.pass ≡ pass) × (result.connections ≡ 0) }
 {
     match word {
@@ -175,7 +171,7 @@ fn start_one<
     let started = scope.spawn_with(
         due,
         move || -> Report<N>
-            ensures { Attended (length N.cells) P.fits_map P.slot_count N.origin.site.grid (receipt_text form) (λ x. R.remaining x) (λ x. W.contents x) client pass result.pass result.connections }
+            ensures { InEach result.pass.known (λ history. Attended (length N.cells) P.fits_map P.slot_count N.origin.site.grid (receipt_text form N.origin history) (λ x. R.remaining x) (λ x. W.contents x) client pass result.pass result.connections) }
         {
             let word = start.wait(rt);
             serve_at::<N, S, J, H, P, X, R, W, D>(
@@ -263,7 +259,7 @@ fn join_all<N: DeskName, P: Planner, X: Threads, R: Read + Drop, W: Write + Drop
     requires empty { reports.items ≡ [] }
     requires room { length handles.items ≤ vec_capacity reports }
     ensures count { length result.items ≡ length handles.items }
-    ensures kept { AllAt (λ i r. (h : _) → slice_get handles.items i ≡ Some h → Attended (length N.cells) P.fits_map P.slot_count N.origin.site.grid (receipt_text h.promise.form) (λ x. R.remaining x) (λ x. W.contents x) h.promise.client.value h.promise.had.value r.pass r.connections) result.items }
+    ensures kept { AllAt (λ i r. (h : _) → slice_get handles.items i ≡ Some h → InEach r.pass.known (λ history. Attended (length N.cells) P.fits_map P.slot_count N.origin.site.grid (receipt_text h.promise.form N.origin history) (λ x. R.remaining x) (λ x. W.contents x) h.promise.client.value h.promise.had.value r.pass r.connections)) result.items }
 {
     for handle in handles {
         reports.push_reserved(handle.join(rt));
@@ -271,26 +267,26 @@ fn join_all<N: DeskName, P: Planner, X: Threads, R: Read + Drop, W: Write + Drop
     reports
 }
 
-/// The passes of the reports, and over how many connections each client was served.
-fn take_apart<N: DeskName>(
-    reports: Vec<Report<N>>,
-    mut passes: Vec<Pass<N>>,
-    mut connections: Vec<u64>,
-) -> (Vec<Pass<N>>, Vec<u64>)
-    requires empty { (passes.items ≡ []) × (connections.items ≡ []) }
-    requires room { (length reports.items ≤ vec_capacity passes) × (length reports.items ≤ vec_capacity connections) }
-    ensures passes { result.0.items ≡ map (λ r. r.pass) reports.items }
-    ensures connections { result.1.items ≡ map (λ r. r.connections) reports.items }
+/// What each client's thread left, in their order: its pass, and over how many connections it was served.
+#[derive(Drop)]
+pub struct Reports<N: DeskName> {
+    pub passes: Vec<Pass<N>>,
+    pub connections: Vec<u64>,
+}
+
+/// The same of the reports of all threads.
+fn take_apart<N: DeskName>(reports: Vec<Report<N>>, mut left: Reports<N>) -> Reports<N>
+    requires empty { (left.passes.items ≡ []) × (left.connections.items ≡ []) }
+    requires room { (length reports.items ≤ vec_capacity left.passes) × (length reports.items ≤ vec_capacity left.connections) }
+    ensures passes { result.passes.items ≡ map (λ r. r.pass) reports.items }
+    ensures connections { result.connections.items ≡ map (λ r. r.connections) reports.items }
 {
     for report in reports {
-        let Report {
-            pass,
-            connections: count,
-        } = report;
-        passes.push_reserved(pass);
-        connections.push_reserved(count);
+        let Report { pass, connections } = report;
+        left.passes.push_reserved(pass);
+        left.connections.push_reserved(connections);
     }
-    (passes, connections)
+    left
 }
 
 /// Each client in a thread of its own. All threads are joined when it returns, also where one could not be started.
@@ -319,7 +315,7 @@ fn run_all<
     requires empty { reports.items ≡ [] }
     requires room { length passes.items ≤ vec_capacity reports }
     ensures count { IfOk result (λ rs. length rs.items ≡ length passes.items) }
-    ensures reported { IfOk result (λ rs. AllAt (λ i r. ReportAt (λ c had has n. Attended (length N.cells) P.fits_map P.slot_count N.origin.site.grid (receipt_text form) (λ x. R.remaining x) (λ x. W.contents x) c had has n) clients.items passes.items i r.pass r.connections) rs.items) }
+    ensures reported { IfOk result (λ rs. AllAt (λ i r. ReportAt (λ c had has n. InEach has.known (λ history. Attended (length N.cells) P.fits_map P.slot_count N.origin.site.grid (receipt_text form N.origin history) (λ x. R.remaining x) (λ x. W.contents x) c had has n)) clients.items passes.items i r.pass r.connections) rs.items) }
 {
     let start = Start::new();
     let start = &start;
@@ -328,7 +324,7 @@ fn run_all<
         rt,
         move |scope| -> Result<Vec<Report<N>>, CrewFault>
             requires { (length clients.items ≡ length passes.items) × (reports.items ≡ []) × (length passes.items ≤ vec_capacity reports) }
-            ensures { IfOk result (λ rs. (length rs.items ≡ length passes.items) × AllAt (λ i r. ReportAt (λ c had has n. Attended (length N.cells) P.fits_map P.slot_count N.origin.site.grid (receipt_text form) (λ x. R.remaining x) (λ x. W.contents x) c had has n) clients.items passes.items i r.pass r.connections) rs.items) }
+            ensures { IfOk result (λ rs. (length rs.items ≡ length passes.items) × AllAt (λ i r. ReportAt (λ c had has n. InEach has.known (λ history. Attended (length N.cells) P.fits_map P.slot_count N.origin.site.grid (receipt_text form N.origin history) (λ x. R.remaining x) (λ x. W.contents x) c had has n)) clients.items passes.items i r.pass r.connections) rs.items) }
         {
             let handles = start_all(
                 scope, rt, alloc, form, desk, scribe, passes, clients, doors, start,
@@ -338,21 +334,12 @@ fn run_all<
     )
 }
 
-/// The history that the clients left, and over how many connections each of them was served, in their order.
-#[derive(Drop)]
-pub struct Hosted<P: Planner = Box<dyn Planner>> {
-    pub history: History<P>,
-    pub connections: Vec<u64>,
-}
-
 /// Serves client i with pass i in a thread of its own, over one connection after another, until no more of them are to come or
-/// the service is over; then the desk is finished. A client whose reader or writer fails may come again, and the others go on. The
-/// history is one run, and each entry is a client's. For each client its entries are those that its pass held before, and then
-/// the receipts by which it was told its replies, in order, over its connections; what was written to it is the output of
-/// what it sent. There are no more entries than the desk has cells.
+/// the service is over. A client whose reader or writer fails may come again, and the others go on. Each pass gained the receipts
+/// by which its client was told. The desk and the journal stay the caller's.
 ///
 /// No client is served before all threads stand, and none at all where one of them could not be started (E93) or room for what
-/// they leave could not be had (E90).
+/// they leave could not be had (E90). All threads are joined when it returns, then too.
 pub fn serve_clients<
     N: DeskName + Send + Sync,
     S: JournalName + Send + Sync,
@@ -367,59 +354,41 @@ pub fn serve_clients<
     rt: &X,
     alloc: Global,
     form: Form,
-    desk: Desk<N, H, P>,
+    desk: &Desk<N, H, P>,
     scribe: &Scribe<N, S, J>,
     passes: Vec<Pass<N>>,
     clients: Vec<Client<P>>,
     doors: &D,
-) -> Result<Hosted<P>, CrewFault>
-    requires passes { InOrder N.callers passes.items }
+) -> Result<Reports<N>, CrewFault>
     requires clients { length clients.items ≡ length passes.items }
-    ensures origin { IfOk result (λ c. origin_of c.history.warehouse.book ≡ N.origin) }
-    ensures opening { IfOk result (λ _. IsOpening N.origin.site N.origin.opening) }
-    ensures run { IfOk result (λ c. Run N.origin.site N.origin.opening c.history.warehouse.book.history c.history.warehouse.book.state) }
-    ensures callers { IfOk result (λ c. All (λ entry. entry.caller < N.callers) c.history.warehouse.book.history) }
-    ensures granted { IfOk result (λ c. NoneWantsPath N.origin c.history.warehouse.book.history) }
-    ensures within { IfOk result (λ c. length c.history.warehouse.book.history ≤ length N.cells) }
-    ensures book { IfOk result (λ c. c.history.front.book ≡ N.book) }
-    ensures past { IfOk result (λ c. c.history.front.past ≡ past_of c.history.warehouse.book) }
-    ensures served { IfOk result (λ c. AllServed (λ d had has n. Attended (length N.cells) P.fits_map P.slot_count N.origin.site.grid (receipt_text form) (λ x. R.remaining x) (λ x. W.contents x) d had has n) clients.items passes.items c.history.warehouse.book.history c.connections.items) }
+    ensures count { IfOk result (λ r. (length r.passes.items ≡ length clients.items) × (length r.connections.items ≡ length clients.items)) }
+    ensures served { IfOk result (λ r. AllReported (λ c had has n. InEach has.known (λ history. Attended (length N.cells) P.fits_map P.slot_count N.origin.site.grid (receipt_text form N.origin history) (λ x. R.remaining x) (λ x. W.contents x) c had has n)) clients.items passes.items r.passes.items r.connections.items) }
 {
-    let Ok(room) = make_room(alloc, passes.len()) else {
+    let Ok(Room { reports, left }) = make_room(alloc, passes.len()) else {
         return Err(CrewFault::NoMemory);
     };
-    let Room {
-        reports,
-        passes: ended,
-        connections,
-    } = room;
-    let reports = run_all(
-        rt, alloc, form, &desk, scribe, passes, clients, reports, doors,
-    )?;
-    let (ended, connections) = take_apart(reports, ended, connections);
-    match desk.finish(ended) {
-        Ok(history) => Ok(Hosted {
-            history,
-            connections,
-        }),
-        Err(_) => Err(CrewFault::Stale),
+    match run_all(
+        rt, alloc, form, desk, scribe, passes, clients, reports, doors,
+    ) {
+        Ok(reports) => Ok(take_apart(reports, left)),
+        Err(fault) => Err(fault),
     }
 }
 
 /// Room for what so many clients leave, made before the first thread starts.
 struct Room<N: DeskName> {
     reports: Vec<Report<N>>,
-    passes: Vec<Pass<N>>,
-    connections: Vec<u64>,
+    left: Reports<N>,
 }
 
 fn make_room<N: DeskName>(alloc: Global, count: usize) -> Result<Room<N>, AllocError>
-    ensures empty { IfOk result (λ r. (r.reports.items ≡ []) × (r.passes.items ≡ []) × (r.connections.items ≡ [])) }
-    ensures room { IfOk result (λ r. (count ≤ vec_capacity r.reports) × (count ≤ vec_capacity r.passes) × (count ≤ vec_capacity r.connections)) }
+    ensures empty { IfOk result (λ r. (r.reports.items ≡ []) × (r.left.passes.items ≡ []) × (r.left.connections.items ≡ [])) }
+    ensures room { IfOk result (λ r. (count ≤ vec_capacity r.reports) × (count ≤ vec_capacity r.left.passes) × (count ≤ vec_capacity r.left.connections)) }
 {
-    Ok(Room {
-        reports: Vec::with_capacity(alloc, count)?,
+    let reports = Vec::with_capacity(alloc, count)?;
+    let left = Reports {
         passes: Vec::with_capacity(alloc, count)?,
         connections: Vec::with_capacity(alloc, count)?,
-    })
+    };
+    Ok(Room { reports, left })
 }

@@ -5,14 +5,14 @@ ghost use Rattle.std.specs.Io.KnownBytes.{Appends};
 ghost use Rattle.wh_lines.specs.Text.{short_line};
 ghost use Rattle.wh_replay.specs.Answers.{asked, said, text_of};
 ghost use Rattle.wh_replay.specs.Scripts.{WritesFront};
-ghost use Rattle.wh_serve.specs.Texts.{entries_text, fault_text, receipt_text, without_text};
+ghost use Rattle.wh_serve.specs.Texts.{InEach, entries_text, fault_text, receipt_text, without_text};
 ghost use Rattle.wh_serve.specs.Outcomes.{Gives, answers, line_text};
 ghost use Rattle.wh_serve.specs.Losses.{Loses};
-ghost use Rattle.wh_serve.specs.Tellings.{closes, texts};
+ghost use Rattle.wh_serve.specs.Tellings.{closes, full_of, own_text, texts};
 
 use crate::allowance::Allowance;
 use crate::call::{Came, Lost, NoReceipt, call_allowed};
-use crate::form::{Form, tell};
+use crate::doors::Full;
 use arrayvec::ArrayVec;
 use std::alloc::Global;
 use std::io::Write;
@@ -21,6 +21,7 @@ use wh_desk::{Desk, DeskFault, DeskName, Pass, Receipt};
 use wh_event::{Command, LineFault, Reply, put_number, read_line};
 use wh_journal::Journal;
 use wh_lines::CommandLine;
+use wh_log::{Form, tell};
 use wh_planner::Planner;
 use wh_replay::{WriteFault, write_all};
 use wh_scribe::{JournalName, Scribe};
@@ -45,6 +46,17 @@ pub(crate) fn closes(told: &Told) -> bool
     match told {
         Told::Received(receipt) => matches!(receipt.entry.reply, Reply::Closed),
         Told::Nothing | Told::NoCommand(_) | Told::Without(_) => false,
+    }
+}
+
+/// What is full, where a command was not carried out since it is.
+pub(crate) fn full_of(told: &Told) -> Option<Full>
+    ensures { result ≡ full_of told.now }
+{
+    match told {
+        Told::Without(NoReceipt::ShareUsed) => Some(Full::Share),
+        Told::Without(NoReceipt::Refused(DeskFault::Full)) => Some(Full::Journal),
+        _ => None,
     }
 }
 
@@ -77,8 +89,8 @@ pub(crate) fn answer<
     pass: &mut Pass<N>,
     spares: &mut Vec<P>,
 ) -> Result<Told, Lost>
-    ensures ok { IfOk result (λ told. Gives may (length N.cells) P.fits_map P.slot_count N.origin.site.grid (asked (said (short_line line.now))) (answers (receipt_text form) (said (short_line line.now))) pass.old spares.old.items pass.new spares.new.items (texts form told)) }
-    ensures lost { IfErr result (λ lost. Loses may (length N.cells) P.fits_map P.slot_count N.origin.site.grid (receipt_text form) (said (short_line line.now)) pass.old spares.old.items pass.new spares.new.items lost) }
+    ensures ok { IfOk result (λ told. InEach pass.new.known (λ history. Gives may (length N.cells) P.fits_map P.slot_count N.origin.site.grid (asked (said (short_line line.now))) (answers (receipt_text form N.origin history) (said (short_line line.now))) pass.old spares.old.items pass.new spares.new.items (texts form told))) }
+    ensures lost { IfErr result (λ lost. InEach pass.new.known (λ history. Loses may (length N.cells) P.fits_map P.slot_count N.origin.site.grid (receipt_text form N.origin history) (said (short_line line.now)) pass.old spares.old.items pass.new spares.new.items lost)) }
 {
     match read_kept(line) {
         Ok(None) => Ok(Told::Nothing),
@@ -168,10 +180,16 @@ pub(crate) fn write_entries<W: Write>(writer: &mut W, count: u64) -> Result<(), 
 /// Writes what a receipt is told as and a line feed.
 #[tactic(auto, using(crate::proofs::Fronts::line_ended, crate::proofs::Fronts::line_begun, crate::proofs::Fronts::line_unended))]
 fn write_receipt<W: Write>(form: Form, writer: &mut W, receipt: &Receipt) -> Result<u64, WriteFault>
-    ensures ok { IfOk result (λ count. Appends (W.contents writer.old) (W.contents writer.new) (text_of (receipt_text form (receipt.now.position, receipt.now.entry) ∷ [])) × (count ≡ 1)) }
-    ensures err { OnErr result (WritesFront (W.contents writer.old) (W.contents writer.new) (text_of (receipt_text form (receipt.now.position, receipt.now.entry) ∷ []))) }
+    ensures ok { IfOk result (λ count. Appends (W.contents writer.old) (W.contents writer.new) (text_of (own_text form receipt.now ∷ [])) × (count ≡ 1)) }
+    ensures err { OnErr result (WritesFront (W.contents writer.old) (W.contents writer.new) (text_of (own_text form receipt.now ∷ []))) }
 {
-    match tell(form, writer, receipt.position, &receipt.entry) {
+    match tell(
+        form,
+        writer,
+        receipt.position,
+        receipt.clock,
+        &receipt.entry.reply,
+    ) {
         Ok(()) => match end_line(writer) {
             Ok(count) => Ok(count),
             Err(fault) => Err(fault),

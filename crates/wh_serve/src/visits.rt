@@ -1,13 +1,12 @@
 //! A client over one connection after another.
 
 ghost use Rattle.std.specs.Prelude.{length};
-ghost use Rattle.wh_serve.specs.Texts.{receipt_text};
+ghost use Rattle.wh_serve.specs.Texts.{InEach, receipt_text};
 ghost use Rattle.wh_serve.specs.Rows.{Session, Visits};
 
 use crate::allowance::Allowance;
 use crate::client::serve_client;
 use crate::doors::{Connection, Doors};
-use crate::form::Form;
 use crate::served::{ServeFault, Served};
 use crate::told::write_entries;
 use std::alloc::Global;
@@ -16,6 +15,7 @@ use std::sync::Wait;
 use wh_desk::{Desk, DeskName, Pass};
 use wh_journal::Journal;
 use wh_lines::Lines;
+use wh_log::Form;
 use wh_planner::Planner;
 use wh_replay::ReplayFault;
 use wh_scribe::{JournalName, Scribe};
@@ -49,8 +49,9 @@ fn serve_connection<
     pass: &mut Pass<N>,
     spares: &mut Vec<P>,
     doors: &D,
+    number: u32,
 ) -> Visited<W>
-    ensures { Session may (length N.cells) P.fits_map P.slot_count N.origin.site.grid (receipt_text form) (λ x. R.remaining x) (λ x. W.contents x) connection.reader connection.writer result.outcome result.writer pass.old spares.old.items pass.new spares.new.items }
+    ensures { InEach pass.new.known (λ history. Session may (length N.cells) P.fits_map P.slot_count N.origin.site.grid (receipt_text form N.origin history) (λ x. R.remaining x) (λ x. W.contents x) connection.reader connection.writer result.outcome result.writer pass.old spares.old.items pass.new spares.new.items) }
 {
     let Connection { reader, mut writer } = connection;
     match write_entries(&mut writer, pass.len()) {
@@ -68,6 +69,7 @@ fn serve_connection<
                 pass,
                 spares,
                 doors,
+                number,
             );
             Visited { outcome, writer }
         }
@@ -100,22 +102,22 @@ pub(crate) fn serve_visits<
     pass: &mut Pass<N>,
     spares: &mut Vec<P>,
     doors: &D,
-    client: u32,
+    number: u32,
 ) -> u64
-    ensures { Visits may (length N.cells) P.fits_map P.slot_count N.origin.site.grid (receipt_text form) (λ x. R.remaining x) (λ x. W.contents x) pass.old spares.old.items pass.new spares.new.items result }
+    ensures { InEach pass.new.known (λ history. Visits may (length N.cells) P.fits_map P.slot_count N.origin.site.grid (receipt_text form N.origin history) (λ x. R.remaining x) (λ x. W.contents x) pass.old spares.old.items pass.new spares.new.items result) }
 {
     for connections in 0..u64::MAX {
         if doors.is_over() {
             return connections;
         }
-        let Some(connection) = doors.open(client) else {
+        let Some(connection) = doors.open(number) else {
             return connections;
         };
         let visited = serve_connection(
-            rt, alloc, form, may, connection, desk, scribe, pass, spares, doors,
+            rt, alloc, form, may, connection, desk, scribe, pass, spares, doors, number,
         );
         let Visited { outcome, writer } = visited;
-        doors.leave(client, &outcome, writer);
+        doors.leave(number, &outcome, writer);
     }
     u64::MAX
 }

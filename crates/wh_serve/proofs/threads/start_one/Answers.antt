@@ -4,7 +4,7 @@ use denote.Param.Send.{sendable, given_send}
 use Rattle.wh_desk.specs.Lists.{Received}
 use Rattle.wh_desk.proofs.Sharing.{desk_sync, pass_send}
 use Rattle.wh_scribe.proofs.Sharing.{scribe_sync}
-use Rattle.wh_serve.specs.Texts.{receipt_text}
+use Rattle.wh_serve.specs.Texts.{InEach, receipt_text}
 use Rattle.wh_serve.specs.Rows.{Attended}
 use Rattle.wh_serve.proofs.Sending.{client_send, form_send, start_sync}
 use Rattle.wh_serve.proofs.threads.start_one.Goals as goal
@@ -27,8 +27,8 @@ spawn_with-started-requires-send-F g c κs within =
 
 pub spawn_with-started-requires-clause-keeps : goal.spawn_with-started-requires-clause-keeps
 spawn_with-started-requires-clause-keeps g c κs within = λ r s.
-    subst (λ d. Attended (length g.N.DeskName.cells) g.P.Planner.fits_map g.P.Planner.slot_count g.N.DeskName.origin.site.grid (receipt_text c.args.form) (λ x. g.R.Read.remaining x) (λ x. g.W.Write.contents x) d c.of.result.value r.pass r.connections) (sym c.of-2.ensures)
-    (subst (λ (p : Received). Attended (length g.N.DeskName.cells) g.P.Planner.fits_map g.P.Planner.slot_count g.N.DeskName.origin.site.grid (receipt_text c.args.form) (λ x. g.R.Read.remaining x) (λ x. g.W.Write.contents x) c.args.client p r.pass r.connections) (sym c.of.ensures) s)
+    subst (λ d. InEach r.pass.known (λ history. Attended (length g.N.DeskName.cells) g.P.Planner.fits_map g.P.Planner.slot_count g.N.DeskName.origin.site.grid (receipt_text c.args.form g.N.DeskName.origin history) (λ x. g.R.Read.remaining x) (λ x. g.W.Write.contents x) d c.of.result.value r.pass r.connections)) (sym c.of-2.ensures)
+    (subst (λ (p : Received). InEach r.pass.known (λ history. Attended (length g.N.DeskName.cells) g.P.Planner.fits_map g.P.Planner.slot_count g.N.DeskName.origin.site.grid (receipt_text c.args.form g.N.DeskName.origin history) (λ x. g.R.Read.remaining x) (λ x. g.W.Write.contents x) c.args.client p r.pass r.connections)) (sym c.of.ensures) s)
 
 pub spawn_with-started-requires-send-T : goal.spawn_with-started-requires-send-T
 spawn_with-started-requires-send-T g c κs within =

@@ -1,0 +1,102 @@
+//! The doors of one client over bytes, who waits for a cue.
+#![tactic(auto)]
+
+use super::gates::hold;
+use std::alloc::Global;
+use std::sync::atomic::AtomicU64;
+use std::sync::atomic::Ordering::SeqCst;
+use std::sync::{Mutex, Wait};
+use wh_serve::{CallFault, Connection, Doors, Full, ServeFault, Served};
+
+/// What the doors of the one client were told.
+#[derive(Drop)]
+pub struct Notes {
+    pub told: Vec<u8>,
+    pub outcome: Option<Result<Served, ServeFault>>,
+    pub fulls: Vec<(u32, Full)>,
+    pub ended: Option<CallFault>,
+}
+
+/// The doors of one client, with what it sends over its connections. So many of these come at once, and the next one behind a
+/// cue: that a worker has ended is one, and others may give more.
+#[derive(Drop)]
+pub struct House<'a, X: Wait> {
+    rt: &'a X,
+    alloc: Global,
+    sends: &'static [&'static [u8]],
+    at_once: u64,
+    pub cues: &'a AtomicU64,
+    opened: AtomicU64,
+    pub over: AtomicU64,
+    pub limits: AtomicU64,
+    pub notes: Mutex<Notes>,
+}
+
+impl<'a, X: Wait> House<'a, X> {
+    /// Before anybody has come.
+    pub fn new(
+        rt: &'a X,
+        alloc: Global,
+        sends: &'static [&'static [u8]],
+        at_once: u64,
+        cues: &'a AtomicU64,
+    ) -> House<'a, X> {
+        House {
+            rt,
+            alloc,
+            sends,
+            at_once,
+            cues,
+            opened: AtomicU64::new(0),
+            over: AtomicU64::new(0),
+            limits: AtomicU64::new(0),
+            notes: Mutex::new(Notes {
+                told: Vec::new(alloc),
+                outcome: None,
+                fulls: Vec::new(alloc),
+                ended: None,
+            }),
+        }
+    }
+}
+
+impl<'a, X: Wait + Sync> Doors<&'static [u8], Vec<u8>> for House<'a, X> {
+    fn open(&self, _client: u32) -> Option<Connection<&'static [u8], Vec<u8>>> {
+        let opened = self.opened.fetch_add(1, SeqCst);
+        if opened == self.at_once {
+            hold(self.cues, 1, &self.limits);
+        }
+        let reader = *self.sends.get(usize::try_from(opened).ok()?)?;
+        Some(Connection {
+            reader,
+            writer: Vec::new(self.alloc),
+        })
+    }
+
+    fn is_over(&self) -> bool {
+        self.over.load(SeqCst) > 0
+    }
+
+    fn end(&self) {
+        self.over.fetch_add(1, SeqCst);
+    }
+
+    fn is_full(&self, client: u32, what: Full) {
+        if self.notes.lock(self.rt).fulls.push((client, what)).is_err() {
+            self.limits.fetch_add(1, SeqCst);
+        }
+    }
+
+    fn worker_ends(&self, why: CallFault) {
+        self.notes.lock(self.rt).ended = Some(why);
+        self.cues.fetch_add(1, SeqCst);
+    }
+
+    fn leave(&self, _client: u32, outcome: &Result<Served, ServeFault>, writer: Vec<u8>) {
+        let mut notes = self.notes.lock(self.rt);
+        notes.outcome = Some(*outcome);
+        if notes.told.extend_from_slice(writer.as_slice()).is_err() {
+            self.limits.fetch_add(1, SeqCst);
+        }
+    }
+}

@@ -1,0 +1,4 @@
+pub mod Pacing
+pub mod Hosting
+pub mod Boards
+pub mod Runs
