@@ -140,7 +140,7 @@ const REPLAYS: [(&[&str], ReplayOptions<'static>); 17] = [
 ];
 
 /// Words that are refused, and the kind of the error.
-const MISTAKES: [(&[&str], ErrorKind); 45] = [
+const MISTAKES: [(&[&str], ErrorKind); 52] = [
     (&["replay", "--log"], ErrorKind::InvalidValue),
     (&["replay", "--log="], ErrorKind::InvalidValue),
     (&["replay", "--log", ""], ErrorKind::InvalidValue),
@@ -215,7 +215,7 @@ const MISTAKES: [(&[&str], ErrorKind); 45] = [
     (&["live", "--client"], ErrorKind::InvalidValue),
     (&["replay", "--client=0=c"], ErrorKind::UnknownArgument),
     (
-        &["live", "--log=a", "--client=0=c", "--every=5"],
+        &["live", "--log=a", "--client=0=c", "--turns=5"],
         ErrorKind::ArgumentConflict,
     ),
     (
@@ -223,9 +223,31 @@ const MISTAKES: [(&[&str], ErrorKind); 45] = [
         ErrorKind::ArgumentConflict,
     ),
     (
-        &["live", "--log=a", "--board=b", "--client=0=c"],
+        &["live", "--log=a", "--board=a", "--client=0=c"],
         ErrorKind::ArgumentConflict,
     ),
+    (
+        &["live", "--log=a.new", "--board", "a", "--client=nobody"],
+        ErrorKind::ArgumentConflict,
+    ),
+    (
+        &["live", "--board=a.site", "--client=0=c", "--log=a"],
+        ErrorKind::ArgumentConflict,
+    ),
+    (
+        &["live", "--log=a", "--board=b", "--client=nobody"],
+        ErrorKind::ValueValidation,
+    ),
+    (&["live", "--share=5"], ErrorKind::MissingRequiredArgument),
+    (
+        &["live", "--log=a", "--client=0=c", "--share=0"],
+        ErrorKind::ValueValidation,
+    ),
+    (
+        &["live", "--log=a", "--client=0=c", "--share", "1000001"],
+        ErrorKind::ValueValidation,
+    ),
+    (&["replay", "--share=5"], ErrorKind::UnknownArgument),
     (
         &["live", "--log=a", "--client=0=c", "--board-every=1"],
         ErrorKind::MissingRequiredArgument,
@@ -431,20 +453,36 @@ fn running_clients(rt: HostRuntime) -> Result<(), Fail> {
         "--client",
         "+07=boss:all",
         "--spares=2",
+        "--share=1000000",
+        "--turns=9",
+        "--every",
+        "20",
+        "--board=a.log.new",
+        "--board-every=1000",
     ];
     let attend = AttendOptions {
         fleet: Fleet { spares: 2, ..FLEET },
         journal: 500,
+        share: Some(1_000_000),
         replies: Replies::Placed,
         log: "a.log",
+        every: Some(20),
+        turns: 9,
+        board: Some("a.log.new"),
+        board_every: 1000,
         clients: Vec::from_array(rt.alloc(), CLIENTS)?,
     };
     assert!(rt; gives(rt.alloc(), words.as_slice(), Options::Attend(attend)));
     let one = AttendOptions {
         fleet: FLEET,
         journal: 10_000,
+        share: None,
         replies: Replies::Short,
         log: "x",
+        every: None,
+        turns: 64,
+        board: None,
+        board_every: 100,
         clients: Vec::from_array(rt.alloc(), [CLIENTS[0]])?,
     };
     let words = ["", "live", "--log=x", "--client=61=pipes/a b=c"];

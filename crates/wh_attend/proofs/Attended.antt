@@ -1,8 +1,8 @@
 -- What the whole call says.
-use Rattle.std.proofs.Common.{◌≡◌, ◌⊎◌, ◌+◌, ℕ, Bool, true, List, length, refl, sym, ap, ◌∙◌, subst, inl, inr, Option, None, Some, Result, Ok, Err}
+use Rattle.std.proofs.Common.{◌≡◌, ℕ, Bool, true, List, length, refl, sym, ap, ◌∙◌, subst, inl, inr, Option, Result, Ok, Err}
 use Rattle.std.specs.Prelude.{IfErr, IfOk}
 use Rattle.std.specs.declared.alloc.AllocError.{AllocError}
-use Rattle.std.specs.Io.KnownBytes.{Appends, Keeps}
+use Rattle.std.specs.Io.KnownBytes.{Appends}
 use Rattle.std.proofs.KnownBytes.{Keeps-refl}
 use Rattle.wh_lines.specs.Input.{Input}
 use Rattle.wh_lines.specs.Output.{WritesFront}
@@ -14,30 +14,27 @@ use Rattle.wh_desk.specs.Pasts.{Origin, origin_of}
 use Rattle.wh_journal.specs.Surviving.{StaysLog}
 use Rattle.wh_continue.specs.Besides.{StandsBeside}
 use Rattle.wh_continue.specs.declared.beside.Beside.{Beside}
+use Rattle.wh_continue.specs.declared.running.KeepFault.{KeepFault}
+use Rattle.wh_continue.specs.declared.running.KeepFault.TheVariants as kept
 use Rattle.wh_continue.specs.Running.{LeavesFront, Opens, last_line}
 use Rattle.wh_edge.specs.declared.trouble.Trouble.{Trouble}
 use Rattle.wh_edge.specs.declared.trouble.Trouble.TheVariants as trouble
 use Rattle.wh_options.specs.declared.chosen.AttendOptions.{AttendOptions}
-use Rattle.wh_serve.specs.Runs.{IsJournalOf, IsWhyUnserved, ServedFrom, first_lines}
-use Rattle.wh_serve.specs.Texts.{receipt_text}
-use Rattle.wh_serve.specs.declared.form.Form.{Form}
-use Rattle.wh_service.specs.Kept.{IsSet, Siding, first_slots}
+use Rattle.wh_display.specs.declared.screen.ShowFault.{ShowFault}
+use Rattle.wh_live.specs.Displays.{BoardsFrom}
+use Rattle.wh_host.specs.Runs.{IsJournalOf, first_lines}
+use Rattle.wh_service.specs.Kept.{IsSet, Siding, first_slots, keep_trouble}
 use Rattle.wh_service.specs.declared.parts.PlannerParts.{PlannerParts}
 use Rattle.wh_service.proofs.Lasting.{start_site}
-use Rattle.wh_attend.specs.Attends.{Attends, IsReady, IsWhyNoHistory, IsWhyUnattended, IsWhyUntold, Serves, form_of, log_of}
+use Rattle.wh_attend.specs.Attends.{Attends, IsReady, IsWhyNoHistory, IsWhyUnattended, IsWhyUnended, IsWhyUntold, Serves, ServesClients, ShowsRun, log_of}
 use Rattle.wh_attend.specs.declared.ready.Ready.{Ready}
 use Rattle.wh_attend.proofs.Wholes.{whole_log}
 
--- clients that came to no history
-pub no_history : (told : Trouble) → IsWhyUnserved told → IsWhyNoHistory told
-no_history trouble.Unkept why = tt
-no_history told why = why
-
 module _ {R W X : Type 0} (fits : X → Floor → Bool) (count : X → ℕ) (remaining : R → Option (List ℕ)) (contents : W → Option (List ℕ)) (gives : PlannerParts → Result X AllocError → Type 0) (options : AttendOptions)
-    (old new : Input) (file : Option (List ℕ)) (beside : Siding) (site : Site) (run : Ready X) (ready : IsReady gives options old new file beside.before site run) (aside : Option (List ℕ)) (still : aside ≡ beside.before) where
+    (old new : Input) (file : Option (List ℕ)) (beside : Siding) (showed shows : Option (Option (List (List ℕ)))) (site : Site) (run : Ready X) (ready : IsReady gives options old new file beside.before site run) (aside : Option (List ℕ)) (still : aside ≡ beside.before) where
   -- what stands beside the log was not kept
   pub stops_aside : (had : Option (List ℕ)) → LeavesFront aside beside.after run.text.items → beside.failed ≡ true
-      → IsWhyUnattended fits count remaining contents gives options trouble.Unkept old new had had file beside
+      → IsWhyUnattended fits count remaining contents gives options trouble.Unkept old new had had file beside showed shows
   stops_aside had left failing = inr (inl (
     refl,
     record {
@@ -55,27 +52,30 @@ module _ {R W X : Type 0} (fits : X → Floor → Bool) (count : X → ℕ) (rem
     set = (subst (λ (b : Option (List ℕ)). Opens b beside.after run.text.items) still opens, safe)
 
     -- there is no history
-    pub stops : (told : Trouble) (had : Option (List ℕ)) → IsWhyNoHistory told → IsWhyUnattended fits count remaining contents gives options told old new had had file beside
+    pub stops : (told : Trouble) (had : Option (List ℕ)) → IsWhyNoHistory showed told → IsWhyUnattended fits count remaining contents gives options told old new had had file beside showed shows
     stops told had why = inr (inr (inl (record { site = site; run = run; ready = ready; is_set = set; why = why }, Keeps-refl had)))
 
-    module _ (form : Form) (form_is : form ≡ form_of options.replies) (book final : Seen) (book_is : book ≡ run.start.book) (origin : origin_of final ≡ origin_of book) (connections : List ℕ)
-        (served : ServedFrom fits count (receipt_text form) remaining contents (origin_of book) book.history run.clients.items (length book.history + options.journal) final.history final.state connections) where
+    module _ (book final : Seen) (book_is : book ≡ run.start.book) (origin : origin_of final ≡ origin_of book) (served : ServesClients fits count remaining contents options (origin_of book) book.history run.clients.items final.history final.state)
+        (last : Result Unit ShowFault) (given : Option (Option (List (List ℕ)))) (back : shows ≡ given) (boards : BoardsFrom (origin_of book) book.history final.history last showed given) where
       serves : Serves fits count remaining contents options site run final
       serves = record {
         site_is = ap (λ (o : Origin). o.site) origin ∙ ap (λ (b : Seen). b.site) book_is ∙ start_site site (first_slots options.fleet site) ready.starts.text run.start ready.starts.starts;
         opening_is = ap (λ (o : Origin). o.opening) origin ∙ ap (λ (b : Seen). b.opening) book_is;
-        connections = connections;
-        served = subst (λ (h : List Entry). ServedFrom fits count (receipt_text (form_of options.replies)) remaining contents (origin_of final) h run.clients.items (length h + options.journal) final.history final.state connections) (ap (λ (b : Seen). b.history) book_is)
-            (subst (λ (o : Origin). ServedFrom fits count (receipt_text (form_of options.replies)) remaining contents o book.history run.clients.items (length book.history + options.journal) final.history final.state connections) (sym origin)
-            (subst (λ (f : Form). ServedFrom fits count (receipt_text f) remaining contents (origin_of book) book.history run.clients.items (length book.history + options.journal) final.history final.state connections) form_is served));
+        served = subst (λ (h : List Entry). ServesClients fits count remaining contents options (origin_of final) h run.clients.items final.history final.state) (ap (λ (b : Seen). b.history) book_is)
+            (subst (λ (o : Origin). ServesClients fits count remaining contents options o book.history run.clients.items final.history final.state) (sym origin) served);
       }
 
-      -- the log was kept to its end and written
+      shown : ShowsRun run final last showed shows
+      shown = subst (λ (s : Option (Option (List (List ℕ)))). ShowsRun run final last showed s) (sym back)
+          (subst (λ (h : List Entry). BoardsFrom (origin_of final) h final.history last showed given) (ap (λ (b : Seen). b.history) book_is)
+          (subst (λ (o : Origin). BoardsFrom o book.history final.history last showed given) (sym origin) boards))
+
+      -- the log was kept to its end and written, and the last board was shown
       pub attends : {A : Type 0} (kept safe : A → Option (List ℕ)) (said : Result A Trouble) (held begun now synced had has : Option (List ℕ)) (is_whole : Bool) → held ≡ file → StaysLog held begun run.start.book
           → IsJournalOf (first_lines begun book) now synced final.history is_whole → IfOk said (λ (_ : A). is_whole ≡ true) → IfOk said (λ (f : A). Appends now (kept f) (last_line (length final.history)))
-          → IfOk said (λ (f : A). safe f ≡ kept f) → IfOk said (λ (_ : A). Appends had has (log_of final))
-          → IfOk said (λ (f : A). Attends fits count remaining contents gives options old new had has file (safe f) (kept f) beside)
-      attends kept safe (Ok f) held begun now synced had has is_whole same stays journal whole ends synced_is tells = record {
+          → IfOk said (λ (f : A). safe f ≡ kept f) → IfOk said (λ (_ : A). Appends had has (log_of final)) → IfOk said (λ (_ : A). last ≡ Ok tt)
+          → IfOk said (λ (f : A). Attends fits count remaining contents gives options old new had has file (safe f) (kept f) beside showed shows)
+      attends kept safe (Ok f) held begun now synced had has is_whole same stays journal whole ends synced_is tells all = record {
         site = site;
         run = run;
         ready = ready;
@@ -85,14 +85,30 @@ module _ {R W X : Type 0} (fits : X → Floor → Bool) (count : X → ℕ) (rem
         whole = whole_log file begun now (kept f) book final (subst (λ (h : Option (List ℕ)). StaysLog h begun book) same (subst (λ (b : Seen). StaysLog held begun b) (sym book_is) stays)) origin (journal.whole whole) ends;
         synced_is = synced_is;
         tells = tells;
+        boards = subst (λ (l : Result Unit ShowFault). ShowsRun run final l showed shows) all shown;
       }
-      attends kept safe (Err told) held begun now synced had has is_whole same stays journal whole ends synced_is tells = tt
+      attends kept safe (Err told) held begun now synced had has is_whole same stays journal whole ends synced_is tells all = tt
 
       -- or was not
-      pub untold : {A : Type 0} (said : Result A Trouble) (had has : Option (List ℕ)) → IfErr said (λ (told : Trouble). IsWhyUntold told (log_of final) had has)
-          → IfErr said (λ (told : Trouble). IsWhyUnattended fits count remaining contents gives options told old new had has file beside)
+      unended : (told : Trouble) (had has : Option (List ℕ)) → IsWhyUnended last told (log_of final) had has → IsWhyUnattended fits count remaining contents gives options told old new had has file beside showed shows
+      unended told had has (inl why) = inr (inr (inr (inl (record { site = site; run = run; ready = ready; is_set = set; final = final; serves = serves; why = why; last = last; boards = shown }))))
+      unended told had has (inr bad) = inr (inr (inr (inr (record {
+        fault = bad.0;
+        told_is = bad.2;
+        site = site;
+        run = run;
+        ready = ready;
+        is_set = set;
+        final = final;
+        serves = serves;
+        tells = bad.3;
+        boards = subst (λ (l : Result Unit ShowFault). ShowsRun run final l showed shows) bad.1 shown;
+      }))))
+
+      pub untold : {A : Type 0} (said : Result A Trouble) (had has : Option (List ℕ)) → IfErr said (λ (told : Trouble). IsWhyUnended last told (log_of final) had has)
+          → IfErr said (λ (told : Trouble). IsWhyUnattended fits count remaining contents gives options told old new had has file beside showed shows)
       untold (Ok f) had has why = tt
-      untold (Err told) had has why = inr (inr (inr (record { site = site; run = run; ready = ready; is_set = set; final = final; serves = serves; why = why })))
+      untold (Err told) had has why = unended told had has why
 
 -- what stands beside the log, by another name of the text and of the file
 pub stands_at : (before aside : Option (List ℕ)) (text bytes : List ℕ) (found : Beside) → aside ≡ before → bytes ≡ text → StandsBeside before text found → StandsBeside aside bytes found
@@ -111,3 +127,8 @@ leaves_as before after text bytes same left = subst (λ (t : List ℕ). LeavesFr
 -- a front of the log was written
 pub written_short : (told : Trouble) (log text : List ℕ) (had has : Option (List ℕ)) → told ≡ trouble.Unwritten → text ≡ log → WritesFront had has text → IsWhyUntold told log had has
 written_short told log text had has is same front = subst (λ (t : Trouble). IsWhyUntold t log had has) (sym is) (subst (λ (t : List ℕ). WritesFront had has t) same front)
+
+-- the log's end was not kept, and nothing was written
+pub unkept : (fault : KeepFault) (told : Trouble) (log : List ℕ) (had : Option (List ℕ)) → told ≡ keep_trouble fault → IsWhyUntold told log had had
+unkept kept.Unkept told log had is = subst (λ (t : Trouble). IsWhyUntold t log had had) (sym is) (Keeps-refl had)
+unkept kept.NoMemory told log had is = subst (λ (t : Trouble). IsWhyUntold t log had had) (sym is) (Keeps-refl had)

@@ -1,8 +1,8 @@
 -- Whoever has entries in a log is one of 64.
-use Rattle.std.proofs.Common.{◌≡◌, ◌<◌, ◌≤◌, ℕ, List, [], ◌∷◌, ◌++◌, length, sym, subst, arith, All, Option, None, Some, Result}
+use Rattle.std.proofs.Common.{◌≡◌, ◌<◌, ℕ, List, [], ◌∷◌, ◌++◌, length, sym, subst, All, Option, None, Some, Result}
 use Rattle.std.specs.declared.alloc.AllocError.{AllocError}
 use Rattle.std.specs.Prelude.{MatchOption}
-use Rattle.std.proofs.lemmas.List.Elements.{All-from_recursion, All-nil, All-weaker}
+use Rattle.std.proofs.lemmas.List.Elements.{All-from_recursion, All-nil}
 use Rattle.wh_grid.specs.Grids.{Floor}
 use Rattle.wh_points.specs.Points.{Site}
 use Rattle.wh_event.specs.declared.entry.Entry.{Entry}
@@ -21,7 +21,7 @@ use Rattle.wh_options.specs.declared.chosen.Fleet.{Fleet}
 use Rattle.wh_serve.specs.declared.threads.Client.{Client}
 use Rattle.wh_service.specs.Kept.{StartsFrom, first_slots}
 use Rattle.wh_service.specs.declared.parts.PlannerParts.{PlannerParts}
-use Rattle.wh_attend.specs.Guests.{AreClients, IsClient}
+use Rattle.wh_attend.specs.Guests.{AreClients, HaveRoom, IsClient, numbers_of}
 
 abbrev Few : List Entry → Type 0
 Few history = All (λ (e : Entry). e.caller < 64) history
@@ -41,15 +41,15 @@ pub at_end : {A : Type 0} (P : ℕ → A → Type 0) (xs ys : List A) (n : ℕ) 
 at_end P xs ys n y same size all here =
     subst (λ (zs : List _). AllAt P zs) (sym same) (AllAt_push P xs y all (subst (λ (k : ℕ). P k y) (sym size) here))
 
--- the clients, where the history and the names lie elsewhere
-pub clients_as : {X : Type 0} (gives : PlannerParts → Result X AllocError → Type 0) (options : AttendOptions) (grid : Floor) (bank : Bank) (history earlier : List Entry) (listed : List ClientOptions) (clients : List (Client X)) (some places : ℕ)
-    → history ≡ earlier → listed ≡ options.clients.items → length clients ≡ places → some ≤ places → places ≤ 64
-    → All (λ (e : Entry). e.caller < some) history → All (λ (n : ClientOptions). n.number < places) listed → AllAt (IsClient gives options grid bank history) clients
+-- the clients, where the history lies elsewhere
+pub clients_as : {X : Type 0} (gives : PlannerParts → Result X AllocError → Type 0) (options : AttendOptions) (grid : Floor) (bank : Bank) (history earlier : List Entry) (clients : List (Client X)) (places : ℕ)
+    → history ≡ earlier → length clients ≡ places → HaveRoom options.every places → All (λ (e : Entry). e.caller < numbers_of options.every places) history
+    → All (λ (n : ClientOptions). n.number < places) options.clients.items → AllAt (IsClient gives options grid bank history) clients
     → AreClients gives options grid bank earlier clients
-clients_as gives options grid bank history earlier listed clients some places same is count more few callers named each = record {
-  few = omega arith;
-  named = subst (λ (l : List ClientOptions). All (λ (n : ClientOptions). n.number < length clients) l) is (subst (λ (p : ℕ). All (λ (n : ClientOptions). n.number < p) listed) (sym count) named);
-  callers = subst (λ (h : List Entry). All (λ (e : Entry). e.caller < length clients) h) same
-      (All-weaker (λ (e : Entry). e.caller < some) (λ (e : Entry). e.caller < length clients) (λ e less. omega arith) history callers);
+clients_as gives options grid bank history earlier clients places same count few callers named each = record {
+  few = subst (λ (n : ℕ). HaveRoom options.every n) (sym count) few;
+  named = subst (λ (n : ℕ). All (λ (o : ClientOptions). o.number < n) options.clients.items) (sym count) named;
+  callers = subst (λ (h : List Entry). All (λ (e : Entry). e.caller < numbers_of options.every (length clients)) h) same
+      (subst (λ (n : ℕ). All (λ (e : Entry). e.caller < numbers_of options.every n) history) (sym count) callers);
   each = subst (λ (h : List Entry). AllAt (IsClient gives options grid bank h) clients) same each;
 }

@@ -1,4 +1,4 @@
 mod Attended
-mod Callers
-mod Sending
+pub mod Callers
+mod ByOptions
 mod Wholes

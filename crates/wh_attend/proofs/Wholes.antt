@@ -1,5 +1,5 @@
 -- The file is the log of the whole run.
-use Rattle.std.proofs.Common.{◌≡◌, ℕ, List, [], ◌∷◌, ◌++◌, map, length, sym, ap, ◌∙◌, subst, Option, None, Some}
+use Rattle.std.proofs.Common.{◌≡◌, ℕ, List, [], ◌∷◌, map, length, sym, ap, ◌∙◌, subst, Option, None, Some}
 use Rattle.std.specs.Prelude.{IfSome}
 use Rattle.std.specs.Io.KnownBytes.{Appends}
 use Rattle.wh_words.specs.Lines.{text_of as lines_text}
@@ -14,7 +14,7 @@ use Rattle.wh_journal.specs.Journals.{lines_for}
 use Rattle.wh_journal.specs.Surviving.{IsLogOfBook, StaysLog}
 use Rattle.wh_continue.specs.Running.{IsWholeLog, last_line}
 use Rattle.wh_continue.proofs.Begun.{ended}
-use Rattle.wh_serve.specs.Runs.{first_lines}
+use Rattle.wh_host.specs.Runs.{first_lines}
 
 begun_by : (now : Option (List ℕ)) (final : Seen) → Appends (Some (lines_text (head_line Two ∷ start_line final.opening.clock final.opening.slots ∷ []))) now (lines_for final.history) → IsLogOfBook now final
 begun_by None final wrote = absurd wrote

@@ -1,11 +1,13 @@
 -- What a whole run of `live` with running clients does, from the site that is read to the log that is kept.
-use Rattle.std.specs.Prelude.{◌≡◌, ◌⊎◌, ◌+◌, ℕ, Bool, true, false, List, length, Option, None, Some, IfSome, Result}
+use Rattle.std.specs.Prelude.{◌≡◌, ◌⊎◌, ◌+◌, ℕ, Bool, true, false, List, length, Option, None, IfSome, Result, Ok, Err}
 use Rattle.std.specs.declared.alloc.AllocError.{AllocError}
 use Rattle.std.specs.Io.KnownBytes.{Appends, Keeps}
 use Rattle.wh_lines.specs.Input.{Input}
 use Rattle.wh_lines.specs.Output.{WritesFront}
 use Rattle.wh_grid.specs.Grids.{Floor}
 use Rattle.wh_points.specs.Points.{Site}
+use Rattle.wh_event.specs.declared.entry.Entry.{Entry}
+use Rattle.wh_core.specs.States.{State}
 use Rattle.wh_words.specs.Lines.{text_of as lines_text}
 use Rattle.wh_log.specs.Logs.{log_lines}
 use Rattle.wh_log.specs.declared.version.Version.TheVariants.{Two}
@@ -16,24 +18,22 @@ use Rattle.wh_edge.specs.Site.{SiteFault, SiteKept}
 use Rattle.wh_edge.specs.declared.trouble.Trouble.{Trouble}
 use Rattle.wh_edge.specs.declared.trouble.Trouble.TheVariants as trouble
 use Rattle.wh_options.specs.declared.chosen.AttendOptions.{AttendOptions}
-use Rattle.wh_options.specs.declared.chosen.Replies.{Replies}
-use Rattle.wh_options.specs.declared.chosen.Replies.TheVariants as replies
-use Rattle.wh_desk.specs.Pasts.{origin_of}
+use Rattle.wh_desk.specs.Pasts.{Origin, origin_of}
 use Rattle.wh_desk.specs.Drafts.{Seen}
-use Rattle.wh_serve.specs.Runs.{IsWhyUnserved, ServedFrom}
+use Rattle.wh_crew.specs.declared.agents.Pace.{Pace}
+use Rattle.wh_scribe.specs.declared.calling.CallFault.{CallFault}
+use Rattle.wh_display.specs.declared.screen.ShowFault.{ShowFault}
+use Rattle.wh_live.specs.Displays.{BoardsFrom, trouble_of_show}
+use Rattle.wh_live.specs.Lives.{IsWhyUnlived}
 use Rattle.wh_serve.specs.Texts.{receipt_text}
-use Rattle.wh_serve.specs.declared.form.Form.{Form}
-use Rattle.wh_serve.specs.declared.form.Form.TheVariants as form
+use Rattle.wh_serve.specs.declared.threads.Client.{Client}
+use Rattle.wh_host.specs.Runs.{ServedFrom}
+use Rattle.wh_service.specs.Hosts.{IsPaceOf}
 use Rattle.wh_service.specs.Kept.{EndsAtStart, IsSet, IsUntouched, Siding, StartsFrom}
+use Rattle.wh_service.specs.Plays.{form_of}
 use Rattle.wh_service.specs.declared.parts.PlannerParts.{PlannerParts}
 use Rattle.wh_attend.specs.Guests.{IsStaffed}
 use Rattle.wh_attend.specs.declared.ready.Ready.{Ready}
-
--- the form in which receipts are told
-abbrev pub form_of : Replies → Form
-form_of replies.Short = form.Short
-form_of replies.Full = form.Full
-form_of replies.Placed = form.Placed
 
 -- the log of a book's run
 abbrev pub log_of : Seen → List ℕ
@@ -48,20 +48,33 @@ pub record IsReady {X : Type 0} (gives : PlannerParts → Result X AllocError �
   pub starts : StartsFrom options.fleet site file run.start
   pub staffed : IsStaffed gives options site.grid run.start.book.state.slots run.start.book.history run.planners.items run.clients.items
 
--- The clients of a run were served, over what it started from: its history goes on from there, as one run from the same opening of the
--- site, by no more entries than the options name. Remaining and contents are the bytes that a reader and a writer of a client tell.
+-- Clients were served, and beside them a worker for all agents and the clock took turns, where the options name one: the history goes on
+-- from the earlier one, by no more entries than the options name. Remaining and contents are the bytes that a reader and a writer of a
+-- client tell.
+pub record ServesClients {R W X : Type 0} (fits : X → Floor → Bool) (count : X → ℕ) (remaining : R → Option (List ℕ)) (contents : W → Option (List ℕ))
+    (options : AttendOptions) (origin : Origin) (earlier : List Entry) (clients : List (Client X)) (history : List Entry) (state : State) : Type 0 where
+  pub pace : Option Pace
+  pub pace_is : IsPaceOf options.every options.turns pace
+  pub connections : List ℕ
+  pub worker : Option CallFault
+  pub served : ServedFrom fits count (receipt_text (form_of options.replies) origin) remaining contents origin earlier clients pace (length earlier + options.journal) history state connections worker
+
+-- The clients of a run were served, over what it started from, as one run from the same opening of the site.
 pub record Serves {R W X : Type 0} (fits : X → Floor → Bool) (count : X → ℕ) (remaining : R → Option (List ℕ)) (contents : W → Option (List ℕ))
     (options : AttendOptions) (site : Site) (run : Ready X) (final : Seen) : Type 0 where
   pub site_is : final.site ≡ site
   pub opening_is : final.opening ≡ run.start.book.opening
-  pub connections : List ℕ
-  pub served : ServedFrom fits count (receipt_text (form_of options.replies)) remaining contents (origin_of final) run.start.book.history run.clients.items
-      (length run.start.book.history + options.journal) final.history final.state connections
+  pub served : ServesClients fits count remaining contents options (origin_of final) run.start.book.history run.clients.items final.history final.state
+
+-- Boards of a run were shown, if there is a screen: the first of what it started from. Whether the last one was shown is told. Showed is
+-- what a screen told before, if there is one, and shows what it tells then.
+abbrev pub ShowsRun : {X : Type 0} → Ready X → Seen → Result Unit ShowFault → (showed shows : Option (Option (List (List ℕ)))) → Type 0
+ShowsRun run final last showed shows = BoardsFrom (origin_of final) run.start.book.history final.history last showed shows
 
 -- A run was ready, its site was kept beside the log, and its clients were served. The file is the log of the whole run now, old entries and
--- new ones, if it tells its bytes, and all of it is synced; and that log was written.
+-- new ones, if it tells its bytes, and all of it is synced; that log was written, and the board of the whole run was shown.
 pub record Attends {R W X : Type 0} (fits : X → Floor → Bool) (count : X → ℕ) (remaining : R → Option (List ℕ)) (contents : W → Option (List ℕ)) (gives : PlannerParts → Result X AllocError → Type 0) (options : AttendOptions)
-    (old new : Input) (had has file synced holds : Option (List ℕ)) (beside : Siding) : Type 0 where
+    (old new : Input) (had has file synced holds : Option (List ℕ)) (beside : Siding) (showed shows : Option (Option (List (List ℕ)))) : Type 0 where
   pub site : Site
   pub run : Ready X
   pub ready : IsReady gives options old new file beside.before site run
@@ -71,6 +84,7 @@ pub record Attends {R W X : Type 0} (fits : X → Floor → Bool) (count : X →
   pub whole : IfSome file (λ _. IsWholeLog holds final)
   pub synced_is : synced ≡ holds
   pub tells : Appends had has (log_of final)
+  pub boards : ShowsRun run final (Ok tt) showed shows
 
 -- A site was read, and more stands behind it.
 pub record IsFollowed (old new : Input) : Type 0 where
@@ -101,18 +115,23 @@ pub record StopsAside {X : Type 0} (gives : PlannerParts → Result X AllocError
   pub left : LeavesFront beside.before beside.after run.text.items
   pub has_failed : beside.failed ≡ true
 
--- why there is no history: the log was not begun, or there is none of the clients
-abbrev pub IsWhyNoHistory : Trouble → Type 0
-IsWhyNoHistory trouble.Unkept = Unit {0}
-IsWhyNoHistory told = IsWhyUnserved told
+-- why a log was not begun: its file took it not, or memory was wanting
+abbrev pub IsWhyUnbegun : Trouble → Type 0
+IsWhyUnbegun trouble.Unkept = Unit {0}
+IsWhyUnbegun trouble.NoMemory = Unit {0}
+IsWhyUnbegun _ = ⊥
+
+-- why there is no history: the log was not begun, the first board was not shown, or there is none of the clients
+abbrev pub IsWhyNoHistory : {D : Type 0} → (screen : Option D) → Trouble → Type 0
+IsWhyNoHistory screen told = IsWhyUnbegun told ⊎ IsWhyUnlived screen told
 
 -- A run was ready, with its site beside its log, and came to no history.
-pub record StopsAttending {X : Type 0} (gives : PlannerParts → Result X AllocError → Type 0) (options : AttendOptions) (told : Trouble) (old new : Input) (file : Option (List ℕ)) (beside : Siding) : Type 0 where
+pub record StopsAttending {X D : Type 0} (gives : PlannerParts → Result X AllocError → Type 0) (options : AttendOptions) (told : Trouble) (old new : Input) (file : Option (List ℕ)) (beside : Siding) (screen : Option D) : Type 0 where
   pub site : Site
   pub run : Ready X
   pub ready : IsReady gives options old new file beside.before site run
   pub is_set : IsSet beside run.text.items
-  pub why : IsWhyNoHistory told
+  pub why : IsWhyNoHistory screen told
 
 -- Why a log was not written: the file that keeps it failed before, or memory was wanting, and nothing was written; or a front of it was.
 abbrev pub IsWhyUntold : Trouble → List ℕ → (had has : Option (List ℕ)) → Type 0
@@ -121,9 +140,16 @@ IsWhyUntold trouble.NoMemory log had has = Keeps had has
 IsWhyUntold trouble.Unwritten log had has = WritesFront had has log
 IsWhyUntold _ log had has = ⊥
 
--- The clients of a run were served, and its log was not kept to its end, or not written.
+-- Why a run whose clients were served did not end well, and what was written: its log was not written; or it was, and the screen did not
+-- take the last board.
+abbrev pub IsWhyUnended : (last : Result Unit ShowFault) → Trouble → List ℕ → (had has : Option (List ℕ)) → Type 0
+IsWhyUnended last told log had has =
+    IsWhyUntold told log had has
+    ⊎ ((fault : ShowFault) × (last ≡ Err fault) × (told ≡ trouble_of_show fault) × Appends had has log)
+
+-- The clients of a run were served, and boards were shown as far as may be; and its log was not kept to its end, or not written.
 pub record AttendsUntold {R W X : Type 0} (fits : X → Floor → Bool) (count : X → ℕ) (remaining : R → Option (List ℕ)) (contents : W → Option (List ℕ)) (gives : PlannerParts → Result X AllocError → Type 0) (options : AttendOptions)
-    (told : Trouble) (old new : Input) (had has file : Option (List ℕ)) (beside : Siding) : Type 0 where
+    (told : Trouble) (old new : Input) (had has file : Option (List ℕ)) (beside : Siding) (showed shows : Option (Option (List (List ℕ)))) : Type 0 where
   pub site : Site
   pub run : Ready X
   pub ready : IsReady gives options old new file beside.before site run
@@ -131,13 +157,30 @@ pub record AttendsUntold {R W X : Type 0} (fits : X → Floor → Bool) (count :
   pub final : Seen
   pub serves : Serves fits count remaining contents options site run final
   pub why : IsWhyUntold told (log_of final) had has
+  pub last : Result Unit ShowFault
+  pub boards : ShowsRun run final last showed shows
+
+-- The clients of a run were served, and its log was kept to its end and written; but the screen did not take the board of the whole run.
+pub record AttendsUnshown {R W X : Type 0} (fits : X → Floor → Bool) (count : X → ℕ) (remaining : R → Option (List ℕ)) (contents : W → Option (List ℕ)) (gives : PlannerParts → Result X AllocError → Type 0) (options : AttendOptions)
+    (told : Trouble) (old new : Input) (had has file : Option (List ℕ)) (beside : Siding) (showed shows : Option (Option (List (List ℕ)))) : Type 0 where
+  pub fault : ShowFault
+  pub told_is : told ≡ trouble_of_show fault
+  pub site : Site
+  pub run : Ready X
+  pub ready : IsReady gives options old new file beside.before site run
+  pub is_set : IsSet beside run.text.items
+  pub final : Seen
+  pub serves : Serves fits count remaining contents options site run final
+  pub tells : Appends had has (log_of final)
+  pub boards : ShowsRun run final (Err fault) showed shows
 
 -- Why it ended otherwise, the earlier first. Before the run is ready the file beside the log is as it was, and before the clients were
 -- served nothing is written. Of the file of the log nothing is said: the run had it.
 abbrev pub IsWhyUnattended : {R W X : Type 0} → (X → Floor → Bool) → (X → ℕ) → (R → Option (List ℕ)) → (W → Option (List ℕ)) → (PlannerParts → Result X AllocError → Type 0) → AttendOptions → Trouble
-    → (old new : Input) → (had has file : Option (List ℕ)) → Siding → Type 0
-IsWhyUnattended fits count remaining contents gives options told old new had has file beside =
+    → (old new : Input) → (had has file : Option (List ℕ)) → Siding → (showed shows : Option (Option (List (List ℕ)))) → Type 0
+IsWhyUnattended fits count remaining contents gives options told old new had has file beside showed shows =
     (IsWhyUnready gives options told old new file beside.before × Keeps had has × IsUntouched beside)
     ⊎ ((told ≡ trouble.Unkept) × StopsAside gives options old new file beside × Keeps had has)
-    ⊎ (StopsAttending gives options told old new file beside × Keeps had has)
-    ⊎ AttendsUntold fits count remaining contents gives options told old new had has file beside
+    ⊎ (StopsAttending gives options told old new file beside showed × Keeps had has)
+    ⊎ AttendsUntold fits count remaining contents gives options told old new had has file beside showed shows
+    ⊎ AttendsUnshown fits count remaining contents gives options told old new had has file beside showed shows

@@ -1,5 +1,5 @@
 -- The clients of a run of `live`, and the planners that it is given.
-use Rattle.std.specs.Prelude.{◌≡◌, ◌≢◌, ◌⊎◌, ◌<◌, ◌≤◌, ◌+◌, ◌/◌, ℕ, false, max, List, [], length, All, Contains, Result}
+use Rattle.std.specs.Prelude.{◌≡◌, ◌≢◌, ◌⊎◌, ◌<◌, ◌≤◌, ◌+◌, ◌/◌, ℕ, false, max, List, [], length, All, Contains, Option, None, Some, Result}
 use Rattle.std.specs.declared.alloc.AllocError.{AllocError}
 use Rattle.wh_grid.specs.Grids.{Floor}
 use Rattle.wh_event.specs.declared.entry.Entry.{Entry}
@@ -22,27 +22,41 @@ rights_of r = record { submit = r.submit; token = r.token; tick = r.tick; replac
 abbrev pub no_rights : Rights
 no_rights = record { submit = false; token = false; tick = false; replace = false; close = false }
 
--- how many entries more each named client may have: they share those of the journal equally, and each has one at least
-abbrev pub share_of : (journal named : ℕ) → ℕ
-share_of journal named = max (journal / named) 1
+-- how many entries more each named client may have: as many as are said; else they share those of the journal equally, and each has one
+-- at least
+abbrev pub share_of : (share : Option ℕ) → (journal named : ℕ) → ℕ
+share_of None journal named = max (journal / named) 1
+share_of (Some share) journal named = share
+
+-- the number of the worker for agents and clock, the last one
+abbrev pub worker_number : ℕ
+worker_number = 63
+
+-- There are so many clients: up to 64, and beside a worker one for each number below its own.
+abbrev pub HaveRoom : (every : Option ℕ) → (many : ℕ) → Type 0
+HaveRoom None many = many ≤ 64
+HaveRoom (Some every) many = many ≡ worker_number
+
+-- how many numbers these have, from 0 on: beside a worker its own is one of them
+abbrev pub numbers_of : (every : Option ℕ) → (many : ℕ) → ℕ
+numbers_of None many = many
+numbers_of (Some every) many = many + 1
 
 -- the clients that were named number 0 to 61, one at least
 pub record AreNamed (clients : List ClientOptions) : Type 0 where
   pub some : 1 ≤ length clients
   pub each : All (λ named. named.number < 62) clients
 
--- one of them has this number, and these rights
-pub record IsNamed (clients : List ClientOptions) (number : ℕ) (rights : ClientRights) : Type 0 where
-  pub named : ClientOptions
+-- this one was named by this number
+pub record IsNamed (clients : List ClientOptions) (number : ℕ) (named : ClientOptions) : Type 0 where
   pub there : Contains clients named
   pub number_is : named.number ≡ number
-  pub rights_are : named.rights ≡ rights
 
 -- A client with so many entries before the run, whose word gave it these rights: it may have its share of entries beside them, and as
 -- many planners stand by for it as the options name.
 pub record IsGuest {X : Type 0} (gives : PlannerParts → Result X AllocError → Type 0) (options : AttendOptions) (grid : Floor) (bank : Bank) (had : ℕ) (rights : ClientRights) (client : Client X) : Type 0 where
   pub rights_are : client.allowance.rights ≡ rights_of rights
-  pub share_is : client.allowance.entries ≡ had + share_of options.journal (length options.clients.items)
+  pub share_is : client.allowance.entries ≡ had + share_of options.share options.journal (length options.clients.items)
   pub spares_are : AreMembers gives options.fleet grid bank options.fleet.spares client.spares.items
 
 -- A client that nobody named: it may do nothing.
@@ -54,14 +68,14 @@ pub record IsNobody {X : Type 0} (client : Client X) : Type 0 where
 -- the client of this number, which was named, or which nobody named
 abbrev pub IsClient : {X : Type 0} → (PlannerParts → Result X AllocError → Type 0) → AttendOptions → Floor → Bank → (earlier : List Entry) → (number : ℕ) → Client X → Type 0
 IsClient gives options grid bank earlier number client =
-    ((rights : ClientRights) × IsNamed options.clients.items number rights × IsGuest gives options grid bank (length (entries_of earlier number)) rights client)
+    ((named : ClientOptions) × IsNamed options.clients.items number named × IsGuest gives options grid bank (length (entries_of earlier number)) named.rights client)
     ⊎ (All (λ named. named.number ≢ number) options.clients.items × IsNobody client)
 
--- A client for each number from 0 on, 64 at most: for all that were named, and for all that have entries.
+-- A client for each number from 0 on: for all that were named, and for all that have entries, but for the worker where there is one.
 pub record AreClients {X : Type 0} (gives : PlannerParts → Result X AllocError → Type 0) (options : AttendOptions) (grid : Floor) (bank : Bank) (earlier : List Entry) (clients : List (Client X)) : Type 0 where
-  pub few : length clients ≤ 64
+  pub few : HaveRoom options.every (length clients)
   pub named : All (λ named. named.number < length clients) options.clients.items
-  pub callers : All (λ entry. entry.caller < length clients) earlier
+  pub callers : All (λ entry. entry.caller < numbers_of options.every (length clients)) earlier
   pub each : AllAt (IsClient gives options grid bank earlier) clients
 
 -- One planner for each agent, with the slots that its state tells, and the clients with those that stand by for them. All have their

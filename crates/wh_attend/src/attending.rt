@@ -1,11 +1,11 @@
 //! What `live` does with running clients.
 
-ghost use Rattle.std.specs.Prelude.{◌≡◌, IfErr, IfOk, true};
+ghost use Rattle.std.specs.Prelude.{◌≡◌, IfErr, IfOk, option_map, true};
 ghost use Rattle.wh_journal.specs.Surviving.{HoldsLog, StaysLog};
 ghost use Rattle.wh_continue.specs.Running.{IsStartOf};
 ghost use Rattle.wh_service.specs.Fleets.{IsOfFleet};
 ghost use Rattle.wh_attend.specs.Guests.{AreNamed};
-ghost use Rattle.wh_attend.specs.Attends.{Attends, IsWhyNoHistory, IsWhyUnattended, form_of};
+ghost use Rattle.wh_attend.specs.Attends.{Attends, IsWhyUnattended, IsWhyUnbegun};
 
 use crate::ending::end_run;
 use crate::ready::{Ready, prepare};
@@ -14,25 +14,16 @@ use std::alloc::{AllocError, Global};
 use std::io::{Read, Write};
 use std::sync::Wait;
 use std::thread::Threads;
+use std::time::Clock;
 use wh_continue::{LogFile, Start, Warehouse, begin_log, keep_beside};
 use wh_edge::Trouble;
 use wh_lines::Lines;
-use wh_options::{AttendOptions, Replies};
+use wh_live::Screen;
+use wh_options::AttendOptions;
 use wh_pipes::Hall;
 use wh_planner::Planner;
-use wh_serve::{Doors, Form};
+use wh_serve::Doors;
 use wh_service::{PlannerParts, keep_trouble};
-
-/// The form in which receipts are told.
-fn form_of(replies: Replies) -> Form
-    ensures { result ≡ form_of replies }
-{
-    match replies {
-        Replies::Short => Form::Short,
-        Replies::Full => Form::Full,
-        Replies::Placed => Form::Placed,
-    }
-}
 
 /// Makes the file the log of the run so far, but for its end line, and the warehouse that goes on from there. Planners are made for the
 /// very book, so that none is refused for anything but want of memory.
@@ -47,7 +38,7 @@ fn begin<L: LogFile, P: Planner>(
     ensures stays { IfOk result (λ _. StaysLog (L.contents file.old) (L.contents file.new) start.book) }
     ensures holds { IfOk result (λ _. HoldsLog (L.contents file.new) start.book) }
     ensures synced { IfOk result (λ _. L.synced file.new ≡ L.contents file.new) }
-    ensures fault { IfErr result IsWhyNoHistory }
+    ensures fault { IfErr result IsWhyUnbegun }
 {
     match begin_log(alloc, file, &start) {
         Ok(()) => {}
@@ -62,21 +53,25 @@ fn begin<L: LogFile, P: Planner>(
 
 /// Reads a site, finds out from the log file and the file beside it what the run starts from, makes one planner for each agent, with the
 /// slots that its state tells, and those that stand by for clients, keeps the site's text beside the log, and serves running clients, who
-/// come in at the doors, over the log; of a run that was closed nobody is served. Each has the rights that its word gave it, and may have its share of the entries that the journal may
-/// have more; a client that nobody named may do nothing. When all are through the file is given the line that ends the log, and the log of
-/// the whole run, old entries and new ones, is written. What stands in the log outlives a kill, and no reply is told before its entry was
-/// synced. `make` makes one planner of its parts, and its error tells that memory is wanting. What can go wrong is told in this order: the
-/// site, what stands behind it, the file beside the log, the log, the bank and the planners, a client without a way in, what is written
-/// beside the log, the run, the end of the log, the writer. Before the clients are served nothing is written to the output. The file of
-/// the log comes back where all went well: else it is let go, and no more is said of it here.
+/// come in at the doors, over the log; of a run that was closed nobody is served. Each has the rights that its word gave it, and may have
+/// as many entries more as the options name, or else its share of those that the journal may have more; a client that nobody named may do
+/// nothing. Where the options name a worker, it takes turns for all agents and the clock, until the clients are through. Boards of the run
+/// are shown on the screen meanwhile, if there is one, which comes back once the clients were served. When all are through the file is
+/// given the line that ends the log, and the log of the whole run, old entries and new ones, is written. What stands in the log outlives a
+/// kill, and no reply is told before its entry was synced. `make` makes one planner of its parts, and its error tells that memory is
+/// wanting. What can go wrong is told in this order: the site, what stands behind it, the file beside the log, the log, the bank and the
+/// planners, a client without a way in, what is written beside the log, the log's beginning, the first board, the run, the end of the log,
+/// the writer, the last board. Before the clients are served nothing is written to the output. The file of the log comes back where all
+/// went well: else it is let go, and no more is said of it here.
 pub fn attend<
     R: Read,
     W: Write,
     L: LogFile + Send + Drop,
     B: LogFile,
     P: Planner,
+    V: Screen + Send + Drop,
     F: Fn(PlannerParts) -> Result<P, AllocError>,
-    T: Threads + Wait + Sync,
+    T: Threads + Wait + Clock + Sync,
     I: Read + Send + Drop,
     O: Write + Send + Drop,
     D: Doors<I, O> + Hall,
@@ -88,6 +83,7 @@ pub fn attend<
     options: &AttendOptions<'_>,
     mut file: L,
     beside: &mut B,
+    screen: &mut Option<V>,
     doors: &D,
     make: F,
 ) -> Result<L, Trouble>
@@ -95,10 +91,10 @@ pub fn attend<
     requires named { AreNamed options.now.clients.items }
     requires callable { F.IsAlwaysCallable make }
     ensures ok { IfOk result (λ kept. Attends P.fits_map P.slot_count (λ x. I.remaining x) (λ x. O.contents x) (F.post make) options.now lines.old lines.new (W.contents output.old) (W.contents output.new) (L.contents file) (L.synced kept) (L.contents kept)
-        (record { before = B.contents beside.old; after = B.contents beside.new; synced = B.synced beside.new; failed = B.failed beside.new })) }
+        (record { before = B.contents beside.old; after = B.contents beside.new; synced = B.synced beside.new; failed = B.failed beside.new }) (option_map V.shown screen.old) (option_map V.shown screen.new)) }
     ensures asked { IfOk result (λ _. D.all_have doors.now ≡ true) }
     ensures fault { IfErr result (λ told. IsWhyUnattended P.fits_map P.slot_count (λ x. I.remaining x) (λ x. O.contents x) (F.post make) options.now told lines.old lines.new (W.contents output.old) (W.contents output.new) (L.contents file)
-        (record { before = B.contents beside.old; after = B.contents beside.new; synced = B.synced beside.new; failed = B.failed beside.new })) }
+        (record { before = B.contents beside.old; after = B.contents beside.new; synced = B.synced beside.new; failed = B.failed beside.new }) (option_map V.shown screen.old) (option_map V.shown screen.new)) }
 {
     let ready = match prepare(alloc, lines, options, &mut file, beside, doors, &make) {
         Ok(ready) => ready,
@@ -124,10 +120,8 @@ pub fn attend<
         // nobody could be told anything more than that
         doors.end();
     }
-    let form = form_of(options.replies);
-    let more = options.journal;
-    match serve_all(rt, alloc, form, warehouse, clients, more, file, doors) {
-        Ok(ran) => end_run(alloc, output, ran),
+    match serve_all(rt, alloc, options, warehouse, clients, file, screen, doors) {
+        Ok(ran) => end_run(alloc, output, screen, ran),
         Err(trouble) => Err(trouble),
     }
 }

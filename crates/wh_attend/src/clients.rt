@@ -1,12 +1,12 @@
 //! The clients of a run: one for each number, with what it may do and the planners that stand by for it.
 
-ghost use Rattle.std.specs.Prelude.{◌≡◌, ◌≢◌, ◌⊎◌, ◌<◌, ◌≤◌, [], All, IfErr, IfNone, IfOk, IfSome, length};
+ghost use Rattle.std.specs.Prelude.{◌≡◌, ◌≢◌, ◌⊎◌, ◌<◌, ◌≤◌, All, IfErr, IfNone, IfOk, IfSome, length};
 ghost use Rattle.std.specs.Arc.{arc_value};
 ghost use Rattle.wh_claims.specs.Bank.{Belongs};
 ghost use Rattle.wh_log.specs.Logs.{IsSlots};
 ghost use Rattle.wh_desk.specs.Lists.{AllAt, entries_of};
 ghost use Rattle.wh_service.specs.Fleets.{IsOfFleet, IsWhyUnclaimed, IsWhyUnseated};
-ghost use Rattle.wh_attend.specs.Guests.{AreClients, AreNamed, IsClient, IsNamed, IsNobody, IsStaffed, no_rights, rights_of, share_of};
+ghost use Rattle.wh_attend.specs.Guests.{AreNamed, HaveRoom, IsClient, IsNamed, IsNobody, IsStaffed, numbers_of, rights_of, share_of};
 
 use std::alloc::{AllocError, Global};
 use std::sync::Arc;
@@ -19,6 +19,9 @@ use wh_options::{AttendOptions, ClientOptions, ClientRights};
 use wh_planner::Planner;
 use wh_serve::{Allowance, Client, Rights};
 use wh_service::{PlannerParts, members, seated};
+
+/// The number of the worker for agents and clock, the last one.
+const WORKER_NUMBER: u32 = 63;
 
 /// The rights that a client's word gave it.
 fn rights_of(rights: ClientRights) -> Rights
@@ -33,13 +36,16 @@ fn rights_of(rights: ClientRights) -> Rights
     }
 }
 
-/// How many entries more each of the named clients may have.
-fn share_of(journal: u32, named: usize) -> u64
+/// How many entries more each of the named clients may have: as many as are said, or its share of the journal's.
+fn share_of(share: Option<u32>, journal: u32, named: usize) -> u64
     requires some { 1 ≤ named }
-    ensures value { result ≡ share_of journal named }
+    ensures value { result ≡ share_of share journal named }
     ensures few { result ≤ 4294967296 }
 {
-    (u64::from(journal) / named as u64).max(1)
+    match share {
+        Some(share) => u64::from(share),
+        None => (u64::from(journal) / named as u64).max(1),
+    }
 }
 
 /// How many entries a caller has in a history.
@@ -83,14 +89,32 @@ fn places_for(clients: &[ClientOptions<'_>], mut places: u32) -> u32
     places
 }
 
-/// The rights of the client that was named by this number, if one was.
-fn rights_at(clients: &[ClientOptions<'_>], number: u32) -> Option<ClientRights>
-    ensures some { IfSome result (IsNamed clients.now number) }
+/// For how many clients there is to be a place: beside a worker for each number below its own, and else for all who were named and all
+/// who have entries.
+fn places_beside(options: &AttendOptions<'_>, history: &[Entry]) -> u32
+    requires named { AreNamed options.now.clients.items }
+    requires callers { All (λ entry. entry.caller < 64) history.now }
+    ensures few { HaveRoom options.now.every result }
+    ensures named { All (λ named. named.number < result) options.now.clients.items }
+    ensures callers { All (λ entry. entry.caller < numbers_of options.now.every result) history.now }
+{
+    match options.every {
+        Some(_) => WORKER_NUMBER,
+        None => places_for(options.clients.as_slice(), places_of(history)),
+    }
+}
+
+/// The client that was named by this number, if one was.
+pub fn named_by<'a, 'b>(
+    clients: &'b [ClientOptions<'a>],
+    number: u32,
+) -> Option<&'b ClientOptions<'a>>
+    ensures some { IfSome result (λ named. IsNamed clients.now number named.now) }
     ensures none { IfNone result (All (λ named. named.number ≢ number) clients.now) }
 {
     for client in clients {
         if client.number == number {
-            return Some(client.rights);
+            return Some(client);
         }
     }
     None
@@ -129,15 +153,15 @@ fn client_of<P: Planner, F: Fn(PlannerParts) -> Result<P, AllocError>>(
     ensures fault { IfErr result (IsWhyUnclaimed options.now.fleet.slots) }
 {
     let fleet = &options.fleet;
-    let Some(rights) = rights_at(options.clients.as_slice(), number) else {
+    let Some(named) = named_by(options.clients.as_slice(), number) else {
         return Ok(nobody(alloc));
     };
     let spares = members(alloc, fleet, grid, bank, seat, make, fleet.spares as usize)?;
-    let share = share_of(options.journal, options.clients.len());
+    let share = share_of(options.share, options.journal, options.clients.len());
     Ok(Client {
         spares,
         allowance: Allowance {
-            rights: rights_of(rights),
+            rights: rights_of(named.rights),
             entries: had_by(history, number) + share,
         },
     })
@@ -199,7 +223,7 @@ pub(crate) fn make_staff<P: Planner, F: Fn(PlannerParts) -> Result<P, AllocError
     let fleet = &options.fleet;
     let history = start.book.history();
     let slots = start.book.slots();
-    let places = places_for(options.clients.as_slice(), places_of(history));
+    let places = places_beside(options, history);
     let (bank, mut seat) = Bank::new(alloc, fleet.bank)?;
     let planners = match seated(alloc, fleet, grid, &bank, &mut seat, make, slots) {
         Ok(planners) => planners,

@@ -1,17 +1,18 @@
-//! The end of a run whose clients were served: its log is kept to its end, and written.
+//! The end of a run whose clients were served: its log is kept to its end, and written, and it is told whether its last board was shown.
 
-ghost use Rattle.std.specs.Prelude.{◌≡◌, true, IfErr, IfOk, length};
+ghost use Rattle.std.specs.Prelude.{◌≡◌, true, IfErr, IfOk, Ok, length};
 ghost use Rattle.std.specs.Io.KnownBytes.{Appends};
 ghost use Rattle.wh_continue.specs.Running.{last_line};
-ghost use Rattle.wh_attend.specs.Attends.{IsWhyUntold, log_of};
+ghost use Rattle.wh_attend.specs.Attends.{IsWhyUnended, log_of};
 
 use std::alloc::Global;
 use std::io::Write;
 use wh_continue::{LogFile, Warehouse, end_log};
 use wh_edge::Trouble;
+use wh_host::Ran;
+use wh_live::trouble_of_show;
 use wh_log::{NoMemory, log_text};
 use wh_planner::Planner;
-use wh_serve::Ran;
 use wh_service::{keep_trouble, write_text};
 
 /// The log of the warehouse's run. The error is want of memory.
@@ -26,24 +27,31 @@ fn text_of<P: Planner>(alloc: Global, warehouse: &Warehouse<P>) -> Result<Vec<u8
     }
 }
 
-/// Gives the log its last line, and then writes all of it. Where the journal has failed neither is done.
-pub(crate) fn end_run<L: LogFile + Drop, W: Write, P: Planner>(
+/// Gives the screen back and the log its last line, writes all of the log, and then tells whether the last board was shown. Where the
+/// journal has failed the log is neither ended nor written.
+pub(crate) fn end_run<L: LogFile + Drop, W: Write, P: Planner, V: Drop>(
     alloc: Global,
     output: &mut W,
-    ran: Ran<L, P>,
+    screen: &mut Option<V>,
+    ran: Ran<L, V, P>,
 ) -> Result<L, Trouble>
+    ensures screen { screen.new ≡ ran.screen }
     ensures whole { IfOk result (λ _. ran.is_whole ≡ true) }
     ensures ends { IfOk result (λ file. Appends (L.contents ran.journal) (L.contents file) (last_line (length ran.history.warehouse.book.history))) }
     ensures synced { IfOk result (λ file. L.synced file ≡ L.contents file) }
     ensures tells { IfOk result (λ _. Appends (W.contents output.old) (W.contents output.new) (log_of ran.history.warehouse.book)) }
-    ensures fault { IfErr result (λ told. IsWhyUntold told (log_of ran.history.warehouse.book) (W.contents output.old) (W.contents output.new)) }
+    ensures shown { IfOk result (λ _. ran.last ≡ Ok tt) }
+    ensures fault { IfErr result (λ told. IsWhyUnended ran.last told (log_of ran.history.warehouse.book) (W.contents output.old) (W.contents output.new)) }
 {
     let Ran {
         history,
         mut journal,
         is_whole,
+        screen: given,
+        last,
         ..
     } = ran;
+    *screen = given;
     if !is_whole {
         return Err(Trouble::Unkept);
     }
@@ -57,7 +65,11 @@ pub(crate) fn end_run<L: LogFile + Drop, W: Write, P: Planner>(
         Err(trouble) => return Err(trouble),
     };
     match write_text(output, text.as_slice()) {
+        Ok(()) => {}
+        Err(trouble) => return Err(trouble),
+    }
+    match last {
         Ok(()) => Ok(journal),
-        Err(trouble) => Err(trouble),
+        Err(fault) => Err(trouble_of_show(fault)),
     }
 }

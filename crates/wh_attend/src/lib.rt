@@ -8,8 +8,10 @@ mod ready;
 mod serving;
 
 pub use attending::attend;
+pub use clients::named_by;
 
-// handed on, for callers: what the item above takes and speaks of
+// handed on, for callers: what the items above take and speak of
 pub use wh_continue::{FileJournal, LogFile};
+pub use wh_live::Screen;
 pub use wh_pipes::Hall;
 pub use wh_serve::{Connection, Doors, End, ReplayFault, ServeFault, Served};

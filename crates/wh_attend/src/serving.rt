@@ -1,10 +1,15 @@
 //! The clients of a run are served, beside a thread that lets them go.
 
-ghost use Rattle.std.specs.Prelude.{◌≡◌, ◌<◌, ◌≤◌, ◌+◌, All, IfErr, IfOk, length};
+ghost use Rattle.std.specs.Prelude.{◌≡◌, ◌≤◌, ◌+◌, IfErr, IfOk, length, option_map};
 ghost use Rattle.wh_desk.specs.Pasts.{origin_of};
 ghost use Rattle.wh_journal.specs.Surviving.{HoldsLog};
-ghost use Rattle.wh_serve.specs.Runs.{IsJournalOf, IsWhyUnserved, ServedFrom, first_lines};
+ghost use Rattle.wh_live.specs.Displays.{BoardsFrom};
+ghost use Rattle.wh_live.specs.Lives.{IsWhyUnlived};
 ghost use Rattle.wh_serve.specs.Texts.{receipt_text};
+ghost use Rattle.wh_host.specs.Pacing.{callers_of};
+ghost use Rattle.wh_host.specs.Runs.{IsJournalOf, ServedFrom, first_lines};
+ghost use Rattle.wh_attend.specs.Guests.{HaveRoom};
+ghost use Rattle.wh_attend.specs.Attends.{ServesClients};
 
 use std::alloc::Global;
 use std::io::{Read, Write};
@@ -12,20 +17,27 @@ use std::sync::Wait;
 use std::sync::atomic::AtomicBool;
 use std::sync::atomic::Ordering::SeqCst;
 use std::thread::{Threads, join};
+use std::time::Clock;
 use wh_continue::{LogFile, Warehouse};
 use wh_edge::Trouble;
+use wh_host::{Ran, run_clients};
+use wh_live::{Display, Pace, Screen};
+use wh_log::Form;
+use wh_options::AttendOptions;
 use wh_pipes::Hall;
 use wh_planner::Planner;
-use wh_serve::{Client, Doors, Form, Ran, run_clients};
+use wh_serve::{Client, Doors};
+use wh_service::{display_of, form_of, pace_of};
 
 /// Serves clients, and sets `through` when all of them are through.
 fn serve_through<
     P: Planner,
     L: LogFile + Send + Drop,
-    T: Threads + Wait + Sync,
+    T: Threads + Wait + Clock + Sync,
     I: Read + Send + Drop,
     O: Write + Send + Drop,
     D: Doors<I, O>,
+    V: Screen + Send + Drop,
 >(
     rt: &T,
     alloc: Global,
@@ -35,63 +47,72 @@ fn serve_through<
     more: u32,
     file: L,
     doors: &D,
+    pace: Option<Pace>,
+    display: Option<Display<V>>,
     through: &AtomicBool,
-) -> Result<Ran<L, P>, Trouble>
+) -> Result<Ran<L, V, P>, Trouble>
     requires log { HoldsLog (L.contents file) warehouse.book }
     requires synced { L.synced file ≡ L.contents file }
-    requires few { length clients.items ≤ 64 }
-    requires callers { All (λ entry. entry.caller < length clients.items) warehouse.book.history }
-    ensures ok { IfOk result (λ r. ServedFrom P.fits_map P.slot_count (receipt_text form) (λ x. I.remaining x) (λ x. O.contents x) (origin_of warehouse.book) warehouse.book.history clients.items (length warehouse.book.history + more)
-        r.history.warehouse.book.history r.history.warehouse.book.state r.connections.items) }
+    requires few { callers_of clients.items pace ≤ 64 }
+    ensures ok { IfOk result (λ r. ServedFrom P.fits_map P.slot_count (receipt_text form (origin_of warehouse.book)) (λ x. I.remaining x) (λ x. O.contents x) (origin_of warehouse.book) warehouse.book.history clients.items pace (length warehouse.book.history + more)
+        r.history.warehouse.book.history r.history.warehouse.book.state r.connections.items r.worker) }
     ensures origin { IfOk result (λ r. origin_of r.history.warehouse.book ≡ origin_of warehouse.book) }
     ensures journal { IfOk result (λ r. IsJournalOf (first_lines (L.contents file) warehouse.book) (L.contents r.journal) (L.synced r.journal) r.history.warehouse.book.history r.is_whole) }
-    ensures fault { IfErr result IsWhyUnserved }
+    ensures boards { IfOk result (λ r. BoardsFrom (origin_of warehouse.book) warehouse.book.history r.history.warehouse.book.history r.last (option_map (λ d. V.shown d.screen) display) (option_map V.shown r.screen)) }
+    ensures fault { IfErr result (IsWhyUnlived display) }
 {
-    let came = run_clients(rt, alloc, form, warehouse, clients, more, file, doors);
+    let came = run_clients(
+        rt, alloc, form, warehouse, clients, more, file, doors, pace, display,
+    );
     through.store(true, SeqCst);
     came
 }
 
-/// Serves clients, and meanwhile lets those go, once the service is over, that stand in a connection.
+/// Serves clients by the options, and meanwhile lets those go, once the service is over, that stand in a connection. The thread is the one
+/// that does so: where none can be made, it has nothing left to do once they were served.
 pub(crate) fn serve_all<
     P: Planner,
     L: LogFile + Send + Drop,
-    T: Threads + Wait + Sync,
+    T: Threads + Wait + Clock + Sync,
     I: Read + Send + Drop,
     O: Write + Send + Drop,
     D: Doors<I, O> + Hall,
+    V: Screen + Send + Drop,
 >(
     rt: &T,
     alloc: Global,
-    form: Form,
+    options: &AttendOptions<'_>,
     warehouse: Warehouse<P>,
     clients: Vec<Client<P>>,
-    more: u32,
     file: L,
+    screen: &mut Option<V>,
     doors: &D,
-) -> Result<Ran<L, P>, Trouble>
+) -> Result<Ran<L, V, P>, Trouble>
     requires log { HoldsLog (L.contents file) warehouse.book }
     requires synced { L.synced file ≡ L.contents file }
-    requires few { length clients.items ≤ 64 }
-    requires callers { All (λ entry. entry.caller < length clients.items) warehouse.book.history }
-    ensures ok { IfOk result (λ r. ServedFrom P.fits_map P.slot_count (receipt_text form) (λ x. I.remaining x) (λ x. O.contents x) (origin_of warehouse.book) warehouse.book.history clients.items (length warehouse.book.history + more)
-        r.history.warehouse.book.history r.history.warehouse.book.state r.connections.items) }
+    requires few { HaveRoom options.now.every (length clients.items) }
+    ensures ok { IfOk result (λ r. ServesClients P.fits_map P.slot_count (λ x. I.remaining x) (λ x. O.contents x) options.now (origin_of warehouse.book) warehouse.book.history clients.items r.history.warehouse.book.history r.history.warehouse.book.state) }
     ensures origin { IfOk result (λ r. origin_of r.history.warehouse.book ≡ origin_of warehouse.book) }
     ensures journal { IfOk result (λ r. IsJournalOf (first_lines (L.contents file) warehouse.book) (L.contents r.journal) (L.synced r.journal) r.history.warehouse.book.history r.is_whole) }
-    ensures fault { IfErr result IsWhyUnserved }
+    ensures boards { IfOk result (λ r. BoardsFrom (origin_of warehouse.book) warehouse.book.history r.history.warehouse.book.history r.last (option_map V.shown screen.old) (option_map V.shown r.screen)) }
+    ensures fault { IfErr result (IsWhyUnlived (option_map V.shown screen.old)) }
 {
+    let form = form_of(options.replies);
+    let more = options.journal;
+    let pace = pace_of(options.every, options.turns);
+    let display = display_of(screen, options.board_every);
     let through = AtomicBool::new(false);
-    let (came, _) = join(
+    let (_, came) = join(
         rt,
-        || -> Result<Ran<L, P>, Trouble>
-            requires { HoldsLog (L.contents file) warehouse.book × (L.synced file ≡ L.contents file) × (length clients.items ≤ 64) × All (λ entry. entry.caller < length clients.items) warehouse.book.history }
-            ensures { IfOk result (λ r. ServedFrom P.fits_map P.slot_count (receipt_text form) (λ x. I.remaining x) (λ x. O.contents x) (origin_of warehouse.book) warehouse.book.history clients.items (length warehouse.book.history + more) r.history.warehouse.book.history r.history.warehouse.book.state r.connections.items) × IfOk result (λ r. origin_of r.history.warehouse.book ≡ origin_of warehouse.book) × IfOk result (λ r. IsJournalOf (first_lines (L.contents file) warehouse.book) (L.contents r.journal) (L.synced r.journal) r.history.warehouse.book.history r.is_whole) × IfErr result IsWhyUnserved }
+        || doors.let_go(&through),
+        || -> Result<Ran<L, V, P>, Trouble>
+            requires { HoldsLog (L.contents file) warehouse.book × (L.synced file ≡ L.contents file) × (callers_of clients.items pace ≤ 64) }
+            ensures { IfOk result (λ r. ServedFrom P.fits_map P.slot_count (receipt_text form (origin_of warehouse.book)) (λ x. I.remaining x) (λ x. O.contents x) (origin_of warehouse.book) warehouse.book.history clients.items pace (length warehouse.book.history + more) r.history.warehouse.book.history r.history.warehouse.book.state r.connections.items r.worker) × IfOk result (λ r. origin_of r.history.warehouse.book ≡ origin_of warehouse.book) × IfOk result (λ r. IsJournalOf (first_lines (L.contents file) warehouse.book) (L.contents r.journal) (L.synced r.journal) r.history.warehouse.book.history r.is_whole) × IfOk result (λ r. BoardsFrom (origin_of warehouse.book) warehouse.book.history r.history.warehouse.book.history r.last (option_map (λ d. V.shown d.screen) display) (option_map V.shown r.screen)) × IfErr result (IsWhyUnlived display) }
         {
             serve_through(
-                rt, alloc, form, warehouse, clients, more, file, doors, &through,
+                rt, alloc, form, warehouse, clients, more, file, doors, pace, display, &through,
             )
         },
-        || doors.let_go(&through),
     );
     came
 }

@@ -1,5 +1,4 @@
 pub mod Starved
 pub mod Whole
-mod Folders
 mod Late
 mod Screens

@@ -6,7 +6,6 @@ use Rattle.std.specs.declared.alloc.AllocError.{AllocError}
 use Rattle.wh_grid.specs.Grids.{Floor}
 use Rattle.wh_lines.specs.Input.{Input}
 use Rattle.wh_edge.specs.declared.trouble.Trouble.TheVariants as trouble
-use Rattle.wh_options.specs.Setting.{Text}
 use Rattle.wh_options.specs.declared.chosen.Options.{Options}
 use Rattle.wh_options.specs.declared.chosen.Options.TheVariants.{Attend, Check, Replay, Verify, Live}
 use Rattle.wh_options.specs.declared.chosen.LiveOptions.{LiveOptions}
@@ -33,13 +32,13 @@ module _ {X : Type 0} (fits : X → Floor → Bool) (count : X → ℕ) (gives :
       (files : Option Files) × (is_some files ≡ names_file o) × Did fits count gives (Attended fits count gives remaining contents) o files (Err trouble.NoMemory) input input had had
   starved remaining contents Check = (None, refl, (tt, Keeps-refl had))
   starved remaining contents Verify = (None, refl, Keeps-refl had)
-  starved remaining contents (Live o) = (None, refl, (silent o, inl (tt, Keeps-refl had)))
+  starved remaining contents (Live o) = (None, refl, (silent o.board, inl (tt, Keeps-refl had)))
   starved remaining contents (Attend o) = (None, refl, inl (refl, refl, Keeps-refl had))
   starved remaining contents (Replay o) = over o o.log
 
   -- memory was wanting for the name of the file beside the board
   pub starved_live : (o : LiveOptions) → Lived fits count gives o (Err trouble.NoMemory) input input had had
-  starved_live o = (silent o, inl (tt, Keeps-refl had))
+  starved_live o = (silent o.board, inl (tt, Keeps-refl had))
 
   -- the same with vehicles
   late_over : {N : Type 0} (o : ReplayOptions) (pace : VehicleOptions) (log : Option N) →

@@ -11,12 +11,11 @@ use Rattle.wh_edge.specs.Trouble.{status_of, trouble_text}
 use Rattle.wh_edge.specs.declared.trouble.Status.{Status}
 use Rattle.wh_edge.specs.declared.trouble.Status.TheVariants as status
 use Rattle.wh_edge.specs.declared.trouble.Trouble.{Trouble}
-use Rattle.wh_options.specs.Options.{GivesFleet, IsWritten, WordsGive}
+use Rattle.wh_options.specs.Options.{IsWritten, WordsGive}
 use Rattle.wh_options.specs.Requests.{AsksBy, help_flags, version_flags}
-use Rattle.wh_options.specs.Setting.{Setting, Text, value_of, values_of}
+use Rattle.wh_options.specs.Setting.{Text, value_of, values_of}
 use Rattle.wh_client.specs.Clients.{GivesClient}
 use Rattle.wh_client.specs.declared.client.ClientOptions.{ClientOptions}
-use Rattle.wh_options.specs.declared.chosen.Fleet.{Fleet}
 use Rattle.wh_options.specs.declared.chosen.ReplayOptions.{ReplayOptions}
 use Rattle.wh_options.specs.declared.chosen.VehicleOptions.{VehicleOptions}
 use Rattle.wh_options.specs.declared.chosen.Options.{Options}

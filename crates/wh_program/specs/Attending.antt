@@ -1,5 +1,5 @@
 -- What `live` with running clients comes to, over the files and the folders that the options name.
-use Rattle.std.specs.Prelude.{◌≡◌, ◌≢◌, ◌⊎◌, ℕ, Bool, List, length, All, Contains, Option, None, Some, Result, Ok, Err}
+use Rattle.std.specs.Prelude.{◌≡◌, ◌≢◌, ◌⊎◌, ℕ, Bool, List, length, All, Option, None, Some, Result, Ok, Err}
 use Rattle.std.specs.declared.alloc.AllocError.{AllocError}
 use Rattle.std.specs.Io.KnownBytes.{Keeps}
 use Rattle.wh_lines.specs.Input.{Input}
@@ -14,38 +14,34 @@ use Rattle.wh_options.specs.Setting.{Text}
 use Rattle.wh_options.specs.declared.chosen.AttendOptions.{AttendOptions}
 use Rattle.wh_service.specs.Kept.{Siding}
 use Rattle.wh_service.specs.declared.parts.PlannerParts.{PlannerParts}
+use Rattle.wh_attend.specs.Guests.{IsNamed}
 use Rattle.wh_attend.specs.Attends.{Attends, IsWhyUnattended}
-
--- one of the clients has this number, and this folder
-pub record IsFolderOf (clients : List ClientOptions) (number : ℕ) (folder : Text) : Type 0 where
-  pub named : ClientOptions
-  pub there : Contains clients named
-  pub number_is : named.number ≡ number
-  pub folder_is : named.folder.now ≡ folder
+use Rattle.wh_program.specs.Programs.{silent}
 
 -- the folder of the client of this number, or none, where nobody has it
 abbrev pub IsFolderAt : List ClientOptions → ℕ → Option Text → Type 0
 IsFolderAt clients number None = All (λ named. named.number ≢ number) clients
-IsFolderAt clients number (Some folder) = IsFolderOf clients number folder
+IsFolderAt clients number (Some folder) = (named : ClientOptions) × IsNamed clients number named × (named.folder.now ≡ folder)
 
 -- the folders of the clients, each at the place of its number, 0 to 61
 pub record AreFolders (clients : List ClientOptions) (folders : List (Option Text)) : Type 0 where
   pub places : length folders ≡ 62
   pub each : AllAt (IsFolderAt clients) folders
 
--- It was so over a log file that told this and the file beside it. Here and below fits and count say what a planner answers, gives what
--- makes it, remaining and contents what a client's reader and writer tell.
+-- It was so over a log file that told this, the file beside it, and a screen, or none. Here and below fits and count say what a planner
+-- answers, gives what makes it, remaining and contents what a client's reader and writer tell; showed is what the screen told before, if
+-- there is one, and shows what it tells then.
 abbrev pub AttendsOver : {R W X : Type 0} → (X → Floor → Bool) → (X → ℕ) → (PlannerParts → Result X AllocError → Type 0) → (R → Option (List ℕ)) → (W → Option (List ℕ)) → AttendOptions → (file : Option (List ℕ)) → Siding
-    → Result Status Trouble → (old new : Input) → (had has : Option (List ℕ)) → Type 0
-AttendsOver fits count gives remaining contents o file beside (Ok status) old new had has =
-    (status ≡ Done) × ((synced holds : Option (List ℕ)) × Attends fits count remaining contents gives o old new had has file synced holds beside)
-AttendsOver fits count gives remaining contents o file beside (Err told) old new had has =
-    IsWhyUnattended fits count remaining contents gives o told old new had has file beside
+    → (showed shows : Option (Option (List (List ℕ)))) → Result Status Trouble → (old new : Input) → (had has : Option (List ℕ)) → Type 0
+AttendsOver fits count gives remaining contents o file beside showed shows (Ok status) old new had has =
+    (status ≡ Done) × ((synced holds : Option (List ℕ)) × Attends fits count remaining contents gives o old new had has file synced holds beside showed shows)
+AttendsOver fits count gives remaining contents o file beside showed shows (Err told) old new had has =
+    IsWhyUnattended fits count remaining contents gives o told old new had has file beside showed shows
 
 -- `live` with running clients came to this: memory was wanting for names or for the doors, and nothing was read or written; or it was so,
--- over a log file and the one beside it.
+-- over a log file and the one beside it, and over the file of the board, if one is named.
 abbrev pub Attended : {R W X : Type 0} → (X → Floor → Bool) → (X → ℕ) → (PlannerParts → Result X AllocError → Type 0) → (R → Option (List ℕ)) → (W → Option (List ℕ))
     → AttendOptions → Result Status Trouble → (old new : Input) → (had has : Option (List ℕ)) → Type 0
 Attended fits count gives remaining contents o came old new had has =
     ((came ≡ Err trouble.NoMemory) × (new ≡ old) × Keeps had has)
-    ⊎ ((file : Option (List ℕ)) × (beside : Siding) × AttendsOver fits count gives remaining contents o file beside came old new had has)
+    ⊎ ((file : Option (List ℕ)) × (beside : Siding) × (shows : Option (Option (List (List ℕ)))) × AttendsOver fits count gives remaining contents o file beside (silent o.board) shows came old new had has)

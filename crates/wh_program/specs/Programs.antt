@@ -9,7 +9,6 @@ use Rattle.wh_edge.specs.Trouble.{status_of, trouble_text}
 use Rattle.wh_edge.specs.declared.trouble.Status.{Status}
 use Rattle.wh_edge.specs.declared.trouble.Status.TheVariants.{Done, CommandLine, NoMemory}
 use Rattle.wh_edge.specs.declared.trouble.Trouble.{Trouble}
-use Rattle.wh_edge.specs.declared.trouble.Trouble.TheVariants as trouble
 use Rattle.wh_options.specs.Options.{WordsGive}
 use Rattle.wh_options.specs.Requests.{AsksBy, help_flags, version_flags}
 use Rattle.wh_options.specs.Setting.{Text}
@@ -64,15 +63,15 @@ abbrev pub LivedOver : {X : Type 0} → (X → Floor → Bool) → (X → ℕ) �
 LivedOver fits count gives options showed shows (Ok status) old new had has = (status ≡ Done) × HostsTo fits count gives options old new had has showed shows
 LivedOver fits count gives options showed shows (Err told) old new had has = IsWhyUnhosted fits count gives options told old new had has showed shows
 
--- the screen that a run has: a file tells nothing of what it is shown
-abbrev pub silent : LiveOptions → Option (Option (List (List ℕ)))
-silent options = option_map (λ name. None) options.board
+-- the screen over the file of this name, if there is one: a file tells nothing of what it is shown
+abbrev pub silent : {N : Type 0} → (board : Option N) → Option (Option (List (List ℕ)))
+silent board = option_map (λ name. None) board
 
 -- `live` came to this
 abbrev pub Lived : {X : Type 0} → (X → Floor → Bool) → (X → ℕ) → (PlannerParts → Result X AllocError → Type 0) → LiveOptions → Result Status Trouble
     → Input → Input → Option (List ℕ) → Option (List ℕ) → Type 0
 Lived fits count gives options came old new had has =
-    (shows : Option (Option (List (List ℕ)))) × LivedOver fits count gives options (silent options) shows came old new had has
+    (shows : Option (Option (List (List ℕ)))) × LivedOver fits count gives options (silent options.board) shows came old new had has
 
 -- `replay` over no file came to this
 abbrev pub Replayed : {X : Type 0} → (X → Floor → Bool) → (X → ℕ) → (PlannerParts → Result X AllocError → Type 0) → ReplayOptions → Result Status Trouble

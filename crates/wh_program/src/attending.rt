@@ -1,17 +1,19 @@
 //! `live` with running clients, over the files and the doors that the options name.
 
-ghost use Rattle.std.specs.Prelude.{◌≢◌, All, IfNone, IfOk, IfSome, map, option_map};
+ghost use Rattle.std.specs.Prelude.{IfOk, map, option_map};
 ghost use Rattle.wh_service.specs.Fleets.{IsOfFleet};
 ghost use Rattle.wh_attend.specs.Guests.{AreNamed};
-ghost use Rattle.wh_program.specs.Attending.{AreFolders, AttendsOver, Attended, IsFolderOf};
+ghost use Rattle.wh_program.specs.Attending.{AreFolders, AttendsOver, Attended, IsFolderAt};
 
-use crate::running::name_beside;
+use crate::running::{name_beside, screen_over};
 use std::alloc::{AllocError, Global};
 use std::io::{BufWriter, Read, Write};
 use std::path::Path;
 use std::sync::Wait;
 use std::thread::Threads;
-use wh_attend::{Doors, FileJournal, Hall, LogFile, attend};
+use std::time::Clock;
+use wh_attend::{Doors, FileJournal, Hall, LogFile, attend, named_by};
+use wh_display::Screen;
 use wh_edge::{Status, Trouble};
 use wh_lines::Lines;
 use wh_options::{AttendOptions, ClientOptions};
@@ -24,15 +26,12 @@ const NUMBERS: u32 = 62;
 
 /// The folder of the client that was named by this number, if one was.
 fn folder_of<'a>(clients: &[ClientOptions<'a>], number: u32) -> Option<&'a str>
-    ensures some { IfSome result (λ folder. IsFolderOf clients.now number folder.now) }
-    ensures none { IfNone result (All (λ named. named.number ≢ number) clients.now) }
+    ensures { IsFolderAt clients.now number (option_map (λ folder. folder.now) result) }
 {
-    for client in clients {
-        if client.number == number {
-            return Some(client.folder);
-        }
+    match named_by(clients, number) {
+        Some(named) => Some(named.folder),
+        None => None,
     }
-    None
 }
 
 /// The folders of the clients, each at the place of its number.
@@ -49,14 +48,15 @@ fn folders_of<'a>(
     Ok(folders)
 }
 
-/// Serves running clients, who come in at these doors, over a log file and the one beside it.
+/// Serves running clients, who come in at these doors, over a log file and the one beside it, and over a screen, or over none.
 fn attend_over<
-    T: Threads + Wait + Sync,
+    T: Threads + Wait + Clock + Sync,
     L: LogFile + Send + Drop,
     B: LogFile,
     I: Read + Send + Drop,
     Q: Write + Send + Drop,
     D: Doors<I, Q> + Hall,
+    V: Screen + Send + Drop,
     R: Read,
     W: Write,
     P: Planner,
@@ -69,24 +69,28 @@ fn attend_over<
     options: &AttendOptions<'_>,
     file: L,
     beside: &mut B,
+    screen: &mut Option<V>,
     doors: &D,
     make: F,
 ) -> Result<Status, Trouble>
     requires range { IsOfFleet options.now.fleet }
     requires named { AreNamed options.now.clients.items }
     requires callable { F.IsAlwaysCallable make }
-    ensures { AttendsOver P.fits_map P.slot_count (F.post make) (λ x. I.remaining x) (λ x. Q.contents x) options.now (L.contents file) (record { before = B.contents beside.old; after = B.contents beside.new; synced = B.synced beside.new; failed = B.failed beside.new }) result lines.old lines.new (W.contents output.old) (W.contents output.new) }
+    ensures { AttendsOver P.fits_map P.slot_count (F.post make) (λ x. I.remaining x) (λ x. Q.contents x) options.now (L.contents file) (record { before = B.contents beside.old; after = B.contents beside.new; synced = B.synced beside.new; failed = B.failed beside.new }) (option_map V.shown screen.old) (option_map V.shown screen.new) result lines.old lines.new (W.contents output.old) (W.contents output.new) }
 {
-    match attend(rt, alloc, lines, output, options, file, beside, doors, make) {
+    match attend(
+        rt, alloc, lines, output, options, file, beside, screen, doors, make,
+    ) {
         Ok(_file) => Ok(Status::Done),
         Err(trouble) => Err(trouble),
     }
 }
 
-/// Serves running clients, who come in at the pipes in their folders, over the log file of the options' name and the one beside it.
+/// Serves running clients, who come in at the pipes in their folders, over the log file of the options' name and the one beside it, and
+/// shows boards of the run in the file that the options name, if they name one.
 pub(crate) fn attend_by_name<
     'a,
-    T: Threads + Wait + Sync,
+    T: Threads + Wait + Clock + Sync,
     R: Read,
     W: Write,
     P: Planner,
@@ -114,6 +118,9 @@ pub(crate) fn attend_by_name<
     let Ok(doors) = Pipes::new(files, alloc, folders.as_slice()) else {
         return Err(Trouble::NoMemory);
     };
+    let Ok(mut screen) = screen_over(files, alloc, options.board) else {
+        return Err(Trouble::NoMemory);
+    };
     let file = FileJournal::new(files, Path::new(options.log));
     let mut beside = FileJournal::new(files, Path::new(site.as_str()));
     attend_over(
@@ -124,6 +131,7 @@ pub(crate) fn attend_by_name<
         options,
         file,
         &mut beside,
+        &mut screen,
         &doors,
         make,
     )

@@ -4,7 +4,7 @@ ghost use Rattle.std.specs.Prelude.{◌≡◌, ◌≤◌, ◌++◌, Bool, IfOk, 
 ghost use Rattle.std.specs.String.{string_bytes};
 ghost use Rattle.wh_service.specs.Fleets.{IsOfFleet, MakesPlanners};
 ghost use Rattle.wh_program.specs.Attending.{Attended};
-ghost use Rattle.wh_program.specs.Programs.{Comes, Did, Drove, Ends, Files, HasRange, LateFiles, Lived, LivedOver, ReplayedOver, names_file};
+ghost use Rattle.wh_program.specs.Programs.{Comes, Did, Drove, Ends, Files, HasRange, LateFiles, Lived, LivedOver, ReplayedOver, names_file, silent};
 ghost use Rattle.wh_service.specs.Serves.{ended_by};
 
 use crate::attending::attend_by_name;
@@ -138,6 +138,23 @@ fn live_over<
     }
 }
 
+/// The screen over the file of this name, if there is one. The file is not made yet.
+pub(crate) fn screen_over<'a>(
+    files: &'a HostRuntime,
+    alloc: Global,
+    board: Option<&'a str>,
+) -> Result<Option<FileScreen<'a, HostRuntime>>, AllocError>
+    ensures { IfOk result (λ screen. option_map ⟦<FileScreen<'a, HostRuntime> as Screen>⟧.shown screen ≡ silent board.entry) }
+{
+    match board {
+        Some(board) => {
+            let beside = name_beside(alloc, board, ".new")?;
+            Ok(Some(FileScreen::new(files, board, beside)))
+        }
+        None => Ok(None),
+    }
+}
+
 /// Has clients, agents and a clock work, and shows boards of the run in the file that the options name, if they name one.
 #[tactic(auto, using(crate::proofs::Starved::starved_live))]
 fn live_by_name<
@@ -161,18 +178,9 @@ fn live_by_name<
     requires makes { MakesPlanners P.fits_map P.slot_count (F.post make) }
     ensures { Lived P.fits_map P.slot_count (F.post make) options.now result lines.old lines.new (W.contents output.old) (W.contents output.new) }
 {
-    match options.board {
-        None => {
-            let mut none: Option<FileScreen<'a, HostRuntime>> = None;
-            live_over(rt, alloc, lines, output, options, &mut none, make)
-        }
-        Some(board) => match name_beside(alloc, board, ".new") {
-            Ok(beside) => {
-                let mut screen = Some(FileScreen::new(files, board, beside));
-                live_over(rt, alloc, lines, output, options, &mut screen, make)
-            }
-            Err(_) => Err(Trouble::NoMemory),
-        },
+    match screen_over(files, alloc, options.board) {
+        Ok(mut screen) => live_over(rt, alloc, lines, output, options, &mut screen, make),
+        Err(_) => Err(Trouble::NoMemory),
     }
 }
 

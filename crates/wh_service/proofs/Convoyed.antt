@@ -1,11 +1,8 @@
 -- A run with vehicles over its two files.
-use Rattle.std.proofs.Common.{◌≡◌, ◌≤◌, ℕ, Bool, List, length, inl, inr, refl, sym, ◌∙◌, subst, ap, Option, Some, Result, Ok, Err}
-use Rattle.std.specs.Prelude.{IfOk, IfErr, IfSome, OnOk, true}
-use Rattle.std.specs.List.{count_by}
-use Rattle.std.specs.Io.KnownBytes.{Appends}
+use Rattle.std.proofs.Common.{◌≡◌, ◌≤◌, ℕ, Bool, List, length, inl, inr, refl, ◌∙◌, subst, ap, Option, Result}
+use Rattle.std.specs.Prelude.{IfSome, true}
 use Rattle.std.specs.declared.alloc.AllocError.{AllocError}
 use Rattle.std.proofs.KnownBytes.{Keeps-refl}
-use Rattle.std.proofs.lemmas.Result.{IfOk-weaker, IfErr-weaker}
 use Rattle.wh_grid.specs.Grids.{Floor}
 use Rattle.wh_points.specs.Points.{Site}
 use Rattle.wh_points.specs.Formed.{IsFormed}
@@ -22,21 +19,18 @@ use Rattle.wh_edge.specs.Site.{SiteKept}
 use Rattle.wh_edge.specs.declared.trouble.Trouble.{Trouble}
 use Rattle.wh_edge.specs.declared.trouble.Trouble.TheVariants as trouble
 use Rattle.wh_options.specs.declared.chosen.Fleet.{Fleet}
-use Rattle.wh_options.specs.declared.chosen.ReplayOptions.{ReplayOptions}
 use Rattle.wh_options.specs.declared.chosen.Tail.{Tail}
 use Rattle.wh_options.specs.declared.chosen.VehicleOptions.{VehicleOptions}
 use Rattle.wh_continue.specs.Besides.{StandsBeside}
-use Rattle.wh_continue.specs.Running.{IsStartOf, LeavesFront, Opens}
+use Rattle.wh_continue.specs.Running.{LeavesFront, Opens}
 use Rattle.wh_continue.specs.declared.beside.Beside.{Beside}
 use Rattle.wh_continue.specs.declared.starting.Start.{Start}
 use Rattle.wh_convoy.specs.Convoys.{Held, depot}
 use Rattle.wh_convoy.specs.Riding.{RidesOn, RidesToEnd}
 use Rattle.wh_convoy.specs.declared.finding.Stood.{Stood}
 use Rattle.wh_convoy.proofs.Kept.{kept_is_served}
-use Rattle.wh_service.specs.Convoys.{GoesOn, GoesToEnd, GoesWithoutTail, IsWhyNoConvoy, IsWhyNotOn, IsWhyUnconvoyed, ServesConvoy, StandsOver, StartsConvoy}
-use Rattle.wh_service.specs.Kept.{IsSeated, IsSet, Siding, StartsFrom, StartsOver, first_slots}
-use Rattle.wh_service.specs.Plays.{text_by}
-use Rattle.wh_service.specs.Tails.{IsWhyNoTail, tail_after}
+use Rattle.wh_service.specs.Convoys.{GoesOn, GoesToEnd, IsWhyNoConvoy, IsWhyNotOn, IsWhyUnconvoyed, ServesConvoy, StandsOver, StartsConvoy}
+use Rattle.wh_service.specs.Kept.{IsSeated, IsSet, Siding, StartsFrom, first_slots}
 use Rattle.wh_service.specs.declared.convoys.DriveTrouble.{DriveTrouble}
 use Rattle.wh_service.specs.declared.convoys.DriveTrouble.TheVariants.{Plain}
 use Rattle.wh_service.specs.declared.parts.PlannerParts.{PlannerParts}

@@ -1,8 +1,8 @@
 -- What a run of `live` came to.
 use Rattle.std.proofs.Common.{◌≡◌, ◌+◌, ◌≤◌, ℕ, Bool, List, [], ◌∷◌, ◌++◌, length, map, replicate, refl, sym, ap, ◌∙◌, subst, arith, inl, inr, All, Option, None, Some, Result, Ok, Err, IfErr, option_map}
 use Prim.Native.Nat.{zero, suc}
-use Rattle.std.specs.Prelude.{MatchOption, OnOk, OnErr}
-use Rattle.std.specs.Io.KnownBytes.{Appends, Keeps}
+use Rattle.std.specs.Prelude.{MatchOption, OnOk}
+use Rattle.std.specs.Io.KnownBytes.{Keeps}
 use Rattle.std.proofs.lemmas.List.{length-append, length-map, length_push, map_push}
 use Rattle.std.proofs.lemmas.List.Elements.{All-push, recursion_from_All}
 use Rattle.wh_lines.specs.Input.{Input}
@@ -16,13 +16,13 @@ use Rattle.wh_edge.specs.declared.work.Work.{Work}
 use Rattle.wh_edge.specs.declared.trouble.Trouble.{Trouble}
 use Rattle.wh_options.specs.declared.chosen.Fleet.{Fleet}
 use Rattle.wh_options.specs.declared.chosen.LiveOptions.{LiveOptions}
-use Rattle.wh_replay.specs.Scripts.{WritesFront}
+use Rattle.wh_crew.specs.declared.agents.Pace.{Pace}
 use Rattle.wh_live.specs.Clients.{ClientsRead, ClientsFault}
 use Rattle.wh_live.specs.Works.{AreWorks, requests}
 use Rattle.wh_live.specs.Lives.{Lives, LivesShown, IsWhyUnlived}
 use Rattle.wh_display.specs.declared.screen.ShowFault.{ShowFault}
 use Rattle.wh_service.specs.Fleets.{IsMember, IsOfFleet, IsWhyUnclaimed, MakesPlanners}
-use Rattle.wh_service.specs.Hosts.{AreMembers, HaveSpares, IsTeam, ReadsAll, Hosts, HostsTo, IsWhyUnhosted, ShowsBoards, Tells, agent_threads, paced_turns}
+use Rattle.wh_service.specs.Hosts.{AreMembers, HaveSpares, IsTeam, ReadsAll, Hosts, HostsTo, IsPaceOf, IsWhyUnhosted, ShowsBoards, Tells, agent_threads, paced_turns}
 use Rattle.wh_core.specs.States.{opened}
 use Rattle.wh_core.proofs.Ways.{none_is_refused_a_path}
 use Rattle.wh_service.proofs.Logged.{logged}
@@ -137,6 +137,14 @@ pub hosts_shown : {X : Type 0} (fits : X → Floor → Bool) (count : X → ℕ)
 unfolding hosts
 hosts_shown fits count gives options site scripts planners works old new text last showed shows reads makes range team lives =
     (hosts fits count gives options site scripts planners works old new text reads makes range team lives.lives, lives.boards)
+
+-- ---- the worker
+
+-- the turns of a pace are those that it was given
+pub turns_paced : (every : Option ℕ) (turns : ℕ) (pace : Option Pace) → IsPaceOf every turns pace → option_map (λ p. p.turns) pace ≡ option_map (λ n. turns) every
+turns_paced None turns pace is = ap (option_map (λ p. p.turns)) is
+turns_paced (Some every) turns None is = absurd is
+turns_paced (Some every) turns (Some pace) is = ap (λ n. Some n) is.0
 
 -- ---- the screen
 

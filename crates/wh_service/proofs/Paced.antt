@@ -110,7 +110,7 @@ turns_asked limit cells turns origin history own taken opening few none told =
         let does = until.does in
         let all = subst (AllByRecursion (IsTurn limit)) until.parts (all_turns limit works.boards (small false works.boards works.seen)) in
         let asked = (split_left (IsTurn limit) until.done (until.next ∷ until.rest) all).0 in
-        subst (λ l. AllByRecursion (IsTurn limit) (commands_of l)) (sym (refused_list cells until.between told.has fault until.refused ∙ goes until.between does.received does.goes_on))
+        subst (λ l. AllByRecursion (IsTurn limit) (commands_of l)) (sym (refused_list cells until.between told.has fault until.left ∙ goes until.between does.received does.goes_on))
         (subst (AllByRecursion (IsTurn limit)) (sym does.commands_are) asked)
 
 -- ---- the ranges

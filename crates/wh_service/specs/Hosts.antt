@@ -1,6 +1,7 @@
 -- What a whole run of `live` does.
-use Rattle.std.specs.Prelude.{◌≡◌, ◌⊎◌, ◌<◌, ◌^◌, ℕ, Bool, List, length, map, option_map, replicate, All, MatchOption, None, Option, Result, Ok, Err, Some}
+use Rattle.std.specs.Prelude.{◌≡◌, ◌⊎◌, ◌<◌, ◌*◌, ◌^◌, ℕ, Bool, List, length, map, option_map, replicate, All, MatchOption, None, Option, Result, Ok, Err, Some}
 use Rattle.std.specs.declared.alloc.AllocError.{AllocError}
+use Rattle.std.specs.Duration.{as_nanos}
 use Rattle.std.specs.Io.KnownBytes.{Appends, Keeps}
 use Rattle.wh_lines.specs.Input.{Input}
 use Rattle.wh_grid.specs.Grids.{Floor}
@@ -20,6 +21,7 @@ use Rattle.wh_edge.specs.declared.trouble.Trouble.TheVariants as trouble
 use Rattle.wh_options.specs.declared.chosen.Fleet.{Fleet}
 use Rattle.wh_options.specs.declared.chosen.LiveOptions.{LiveOptions}
 use Rattle.wh_replay.specs.Scripts.{WritesFront}
+use Rattle.wh_crew.specs.declared.agents.Pace.{Pace}
 use Rattle.wh_live.specs.Clients.{ClientsRead, ClientsFault}
 use Rattle.wh_live.specs.Works.{AreWorks}
 use Rattle.wh_live.specs.Lives.{Lives, IsWhyUnlived}
@@ -45,6 +47,13 @@ agent_threads (Some every) agents = 0
 -- how many turns the worker for all agents and the clock may take, if there is one
 abbrev pub paced_turns : LiveOptions → Option ℕ
 paced_turns options = option_map (λ every. options.turns) options.every
+
+-- how the worker for all agents and the clock goes on, where there is one: so many turns at most, and so many milliseconds of rest behind
+-- each
+abbrev pub IsPaceOf : (every : Option ℕ) → (turns : ℕ) → Option Pace → Type 0
+IsPaceOf None turns pace = pace ≡ None
+IsPaceOf (Some every) turns None = ⊥
+IsPaceOf (Some every) turns (Some pace) = (pace.turns ≡ turns) × (as_nanos pace.pause ≡ every * 1000000)
 
 -- the workers in threads: the clients, and where no worker is there for all, the agents and the clock
 abbrev pub AreWorkers : {X : Type 0} → LiveOptions → ℕ → List (Work X) → List (Work X) → Type 0

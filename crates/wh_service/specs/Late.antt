@@ -1,10 +1,9 @@
 -- What `replay --vehicles` does: a script is served, and each vehicle carries out its agent's part at its own pace.
-use Rattle.std.specs.Prelude.{◌≡◌, ◌⊎◌, ◌++◌, ◌==◌, ℕ, Bool, true, false, List, [], ◌∷◌, Option, Some, None, Result, Ok, Err, cond, codes, decimal, length}
+use Rattle.std.specs.Prelude.{◌≡◌, ◌⊎◌, ◌++◌, ◌==◌, ℕ, Bool, true, false, List, [], ◌∷◌, Option, Result, cond, codes, decimal, length}
 use Rattle.std.specs.List.{count_by}
 use Rattle.std.specs.declared.alloc.AllocError.{AllocError}
 use Rattle.std.specs.Io.KnownBytes.{Appends, Keeps}
 use Rattle.wh_lines.specs.Input.{Input}
-use Rattle.wh_lines.specs.Output.{WritesFront}
 use Rattle.wh_grid.specs.Grids.{Floor}
 use Rattle.wh_points.specs.Points.{Site}
 use Rattle.wh_points.specs.Formed.{IsFormed}
@@ -12,14 +11,10 @@ use Rattle.wh_core.specs.Laws.{IsOpening}
 use Rattle.wh_core.specs.Steps.{Run}
 use Rattle.wh_verify.specs.Drafts.{AllServed, Seen}
 use Rattle.wh_edge.specs.Site.{SiteRead, SiteFault}
-use Rattle.wh_edge.specs.Trouble.{status_of, trouble_text}
-use Rattle.wh_edge.specs.declared.trouble.Status.{Status}
-use Rattle.wh_edge.specs.declared.trouble.Status.TheVariants.{Done}
 use Rattle.wh_edge.specs.declared.trouble.Trouble.{Trouble}
 use Rattle.wh_edge.specs.declared.trouble.Trouble.TheVariants as trouble
 use Rattle.wh_log.specs.Told.{Answered}
 use Rattle.wh_options.specs.declared.chosen.Fleet.{Fleet}
-use Rattle.wh_options.specs.declared.chosen.ReplayOptions.{ReplayOptions}
 use Rattle.wh_options.specs.declared.chosen.Tail.{Tail}
 use Rattle.wh_options.specs.declared.chosen.VehicleOptions.{VehicleOptions}
 use Rattle.wh_drive.specs.Drives as drives
@@ -30,7 +25,7 @@ use Rattle.wh_dispatch.specs.Scripts.{Dispatches, Stops}
 use Rattle.wh_dispatch.specs.declared.script.DispatchFault.{DispatchFault}
 use Rattle.wh_dispatch.specs.declared.script.DispatchFault.TheVariants as dispatch
 use Rattle.wh_service.specs.Fleets.{IsEquipped}
-use Rattle.wh_service.specs.Plays.{IsOpened, text_by}
+use Rattle.wh_service.specs.Plays.{IsOpened}
 use Rattle.wh_service.specs.Serves.{EndsAtFleet}
 use Rattle.wh_service.specs.Tails.{IsWhyNoTail, tail_after}
 use Rattle.wh_service.specs.declared.parts.PlannerParts.{PlannerParts}

@@ -1,11 +1,11 @@
 //! What `live` does.
 
-ghost use Rattle.std.specs.Prelude.{◌≡◌, ◌≤◌, ◌*◌, IfErr, IfOk, IfSome, MatchOption, None, OnOk, map, option_map};
+ghost use Rattle.std.specs.Prelude.{◌≡◌, ◌≤◌, ◌*◌, IfErr, IfOk, IfSome, OnOk, map, option_map};
 ghost use Rattle.std.specs.Arc.{arc_value};
 ghost use Rattle.std.specs.Duration.{as_nanos};
 ghost use Rattle.wh_claims.specs.Bank.{Belongs};
 ghost use Rattle.wh_service.specs.Fleets.{IsOfFleet, IsWhyUnclaimed, MakesPlanners};
-ghost use Rattle.wh_service.specs.Hosts.{AreWorkers, HaveSpares, HostsTo, IsTeam, IsWhyUnhosted, Tells, agent_threads, paced_turns};
+ghost use Rattle.wh_service.specs.Hosts.{AreWorkers, HaveSpares, HostsTo, IsPaceOf, IsTeam, IsWhyUnhosted, Tells, agent_threads};
 
 use crate::fleet::members;
 use crate::parts::PlannerParts;
@@ -36,15 +36,14 @@ fn agent_threads(every: Option<u32>, agents: usize) -> usize
     }
 }
 
-/// How the worker for all agents and the clock goes on, if there is one: until it has taken its turns, or nothing is open or
-/// under way.
-fn pace_of(options: &LiveOptions<'_>) -> Option<Pace>
-    ensures turns { option_map (λ pace. pace.turns) result ≡ paced_turns options.now }
-    ensures pause { MatchOption options.now.every (result ≡ None) (λ every. IfSome result (λ pace. as_nanos pace.pause ≡ every * 1000000)) }
+/// How the worker for all agents and the clock goes on, if there is one: it takes at most so many turns, and rests so many
+/// milliseconds behind each. Once the others are through it goes on only while something is open or under way.
+pub fn pace_of(every: Option<u32>, turns: u32) -> Option<Pace>
+    ensures { IsPaceOf every turns result }
 {
-    match options.every {
+    match every {
         Some(every) => Some(Pace {
-            turns: options.turns,
+            turns,
             ends_idle: true,
             pause: Duration::from_millis(u64::from(every)),
         }),
@@ -124,15 +123,15 @@ fn make_team<P: Planner, F: Fn(PlannerParts) -> Result<P, AllocError>>(
     Ok(Team { planners, works })
 }
 
-/// Takes the screen for the run, if there is one.
-fn display_of<S>(screen: &mut Option<S>, options: &LiveOptions<'_>) -> Option<Display<S>>
+/// Takes the screen for a run, if there is one, with so many milliseconds of rest between two looks.
+pub fn display_of<S>(screen: &mut Option<S>, every: u32) -> Option<Display<S>>
     ensures screen { option_map (λ display. display.screen) result ≡ screen.old }
-    ensures pause { IfSome result (λ display. as_nanos display.pause ≡ options.now.board_every * 1000000) }
+    ensures pause { IfSome result (λ display. as_nanos display.pause ≡ every * 1000000) }
 {
     match screen.take() {
         Some(screen) => Some(Display {
             screen,
-            pause: Duration::from_millis(u64::from(options.board_every)),
+            pause: Duration::from_millis(u64::from(every)),
         }),
         None => None,
     }
@@ -196,8 +195,8 @@ pub fn host<
         Ok(team) => team,
         Err(trouble) => return Err(trouble),
     };
-    let pace = pace_of(options);
-    let display = display_of(screen, options);
+    let pace = pace_of(options.every, options.turns);
+    let display = display_of(screen, options.board_every);
     let ran = match run_crew(
         rt,
         alloc,

@@ -35,7 +35,7 @@ fn trouble_of(fault: ReplayFault) -> Trouble
 }
 
 /// The form in which replies are told.
-pub(crate) fn form_of(replies: Replies) -> Form
+pub fn form_of(replies: Replies) -> Form
     ensures { result ≡ form_of replies }
 {
     match replies {

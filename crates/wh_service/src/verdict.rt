@@ -1,7 +1,6 @@
 //! What `check` does.
 
-ghost use Rattle.std.specs.Prelude.{◌≡◌, ◌<◌, ◌≤◌, ◌++◌, IfErr, IfOk, length};
-ghost use Rattle.wh_formed.specs.Verdicts.{IsVerdict};
+ghost use Rattle.std.specs.Prelude.{◌≡◌, ◌<◌, IfErr, IfOk};
 ghost use Rattle.wh_service.specs.Checks.{IsNamed, IsWhyUnjudged, Judges, status_of, verdict_text};
 
 use crate::writing::write_text;

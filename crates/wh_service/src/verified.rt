@@ -1,8 +1,7 @@
 //! What `verify` does.
 
-ghost use Rattle.std.specs.Prelude.{◌≡◌, ◌⊎◌, ◌≤◌, IfErr, IfOk, length};
+ghost use Rattle.std.specs.Prelude.{◌≡◌, ◌≤◌, IfErr, IfOk, length};
 ghost use Rattle.wh_lines.specs.Section.{Sectioned};
-ghost use Rattle.wh_edge.specs.Site.{SiteFault};
 ghost use Rattle.wh_service.specs.Verifies.{IsWhyNoLog, IsWhyUnverified, Verifies, status_of_log, verified_text};
 
 use crate::writing::write_text;

@@ -1,9 +1,9 @@
-use Rattle.std.proofs.Common.{All, ◌<◌, inl, length, sym, subst}
+use Rattle.std.proofs.Common.{ap, inl, inr, sym, subst}
+use Rattle.std.specs.Prelude.{option_map}
 use Rattle.std.proofs.KnownBytes.{Keeps-refl}
-use Rattle.wh_event.specs.declared.entry.Entry.{Entry}
 use Rattle.wh_desk.specs.Drafts.{Seen}
 use Rattle.wh_journal.specs.Surviving.{HoldsLog}
-use Rattle.wh_attend.proofs.Attended.{attends, leaves_as, no_history, opens_as, stands_at, stops, stops_aside, untold}
+use Rattle.wh_attend.proofs.Attended.{attends, leaves_as, opens_as, stands_at, stops, stops_aside, untold}
 use Rattle.wh_attend.proofs.attending.attend.Goals as goal
 
 pub keep_beside-requires : goal.keep_beside-requires
@@ -15,41 +15,42 @@ returns-in-Err-clause-fault g c = inl (c.in-Err.ensures.fault, Keeps-refl _, c.i
 pub returns-in-Err-keep_beside-clause-fault : goal.returns-in-Err-keep_beside-clause-fault
 returns-in-Err-keep_beside-clause-fault g c =
     let r = c.in-Ok.ensures.ok in
-    stops_aside _ _ _ _ _ _ _ _ _ _ r.0 c.in-Ok.ready r.1 _ c.in-Ok.ensures.same_beside _ (leaves_as _ _ _ _ c.as_slice.ensures.value c.in-Err-keep_beside.ensures.left) c.in-Err-keep_beside.ensures.failed
+    stops_aside _ _ _ _ _ _ _ _ _ _ _ _ r.0 c.in-Ok.ready r.1 _ c.in-Ok.ensures.same_beside _ (leaves_as _ _ _ _ c.as_slice.ensures.value c.in-Err-keep_beside.ensures.left) c.in-Err-keep_beside.ensures.failed
 
 pub returns-in-Err-begin-clause-fault : goal.returns-in-Err-begin-clause-fault
 returns-in-Err-begin-clause-fault g c =
     let r = c.in-Ok.ensures.ok in
-    stops _ _ _ _ _ _ _ _ _ _ r.0 c.in-Ok.ready r.1 _ c.in-Ok.ensures.same_beside (opens_as _ _ _ _ c.as_slice.ensures.value c.in-Ok-keep_beside.ensures.ok) c.in-Ok-keep_beside.ensures.synced
-    _ _ c.in-Err-begin.ensures.fault
+    stops _ _ _ _ _ _ _ _ _ _ _ _ r.0 c.in-Ok.ready r.1 _ c.in-Ok.ensures.same_beside (opens_as _ _ _ _ c.as_slice.ensures.value c.in-Ok-keep_beside.ensures.ok) c.in-Ok-keep_beside.ensures.synced
+    _ _ (inl c.in-Err-begin.ensures.fault)
 
 pub returns-clause-fault : goal.returns-clause-fault
 returns-clause-fault g c =
     let r = c.in-Ok.ensures.ok in
-    stops _ _ _ _ _ _ _ _ _ _ r.0 c.in-Ok.ready r.1 _ c.in-Ok.ensures.same_beside (opens_as _ _ _ _ c.as_slice.ensures.value c.in-Ok-keep_beside.ensures.ok) c.in-Ok-keep_beside.ensures.synced
-    _ _ (no_history _ c.in-Err-serve_all.ensures.fault)
+    stops _ _ _ _ _ _ _ _ _ _ _ _ r.0 c.in-Ok.ready r.1 _ c.in-Ok.ensures.same_beside (opens_as _ _ _ _ c.as_slice.ensures.value c.in-Ok-keep_beside.ensures.ok) c.in-Ok-keep_beside.ensures.synced
+    _ _ (inr c.in-Err-serve_all.ensures.fault)
 
 pub serve_all-requires-clause-log : goal.serve_all-requires-clause-log
 serve_all-requires-clause-log g c κs within =
     subst (λ (b : Seen). HoldsLog (g.L.Journal.contents c.begin.new.file) b) (sym c.in-Ok-begin.ensures.book) c.in-Ok-begin.ensures.holds
 
-pub serve_all-requires-clause-callers : goal.serve_all-requires-clause-callers
-serve_all-requires-clause-callers g c κs within =
-    subst (λ (b : Seen). All (λ (e : Entry). e.caller < length c.in-Ok.ready.clients.items) b.history) (sym c.in-Ok-begin.ensures.book) c.in-Ok.ensures.ok.1.staffed.clients_are.callers
+pub serve_all-requires-clause-few : goal.serve_all-requires-clause-few
+serve_all-requires-clause-few g c κs within = c.in-Ok.ensures.ok.1.staffed.clients_are.few
 
 pub returns-in-Ok-serve_all-clause-ok : goal.returns-in-Ok-serve_all-clause-ok
 returns-in-Ok-serve_all-clause-ok g c =
     let r = c.in-Ok.ensures.ok in
     let ran = c.in-Ok-serve_all.ran in
-    attends _ _ _ _ _ _ _ _ _ _ r.0 c.in-Ok.ready r.1 _ c.in-Ok.ensures.same_beside (opens_as _ _ _ _ c.as_slice.ensures.value c.in-Ok-keep_beside.ensures.ok) c.in-Ok-keep_beside.ensures.synced
-    _ c.form_of-form.ensures c.in-Ok-begin.warehouse.book ran.history.warehouse.book c.in-Ok-begin.ensures.book c.in-Ok-serve_all.ensures.origin ran.connections.items c.in-Ok-serve_all.ensures.ok
+    attends _ _ _ _ _ _ _ _ _ _ _ _ r.0 c.in-Ok.ready r.1 _ c.in-Ok.ensures.same_beside (opens_as _ _ _ _ c.as_slice.ensures.value c.in-Ok-keep_beside.ensures.ok) c.in-Ok-keep_beside.ensures.synced
+    c.in-Ok-begin.warehouse.book ran.history.warehouse.book c.in-Ok-begin.ensures.book c.in-Ok-serve_all.ensures.origin c.in-Ok-serve_all.ensures.ok
+    ran.last (option_map g.V.Screen.shown ran.screen) (ap (option_map g.V.Screen.shown) c.end_run.ensures.screen) c.in-Ok-serve_all.ensures.boards
     g.L.Journal.contents g.L.Journal.synced c.end_run.result _ _ _ _ _ _ ran.is_whole c.in-Ok.ensures.same c.in-Ok-begin.ensures.stays c.in-Ok-serve_all.ensures.journal
-    c.end_run.ensures.whole c.end_run.ensures.ends c.end_run.ensures.synced c.end_run.ensures.tells
+    c.end_run.ensures.whole c.end_run.ensures.ends c.end_run.ensures.synced c.end_run.ensures.tells c.end_run.ensures.shown
 
 pub returns-in-Ok-serve_all-clause-fault : goal.returns-in-Ok-serve_all-clause-fault
 returns-in-Ok-serve_all-clause-fault g c =
     let r = c.in-Ok.ensures.ok in
     let ran = c.in-Ok-serve_all.ran in
-    untold _ _ _ _ _ _ _ _ _ _ r.0 c.in-Ok.ready r.1 _ c.in-Ok.ensures.same_beside (opens_as _ _ _ _ c.as_slice.ensures.value c.in-Ok-keep_beside.ensures.ok) c.in-Ok-keep_beside.ensures.synced
-    _ c.form_of-form.ensures c.in-Ok-begin.warehouse.book ran.history.warehouse.book c.in-Ok-begin.ensures.book c.in-Ok-serve_all.ensures.origin ran.connections.items c.in-Ok-serve_all.ensures.ok
+    untold _ _ _ _ _ _ _ _ _ _ _ _ r.0 c.in-Ok.ready r.1 _ c.in-Ok.ensures.same_beside (opens_as _ _ _ _ c.as_slice.ensures.value c.in-Ok-keep_beside.ensures.ok) c.in-Ok-keep_beside.ensures.synced
+    c.in-Ok-begin.warehouse.book ran.history.warehouse.book c.in-Ok-begin.ensures.book c.in-Ok-serve_all.ensures.origin c.in-Ok-serve_all.ensures.ok
+    ran.last (option_map g.V.Screen.shown ran.screen) (ap (option_map g.V.Screen.shown) c.end_run.ensures.screen) c.in-Ok-serve_all.ensures.boards
     c.end_run.result _ _ c.end_run.ensures.fault

@@ -1,19 +1,18 @@
-use Rattle.std.proofs.Crossing.{crosses}
-use denote.Param.Send.{sendable}
-use Rattle.wh_desk.proofs.Sharing.{warehouse_send}
-use Rattle.wh_attend.proofs.Sending.{client_send, ran_send, trouble_send}
+use Rattle.std.specs.Prelude.{option_map}
+use Rattle.wh_service.proofs.Hosted.{told_by}
+use Rattle.wh_attend.proofs.ByOptions.{boards_by, serves_clients, unserved_by}
 use Rattle.wh_attend.proofs.serving.serve_all.Goals as goal
 
-pub join-came-requires-send-F : goal.join-came-requires-send-F
-join-came-requires-send-F g c κs within =
-    let p = c.type_bounds.send-P in
-    let l = c.type_bounds.send-L in
-    let t = c.type_bounds.sync-T in
-    let d = c.type_bounds.sync-D in
-    search (sendable, crosses, warehouse_send, client_send) depth 30 fits 20000
+pub returns-clause-ok : goal.returns-clause-ok
+returns-clause-ok g c =
+    serves_clients c.join-came.result.1 g.P.Planner.fits_map g.P.Planner.slot_count _ _ c.args.options.now _ _ _ (λ r. r.history.warehouse.book.history) (λ r. r.history.warehouse.book.state) (λ r. r.connections.items) (λ r. r.worker)
+    _ _ c.form_of-form.ensures c.pace_of-pace.ensures c.join-came.ensures.second.0
 
-pub join-came-requires-send-A : goal.join-came-requires-send-A
-join-came-requires-send-A g c κs within =
-    let p = c.type_bounds.send-P in
-    let l = c.type_bounds.send-L in
-    search (sendable, crosses, ran_send, trouble_send) depth 30 fits 20000
+pub returns-clause-boards : goal.returns-clause-boards
+returns-clause-boards g c =
+    boards_by c.join-came.result.1 _ _ (λ r. r.history.warehouse.book.history) (λ r. r.last) _ _ (λ r. option_map g.V.Screen.shown r.screen)
+    (told_by g.V.Screen.shown (λ d. d.screen) c.display_of-display.result _ c.display_of-display.ensures.screen) c.join-came.ensures.second.3
+
+pub returns-clause-fault : goal.returns-clause-fault
+returns-clause-fault g c =
+    unserved_by c.join-came.result.1 c.display_of-display.result (λ d. g.V.Screen.shown d.screen) _ (told_by g.V.Screen.shown (λ d. d.screen) c.display_of-display.result _ c.display_of-display.ensures.screen) c.join-came.ensures.second.4

@@ -1,6 +1,6 @@
-use Rattle.std.proofs.Common.{inr}
+use Rattle.wh_program.proofs.Screens.{attended_over}
 use Rattle.wh_program.proofs.attending.attend_by_name.Goals as goal
 
--- over the log file and the one beside it, of whatever these tell
+-- over the log file, the one beside it and the file of the board, of whatever these tell
 pub returns : goal.returns
-returns g c = inr (_, _, c.attend_over.ensures)
+returns g c = attended_over _ _ _ _ _ c.args.options.now _ _ _ _ _ _ _ _ _ c.in-Ok-screen_over.ensures c.attend_over.ensures

@@ -1,8 +1,6 @@
-use Rattle.std.proofs.Common.{Ok, Err, ◌≡◌, ◌∙◌, List, Option, Result, refl, subst, sym}
+use Rattle.std.proofs.Common.{◌∙◌, List, refl, subst}
 use Rattle.std.specs.Prelude.{ℕ}
 use Rattle.wh_lines.specs.Output.{WritesFront}
-use Rattle.wh_program.specs.Programs.{EndsDrive}
-use Rattle.wh_service.specs.declared.convoys.DriveTrouble.{DriveTrouble}
 use Rattle.wh_program.proofs.Whole.{shown}
 use Rattle.wh_program.proofs.driving.end_drive.Goals as goal
 

@@ -1,7 +1,5 @@
-use Rattle.std.proofs.Common.{ap, None, option_map}
 use Rattle.wh_program.proofs.Screens.{over_file}
 use Rattle.wh_program.proofs.running.live_by_name.Goals as goal
 
 pub returns-in-Ok : goal.returns-in-Ok
-returns-in-Ok g c =
-    over_file g.P.Planner.fits_map g.P.Planner.slot_count _ c.args.options.now _ _ _ _ _ _ (ap (option_map (λ name. None)) c.in-Some.is) c.live_over-in-Ok.ensures
+returns-in-Ok g c = over_file g.P.Planner.fits_map g.P.Planner.slot_count _ c.args.options.now _ _ _ _ _ _ _ c.in-Ok.ensures c.live_over.ensures

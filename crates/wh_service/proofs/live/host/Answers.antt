@@ -3,7 +3,7 @@ use Rattle.std.proofs.KnownBytes.{Keeps-refl}
 use Rattle.std.specs.Arc.{arc_value}
 use Rattle.wh_points.specs.Points.{Site}
 use Rattle.wh_service.proofs.Played.{members_fit}
-use Rattle.wh_service.proofs.Hosted.{at_clients, at_run, at_team, few_works, hosts_shown, reads_all, shown_at, team_at, told_by, unlived_by, unwritten, written}
+use Rattle.wh_service.proofs.Hosted.{at_clients, at_run, at_team, few_works, hosts_shown, reads_all, shown_at, team_at, told_by, turns_paced, unlived_by, unwritten, written}
 use Rattle.wh_service.proofs.live.host.Goals as goal
 
 pub returns-in-Err-clause-fault : goal.returns-in-Err-clause-fault
@@ -53,7 +53,7 @@ returns-clause-ok g c =
     let team = team_at _ c.args.options.now grid _ _ _ _ _ seats c.in-Ok-make_team.ensures.ok in
     let made = c.in-Ok-make_team.team in
     let showed = told_by g.S.Screen.shown (λ d. d.screen) c.display_of-display.result _ c.display_of-display.ensures.screen in
-    let lives = shown_at g.P.Planner.fits_map g.P.Planner.slot_count site made.planners.items made.works.items _ _ c.args.options.now.journal _ _ _ _ _ _ c.pace_of-pace.ensures.turns (sym c.as_slice.ensures.value) showed c.in-Ok-run_crew.ensures.ok in
+    let lives = shown_at g.P.Planner.fits_map g.P.Planner.slot_count site made.planners.items made.works.items _ _ c.args.options.now.journal _ _ _ _ _ _ (turns_paced _ _ _ c.pace_of-pace.ensures) (sym c.as_slice.ensures.value) showed c.in-Ok-run_crew.ensures.ok in
     written _ _ _ c.args.options.now _ _ _ _ _ _ _ c.in-Ok-run_crew.ran.last c.tell.result c.tell.ensures
     (hosts_shown _ _ _ c.args.options.now site _ made.planners.items made.works.items _ _ c.as_slice.result.now _ _ _ reads c.requires.makes c.requires.range team lives)
 
@@ -67,6 +67,6 @@ returns-clause-fault g c =
     let team = team_at _ c.args.options.now grid _ _ _ _ _ seats c.in-Ok-make_team.ensures.ok in
     let made = c.in-Ok-make_team.team in
     let showed = told_by g.S.Screen.shown (λ d. d.screen) c.display_of-display.result _ c.display_of-display.ensures.screen in
-    let lives = shown_at g.P.Planner.fits_map g.P.Planner.slot_count site made.planners.items made.works.items _ _ c.args.options.now.journal _ _ _ _ _ _ c.pace_of-pace.ensures.turns (sym c.as_slice.ensures.value) showed c.in-Ok-run_crew.ensures.ok in
+    let lives = shown_at g.P.Planner.fits_map g.P.Planner.slot_count site made.planners.items made.works.items _ _ c.args.options.now.journal _ _ _ _ _ _ (turns_paced _ _ _ c.pace_of-pace.ensures) (sym c.as_slice.ensures.value) showed c.in-Ok-run_crew.ensures.ok in
     unwritten _ _ _ c.args.options.now _ _ _ _ _ _ _ c.in-Ok-run_crew.ran.last c.tell.result c.tell.ensures
     (hosts_shown _ _ _ c.args.options.now site _ made.planners.items made.works.items _ _ c.as_slice.result.now _ _ _ reads c.requires.makes c.requires.range team lives)

@@ -1,4 +1,4 @@
-use Rattle.std.proofs.Common.{subst, sym, ◌∙◌, ℕ, List}
+use Rattle.std.proofs.Common.{subst, sym, ◌∙◌}
 use Rattle.wh_edge.specs.declared.trouble.Trouble.{Trouble}
 use Rattle.wh_lines.specs.Output.{WritesFront}
 use Rattle.wh_service.specs.Checks.{IsWhyUnjudged}

@@ -1,0 +1,47 @@
+-- What serving by the options says of what it was served by.
+use Rattle.std.proofs.Common.{◌≡◌, ◌+◌, ℕ, Bool, List, length, subst, Option, Result, Ok, Err}
+use Rattle.std.specs.Prelude.{IfErr, IfOk, option_map}
+use Rattle.wh_grid.specs.Grids.{Floor}
+use Rattle.wh_event.specs.declared.entry.Entry.{Entry}
+use Rattle.wh_core.specs.States.{State}
+use Rattle.wh_log.specs.declared.form.Form.{Form}
+use Rattle.wh_desk.specs.Pasts.{Origin}
+use Rattle.wh_crew.specs.declared.agents.Pace.{Pace}
+use Rattle.wh_scribe.specs.declared.calling.CallFault.{CallFault}
+use Rattle.wh_display.specs.declared.screen.ShowFault.{ShowFault}
+use Rattle.wh_edge.specs.declared.trouble.Trouble.{Trouble}
+use Rattle.wh_live.specs.Displays.{BoardsFrom}
+use Rattle.wh_live.specs.Lives.{IsWhyUnlived}
+use Rattle.wh_options.specs.declared.chosen.AttendOptions.{AttendOptions}
+use Rattle.wh_serve.specs.Texts.{receipt_text}
+use Rattle.wh_serve.specs.declared.threads.Client.{Client}
+use Rattle.wh_host.specs.Runs.{ServedFrom}
+use Rattle.wh_service.specs.Hosts.{IsPaceOf}
+use Rattle.wh_service.specs.Plays.{form_of}
+use Rattle.wh_service.proofs.Hosted.{unlived_by}
+use Rattle.wh_attend.specs.Attends.{ServesClients}
+
+-- what came, told in the form and with the pace that the options name
+pub serves_clients : {A R W X : Type 0} (came : Result A Trouble) (fits : X → Floor → Bool) (count : X → ℕ) (remaining : R → Option (List ℕ)) (contents : W → Option (List ℕ)) (options : AttendOptions) (origin : Origin) (earlier : List Entry) (clients : List (Client X))
+    (history : A → List Entry) (state : A → State) (connections : A → List ℕ) (worker : A → Option CallFault) (form : Form) (pace : Option Pace) → form ≡ form_of options.replies → IsPaceOf options.every options.turns pace
+    → IfOk came (λ a. ServedFrom fits count (receipt_text form origin) remaining contents origin earlier clients pace (length earlier + options.journal) (history a) (state a) (connections a) (worker a))
+    → IfOk came (λ a. ServesClients fits count remaining contents options origin earlier clients (history a) (state a))
+serves_clients (Ok a) fits count remaining contents options origin earlier clients history state connections worker form pace is paced served = record {
+  pace = pace;
+  pace_is = paced;
+  connections = connections a;
+  worker = worker a;
+  served = subst (λ (f : Form). ServedFrom fits count (receipt_text f origin) remaining contents origin earlier clients pace (length earlier + options.journal) (history a) (state a) (connections a) (worker a)) is served;
+}
+serves_clients (Err told) fits count remaining contents options origin earlier clients history state connections worker form pace is paced served = tt
+
+-- what the screen was shown, which was taken for a display
+pub boards_by : {A : Type 0} (came : Result A Trouble) (origin : Origin) (earlier : List Entry) (history : A → List Entry) (last : A → Result Unit ShowFault) (had showed : Option (Option (List (List ℕ)))) (shows : A → Option (Option (List (List ℕ)))) → had ≡ showed
+    → IfOk came (λ a. BoardsFrom origin earlier (history a) (last a) had (shows a)) → IfOk came (λ a. BoardsFrom origin earlier (history a) (last a) showed (shows a))
+boards_by (Ok a) origin earlier history last had showed shows same boards = subst (λ (s : Option (Option (List (List ℕ)))). BoardsFrom origin earlier (history a) (last a) s (shows a)) same boards
+boards_by (Err told) origin earlier history last had showed shows same boards = tt
+
+-- why there is no history, of the screen that was taken for a display
+pub unserved_by : {A D T : Type 0} (came : Result A Trouble) (display : Option D) (of : D → T) (screen : Option T) → option_map of display ≡ screen → IfErr came (IsWhyUnlived display) → IfErr came (IsWhyUnlived screen)
+unserved_by (Ok a) display of screen is why = tt
+unserved_by (Err told) display of screen is why = unlived_by display of screen told is why
