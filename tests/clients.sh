@@ -265,15 +265,82 @@ judge_log 'a full disk' 101
 for form in short full placed; do
     afresh c0
     begin --client "0=$scratch/c0:all"
-    said=$(client c0 'submit x A B' 'token 0' close)
+    said=$(client c0 'submit x A B' 'tick' 'token 0' close)
     ended 5
     case $form in
-        short) judge "replies $form" "$said" 'entries 0;accepted 0;took 0 end 6;closed;' ;;
-        full) judge "replies $form" "$said" 'entries 0;accepted 0;took 0 path 0,1 1,1 1,0 1,1 2,1 3,1 3,0;closed;' ;;
-        placed) judge "replies $form" "$said" 'entries 0;0 accepted 0;1 took 0 path 0,1 1,1 1,0 1,1 2,1 3,1 3,0;2 closed;' ;;
+        short) judge "replies $form" "$said" 'entries 0;accepted 0;clock 1 picked 0 dropped 0;took 0 end 6;closed;' ;;
+        full) judge "replies $form" "$said" 'entries 0;accepted 0;clock 1 picked 0 dropped 0;took 0 path 0,1 1,1 1,0 1,1 2,1 3,1 3,0;closed;' ;;
+        placed) judge "replies $form" "$said" \
+            'entries 0;0 0 accepted 0;1 0 clock 1 picked 0 dropped 0;2 1 took 0 path 0,1 1,1 1,0 1,1 2,1 3,1 3,0;3 1 closed;' ;;
     esac
 done
+# the clock is that of the history, whoever ticks
+form=placed
+afresh c0 c1
+begin --client "0=$scratch/c0:all" --client "1=$scratch/c1"
+client c0 tick 'submit y C D' tick > /dev/null
+judge 'a clock that others move' "$(client c1 'submit x A B' 'token 0')" 'entries 0;3 2 accepted 1;refused C3;'
+client c0 close > /dev/null
+ended 5
 form=full
+
+# a worker for agents and clock beside clients, and boards of what is kept, while they are at work
+# Waits until the board says so, 20 seconds at most.
+#   board_says LINE
+board_says() {
+    local k
+    for ((k = 0; k < 400; k++)); do
+        [[ -e $scratch/board ]] && grep -qx -- "$1" "$scratch/board" && return
+        sleep 0.05
+    done
+    echo "the board never said '$1'"
+    false
+}
+afresh c0 c1
+words=(--every 2 --turns 100000 --board "$scratch/board" --board-every 2 --client "0=$scratch/c0:close" --client "1=$scratch/c1")
+begin "${words[@]}"
+judge 'an order beside a worker' "$(client c1 'submit x A B' 'submit y C D')" 'entries 0;accepted 0;accepted 1;'
+judge 'the worker delivers' "$(board_says 'done 2')" ''
+killed
+begin "${words[@]}"
+judge 'an order more, in another life' "$(client c1 'submit z B A')" 'entries 2;accepted 2;'
+judge 'the worker goes on' "$(board_says 'done 3')" ''
+judge 'closed beside a worker' "$(client c0 close)" 'entries 0;closed;'
+ended 5
+entries=$(grep -c ' = ' "$scratch/log")
+judge_log 'a worker' "$entries"
+judge 'the last board is of all' "$(sed -n '2p;4,7p' "$scratch/board" | tr '\n' ' ')" "entries $entries open 0 assigned 0 carried 0 done 3 "
+judge 'whose entries they are' "$(sed -n 's/^\([0-9]*\) .* = .*/\1/p' "$scratch/log" | sort -nu | tr '\n' ' ')" '0 1 63 '
+judge 'what the worker asks' "$(sed -n 's/^63 \([a-z]*\) .*/\1/p' "$scratch/log" | sort -u | tr '\n' ' ')" 'tick token '
+judge 'no file beside the board is left' "$(cd -- "$scratch" && echo board*)" 'board'
+rm -f -- "$scratch/board"
+# a rest of a minute holds the end up for nobody, and a worker may have had all its turns
+afresh c0
+begin --every 60000 --board "$scratch/board" --board-every 60000 --client "0=$scratch/c0:all"
+judge 'long rests' "$(client c0 tick close)" 'entries 0;clock 1 picked 0 dropped 0;closed;'
+ended 5
+judge_log 'long rests' 2
+judge 'the board behind long rests' "$(sed -n 2p "$scratch/board")" 'entries 2'
+afresh c0
+begin --every 1 --turns 3 --client "0=$scratch/c0:all"
+sleep 0.5
+judge 'three turns' "$(client c0 close)" 'entries 0;closed;'
+ended 5
+judge 'three turns: ticks' "$(grep -c '^63 tick' "$scratch/log")" 3
+
+# a share by the words, and what is full is told once
+afresh c0 c1
+begin --share 2 --journal 4 --every 1 --turns 100000 --client "0=$scratch/c0:all" --client "1=$scratch/c1"
+judge 'the worker fills the journal' "$(sleep 0.5; client c0 'submit x A B')" 'entries 0;refused E11;'
+killed
+judge 'a full journal is told' "$(grep -c E11 "$scratch/errors") $(grep -cx 'client 0: the journal is full' "$scratch/errors")" '1 1'
+afresh c0 c1
+begin --share 2 --client "0=$scratch/c0:all" --client "1=$scratch/c1"
+judge 'a share by the words' "$(client c1 'submit x A B' 'submit x A B' 'submit x A B' 'submit x A B')" \
+    'entries 0;accepted 0;accepted 1;refused E11;refused E11;'
+judge 'a full share is told once' "$(cat -- "$scratch/errors")" 'client 1: its share of the entries is used'
+client c0 close > /dev/null
+ended 5
 
 # where it does not begin, nothing is written
 afresh c0 c1
@@ -302,7 +369,10 @@ wrong "${words[@]}" --client "1=$scratch/c0"
 wrong "${words[@]}" --client "62=$scratch/c1"
 wrong "${words[@]}" --client "1=$scratch/c1:read"
 wrong "${words[@]}" --client "1="
-wrong "${words[@]}" --every 10
+wrong "${words[@]}" --turns 10
+wrong "${words[@]}" --share 0
+wrong "${words[@]}" --board "$scratch/log"
+wrong "${words[@]}" --board "$scratch/log.site"
 wrong --client "0=$scratch/c0"
 wrong --log "$scratch/log"
 # a log of another site is left as it is
