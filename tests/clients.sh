@@ -296,6 +296,15 @@ board_says() {
     echo "the board never said '$1'"
     false
 }
+# Waits until the log has so many such lines, 20 seconds at most.
+#   log_has COUNT PATTERN
+log_has() {
+    local k
+    for ((k = 0; k < 400; k++)); do
+        [[ -e $scratch/log ]] && (($(grep -c -- "$2" "$scratch/log") >= $1)) && return
+        sleep 0.05
+    done
+}
 afresh c0 c1
 words=(--every 2 --turns 100000 --board "$scratch/board" --board-every 2 --client "0=$scratch/c0:close" --client "1=$scratch/c1")
 begin "${words[@]}"
@@ -323,7 +332,7 @@ judge_log 'long rests' 2
 judge 'the board behind long rests' "$(sed -n 2p "$scratch/board")" 'entries 2'
 afresh c0
 begin --every 1 --turns 3 --client "0=$scratch/c0:all"
-sleep 0.5
+log_has 3 '^63 tick'
 judge 'three turns' "$(client c0 close)" 'entries 0;closed;'
 ended 5
 judge 'three turns: ticks' "$(grep -c '^63 tick' "$scratch/log")" 3
@@ -331,7 +340,8 @@ judge 'three turns: ticks' "$(grep -c '^63 tick' "$scratch/log")" 3
 # a share by the words, and what is full is told once
 afresh c0 c1
 begin --share 2 --journal 4 --every 1 --turns 100000 --client "0=$scratch/c0:all" --client "1=$scratch/c1"
-judge 'the worker fills the journal' "$(sleep 0.5; client c0 'submit x A B')" 'entries 0;refused E11;'
+log_has 4 ' = '
+judge 'the worker fills the journal' "$(client c0 'submit x A B')" 'entries 0;refused E11;'
 killed
 judge 'a full journal is told' "$(grep -c E11 "$scratch/errors") $(grep -cx 'client 0: the journal is full' "$scratch/errors")" '1 1'
 afresh c0 c1
