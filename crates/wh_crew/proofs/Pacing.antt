@@ -13,7 +13,7 @@ use Rattle.wh_crew.specs.declared.agents.Pace.{Pace}
 use Rattle.wh_crew.proofs.Turning.{Taking, does_more, still_seen, taking_more, taking_stops, until_more}
 
 -- who does not end idle took a turn at each look
-pub took_turn : (known : Past) (b c : Received) (took : Bool) → Looks false known b c took → (board : Board) × MayTurn false known board × Does (turn_of board.agents.items) b c
+pub took_turn : (known : Past) (b c : Received) (took : Bool) → Looks false known b c took → (board : Board) × MayTurn false known board × Does (turn_of board) b c
 took_turn known b c true looks = looks
 took_turn known b c false looks = absurd (let no : false ≡ true = looks.1.may in cc)
 
@@ -41,7 +41,7 @@ any_turn known boards all =
     All-weaker (MayTurn true known) (MayTurn false known) (λ board m. record { past = m.past; begins = m.begins; shows = m.shows; has_work = λ no idle. absurd (cc no) }) boards all
 
 turns_append : (xs ys : List Board) → turns_of xs ++ turns_of ys ≡ turns_of (xs ++ ys)
-turns_append xs ys = sym (flat_map-append (λ (b : Board). turn_of b.agents.items) xs ys)
+turns_append xs ys = sym (flat_map-append turn_of xs ys)
 
 ends_so : (turns beside alone : ℕ) (known : Past) → beside + alone ≡ turns → (taken : ℕ) → (taken ≡ alone) ⊎ ((taken < alone) × EndsIdle true known) → (beside + taken ≡ turns) ⊎ ((beside + taken < turns) × EndsIdle true known)
 ends_so turns beside alone known all taken (inl same) = inl (omega (arith, same, all))

@@ -66,10 +66,10 @@ pub still_seen : (ends_idle : Bool) (known later : Past) (boards : List Board) �
 still_seen ends_idle known later boards more all =
     All-weaker (MayTurn ends_idle known) (MayTurn ends_idle later) (λ board m. record { past = m.past; begins = extends_trans m.past known later m.begins more; shows = m.shows; has_work = m.has_work }) boards all
 
-turns_push : (boards : List Board) (board : Board) → turns_of boards ++ turn_of board.agents.items ≡ turns_of (boards ++ board ∷ [])
+turns_push : (boards : List Board) (board : Board) → turns_of boards ++ turn_of board ≡ turns_of (boards ++ board ∷ [])
 turns_push boards board =
-    ap (λ (l : List Command). turns_of boards ++ l) (sym (append-nil (turn_of board.agents.items)))
-    ∙ sym (flat_map-append (λ (b : Board). turn_of b.agents.items) boards (board ∷ []))
+    ap (λ (l : List Command). turns_of boards ++ l) (sym (append-nil (turn_of board)))
+    ∙ sym (flat_map-append turn_of boards (board ∷ []))
 
 -- so many turns were taken
 pub record Taking (ends_idle : Bool) (known : Past) (had has : Received) (turns : ℕ) : Type 0 where
@@ -86,7 +86,7 @@ all_push ends_idle known boards board all one =
     All-append (MayTurn ends_idle known) boards (board ∷ []) all (All-cons (MayTurn ends_idle known) board [] one (All-nil (MayTurn ends_idle known)))
 
 pub taking_more : (ends_idle : Bool) (known later : Past) (a b c : Received) (turns : ℕ) → Taking ends_idle known a b turns → Extends known later
-    → (board : Board) → MayTurn ends_idle later board → Does (turn_of board.agents.items) b c → Taking ends_idle later a c (turns + 1)
+    → (board : Board) → MayTurn ends_idle later board → Does (turn_of board) b c → Taking ends_idle later a c (turns + 1)
 taking_more ends_idle known later a b c turns t more board may does = record {
   boards = t.boards ++ board ∷ [];
   seen = all_push ends_idle later t.boards board (still_seen ends_idle known later t.boards more t.seen) may;

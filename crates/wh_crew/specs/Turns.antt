@@ -24,9 +24,13 @@ abbrev pub asks_from : ℕ → List Shown → List Command
 asks_from agent [] = []
 asks_from agent (shown ∷ agents) = asks agent shown ++ asks_from (agent + 1) agents
 
--- one turn: each agent that is due asks for the token, in order, and then the clock ticks
-abbrev pub turn_of : List Shown → List Command
-turn_of agents = asks_from 0 agents ++ Tick ∷ []
+-- what agents ask for at a board: each that is due the token, in their order; nothing where no task is open, as all would rest
+abbrev pub asked_at : Board → List Command
+asked_at board = cond (board.open_tasks == 0) [] (asks_from 0 board.agents.items)
+
+-- one turn at a board: what agents ask for there, and then the clock ticks
+abbrev pub turn_of : Board → List Command
+turn_of board = asked_at board ++ Tick ∷ []
 
 -- what is left of a turn once the agents before this one were asked for, and then the clock has ticked
 abbrev pub left_of : Bool → ℕ → List Shown → List Command
@@ -34,7 +38,7 @@ left_of has_ticked agent agents = cond has_ticked [] (asks_from agent (drop agen
 
 -- a turn for each of the boards, one after another
 abbrev pub turns_of : List Board → List Command
-turns_of boards = flat_map (λ board. turn_of board.agents.items) boards
+turns_of boards = flat_map turn_of boards
 
 -- no task is open or under way
 abbrev pub IsIdle : Board → Type 0
@@ -67,7 +71,7 @@ pub record MayTurn (ends_idle : Bool) (known : Past) (board : Board) : Type 0 wh
 
 -- the commands are those of a turn at a board where one may be taken
 abbrev pub IsTurn : Bool → Past → List Command → Type 0
-IsTurn ends_idle known commands = (board : Board) × MayTurn ends_idle known board × (commands ≡ turn_of board.agents.items)
+IsTurn ends_idle known commands = (board : Board) × MayTurn ends_idle known board × (commands ≡ turn_of board)
 
 -- what is known shows no task that is open or under way, and the worker ends then
 pub record EndsIdle (ends_idle : Bool) (known : Past) : Type 0 where
@@ -79,12 +83,12 @@ pub record EndsIdle (ends_idle : Bool) (known : Past) : Type 0 where
 -- One look: at a board that was seen a turn was taken, or nothing was to be done there.
 abbrev pub Looks : Bool → Past → Received → Received → Bool → Type 0
 Looks ends_idle known had has took =
-    MatchBool took ((board : Board) × MayTurn ends_idle known board × Does (turn_of board.agents.items) had has) ((has ≡ had) × EndsIdle ends_idle known)
+    MatchBool took ((board : Board) × MayTurn ends_idle known board × Does (turn_of board) had has) ((has ≡ had) × EndsIdle ends_idle known)
 
 -- a look at a board, and a turn there up to a call that told no receipt
 abbrev pub LooksUntil : {F : Type 0} → (Command → Received → F → Received → Type 0) → Bool → Past → F → Received → Received → Type 0
 LooksUntil leaves ends_idle known fault had has =
-    (board : Board) × MayTurn ends_idle known board × DoesUntil leaves (turn_of board.agents.items) fault had has
+    (board : Board) × MayTurn ends_idle known board × DoesUntil leaves (turn_of board) fault had has
 
 -- So many turns were taken, each at a board that shows a beginning of what is known: all that may be, or fewer, up to where
 -- nothing was to be done.

@@ -4,14 +4,14 @@
 ghost use Rattle.std.specs.Prelude.{◌≡◌, ◌+◌, ◌<◌, ◌≤◌, ◌↔◌, ◌∷◌, [], IfNone, IfSome, IsTrue, MatchOption, drop, length};
 ghost use Rattle.wh_event.specs.declared.event.Command.{Command as Asked};
 ghost use Rattle.wh_board.specs.Pasts.{Extends};
-ghost use Rattle.wh_crew.specs.Turns.{EndsIdle, IsIdle, IsTurn, asks_from};
+ghost use Rattle.wh_crew.specs.Turns.{EndsIdle, IsIdle, IsTurn, asked_at, asks_from};
 
 use std::marker::Model;
 use wh_board::{Board, Shown, Viewer};
 use wh_event::Command;
 
 /// A turn by a board: each agent that is shown with no steps left asks for the token, in their order, and then the clock ticks.
-/// Contracts see it as the commands that are left of it.
+/// Where no task is open nobody asks, as all would rest. Contracts see it as the commands that are left of it.
 #[derive(Drop)]
 pub struct Turn {
     board: Board,
@@ -66,6 +66,17 @@ fn first_due(agents: &[Shown], from: u32) -> Option<u32>
     None
 }
 
+/// The agent from which on a turn at this board asks: the first, and none where no task is open.
+fn first_to_ask(board: &Board) -> u32
+    ensures { asks_from result (drop result board.now.agents.items) ≡ asked_at board.now }
+{
+    if board.open_tasks == 0 {
+        board.agents.len() as u32
+    } else {
+        0
+    }
+}
+
 /// Whether no task is open or under way.
 fn is_idle(board: &Board) -> bool
     ensures { IsTrue result ↔ IsIdle board.now }
@@ -86,9 +97,10 @@ pub fn look_for_turn(viewer: &mut Viewer, ends_idle: bool) -> Option<Turn>
     if ends_idle && is_idle(&board) {
         return None;
     }
+    let agent = first_to_ask(&board);
     Some(Turn {
         board,
-        agent: 0,
+        agent,
         has_ticked: false,
     })
 }
