@@ -100,16 +100,19 @@ judge '64 agents, a clock and no client' "$(refused "$scratch/crowd")" '|refused
 # one worker for all agents and the clock
 told=$(delivered "$scratch/shelves" "$scratch/three" --every 1 --journal 100000)
 judge 'shelves, at a pace' "$told" "run $(grep -c ' = ' "$scratch/log") 200 200"
-# 3 commands of clients, a request of each of two agents, a tick
-judge 'two clients, one turn' "$(run "$scratch/small" "$scratch/two" --every 1 --turns 1)" 'run 6 0'
+# 3 commands of clients and a tick, and where the turn's board shows a task already a request of each of two agents
+told=$(run "$scratch/small" "$scratch/two" --every 1 --turns 1)
+asked=$(grep -c ' token ' "$scratch/log")
+judge 'two clients, one turn' "$told $asked" "run $((asked == 0 ? 4 : 6)) 0 $((asked == 0 ? 0 : 2))"
 judge 'two clients, at a pace, a journal of 5' "$(run "$scratch/small" "$scratch/two" --every 1 --journal 5)" 'run 5 0'
 "$warehouse" live --every 1 < "$scratch/no_client" > "$scratch/log"
-judge 'no client, at a pace' "$(cat "$scratch/small" "$scratch/log" | "$warehouse" verify)" 'run 3'
+# one turn, in which nobody asks, as no task is open
+judge 'no client, at a pace' "$(cat "$scratch/small" "$scratch/log" | "$warehouse" verify)" 'run 1'
 "$warehouse" live --every 1 < "$scratch/crowd" > "$scratch/log"
-judge '64 agents at a pace' "$({ cat "$scratch/crowd"; echo %%; cat "$scratch/log"; } | "$warehouse" verify)" 'run 65'
+judge '64 agents at a pace' "$({ cat "$scratch/crowd"; echo %%; cat "$scratch/log"; } | "$warehouse" verify)" 'run 1'
 empty_clients 63 > "$scratch/many"
 "$warehouse" live --every 1 < "$scratch/many" > "$scratch/log"
-judge '63 clients beside one worker' "$(cat "$scratch/small" "$scratch/log" | "$warehouse" verify)" 'run 3'
+judge '63 clients beside one worker' "$(cat "$scratch/small" "$scratch/log" | "$warehouse" verify)" 'run 1'
 empty_clients 64 > "$scratch/too_many"
 judge '64 clients beside one worker' "$(refused "$scratch/too_many" --every 1)" '|refused E94|1'
 for every in 0 60001; do
@@ -120,7 +123,7 @@ done
 # a file that shows the board
 "$warehouse" live --every 1 --board "$scratch/board" < "$scratch/no_client" > "$scratch/log"
 judge 'the board behind one turn' "$(cat -- "$scratch/board"; echo .)" 'wboard 1
-entries 3
+entries 1
 clock 1
 open 0
 assigned 0

@@ -18,9 +18,9 @@ use wh_planner::Planner;
 use wh_planners::{Patient, Sharing};
 use wh_program::{PlannerParts, run};
 
-/// The board of two agents at rest, after a request of each, and a tick.
+/// The board of two agents at rest, after a tick; as no task was open, nobody asked.
 const LAST: &[u8] =
-    b"wboard 1\nentries 3\nclock 1\nopen 0\nassigned 0\ncarried 0\ndone 0\n0,1 0 none\n4,1 0 none\n";
+    b"wboard 1\nentries 1\nclock 1\nopen 0\nassigned 0\ncarried 0\ndone 0\n0,1 0 none\n4,1 0 none\n";
 
 /// What a call of the program shows.
 #[derive(Drop)]
@@ -236,13 +236,14 @@ const ROWS: [Row; 20] = [
         output: "",
         errors: "refused C1 line 2\n",
     },
-    // Behind a client without a command one worker for the agents and the clock takes a turn, and then nothing is to be done.
+    // Behind a client without a command one worker for the agents and the clock takes a turn, in which nobody asks, as no task is
+    // open, and then nothing is to be done.
     Row {
         words: &["warehouse", "live", "--every", "1"],
         points: POINTS,
         rest: "",
         status: 0,
-        output: "wlog 2\nstart 0 slots 4 4\n1 token 0 = rested\n1 token 1 = rested\n1 tick = clock 1 picked 0 dropped 0\nend 3\n",
+        output: "wlog 2\nstart 0 slots 4 4\n1 tick = clock 1 picked 0 dropped 0\nend 1\n",
         errors: "",
     },
     // 62 clients, of whom each has an empty section.
@@ -298,32 +299,40 @@ fn mistaken_words(rt: HostRuntime) -> Result<(), Fail> {
 }
 
 /// The log of threads is a run: it has each command of the clients, 8 requests of each of two agents, and 8 ticks, or as many
-/// entries as its journal takes; or each command of the clients, and one turn of the worker for all agents and the clock.
+/// entries as its journal takes; or each command of the clients, and one turn of the worker for all agents and the clock: a tick,
+/// and where its board shows a task already, before it a request of each of the two.
 #[test]
 fn a_live_log_is_verified(rt: HostRuntime) -> Result<(), Fail> {
     let site = format!(in rt.alloc(); "{MAP}%%\n{POINTS}{AGENTS}%%\n")?;
     let input = format!(in rt.alloc(); "{site}submit x A B\nsubmit x B A\n%%\nsubmit y C D\n")?;
-    for (words, wanted) in [
+    for (words, least, most) in [
         (
             ["warehouse", "live", "--turns", "8", "--journal", "10000"],
+            "run 27\n",
             "run 27\n",
         ),
         (
             ["warehouse", "live", "--turns", "8", "--journal", "10"],
             "run 10\n",
+            "run 10\n",
         ),
         (
             ["warehouse", "live", "--turns", "1", "--every", "1"],
+            "run 4\n",
             "run 6\n",
         ),
     ] {
         let lived = call(&rt, &rt, words.as_slice(), input.as_bytes())?;
-        assert!(rt; lived.status == 0 && lived.errors.is_empty(), "{wanted}");
+        assert!(rt; lived.status == 0 && lived.errors.is_empty(), "{most}");
         let mut log = Vec::from_slice(rt.alloc(), site.as_bytes())?;
         log.extend_from_slice(lived.output.as_slice())?;
         let verified = call(&rt, &rt, ["warehouse", "verify"].as_slice(), log.as_slice())?;
-        assert!(rt; verified.status == 0, "{wanted}");
-        assert!(rt; verified.output.as_slice() == wanted.as_bytes(), "{wanted}");
+        assert!(rt; verified.status == 0, "{most}");
+        let told = verified.output.as_slice();
+        assert!(rt;
+            told == least.as_bytes() || told == most.as_bytes(),
+            "{most}"
+        );
     }
     Ok(())
 }

@@ -55,10 +55,10 @@ const PLAN: Plan = Plan {
 /// The worker and the looks at the board rest so many milliseconds.
 const PAUSE: u64 = 1;
 
-/// The pace of the worker, where there is one.
+/// The pace of the worker, where there is one: each turn has an entry at least, so it may fill the journal and find it full.
 fn pace_of(plan: Plan) -> Option<Pace> {
     plan.has_worker.then_some(Pace {
-        turns: plan.entries,
+        turns: plan.entries.saturating_add(1),
         ends_idle: false,
         pause: Duration::from_millis(PAUSE),
     })
@@ -198,9 +198,9 @@ fn tasks_are_done_beside_a_client(rt: HostRuntime) -> Result<(), Fail> {
     Ok(())
 }
 
-/// The journal of a worker that made four calls.
+/// The journal of a worker that took four turns, in which nobody asked, as no task was open.
 const FOUR: &[u8] =
-    b"wlog 2\nstart 0 slots 4 4\n1 token 0 = rested\n1 token 1 = rested\n1 tick = clock 1 picked 0 dropped 0\n1 token 0 = rested\n";
+    b"wlog 2\nstart 0 slots 4 4\n1 tick = clock 1 picked 0 dropped 0\n1 tick = clock 2 picked 0 dropped 0\n1 tick = clock 3 picked 0 dropped 0\n1 tick = clock 4 picked 0 dropped 0\n";
 
 #[test]
 fn a_worker_fills_the_journal(rt: HostRuntime) -> Result<(), Fail> {
