@@ -19,7 +19,7 @@ use Rattle.wh_board.specs.declared.board.Shown.{Shown}
 use Rattle.wh_desk.specs.Lists.{Received, entries_of}
 use Rattle.wh_desk.specs.Calls.{Refuses}
 use Rattle.wh_desk.specs.declared.answer.DeskFault.{DeskFault}
-use Rattle.wh_crew.specs.Turns.{MayTurn, TurnsIn, WorksBeside, asks, asks_from, turn_of, turns_of}
+use Rattle.wh_crew.specs.Turns.{MayTurn, TurnsIn, WorksBeside, asked_at, asks, asks_from, turn_of, turns_of}
 use Rattle.wh_crew.specs.Work.{commands_of, spares_told, told_by}
 use Rattle.wh_crew.specs.Work as crew
 use Rattle.wh_live.specs.Lives.{PacedFrom, WorkedBy, WorkedFrom}
@@ -48,8 +48,15 @@ all_ask limit agent [] few = tt
 all_ask limit agent (shown ∷ agents) few =
     keeps_append (IsTurn limit) (asks agent shown) (asks_from (agent + 1) agents) (one_asks limit agent shown (omega arith)) (all_ask limit (agent + 1) agents (omega arith))
 
-one_turn : (limit : ℕ) (agents : List Shown) → length agents ≤ limit → AllByRecursion (IsTurn limit) (turn_of agents)
-one_turn limit agents few = keeps_append (IsTurn limit) (asks_from 0 agents) (Command.Tick ∷ []) (all_ask limit 0 agents (omega arith)) (tt, tt)
+any_ask : (limit : ℕ) (board : Board) → length board.agents.items ≤ limit → AllByRecursion (IsTurn limit) (asked_at board)
+any_ask limit board few = go (board.open_tasks == 0)
+  where
+    go : (b : Bool) → AllByRecursion (IsTurn limit) (cond b [] (asks_from 0 board.agents.items))
+    go true = tt
+    go false = all_ask limit 0 board.agents.items (omega arith)
+
+one_turn : (limit : ℕ) (board : Board) → length board.agents.items ≤ limit → AllByRecursion (IsTurn limit) (turn_of board)
+one_turn limit board few = keeps_append (IsTurn limit) (asked_at board) (Command.Tick ∷ []) (any_ask limit board few) (tt, tt)
 
 abbrev AreSmall : ℕ → List Board → Type 0
 AreSmall limit = AllByRecursion (λ (board : Board). length board.agents.items ≤ limit)
@@ -57,7 +64,7 @@ AreSmall limit = AllByRecursion (λ (board : Board). length board.agents.items �
 all_turns : (limit : ℕ) (boards : List Board) → AreSmall limit boards → AllByRecursion (IsTurn limit) (turns_of boards)
 all_turns limit [] few = tt
 all_turns limit (board ∷ boards) few =
-    keeps_append (IsTurn limit) (turn_of board.agents.items) (turns_of boards) (one_turn limit board.agents.items few.0) (all_turns limit boards few.1)
+    keeps_append (IsTurn limit) (turn_of board) (turns_of boards) (one_turn limit board few.0) (all_turns limit boards few.1)
 
 -- ---- what the boards show
 
