@@ -1,7 +1,7 @@
 -- What is kept of a history's lines: those that wait, those that are appended, and those that are synced.
 use Rattle.std.proofs.Common.{◌≡◌, ℕ, zero, suc, ◌+◌, ◌≤◌, ◌<◌, ◌⊎◌, inl, inr, List, [], ◌∷◌, ◌++◌, length, take, drop, refl, ap, sym, ◌∙◌, arith, subst, Option, Some, slice_get, Bool, true, false, take-append-drop}
 use lib.Seq.{drop-append-le, length-take-le}
-use Rattle.std.proofs.lemmas.List.{take-append-le, take_all}
+use Rattle.std.proofs.lemmas.List.{append_assoc, take-append-le, take_all}
 use Rattle.std.proofs.lemmas.Option.{slice_get_within}
 use Rattle.std.specs.Io.KnownBytes.{Appends, Keeps}
 use Rattle.std.proofs.KnownBytes.{Appends-nil, Appends-trans, Appends-kept}
@@ -14,7 +14,7 @@ use Rattle.wh_lines.proofs.Written.{front_first}
 use Rattle.wh_journal.specs.Scripts.{WritesFront}
 use Rattle.wh_journal.specs.Journals.{lines_for}
 use Rattle.wh_journal.proofs.Rounded.{lines_append}
-use Rattle.wh_scribe.specs.Keeping.{IsKept, KeepsFirst, Holds, PageKeeps, Standing, standing, StretchKeeps, stretch, lines_between}
+use Rattle.wh_scribe.specs.Keeping.{IsKept, KeepsFirst, MarkKeeps, Holds, PageKeeps, standing, StretchKeeps, stretch, lines_between}
 
 -- ---- beginnings of one list
 
@@ -277,16 +277,17 @@ module _ {X : Type 0} (contents synced : X → Option (List ℕ)) (book : Book) 
     safe = Appends-kept start (synced journal) (synced then) (lines_for (take safe known.past.history)) k.safe same;
   }
 
-  -- the first entries of a history that somebody knows are kept where so many are synced
-  pub page_kept : (page : Standing X) (other : Known) (count : ℕ) → PageKeeps contents synced book start page → Extends page.known.past other.past ⊎ Extends other.past page.known.past → count ≤ page.synced
-      → KeepsFirst synced start other.past.history count
-  page_kept page other count k meets le =
-      let more = first_more page.known.past.history other.past.history count page.synced (begins page.known.past other.past meets) le (omega (arith, k.safe_within, k.within)) in
-      record {
-        journal = page.journal;
-        more = more.0;
-        safe = subst (λ (xs : List Entry). Appends start (synced page.journal) (lines_for xs)) (sym more.1) k.safe;
-      }
+-- the first entries of a history that somebody knows are kept where so many are synced
+pub mark_kept : {X : Type 0} (synced : X → Option (List ℕ)) (book : Book) (start : Option (List ℕ)) (known other : Known) (many count : ℕ) → MarkKeeps synced book start known many
+    → Extends known.past other.past ⊎ Extends other.past known.past → count ≤ many → KeepsFirst synced start other.past.history count
+mark_kept synced book start known other many count k meets le =
+    let more = first_more known.past.history other.past.history count many (begins known.past other.past meets) le k.within in
+    record {
+      journal = k.keeps.journal;
+      more = more.0 ++ k.keeps.more;
+      safe = subst (λ (xs : List Entry). Appends start (synced k.keeps.journal) (lines_for xs))
+          (sym (ap (λ (xs : List Entry). xs ++ k.keeps.more) more.1) ∙ append_assoc (take count other.past.history) more.0 k.keeps.more) k.keeps.safe;
+    }
 
 -- an entry is kept where the first entries are, up to it
 pub kept_of : {X : Type 0} (synced : X → Option (List ℕ)) (start : Option (List ℕ)) (origin : Origin) (history : List Entry) (position : ℕ) (entry : Entry)

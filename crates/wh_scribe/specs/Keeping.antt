@@ -56,6 +56,23 @@ pub record PageKeeps {X : Type 0} (contents synced : X → Option (List ℕ)) (b
 abbrev pub standing : {X : Type 0} → X → Known → ℕ → ℕ → Bool → Standing X
 standing journal known written synced failed = record { journal = journal; known = known; written = written; synced = synced; failed = failed }
 
+-- What is kept: of what is known of the history the first entries, so many; whether the journal has failed, and whether somebody
+-- is at it.
+pub record Marked : Type 0 where
+  pub known : Known
+  pub synced : ℕ
+  pub failed : Bool
+  pub is_busy : Bool
+
+-- The first entries of this book's history, so many, are known, and were synced in some state of the journal.
+pub record MarkKeeps {X : Type 0} (synced : X → Option (List ℕ)) (book : Book) (start : Option (List ℕ)) (known : Known) (count : ℕ) : Type 0 where
+  pub book_is : known.book ≡ book
+  pub within : count ≤ length known.past.history
+  pub keeps : KeepsFirst synced start known.past.history count
+
+abbrev pub marked : Known → ℕ → Bool → Bool → Marked
+marked known synced failed is_busy = record { known = known; synced = synced; failed = failed; is_busy = is_busy }
+
 -- The lines that wait: what is known of the history, so many of whose entries are entered, and of these the lines of so many
 -- were taken.
 pub record Stretch : Type 0 where

@@ -4,6 +4,7 @@
 
 mod calling;
 mod keeper;
+mod mark;
 mod name;
 mod order;
 mod page;

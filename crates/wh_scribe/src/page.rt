@@ -4,8 +4,8 @@
 ghost use Rattle.std.specs.Prelude.{◌≡◌, ◌⊎◌, true, false, length};
 ghost use Rattle.std.specs.Io.KnownBytes.{Appends};
 ghost use Rattle.wh_journal.specs.Journals.{lines_for};
-ghost use Rattle.wh_scribe.specs.Keeping.{KeepsFirst};
 
+use crate::mark::Mark;
 use crate::name::JournalName;
 use crate::waiting::Waiting;
 use std::marker::{Model, PhantomData};
@@ -52,13 +52,6 @@ impl<N: DeskName, S: JournalName, J: Journal + Drop> Page<N, S, J> {
             failed: false,
             name: PhantomData,
         }
-    }
-
-    /// Whether the first entries, so many, are not all synced, and may still come to be.
-    pub(crate) fn lacks(&self, count: u64) -> bool
-        ensures { result ≡ true → self.now.failed ≡ false }
-    {
-        !self.failed && self.synced < count
     }
 
     /// Nothing is written any more.
@@ -115,12 +108,13 @@ impl<N: DeskName, S: JournalName, J: Journal + Drop> Page<N, S, J> {
         }
     }
 
-    /// Whether the first entries of a history that somebody knows, so many, are synced.
-    pub(crate) fn has_kept(&self, known: &Front, count: u64) -> bool
-        requires { known.now.book ≡ N.book }
-        ensures { result ≡ true → KeepsFirst (λ x. J.synced x) S.start known.now.past.history count }
+    /// What is kept by now. Nobody is at the journal by it.
+    pub(crate) fn mark(&self) -> Mark<N, S, J>
+        ensures known { result.known ≡ self.now.known }
+        ensures synced { result.synced ≡ self.now.synced }
+        ensures failed { result.failed ≡ self.now.failed }
+        ensures free { result.is_busy ≡ false }
     {
-        self.front.meets(known);
-        count <= self.synced
+        Mark::new(&self.front, self.synced, self.failed)
     }
 }

@@ -1,7 +1,7 @@
 //! A journal that each call of a desk goes through.
 #![tactic(auto)]
 
-ghost use Rattle.std.specs.Prelude.{◌≡◌, ◌<◌, ◌≤◌, true, IfOk, IfErr, Some, length, slice_get, take};
+ghost use Rattle.std.specs.Prelude.{◌≡◌, ◌<◌, ◌≤◌, true, false, IfOk, IfErr, Some, length, slice_get, take};
 ghost use Rattle.std.specs.Io.KnownBytes.{Appends};
 ghost use Rattle.wh_journal.specs.Journals.{lines_for};
 ghost use Rattle.wh_desk.specs.Calls.{IsClockAt};
@@ -10,24 +10,29 @@ ghost use Rattle.wh_scribe.specs.Keeping.{Holds, IsKept, KeepsFirst};
 
 use crate::calling::CallFault;
 use crate::keeper::Keeper;
+use crate::mark::Mark;
 use crate::name::JournalName;
 use crate::order::Order;
 use crate::page::Page;
 use std::alloc::Global;
-use std::sync::{Mutex, Wait};
+use std::sync::{Condvar, Mutex, Wait};
 use wh_desk::{Desk, DeskName, Front, Pass, Receipt};
 use wh_event::Command;
 use wh_journal::Journal;
 use wh_planner::Planner;
 
 /// A journal that each call of a desk goes through. Calls are made one after another, under one lock, and each leaves its entry's
-/// line there. Under another lock the lines that wait are appended and synced, so that no call is held up by the disk. Whoever has
-/// a receipt takes that lock: either another thread kept its entry meanwhile, or it keeps all that wait. Who holds the journal's
-/// lock may take the calls' lock, and never the other way round.
+/// line there. Under another lock the lines that wait are appended and synced, so that no call is held up by the disk. What is
+/// kept by now stands under a third, with whether somebody is at the journal: whoever has a receipt looks there, and waits for
+/// who is at the journal, or goes and keeps all lines that wait. So one sync serves all whose lines stood before it. Who is at
+/// the journal always comes back and wakes all that wait for it, which no clause says. Who holds the journal's lock may take the
+/// calls' lock, and never the other way round; who holds the third takes no other.
 #[derive(Drop)]
 pub struct Scribe<N: DeskName, S: JournalName, J: Journal + Drop> {
     order: Mutex<Order<N>>,
     keeper: Mutex<Keeper<N, S, J>>,
+    mark: Mutex<Mark<N, S, J>>,
+    settled: Condvar,
 }
 
 /// What a scribe leaves: the journal, what was known of the history when lines were last appended, how many of its first
@@ -51,9 +56,12 @@ impl<N: DeskName, S: JournalName, J: Journal + Drop> Scribe<N, S, J> {
         requires start { Appends S.start (J.contents journal) (lines_for front.now.past.history) }
         requires synced { J.synced journal ≡ J.contents journal }
     {
+        let keeper = Keeper::new(alloc, journal, front, written);
         Scribe {
             order: Mutex::new(Order::new(alloc, front, written)),
-            keeper: Mutex::new(Keeper::new(alloc, journal, front, written)),
+            mark: Mutex::new(keeper.page.mark()),
+            keeper: Mutex::new(keeper),
+            settled: Condvar::new(),
         }
     }
 
@@ -92,20 +100,37 @@ impl<N: DeskName, S: JournalName, J: Journal + Drop> Scribe<N, S, J> {
     }
 
     /// Whether the first entries of a history of the desk, so many, are synced. Those that are entered, and not yet synced, it
-    /// appends and syncs first. It may wait for calls, and for the sync.
+    /// appends and syncs first, or waits while somebody else does. It may wait for calls, and for the sync.
     pub fn keeps<X: Wait>(&self, rt: &X, known: &Front, count: u64) -> bool
         requires { known.now.book ≡ N.book }
         ensures { result ≡ true → KeepsFirst (λ x. J.synced x) S.start known.now.past.history count }
     {
-        let mut keeper = self.keeper.lock(rt);
-        if keeper.page.lacks(count) {
-            keeper.take(&mut self.order.lock(rt));
-            keeper.keep();
-            if keeper.page.failed {
-                self.order.lock(rt).failed = true;
-            }
+        let mut mark = self
+            .settled
+            .wait_while(rt, self.mark.lock(rt), |mark| mark.waits(count));
+        if !mark.lacks(count) {
+            return mark.has_kept(known, count);
         }
-        keeper.page.has_kept(known, count)
+        mark.take();
+        drop(mark);
+        let kept = self.settle(rt);
+        let mut mark = self.mark.lock(rt);
+        *mark = kept;
+        self.settled.notify_all();
+        mark.has_kept(known, count)
+    }
+
+    /// Appends the lines that wait, and syncs all that is written, where nobody else is at the journal. What is kept then.
+    fn settle<X: Wait>(&self, rt: &X) -> Mark<N, S, J>
+        ensures free { result.is_busy ≡ false }
+    {
+        let mut keeper = self.keeper.lock(rt);
+        keeper.take(&mut self.order.lock(rt));
+        keeper.keep();
+        if keeper.page.failed {
+            self.order.lock(rt).failed = true;
+        }
+        keeper.page.mark()
     }
 
     /// Whether all entries are synced whose calls had come back from the desk: those that are not it appends and syncs first. Never where
@@ -127,7 +152,7 @@ impl<N: DeskName, S: JournalName, J: Journal + Drop> Scribe<N, S, J> {
         ensures safe_within { result.synced ≤ result.written }
         ensures safe { Appends S.start (J.synced result.journal) (lines_for (take result.synced result.front.past.history)) }
     {
-        let Scribe { order, keeper } = self;
+        let Scribe { order, keeper, .. } = self;
         let Order { failed: shut, .. } = order.into_inner();
         let Keeper { page, .. } = keeper.into_inner();
         let Page {
