@@ -6,11 +6,14 @@ ghost use Rattle.wh_display.specs.Screens.{Shows};
 
 use crate::screen::{Screen, ShowFault};
 use std::fs;
-use std::fs::{File, Files};
-use std::io::Write;
+use std::fs::{File, Files, metadata};
+use std::io::{Read, Write};
 
-/// A file that is replaced as a whole: whoever reads it sees one text or another, never a part of one. It tells nothing of what
-/// was shown, since others may write there.
+/// How a board begins.
+const HEAD: &[u8; 7] = b"wboard ";
+
+/// A file that is replaced as a whole: whoever reads it sees one text or another, never a part of one. What stands there and is no
+/// board, a log by another name, say, or a pipe, is not replaced. It tells nothing of what was shown, since others may write there.
 #[derive(Drop)]
 pub struct FileScreen<'a, T: Files<File = File>> {
     files: &'a T,
@@ -29,6 +32,25 @@ impl<'a, T: Files<File = File>> FileScreen<'a, T> {
     }
 }
 
+/// Whether a text may take this name: nothing stands there, or a file that is empty or a board.
+fn may_take<T: Files<File = File>>(files: &T, path: &str) -> bool {
+    let Ok(found) = metadata(files, path) else {
+        return true;
+    };
+    if !found.file_type().is_file() {
+        return false;
+    }
+    let Ok(mut file) = File::open(files, path) else {
+        return false;
+    };
+    let mut head = [0; HEAD.len()];
+    match file.read(&mut head) {
+        Ok(0) => true,
+        Ok(_) => head == *HEAD,
+        Err(_) => false,
+    }
+}
+
 /// Writes a file anew.
 fn write_anew<T: Files<File = File>>(files: &T, path: &str, text: &[u8]) -> Result<(), ShowFault> {
     let Ok(mut file) = File::create(files, path) else {
@@ -43,6 +65,9 @@ fn write_anew<T: Files<File = File>>(files: &T, path: &str, text: &[u8]) -> Resu
 impl<'a, T: Files<File = File>> Screen for FileScreen<'a, T> {
     fn show(&mut self, text: &[u8]) -> Result<(), ShowFault> {
         let beside = self.beside.as_str();
+        if !may_take(self.files, self.path) || !may_take(self.files, beside) {
+            return Err(ShowFault::Unshown);
+        }
         match write_anew(self.files, beside, text) {
             Ok(()) => {}
             Err(fault) => return Err(fault),

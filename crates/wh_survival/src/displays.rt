@@ -48,13 +48,34 @@ fn a_board_is_shown_where_it_has_changed(rt: HostRuntime) -> Result<(), Fail> {
     let mut viewer = viewer(&rt, alloc)?;
     let next = String::from_str(alloc, "survival_board/next")?;
     let mut screen = FileScreen::new(&rt, "survival_board/board", next);
-    fs::write(&rt, path, b"of another".as_slice())?;
+    fs::write(&rt, path, b"wboard 1\nentries 9\n".as_slice())?;
     assert!(rt; refresh(alloc, &mut viewer, &mut screen, Some(0)) == Ok(0));
-    assert!(rt; holds(&rt, path, b"of another")?);
+    assert!(rt; holds(&rt, path, b"wboard 1\nentries 9\n")?);
     assert!(rt; refresh(alloc, &mut viewer, &mut screen, None) == Ok(0));
     assert!(rt; holds(&rt, path, FIRST)?);
     assert!(rt; !fs::exists(&rt, Path::new("survival_board/next"))?);
     Ok(fs::remove_dir_all(&rt, "survival_board")?)
+}
+
+#[test]
+fn what_is_no_board_is_not_replaced(rt: HostRuntime) -> Result<(), Fail> {
+    let alloc = rt.alloc();
+    make_folder(&rt, "survival_taken")?;
+    let names = ["survival_taken/board", "survival_taken/next"];
+    let mut viewer = viewer(&rt, alloc)?;
+    let next = String::from_str(alloc, names[1])?;
+    let mut screen = FileScreen::new(&rt, names[0], next);
+    for name in names {
+        let path = Path::new(name);
+        fs::write(&rt, path, b"wlog 2\n".as_slice())?;
+        assert!(rt; refresh(alloc, &mut viewer, &mut screen, None) == Err(ShowFault::Unshown));
+        assert!(rt; holds(&rt, path, b"wlog 2\n")?);
+        fs::write(&rt, path, b"".as_slice())?;
+    }
+    assert!(rt; refresh(alloc, &mut viewer, &mut screen, None) == Ok(0));
+    assert!(rt; holds(&rt, Path::new(names[0]), FIRST)?);
+    assert!(rt; !fs::exists(&rt, Path::new(names[1]))?);
+    Ok(fs::remove_dir_all(&rt, "survival_taken")?)
 }
 
 #[test]
