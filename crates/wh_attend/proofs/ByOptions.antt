@@ -6,8 +6,6 @@ use Rattle.wh_event.specs.declared.entry.Entry.{Entry}
 use Rattle.wh_core.specs.States.{State}
 use Rattle.wh_log.specs.declared.form.Form.{Form}
 use Rattle.wh_desk.specs.Pasts.{Origin}
-use Rattle.wh_crew.specs.declared.agents.Pace.{Pace}
-use Rattle.wh_scribe.specs.declared.calling.CallFault.{CallFault}
 use Rattle.wh_display.specs.declared.screen.ShowFault.{ShowFault}
 use Rattle.wh_edge.specs.declared.trouble.Trouble.{Trouble}
 use Rattle.wh_live.specs.Displays.{BoardsFrom}
@@ -15,15 +13,17 @@ use Rattle.wh_live.specs.Lives.{IsWhyUnlived}
 use Rattle.wh_options.specs.declared.chosen.AttendOptions.{AttendOptions}
 use Rattle.wh_serve.specs.Texts.{receipt_text}
 use Rattle.wh_serve.specs.declared.threads.Client.{Client}
+use Rattle.wh_serve.specs.declared.doors.WorkerEnd.{WorkerEnd}
+use Rattle.wh_host.specs.declared.pacing.Pacing.{Pacing}
 use Rattle.wh_host.specs.Runs.{ServedFrom}
-use Rattle.wh_service.specs.Hosts.{IsPaceOf}
 use Rattle.wh_service.specs.Plays.{form_of}
 use Rattle.wh_service.proofs.Hosted.{unlived_by}
 use Rattle.wh_attend.specs.Attends.{ServesClients}
+use Rattle.wh_attend.specs.Shares.{IsPacingOf}
 
 -- what came, told in the form and with the pace that the options name
 pub serves_clients : {A R W X : Type 0} (came : Result A Trouble) (fits : X → Floor → Bool) (count : X → ℕ) (remaining : R → Option (List ℕ)) (contents : W → Option (List ℕ)) (options : AttendOptions) (origin : Origin) (earlier : List Entry) (clients : List (Client X))
-    (history : A → List Entry) (state : A → State) (connections : A → List ℕ) (worker : A → Option CallFault) (form : Form) (pace : Option Pace) → form ≡ form_of options.replies → IsPaceOf options.every options.turns pace
+    (history : A → List Entry) (state : A → State) (connections : A → List ℕ) (worker : A → Option WorkerEnd) (form : Form) (pace : Option Pacing) → form ≡ form_of options.replies → IsPacingOf options.every options earlier pace
     → IfOk came (λ a. ServedFrom fits count (receipt_text form origin) remaining contents origin earlier clients pace (length earlier + options.journal) (history a) (state a) (connections a) (worker a))
     → IfOk came (λ a. ServesClients fits count remaining contents options origin earlier clients (history a) (state a))
 serves_clients (Ok a) fits count remaining contents options origin earlier clients history state connections worker form pace is paced served = record {

@@ -20,19 +20,19 @@ use Rattle.wh_edge.specs.declared.trouble.Trouble.TheVariants as trouble
 use Rattle.wh_options.specs.declared.chosen.AttendOptions.{AttendOptions}
 use Rattle.wh_desk.specs.Pasts.{Origin, origin_of}
 use Rattle.wh_desk.specs.Drafts.{Seen}
-use Rattle.wh_crew.specs.declared.agents.Pace.{Pace}
-use Rattle.wh_scribe.specs.declared.calling.CallFault.{CallFault}
 use Rattle.wh_display.specs.declared.screen.ShowFault.{ShowFault}
 use Rattle.wh_live.specs.Displays.{BoardsFrom, trouble_of_show}
 use Rattle.wh_live.specs.Lives.{IsWhyUnlived}
 use Rattle.wh_serve.specs.Texts.{receipt_text}
 use Rattle.wh_serve.specs.declared.threads.Client.{Client}
+use Rattle.wh_serve.specs.declared.doors.WorkerEnd.{WorkerEnd}
+use Rattle.wh_host.specs.declared.pacing.Pacing.{Pacing}
 use Rattle.wh_host.specs.Runs.{ServedFrom}
-use Rattle.wh_service.specs.Hosts.{IsPaceOf}
 use Rattle.wh_service.specs.Kept.{EndsAtStart, IsSet, IsUntouched, Siding, StartsFrom}
 use Rattle.wh_service.specs.Plays.{form_of}
 use Rattle.wh_service.specs.declared.parts.PlannerParts.{PlannerParts}
 use Rattle.wh_attend.specs.Guests.{IsStaffed}
+use Rattle.wh_attend.specs.Shares.{IsPacingOf}
 use Rattle.wh_attend.specs.declared.ready.Ready.{Ready}
 
 -- the log of a book's run
@@ -53,10 +53,10 @@ pub record IsReady {X : Type 0} (gives : PlannerParts → Result X AllocError �
 -- client tell.
 pub record ServesClients {R W X : Type 0} (fits : X → Floor → Bool) (count : X → ℕ) (remaining : R → Option (List ℕ)) (contents : W → Option (List ℕ))
     (options : AttendOptions) (origin : Origin) (earlier : List Entry) (clients : List (Client X)) (history : List Entry) (state : State) : Type 0 where
-  pub pace : Option Pace
-  pub pace_is : IsPaceOf options.every options.turns pace
+  pub pace : Option Pacing
+  pub pace_is : IsPacingOf options.every options earlier pace
   pub connections : List ℕ
-  pub worker : Option CallFault
+  pub worker : Option WorkerEnd
   pub served : ServedFrom fits count (receipt_text (form_of options.replies) origin) remaining contents origin earlier clients pace (length earlier + options.journal) history state connections worker
 
 -- The clients of a run were served, over what it started from, as one run from the same opening of the site.

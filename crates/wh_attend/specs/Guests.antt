@@ -22,11 +22,16 @@ rights_of r = record { submit = r.submit; token = r.token; tick = r.tick; replac
 abbrev pub no_rights : Rights
 no_rights = record { submit = false; token = false; tick = false; replace = false; close = false }
 
--- how many entries more each named client may have: as many as are said; else they share those of the journal equally, and each has one
--- at least
-abbrev pub share_of : (share : Option ℕ) → (journal named : ℕ) → ℕ
-share_of None journal named = max (journal / named) 1
-share_of (Some share) journal named = share
+-- among how many the entries of the journal are shared: the named clients, and the worker for agents and clock where there is one
+abbrev pub sharers : (every : Option ℕ) → (named : ℕ) → ℕ
+sharers None named = named
+sharers (Some every) named = named + 1
+
+-- how many entries more each named client may have: as many as are said; else those of the journal are shared equally among so many, and
+-- each has one at least
+abbrev pub share_of : (share : Option ℕ) → (journal among : ℕ) → ℕ
+share_of None journal among = max (journal / among) 1
+share_of (Some share) journal among = share
 
 -- the number of the worker for agents and clock, the last one
 abbrev pub worker_number : ℕ
@@ -56,7 +61,7 @@ pub record IsNamed (clients : List ClientOptions) (number : ℕ) (named : Client
 -- many planners stand by for it as the options name.
 pub record IsGuest {X : Type 0} (gives : PlannerParts → Result X AllocError → Type 0) (options : AttendOptions) (grid : Floor) (bank : Bank) (had : ℕ) (rights : ClientRights) (client : Client X) : Type 0 where
   pub rights_are : client.allowance.rights ≡ rights_of rights
-  pub share_is : client.allowance.entries ≡ had + share_of options.share options.journal (length options.clients.items)
+  pub share_is : client.allowance.entries ≡ had + share_of options.share options.journal (sharers options.every (length options.clients.items))
   pub spares_are : AreMembers gives options.fleet grid bank options.fleet.spares client.spares.items
 
 -- A client that nobody named: it may do nothing.

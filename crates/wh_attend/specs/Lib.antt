@@ -1,2 +1,3 @@
 pub mod Attends
 pub mod Guests
+pub mod Shares

@@ -4,10 +4,11 @@ ghost use Rattle.std.specs.Prelude.{◌≡◌, ◌≢◌, ◌⊎◌, ◌<◌, �
 ghost use Rattle.std.specs.Arc.{arc_value};
 ghost use Rattle.wh_claims.specs.Bank.{Belongs};
 ghost use Rattle.wh_log.specs.Logs.{IsSlots};
-ghost use Rattle.wh_desk.specs.Lists.{AllAt, entries_of};
+ghost use Rattle.wh_desk.specs.Lists.{AllAt};
 ghost use Rattle.wh_service.specs.Fleets.{IsOfFleet, IsWhyUnclaimed, IsWhyUnseated};
-ghost use Rattle.wh_attend.specs.Guests.{AreNamed, HaveRoom, IsClient, IsNamed, IsNobody, IsStaffed, numbers_of, rights_of, share_of};
+ghost use Rattle.wh_attend.specs.Guests.{AreNamed, HaveRoom, IsClient, IsNamed, IsNobody, IsStaffed, numbers_of, rights_of};
 
+use crate::shares::{WORKER_NUMBER, had_by, share_of, sharers};
 use std::alloc::{AllocError, Global};
 use std::sync::Arc;
 use wh_claims::{Bank, BankSeat};
@@ -20,9 +21,6 @@ use wh_planner::Planner;
 use wh_serve::{Allowance, Client, Rights};
 use wh_service::{PlannerParts, members, seated};
 
-/// The number of the worker for agents and clock, the last one.
-const WORKER_NUMBER: u32 = 63;
-
 /// The rights that a client's word gave it.
 fn rights_of(rights: ClientRights) -> Rights
     ensures { result ≡ rights_of rights }
@@ -34,32 +32,6 @@ fn rights_of(rights: ClientRights) -> Rights
         replace: rights.replace,
         close: rights.close,
     }
-}
-
-/// How many entries more each of the named clients may have: as many as are said, or its share of the journal's.
-fn share_of(share: Option<u32>, journal: u32, named: usize) -> u64
-    requires some { 1 ≤ named }
-    ensures value { result ≡ share_of share journal named }
-    ensures few { result ≤ 4294967296 }
-{
-    match share {
-        Some(share) => u64::from(share),
-        None => (u64::from(journal) / named as u64).max(1),
-    }
-}
-
-/// How many entries a caller has in a history.
-fn had_by(history: &[Entry], caller: u32) -> u64
-    ensures value { result ≡ length (entries_of history.now caller) }
-    ensures few { result ≤ length history.now }
-{
-    let mut count = 0;
-    for entry in history {
-        if entry.caller == caller {
-            count += 1;
-        }
-    }
-    count
 }
 
 /// For how many clients there is to be a place that all who have entries are among them.
@@ -157,7 +129,8 @@ fn client_of<P: Planner, F: Fn(PlannerParts) -> Result<P, AllocError>>(
         return Ok(nobody(alloc));
     };
     let spares = members(alloc, fleet, grid, bank, seat, make, fleet.spares as usize)?;
-    let share = share_of(options.share, options.journal, options.clients.len());
+    let among = sharers(options);
+    let share = share_of(options.share, options.journal, among);
     Ok(Client {
         spares,
         allowance: Allowance {

@@ -6,6 +6,7 @@ mod clients;
 mod ending;
 mod ready;
 mod serving;
+mod shares;
 
 pub use attending::attend;
 pub use clients::named_by;

@@ -11,6 +11,7 @@ ghost use Rattle.wh_host.specs.Runs.{IsJournalOf, ServedFrom, first_lines};
 ghost use Rattle.wh_attend.specs.Guests.{HaveRoom};
 ghost use Rattle.wh_attend.specs.Attends.{ServesClients};
 
+use crate::shares::pacing_of;
 use std::alloc::Global;
 use std::io::{Read, Write};
 use std::sync::Wait;
@@ -20,14 +21,14 @@ use std::thread::{Threads, join};
 use std::time::Clock;
 use wh_continue::{LogFile, Warehouse};
 use wh_edge::Trouble;
-use wh_host::{Ran, run_clients};
-use wh_live::{Display, Pace, Screen};
+use wh_host::{Pacing, Ran, run_clients};
+use wh_live::{Display, Screen};
 use wh_log::Form;
 use wh_options::AttendOptions;
 use wh_pipes::Hall;
 use wh_planner::Planner;
 use wh_serve::{Client, Doors};
-use wh_service::{display_of, form_of, pace_of};
+use wh_service::{display_of, form_of};
 
 /// Serves clients, and sets `through` when all of them are through.
 fn serve_through<
@@ -47,7 +48,7 @@ fn serve_through<
     more: u32,
     file: L,
     doors: &D,
-    pace: Option<Pace>,
+    pace: Option<Pacing>,
     display: Option<Display<V>>,
     through: &AtomicBool,
 ) -> Result<Ran<L, V, P>, Trouble>
@@ -99,7 +100,7 @@ pub(crate) fn serve_all<
 {
     let form = form_of(options.replies);
     let more = options.journal;
-    let pace = pace_of(options.every, options.turns);
+    let pace = pacing_of(options, warehouse.history());
     let display = display_of(screen, options.board_every);
     let through = AtomicBool::new(false);
     let (_, came) = join(

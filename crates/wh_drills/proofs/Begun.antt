@@ -1,15 +1,10 @@
--- What a run that is found in a journal starts from, a journal behind which nothing stands yet, and how few callers one client and
--- a worker are.
+-- What a run that is found in a journal starts from, and how few callers one client and a worker are.
 use Rattle.std.proofs.Common.{◌≡◌, ◌≤◌, ℕ, List, [], length, sym, subst, arith, Option, None, Some}
-use Rattle.std.specs.Io.KnownBytes.{Appends}
-use Rattle.std.proofs.KnownBytes.{Appends-nil}
 use Rattle.wh_points.specs.Points.{Site}
-use Rattle.wh_event.specs.declared.entry.Entry.{Entry}
-use Rattle.wh_journal.specs.Journals.{lines_for}
 use Rattle.wh_continue.specs.Starting.{StartsByFile, StartsIn}
 use Rattle.wh_continue.specs.Running.{IsStartOf}
 use Rattle.wh_continue.specs.declared.starting.Start.{Start}
-use Rattle.wh_crew.specs.declared.agents.Pace.{Pace}
+use Rattle.wh_host.specs.declared.pacing.Pacing.{Pacing}
 use Rattle.wh_host.specs.Pacing.{callers_of}
 
 starts_here : (site : Site) (slots : List ℕ) (file : Option (List ℕ)) (start : Start) → StartsByFile site slots file start → IsStartOf file start
@@ -19,12 +14,7 @@ starts_here site slots (Some held) start from = (site, slots, subst (λ (text : 
 pub starts_of : (site : Site) (slots : List ℕ) (file now : Option (List ℕ)) (start : Start) → StartsByFile site slots file start → now ≡ file → IsStartOf now start
 starts_of site slots file now start from same = subst (λ (f : Option (List ℕ)). IsStartOf f start) (sym same) (starts_here site slots file start from)
 
--- the lines of no entries stand behind what a journal holds
-pub bare_start : (start now : Option (List ℕ)) (history : List Entry) → now ≡ start → history ≡ [] → Appends start now (lines_for history)
-bare_start start now history same none =
-    subst (λ (h : List Entry). Appends start now (lines_for h)) (sym none) (subst (λ (s : Option (List ℕ)). Appends s now []) same (Appends-nil now))
-
 -- one client, and maybe a worker, are at most 64 callers
-pub few_callers : {C : Type 0} (clients : List C) (pace : Option Pace) → length clients ≡ 1 → callers_of clients pace ≤ 64
+pub few_callers : {C : Type 0} (clients : List C) (pace : Option Pacing) → length clients ≡ 1 → callers_of clients pace ≤ 64
 few_callers clients None one = omega (arith, one)
 few_callers clients (Some pace) one = omega (arith, one)

@@ -12,15 +12,14 @@ use std::test::*;
 use std::thread::Threads;
 use std::time::{Clock, Duration};
 use wh_board::Board;
-use wh_crew::Pace;
 use wh_desk::DeskFault;
 use wh_display::{ShowFault, text_of_board};
 use wh_event::{Entry, Event, Reply};
-use wh_host::{Display, Ran, run_clients};
+use wh_host::{Display, Pacing, Ran, run_clients};
 use wh_journal::MemoryJournal;
 use wh_log::entries_text;
 use wh_planners::Patient;
-use wh_serve::{CallFault, Form, Full, ServeFault};
+use wh_serve::{CallFault, Form, Full, ServeFault, WorkerEnd};
 
 /// The log of a run without entries, but for its end line.
 const HEAD: &[u8] = b"wlog 2\nstart 0 slots 4 4\n";
@@ -32,13 +31,13 @@ const FIRST: &[u8] =
 /// What these runs leave.
 type Left<'a> = Ran<MemoryJournal, TextScreen<'a>, Patient>;
 
-/// How a run is hosted: how many entries its journal may have, and how many of them the client; whether a worker is beside it,
-/// and a screen; and whether the journal has failed before anybody comes.
+/// How a run is hosted: how many entries its journal may have, how many of them the client, and how many the worker, where one is
+/// beside it; whether there is a screen; and whether the journal has failed before anybody comes.
 #[derive(Clone, Copy)]
 struct Plan {
     entries: u32,
     share: u64,
-    has_worker: bool,
+    worker: Option<u64>,
     has_screen: bool,
     has_failed: bool,
 }
@@ -47,7 +46,7 @@ struct Plan {
 const PLAN: Plan = Plan {
     entries: 100_000,
     share: 3,
-    has_worker: true,
+    worker: Some(100_000),
     has_screen: true,
     has_failed: false,
 };
@@ -56,12 +55,15 @@ const PLAN: Plan = Plan {
 const PAUSE: u64 = 1;
 
 /// The pace of the worker, where there is one: each turn has an entry at least, so it may fill the journal and find it full.
-fn pace_of(plan: Plan) -> Option<Pace> {
-    plan.has_worker.then_some(Pace {
-        turns: plan.entries.saturating_add(1),
-        ends_idle: false,
-        pause: Duration::from_millis(PAUSE),
-    })
+fn pace_of(plan: Plan) -> Option<Pacing> {
+    match plan.worker {
+        Some(entries) => Some(Pacing {
+            turns: plan.entries.saturating_add(1),
+            pause: Duration::from_millis(PAUSE),
+            entries,
+        }),
+        None => None,
+    }
 }
 
 /// The display, where there is one.
@@ -214,7 +216,7 @@ fn a_worker_fills_the_journal(rt: HostRuntime) -> Result<(), Fail> {
     };
     let ran = host(&rt, alloc, &house, plan)?;
     assert_eq!(rt; house.limits.load(SeqCst), 0);
-    let full = Some(CallFault::Refused(DeskFault::Full));
+    let full = Some(WorkerEnd::Untold(CallFault::Refused(DeskFault::Full)));
     assert_eq!(rt; ran.worker, full);
     assert!(rt; ran.is_whole && ran.journal.held.as_slice() == FOUR);
     assert!(rt; ran.screen.is_none() && ran.last.is_ok());
@@ -226,6 +228,33 @@ fn a_worker_fills_the_journal(rt: HostRuntime) -> Result<(), Fail> {
     Ok(())
 }
 
+/// The log of a worker that had two calls, and of a client that closed.
+const TWO: &[u8] =
+    b"wlog 2\nstart 0 slots 4 4\n1 tick = clock 1 picked 0 dropped 0\n1 tick = clock 2 picked 0 dropped 0\n0 close = closed\n";
+
+#[test]
+fn a_worker_leaves_a_client_its_share(rt: HostRuntime) -> Result<(), Fail> {
+    let alloc = rt.alloc();
+    let cues = AtomicU64::new(0);
+    let house = House::new(&rt, alloc, &[b"close\n"], 0, &cues);
+    let plan = Plan {
+        entries: 3,
+        share: 1,
+        worker: Some(2),
+        has_screen: false,
+        ..PLAN
+    };
+    let ran = host(&rt, alloc, &house, plan)?;
+    assert_eq!(rt; house.limits.load(SeqCst), 0);
+    assert_eq!(rt; ran.worker, Some(WorkerEnd::ShareUsed));
+    assert!(rt; ran.is_whole && ran.journal.held.as_slice() == TWO);
+    let notes = house.notes.lock(&rt);
+    assert_eq!(rt; notes.ended, Some(WorkerEnd::ShareUsed));
+    assert!(rt; notes.fulls.is_empty());
+    assert!(rt; notes.told.as_slice() == b"entries 0\nclosed\n".as_slice());
+    Ok(())
+}
+
 #[test]
 fn a_share_is_used(rt: HostRuntime) -> Result<(), Fail> {
     let alloc = rt.alloc();
@@ -234,7 +263,7 @@ fn a_share_is_used(rt: HostRuntime) -> Result<(), Fail> {
     let plan = Plan {
         entries: 2,
         share: 1,
-        has_worker: false,
+        worker: None,
         has_screen: false,
         ..PLAN
     };
@@ -268,14 +297,12 @@ fn nothing_is_told_or_shown_behind_a_fault(rt: HostRuntime) -> Result<(), Fail> 
             .first()
             .is_some_and(|text| text.as_slice() == FIRST)
     );
-    assert_eq!(rt;
-        (ran.last, ran.worker),
-        (Err(ShowFault::Unshown), Some(CallFault::Unkept))
-    );
+    let unkept = Some(WorkerEnd::Untold(CallFault::Unkept));
+    assert_eq!(rt; (ran.last, ran.worker), (Err(ShowFault::Unshown), unkept));
     assert_eq!(rt; ran.history.warehouse.history().len(), 1);
     assert!(rt; !ran.is_whole && ran.journal.held.as_slice() == HEAD);
     let notes = house.notes.lock(&rt);
-    assert_eq!(rt; notes.ended, Some(CallFault::Unkept));
+    assert_eq!(rt; notes.ended, unkept);
     assert_eq!(rt; notes.outcome, Some(Err(ServeFault::Unjournaled)));
     assert!(rt; notes.told.as_slice() == b"entries 0\n".as_slice());
     assert_eq!(rt; house.over.load(SeqCst), 1);

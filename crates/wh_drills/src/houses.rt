@@ -6,7 +6,7 @@ use std::alloc::Global;
 use std::sync::atomic::AtomicU64;
 use std::sync::atomic::Ordering::SeqCst;
 use std::sync::{Mutex, Wait};
-use wh_serve::{CallFault, Connection, Doors, Full, ServeFault, Served};
+use wh_serve::{Connection, Doors, Full, ServeFault, Served, WorkerEnd};
 
 /// What the doors of the one client were told.
 #[derive(Drop)]
@@ -14,7 +14,7 @@ pub struct Notes {
     pub told: Vec<u8>,
     pub outcome: Option<Result<Served, ServeFault>>,
     pub fulls: Vec<(u32, Full)>,
-    pub ended: Option<CallFault>,
+    pub ended: Option<WorkerEnd>,
 }
 
 /// The doors of one client, with what it sends over its connections. So many of these come at once, and the next one behind a
@@ -87,7 +87,7 @@ impl<'a, X: Wait + Sync> Doors<&'static [u8], Vec<u8>> for House<'a, X> {
         }
     }
 
-    fn worker_ends(&self, why: CallFault) {
+    fn worker_ends(&self, why: WorkerEnd) {
         self.notes.lock(self.rt).ended = Some(why);
         self.cues.fetch_add(1, SeqCst);
     }

@@ -21,7 +21,7 @@ use wh_host::{Display, Ran, run_clients};
 use wh_journal::{Journal, MemoryJournal};
 use wh_planners::Patient;
 use wh_serve::{
-    Allowance, CallFault, Client, Connection, Doors, Form, Full, Rights, ServeFault, Served,
+    Allowance, Client, Connection, Doors, Form, Full, Rights, ServeFault, Served, WorkerEnd,
 };
 
 /// The log of a run of two entries of one caller, but for its end line.
@@ -74,7 +74,7 @@ impl<'a, X: Wait + Sync> Doors<&'static [u8], Vec<u8>> for Door<'a, X> {
         self.odd.fetch_add(1, SeqCst);
     }
 
-    fn worker_ends(&self, _why: CallFault) {
+    fn worker_ends(&self, _why: WorkerEnd) {
         self.odd.fetch_add(1, SeqCst);
     }
 

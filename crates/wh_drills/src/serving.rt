@@ -20,8 +20,8 @@ use wh_journal::MemoryJournal;
 use wh_planner::Planner;
 use wh_planners::Patient;
 use wh_serve::{
-    Allowance, CallFault, Client, Connection, Doors, End, Form, Full, JournalName, Rights, Scribe,
-    ServeFault, Served, serve_clients,
+    Allowance, Client, Connection, Doors, End, Form, Full, JournalName, Rights, Scribe, ServeFault,
+    Served, WorkerEnd, serve_clients,
 };
 
 /// What client 0 sends first: the line that was begun is no command.
@@ -100,7 +100,7 @@ impl<'a, X: Wait + Sync> Doors<&'static [u8], Vec<u8>> for Bytes<'a, X> {
         self.odd.fetch_add(1, SeqCst);
     }
 
-    fn worker_ends(&self, _why: CallFault) {
+    fn worker_ends(&self, _why: WorkerEnd) {
         self.odd.fetch_add(1, SeqCst);
     }
 

@@ -11,7 +11,8 @@ use Rattle.wh_event.specs.declared.entry.Entry.{Entry}
 use Rattle.wh_desk.specs.Lists.{Received, entries_of}
 use Rattle.wh_desk.specs.Calls.{InOrder}
 use Rattle.wh_crew.specs.Work.{command_of}
-use Rattle.wh_serve.specs.Allowances.{allows, KeepsTo}
+use Rattle.wh_serve.specs.Allowances.{allows}
+use Rattle.wh_host.specs.Runs.{KeepsTo}
 use Rattle.wh_serve.specs.Outcomes.{Outcome, receipts_of, Made, Gives}
 use Rattle.wh_serve.specs.Rows.{Fared, Session, Visit, Row, Attended}
 use Rattle.wh_host.specs.Hosting.{AllServed}

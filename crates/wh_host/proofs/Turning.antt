@@ -1,5 +1,5 @@
 -- Turns through a journal.
-use Rattle.std.proofs.Common.{◌≡◌, ℕ, ◌+◌, ◌<◌, ◌≤◌, false, List, [], ◌∷◌, ◌++◌, length, Option, None, Some, slice_get, ap, sym, ◌∙◌, subst, arith}
+use Rattle.std.proofs.Common.{◌≡◌, ℕ, ◌+◌, ◌<◌, ◌≤◌, ◌⊎◌, inl, inr, false, List, [], ◌∷◌, ◌++◌, length, Option, None, Some, slice_get, ap, sym, ◌∙◌, subst, arith}
 use Rattle.std.specs.List.{All}
 use Rattle.wh_grid.specs.Grids.{Floor}
 use Rattle.std.specs.Prelude.{Bool}
@@ -8,6 +8,7 @@ use Rattle.wh_event.specs.declared.event.Command.{Command}
 use Rattle.wh_board.specs.Pasts.{Past, Extends}
 use mathlib.Core.List.{IsPrefix}
 use Rattle.std.proofs.lemmas.Option.{same_Some}
+use Rattle.std.proofs.lemmas.List.{length-append, length-map}
 use Rattle.wh_board.specs.Pasts.{Origin}
 use Rattle.wh_desk.specs.Lists.{entries_of, Received}
 use Rattle.wh_desk.specs.Calls.{AllBegin}
@@ -15,12 +16,15 @@ use Rattle.wh_desk.proofs.Entries.{get_push}
 use Rattle.wh_desk.proofs.Telling.{refused_keeps}
 use Rattle.wh_crew.proofs.Ending.{all_last}
 use Rattle.wh_crew.specs.Turns.{Does, DoesUntil, IsTurn}
-use Rattle.wh_crew.specs.declared.agents.Pace.{Pace}
+use Rattle.wh_crew.specs.Work.{command_of}
 use Rattle.wh_crew.proofs.Turning.{Taking, does_receipt, taking_more, taking_stops}
 use Rattle.wh_scribe.specs.Calls.{Leaves, Receives}
 use Rattle.wh_scribe.specs.declared.calling.CallFault.{CallFault}
 use Rattle.wh_scribe.specs.declared.calling.CallFault.TheVariants.{Refused, Failed, Unkept}
-use Rattle.wh_host.specs.Pacing.{LeavesUntold, PacedIn, PacesUntil, callers_of}
+use Rattle.wh_serve.specs.declared.doors.WorkerEnd.{WorkerEnd}
+use Rattle.wh_serve.specs.declared.doors.WorkerEnd.TheVariants.{ShareUsed, Untold}
+use Rattle.wh_host.specs.declared.pacing.Pacing.{Pacing}
+use Rattle.wh_host.specs.Pacing.{LeavesOff, LeavesUntold, PacedIn, PacesUntil, callers_of}
 
 module _ {X : Type 0} (fits : X → Floor → Bool) (count : X → ℕ) (grid : Floor) where
   -- a receipt answers its command
@@ -40,17 +44,43 @@ pub turn_more : (known later : Past) (a b c : Received) (turns : ℕ) (commands 
 turn_more known later a b c turns commands taking more turn does =
     taking_more false known later a b c turns taking more turn.0 turn.1 (subst (λ (l : List Command). Does l b c) turn.2 does)
 
--- turns that were taken are all that was done
-pub paces : (cells most : ℕ) (known : Past) (a b : Received) (turns : ℕ) → Taking false known a b turns → turns ≤ most → PacesUntil cells most known a b None
-paces cells most known a b turns t few = record { boards = t.boards; seen = t.seen; few = omega (arith, t.count, few); does = t.does }
+-- ---- no more entries than may be its own
 
--- a call of a turn told no receipt
-pub paces_until : (cells : ℕ) (pace : Pace) (known later : Past) (fault : CallFault) (a b c : Received) (turns : ℕ) (commands : List Command) → Taking false known a b turns → turns < pace.turns → Extends known later
-    → IsTurn false later commands → DoesUntil (LeavesUntold cells) commands fault b c → PacesUntil cells pace.turns later a c (Some fault)
-paces_until cells pace known later fault a b c turns commands taking less more turn stops =
-    let until = taking_stops (LeavesUntold cells) (record { turns = pace.turns; ends_idle = false; pause = pace.pause }) known later fault a b c turns taking less more
-    (turn.0, turn.1, subst (λ (l : List Command). DoesUntil (LeavesUntold cells) l fault b c) turn.2 stops) in
-    record { boards = until.boards; seen = until.seen; few = until.count; does = until.does }
+-- it has no more entries than so many, if it has any more than it had
+abbrev pub KeepsShare : ℕ → (had has : Received) → Type 0
+KeepsShare entries had has = (has.list ≡ had.list) ⊎ (length has.list ≤ entries)
+
+pub share_kept : (entries : ℕ) (a b c : Received) → KeepsShare entries a b → KeepsShare entries b c → KeepsShare entries a c
+share_kept entries a b c k (inr few) = inr few
+share_kept entries a b c (inl same) (inl still) = inl (still ∙ same)
+share_kept entries a b c (inr few) (inl still) = inr (omega (arith, few, ap (λ (l : List (ℕ × Entry)). length l) still))
+
+-- one entry more, where there were fewer
+pub share_more : (entries : ℕ) (command : Command) (had has : Received) → Does (command ∷ []) had has → length had.list < entries → KeepsShare entries had has
+share_more entries command had has d less =
+    let one : length d.received ≡ 1 = sym (length-map d.received (λ (x : ℕ × Entry). command_of x.1.event)) ∙ ap (λ (l : List Command). length l) d.commands_are in
+    inr (omega (arith, ap (λ (l : List (ℕ × Entry)). length l) d.goes_on, length-append had.list d.received, one, less))
+
+-- at most one entry more
+pub share_untold : (entries cells : ℕ) (command : Command) (had : Received) (fault : CallFault) (has : Received) → LeavesUntold cells command had fault has → length had.list < entries → KeepsShare entries had has
+share_untold entries cells command had (Refused fault) has l less = inl (refused_keeps cells had fault has l).1
+share_untold entries cells command had Failed has l less = inl (ap (λ (p : Received). p.list) l)
+share_untold entries cells command had Unkept has l less = share_more entries command had has l less
+
+-- ---- what was done
+
+-- turns that were taken are all that was done
+pub paces : (cells : ℕ) (pace : Pacing) (known : Past) (a b : Received) (turns : ℕ) → Taking false known a b turns → turns ≤ pace.turns → KeepsShare pace.entries a b → PacesUntil cells pace known a b None
+paces cells pace known a b turns t few share = record { boards = t.boards; seen = t.seen; few = omega (arith, t.count, few); does = t.does; share = share }
+
+-- the worker ended at a command of a turn
+pub paces_until : (cells : ℕ) (pace : Pacing) (known later : Past) (end : WorkerEnd) (a b c : Received) (turns : ℕ) (commands : List Command) → Taking false known a b turns → turns < pace.turns → Extends known later
+    → IsTurn false later commands → DoesUntil (LeavesOff cells pace.entries) commands end b c → KeepsShare pace.entries a b → KeepsShare pace.entries b c → PacesUntil cells pace later a c (Some end)
+paces_until cells pace known later end a b c turns commands taking less more turn stops before share =
+    let leaves = LeavesOff cells pace.entries in
+    let until = taking_stops leaves (record { turns = pace.turns; ends_idle = false; pause = pace.pause }) known later end a b c turns taking less more
+    (turn.0, turn.1, subst (λ (l : List Command). DoesUntil leaves l end b c) turn.2 stops) in
+    record { boards = until.boards; seen = until.seen; few = until.count; does = until.does; share = share_kept pace.entries a b c before share }
 
 -- the worker's caller stays, whatever it did
 untold_caller : (cells : ℕ) (command : Command) (had : Received) (fault : CallFault) (has : Received) → LeavesUntold cells command had fault has → has.caller ≡ had.caller
@@ -58,19 +88,23 @@ untold_caller cells command had (Refused fault) has l = (refused_keeps cells had
 untold_caller cells command had Failed has l = ap (λ (p : Received). p.caller) l
 untold_caller cells command had Unkept has l = l.caller_is
 
-pub paces_caller : (cells turns : ℕ) (known : Past) (had has : Received) (ended : Option CallFault) → PacesUntil cells turns known had has ended → has.caller ≡ had.caller
-paces_caller cells turns known had has None p = p.does.caller_is
-paces_caller cells turns known had has (Some fault) p = untold_caller cells p.does.next p.does.between fault has p.does.left ∙ p.does.does.caller_is
+left_caller : (cells entries : ℕ) (command : Command) (had : Received) (end : WorkerEnd) (has : Received) → LeavesOff cells entries command had end has → has.caller ≡ had.caller
+left_caller cells entries command had ShareUsed has l = ap (λ (p : Received). p.caller) l.0
+left_caller cells entries command had (Untold fault) has l = untold_caller cells command had fault has l
+
+pub paces_caller : (cells : ℕ) (pace : Pacing) (known : Past) (had has : Received) (ended : Option WorkerEnd) → PacesUntil cells pace known had has ended → has.caller ≡ had.caller
+paces_caller cells pace known had has None p = p.does.caller_is
+paces_caller cells pace known had has (Some end) p = left_caller cells pace.entries p.does.next p.does.between end has p.does.left ∙ p.does.does.caller_is
 
 -- what the worker has in the history, where its pass is the last one
-pub paced_in : (cells turns n : ℕ) (origin : Origin) (history : List Entry) (all passes left : List Received) (own pass : Received) (known : Past) (ended : Option CallFault) → all ≡ passes ++ own ∷ [] → n ≡ length passes
-    → PacesUntil cells turns known own pass ended → Extends known (record { origin = origin; history = history }) → All (λ p. p.list ≡ entries_of history p.caller) (left ++ pass ∷ []) → AllBegin history (left ++ pass ∷ [])
-    → (had : Received) → slice_get all n ≡ Some had → PacedIn cells turns origin history had ended
-paced_in cells turns n origin history all passes left own pass known ended parts last paces begins lists begun had at =
+pub paced_in : (cells : ℕ) (pace : Pacing) (n : ℕ) (origin : Origin) (history : List Entry) (all passes left : List Received) (own pass : Received) (known : Past) (ended : Option WorkerEnd) → all ≡ passes ++ own ∷ [] → n ≡ length passes
+    → PacesUntil cells pace known own pass ended → Extends known (record { origin = origin; history = history }) → All (λ p. p.list ≡ entries_of history p.caller) (left ++ pass ∷ []) → AllBegin history (left ++ pass ∷ [])
+    → (had : Received) → slice_get all n ≡ Some had → PacedIn cells pace origin history had ended
+paced_in cells pace n origin history all passes left own pass known ended parts last paces begins lists begun had at =
     let there : slice_get all n ≡ Some own = ap (λ (k : ℕ). slice_get all k) last ∙ ap (λ (l : List Received). slice_get l (length passes)) parts ∙ get_push passes own in
     let own_is : own ≡ had = same_Some _ _ (sym there ∙ at) in
-    let caller_is = paces_caller cells turns known own pass ended paces in
-    subst (λ (p : Received). PacedIn cells turns origin history p ended) own_is (record {
+    let caller_is = paces_caller cells pace known own pass ended paces in
+    subst (λ (p : Received). PacedIn cells pace origin history p ended) own_is (record {
       known = known;
       begins = begins;
       has = pass;
@@ -80,6 +114,6 @@ paced_in cells turns n origin history all passes left own pass known ended parts
     })
 
 -- there are no more clients than callers
-pub clients_few : {C : Type 0} (clients : List C) (pace : Option Pace) → length clients ≤ callers_of clients pace
+pub clients_few : {C : Type 0} (clients : List C) (pace : Option Pacing) → length clients ≤ callers_of clients pace
 clients_few clients None = omega arith
 clients_few clients (Some pace) = omega arith

@@ -9,10 +9,10 @@ use Rattle.wh_core.specs.Steps.{Run}
 use Rattle.wh_desk.specs.Pasts.{Origin}
 use Rattle.wh_desk.specs.Lists.{Received, entries_of}
 use Rattle.wh_desk.specs.Calls.{NoneWantsPath}
-use Rattle.wh_crew.specs.declared.agents.Pace.{Pace}
-use Rattle.wh_scribe.specs.declared.calling.CallFault.{CallFault}
 use Rattle.wh_serve.specs.Rows.{Attended}
 use Rattle.wh_serve.specs.declared.threads.Client.{Client}
+use Rattle.wh_serve.specs.declared.doors.WorkerEnd.{WorkerEnd}
+use Rattle.wh_host.specs.declared.pacing.Pacing.{Pacing}
 use Rattle.wh_host.specs.Pacing.{PacedIn}
 
 -- a client was served by what is the caller's in the history, and knows of a beginning of it
@@ -36,12 +36,12 @@ pub record AllServed {C : Type 0} (serves : C → Received → Received → ℕ 
 -- so many callers alone. On a well-formed instance no request in it is refused for want of a path. Each client was served by what
 -- is its caller's in the history, and told it by the texts that its receipts have there.
 pub record Leaves {R W X : Type 0} (fits : X → Floor → Bool) (count : X → ℕ) (text : List Entry → ℕ × Entry → List ℕ) (remaining : R → Option (List ℕ)) (contents : W → Option (List ℕ))
-    (origin : Origin) (cells callers : ℕ) (clients : List (Client X)) (passes : List Received) (pace : Option Pace)
-    (history : List Entry) (state : State) (connections : List ℕ) (worker : Option CallFault) : Type 0 where
+    (origin : Origin) (cells callers : ℕ) (clients : List (Client X)) (passes : List Received) (pace : Option Pacing)
+    (history : List Entry) (state : State) (connections : List ℕ) (worker : Option WorkerEnd) : Type 0 where
   pub opening : IsOpening origin.site origin.opening
   pub run : Run origin.site origin.opening history state
   pub by_callers : All (λ entry. entry.caller < callers) history
   pub granted : NoneWantsPath origin history
   pub within : length history ≤ cells
   pub served : AllServed (λ client had has times. Attended cells fits count origin.site.grid (text history) remaining contents client had has times) clients passes history connections
-  pub paced : IfSome pace (λ p. (own : Received) → slice_get passes (length clients) ≡ Some own → PacedIn cells p.turns origin history own worker)
+  pub paced : IfSome pace (λ p. (own : Received) → slice_get passes (length clients) ≡ Some own → PacedIn cells p origin history own worker)

@@ -1,5 +1,5 @@
 -- What clients did from where a warehouse stood, and what the journal holds of it.
-use Rattle.std.specs.Prelude.{◌≡◌, ℕ, ◌≤◌, Bool, true, List, [], length, take, All, Option, Some, option_map, slice_get}
+use Rattle.std.specs.Prelude.{◌≡◌, ◌≢◌, ℕ, ◌≤◌, ◌++◌, Bool, true, List, [], length, take, All, Option, Some, option_map, slice_get}
 use mathlib.Core.List.{IsPrefix}
 use Rattle.std.specs.Io.KnownBytes.{Appends}
 use Rattle.wh_grid.specs.Grids.{Floor}
@@ -13,20 +13,30 @@ use Rattle.wh_words.specs.Lines.{text_of as lines_text}
 use Rattle.wh_log.specs.declared.version.Version.TheVariants.{Two}
 use Rattle.wh_log.specs.Torn.{begun_lines}
 use Rattle.wh_journal.specs.Journals.{lines_for}
-use Rattle.wh_crew.specs.declared.agents.Pace.{Pace}
+use Rattle.wh_crew.specs.Work.{command_of}
 use Rattle.wh_scribe.specs.Keeping.{Holds}
-use Rattle.wh_scribe.specs.declared.calling.CallFault.{CallFault}
 use Rattle.wh_scribe.specs.declared.scribe.Kept.{Kept}
-use Rattle.wh_serve.specs.Allowances.{KeepsTo}
+use Rattle.wh_serve.specs.Allowances.{allows}
+use Rattle.wh_serve.specs.declared.allowance.Allowance.{Allowance}
 use Rattle.wh_serve.specs.declared.threads.Client.{Client}
+use Rattle.wh_serve.specs.declared.doors.WorkerEnd.{WorkerEnd}
+use Rattle.wh_host.specs.declared.pacing.Pacing.{Pacing}
 use Rattle.wh_host.specs.Pacing.{callers_of}
 use Rattle.wh_host.specs.Hosting.{Leaves}
+
+-- A client's entries keep to what it may do: behind those that it had before, it has the right to each that was added, and where
+-- one was, there are no more of all of them than may be its own.
+pub record KeepsTo (may : Allowance) (before entries : List (ℕ × Entry)) : Type 0 where
+  pub added : List (ℕ × Entry)
+  pub entries_are : entries ≡ before ++ added
+  pub allowed : All (λ x. allows may.rights (command_of x.1.event) ≡ true) added
+  pub few : added ≢ [] → length entries ≤ may.entries
 
 -- A history goes on from an earlier one, by these clients, and the worker behind them where there is one: they leave a desk that has
 -- as many cells as the journal may have entries. Each had before what is its number's in the earlier history. What each client has
 -- in the whole keeps to what the client may do behind that.
 pub record ServedFrom {R W X : Type 0} (fits : X → Floor → Bool) (count : X → ℕ) (text : List Entry → ℕ × Entry → List ℕ) (remaining : R → Option (List ℕ)) (contents : W → Option (List ℕ))
-    (origin : Origin) (earlier : List Entry) (clients : List (Client X)) (pace : Option Pace) (journal : ℕ) (history : List Entry) (state : State) (connections : List ℕ) (worker : Option CallFault) : Type 0 where
+    (origin : Origin) (earlier : List Entry) (clients : List (Client X)) (pace : Option Pacing) (journal : ℕ) (history : List Entry) (state : State) (connections : List ℕ) (worker : Option WorkerEnd) : Type 0 where
   pub begins : IsPrefix earlier history
   pub passes : List Received
   pub in_order : InOrder (callers_of clients pace) passes

@@ -12,12 +12,12 @@ ghost use Rattle.wh_host.specs.Pacing.{callers_of};
 
 use crate::hosting::{Hosted, host_clients};
 use crate::kept_screen::KeptScreen;
+use crate::pacing::Pacing;
 use std::alloc::Global;
 use std::io::{Read, Write};
 use std::sync::Wait;
 use std::thread::{Threads, join};
 use std::time::{Clock, Duration};
-use wh_crew::Pace;
 use wh_desk::{Desk, DeskName, Pass};
 use wh_display::{Bell, Screen, ShowFault};
 use wh_edge::Trouble;
@@ -64,7 +64,7 @@ fn host_and_ring<
     passes: Vec<Pass<N>>,
     clients: Vec<Client<P>>,
     doors: &D,
-    pace: Option<Pace>,
+    pace: Option<Pacing>,
     bell: &Bell,
 ) -> Result<Hosted<P>, Trouble>
     requires passes { InOrder N.callers passes.items }
@@ -106,7 +106,7 @@ fn host_watched<
     passes: Vec<Pass<N>>,
     clients: Vec<Client<P>>,
     doors: &D,
-    pace: Option<Pace>,
+    pace: Option<Pacing>,
     watch: Watch<V>,
     shown: u64,
 ) -> Result<Beside<P, V>, Trouble>
@@ -182,7 +182,7 @@ pub(crate) fn host_beside<
     passes: Vec<Pass<N>>,
     clients: Vec<Client<P>>,
     doors: &D,
-    pace: Option<Pace>,
+    pace: Option<Pacing>,
     watch: Option<Watch<V>>,
     shown: u64,
 ) -> Result<Beside<P, V>, Trouble>

@@ -9,19 +9,19 @@ ghost use Rattle.wh_serve.specs.Rows.{Attended};
 ghost use Rattle.wh_host.specs.Hosting.{Leaves};
 ghost use Rattle.wh_host.specs.Pacing.{PacesUntil, callers_of};
 
-use crate::pacing::{Paced, pace_whole};
+use crate::pacing::{Paced, Pacing, pace_whole};
 use std::alloc::Global;
 use std::io::{Read, Write};
 use std::sync::Wait;
 use std::thread::{Threads, join};
 use std::time::Clock;
-use wh_crew::{CrewFault, Pace};
+use wh_crew::CrewFault;
 use wh_desk::{Desk, DeskName, History, Pass, Viewer};
 use wh_display::Bell;
 use wh_journal::Journal;
 use wh_planner::Planner;
-use wh_scribe::{CallFault, JournalName, Scribe};
-use wh_serve::{Client, Doors, Form, Reports, serve_clients};
+use wh_scribe::{JournalName, Scribe};
+use wh_serve::{Client, Doors, Form, Reports, WorkerEnd, serve_clients};
 
 /// What clients and the agents' worker left.
 #[derive(Drop)]
@@ -29,8 +29,8 @@ pub struct Hosted<P: Planner = Box<dyn Planner>> {
     pub history: History<P>,
     /// Over how many connections each client was served, in their order.
     pub connections: Vec<u64>,
-    /// Why the agents' worker ended at a call that told no receipt, if it did.
-    pub worker: Option<CallFault>,
+    /// Why the agents' worker ended before the clients did, if it did.
+    pub worker: Option<WorkerEnd>,
 }
 
 /// Serves the clients, and rings the bell when all of them are through.
@@ -148,19 +148,19 @@ fn serve_beside<
     doors: &D,
     own: Pass<N>,
     viewer: Viewer,
-    pace: Pace,
+    pace: Pacing,
 ) -> Result<Shift<N>, CrewFault>
     requires clients { length clients.items ≡ length passes.items }
     ensures count { IfOk result (λ s. (length s.reports.passes.items ≡ length clients.items) × (length s.reports.connections.items ≡ length clients.items)) }
     ensures served { IfOk result (λ s. AllReported (λ c had has n. InEach has.known (λ history. Attended (length N.cells) P.fits_map P.slot_count N.origin.site.grid (receipt_text form N.origin history) (λ x. R.remaining x) (λ x. W.contents x) c had has n)) clients.items passes.items s.reports.passes.items s.reports.connections.items) }
-    ensures turns { IfOk result (λ s. PacesUntil (length N.cells) pace.turns s.paced.viewer.past own s.paced.pass s.paced.ended) }
+    ensures turns { IfOk result (λ s. PacesUntil (length N.cells) pace s.paced.viewer.past own s.paced.pass s.paced.ended) }
     ensures book { IfOk result (λ s. s.paced.viewer.book ≡ viewer.book) }
 {
     let bell = Bell::new();
     let (paced, served) = join(
         rt,
         || -> Paced<N>
-            ensures { PacesUntil (length N.cells) pace.turns result.viewer.past own result.pass result.ended × (result.viewer.book ≡ viewer.book) }
+            ensures { PacesUntil (length N.cells) pace result.viewer.past own result.pass result.ended × (result.viewer.book ≡ viewer.book) }
         {
             pace_whole::<N, S, J, H, P, X, R, W, D>(
                 rt, alloc, desk, scribe, own, viewer, pace, &bell, doors,
@@ -197,7 +197,7 @@ fn host_paced<
     mut passes: Vec<Pass<N>>,
     clients: Vec<Client<P>>,
     doors: &D,
-    pace: Pace,
+    pace: Pacing,
 ) -> Result<Hosted<P>, CrewFault>
     requires passes { InOrder N.callers passes.items }
     requires clients { length clients.items + 1 ≡ length passes.items }
@@ -245,7 +245,7 @@ fn host_paced<
 
 /// Serves client i with pass i in a thread of its own (`serve_clients`), and where a pace is given, with the last pass, a worker for
 /// all agents and the clock beside them: it takes a turn behind each pause, by a board of what was done by then, until it has
-/// taken so many, the clients are through, or a call of it tells no receipt. Each call goes through the journal. Then the desk is
+/// taken so many, the clients are through, it has as many entries as may be its own, or a call of it tells no receipt. Each call goes through the journal. Then the desk is
 /// finished. The history is one run, and each entry is a client's or the worker's. For each client its entries are those
 /// that its pass held before, and then the receipts by which it was told its replies, in order, over its connections; what was
 /// written to it is the output of what it sent. There are no more entries than the desk has cells.
@@ -271,7 +271,7 @@ pub fn host_clients<
     passes: Vec<Pass<N>>,
     clients: Vec<Client<P>>,
     doors: &D,
-    pace: Option<Pace>,
+    pace: Option<Pacing>,
 ) -> Result<Hosted<P>, CrewFault>
     requires passes { InOrder N.callers passes.items }
     requires clients { callers_of clients.items pace ≡ length passes.items }

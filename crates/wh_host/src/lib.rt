@@ -9,6 +9,7 @@ mod pacing;
 mod run;
 
 pub use hosting::{Hosted, host_clients};
+pub use pacing::Pacing;
 pub use run::{Ran, run_clients};
 
 // handed on, for callers: what the items above speak of

@@ -1,48 +1,65 @@
 //! A worker for all agents and the clock, beside clients.
 #![tactic(auto)]
 
-ghost use Rattle.std.specs.Prelude.{◌≡◌, IfErr, OnOk, length};
+ghost use Rattle.std.specs.Prelude.{◌≡◌, ◌≤◌, ◌⊎◌, IfErr, OnOk, length};
 ghost use Rattle.wh_board.specs.Pasts.{Extends};
 ghost use Rattle.wh_crew.specs.Turns.{Does, DoesUntil};
-ghost use Rattle.wh_host.specs.Pacing.{LeavesUntold, PacesUntil};
+ghost use Rattle.wh_host.specs.Pacing.{LeavesOff, PacesUntil};
 
 use std::alloc::Global;
 use std::io::{Read, Write};
 use std::sync::Wait;
-use std::time::Clock;
-use wh_crew::{Pace, Turn, look_for_turn};
+use std::time::{Clock, Duration};
+use wh_crew::{Turn, look_for_turn};
 use wh_desk::{Desk, DeskName, Pass, Viewer};
 use wh_display::Bell;
 use wh_journal::Journal;
 use wh_planner::Planner;
-use wh_scribe::{CallFault, JournalName, Scribe};
-use wh_serve::Doors;
+use wh_scribe::{JournalName, Scribe};
+use wh_serve::{Doors, WorkerEnd};
 
-/// What is left of a turn: each command is one call, through the journal, up to the first that tells no receipt.
+/// How the worker for all agents and the clock goes on.
+#[derive(Clone, Copy, Debug, PartialEq, Eq)]
+pub struct Pacing {
+    /// It takes at most so many turns.
+    pub turns: u32,
+    /// It rests so long before each turn.
+    pub pause: Duration,
+    /// So many entries of the history may be its own.
+    pub entries: u64,
+}
+
+/// What is left of a turn: each command is one call, through the journal, up to where the worker has as many entries as may be its
+/// own, or to the first call that tells no receipt.
 fn take_turn<N: DeskName, S: JournalName, J: Journal + Drop, H: Wait + Drop, P: Planner, X: Wait>(
     rt: &X,
     alloc: Global,
     desk: &Desk<N, H, P>,
     scribe: &Scribe<N, S, J>,
     pass: &mut Pass<N>,
+    entries: u64,
     mut turn: Turn,
-) -> Result<(), CallFault>
+) -> Result<(), WorkerEnd>
     ensures ok { OnOk result (Does turn pass.old pass.new) }
-    ensures err { IfErr result (λ fault. DoesUntil (LeavesUntold (length N.cells)) turn fault pass.old pass.new) }
+    ensures err { IfErr result (λ end. DoesUntil (LeavesOff (length N.cells) entries) turn end pass.old pass.new) }
+    ensures share { (pass.new.list ≡ pass.old.list) ⊎ (length pass.new.list ≤ entries) }
 {
     let mut spares = Vec::new(alloc);
     while let Some(command) = turn.next() {
+        if pass.len() >= entries {
+            return Err(WorkerEnd::ShareUsed);
+        }
         match scribe.call(rt, alloc, desk, pass, command, &mut spares) {
             Ok(_) => {}
-            Err(fault) => return Err(fault),
+            Err(fault) => return Err(WorkerEnd::Untold(fault)),
         }
     }
     Ok(())
 }
 
-/// Rests so long and takes a turn, again and again: the agents that are shown with no steps left ask for the token, and then the
-/// clock ticks. It ends after so many turns, once the bell is rung or the service is over, or at the first call that tells no
-/// receipt, and says why there was none.
+/// Rests so long and takes a turn, again and again: the agents that are shown with no steps left ask for the token, or nobody where
+/// no task is open, and then the clock ticks. It ends after so many turns, once the bell is rung or the service is over, or early: where it has as many
+/// entries as may be its own, or at the first call that tells no receipt. It says why, and the doors are told.
 pub(crate) fn take_turns<
     N: DeskName,
     S: JournalName,
@@ -60,11 +77,11 @@ pub(crate) fn take_turns<
     scribe: &Scribe<N, S, J>,
     pass: &mut Pass<N>,
     viewer: &mut Viewer,
-    pace: Pace,
+    pace: Pacing,
     bell: &Bell,
     doors: &D,
-) -> Option<CallFault>
-    ensures turns { PacesUntil (length N.cells) pace.turns viewer.new.past pass.old pass.new result }
+) -> Option<WorkerEnd>
+    ensures turns { PacesUntil (length N.cells) pace viewer.new.past pass.old pass.new result }
     ensures later { Extends viewer.old.past viewer.new.past }
     ensures book { viewer.new.book ≡ viewer.old.book }
 {
@@ -75,11 +92,11 @@ pub(crate) fn take_turns<
         let Some(turn) = look_for_turn(viewer, false) else {
             return None;
         };
-        match take_turn(rt, alloc, desk, scribe, pass, turn) {
+        match take_turn(rt, alloc, desk, scribe, pass, pace.entries, turn) {
             Ok(()) => {}
-            Err(fault) => {
-                doors.worker_ends(fault);
-                return Some(fault);
+            Err(why) => {
+                doors.worker_ends(why);
+                return Some(why);
             }
         }
     }
@@ -91,7 +108,7 @@ pub(crate) fn take_turns<
 pub(crate) struct Paced<N: DeskName> {
     pub(crate) pass: Pass<N>,
     pub(crate) viewer: Viewer,
-    pub(crate) ended: Option<CallFault>,
+    pub(crate) ended: Option<WorkerEnd>,
 }
 
 /// The same with the pass and the viewer moved in and out.
@@ -112,11 +129,11 @@ pub(crate) fn pace_whole<
     scribe: &Scribe<N, S, J>,
     mut pass: Pass<N>,
     mut viewer: Viewer,
-    pace: Pace,
+    pace: Pacing,
     bell: &Bell,
     doors: &D,
 ) -> Paced<N>
-    ensures turns { PacesUntil (length N.cells) pace.turns result.viewer.past pass result.pass result.ended }
+    ensures turns { PacesUntil (length N.cells) pace result.viewer.past pass result.pass result.ended }
     ensures later { Extends viewer.past result.viewer.past }
     ensures book { result.viewer.book ≡ viewer.book }
 {

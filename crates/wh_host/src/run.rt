@@ -16,32 +16,32 @@ ghost use Rattle.wh_host.specs.Runs.{ServedFrom, LeavesKept, IsJournalOf, first_
 
 use crate::beside::{Beside, Watch, host_beside};
 use crate::hosting::Hosted;
+use crate::pacing::Pacing;
 use std::alloc::{AllocError, Global};
 use std::io::{Read, Write};
 use std::marker::Brand;
 use std::sync::Wait;
 use std::thread::Threads;
 use std::time::Clock;
-use wh_crew::Pace;
 use wh_desk::{Cells, Desk, DeskName, Front, History, Publisher, Unopened, Warehouse};
 use wh_display::{Screen, ShowFault};
 use wh_edge::Trouble;
 use wh_journal::Journal;
 use wh_live::{Display, set_up};
 use wh_planner::Planner;
-use wh_scribe::{CallFault, JournalName, Kept, Scribe};
-use wh_serve::{Client, Doors, Form};
+use wh_scribe::{JournalName, Kept, Scribe};
+use wh_serve::{Client, Doors, Form, WorkerEnd};
 
 /// What a run leaves: the history, over how many connections each client was served, in their order, the journal, and whether the
-/// history's entries stand in it, all of them and synced; why the worker for agents and clock ended at a call that told no
-/// receipt, if it did; and the screen, if there is one, and whether the board of the whole history is there, or why it is not.
+/// history's entries stand in it, all of them and synced; why the worker for agents and clock ended before the clients
+/// did, if it did; and the screen, if there is one, and whether the board of the whole history is there, or why it is not.
 #[derive(Drop)]
 pub struct Ran<J: Journal + Drop, V, P: Planner = Box<dyn Planner>> {
     pub history: History<P>,
     pub connections: Vec<u64>,
     pub journal: J,
     pub is_whole: bool,
-    pub worker: Option<CallFault>,
+    pub worker: Option<WorkerEnd>,
     pub screen: Option<V>,
     pub last: Result<(), ShowFault>,
 }
@@ -134,7 +134,7 @@ fn over_desk<
     journal: J,
     clients: Vec<Client<P>>,
     doors: &D,
-    pace: Option<Pace>,
+    pace: Option<Pacing>,
 ) -> Result<Ran<J, V, P>, Trouble>
     requires origin { origin_of warehouse.book ≡ N.origin }
     requires cells { outfit.cells ≡ N.cells }
@@ -260,7 +260,7 @@ pub fn run_clients<
     more: u32,
     journal: J,
     doors: &D,
-    pace: Option<Pace>,
+    pace: Option<Pacing>,
     display: Option<Display<V>>,
 ) -> Result<Ran<J, V, P>, Trouble>
     requires log { HoldsLog (J.contents journal) warehouse.book }

@@ -97,7 +97,8 @@ pub struct AttendOptions<'a> {
     pub fleet: Fleet,
     /// How many entries more the history may have, 1 to 1000000.
     pub journal: u32,
-    /// How many entries more each client may have, 1 to 1000000; if none is named, the clients share those of `journal` equally.
+    /// How many entries more each client may have, 1 to 1000000; if none is named, the clients, and the worker where there is one,
+    /// share those of `journal` equally.
     pub share: Option<u32>,
     /// How the replies are told.
     pub replies: Replies,

@@ -14,7 +14,7 @@ use std::sync::atomic::Ordering::SeqCst;
 use std::time::Clock;
 use wh_desk::DeskFault;
 use wh_replay::ReplayFault;
-use wh_serve::{CallFault, Connection, Doors, End, Full, ServeFault, Served};
+use wh_serve::{CallFault, Connection, Doors, End, Full, ServeFault, Served, WorkerEnd};
 
 /// How many bytes of replies wait at most before they are written.
 const REPLIES_ROOM: usize = 4_096;
@@ -128,21 +128,24 @@ impl<'a, T: Files<File = File> + Eprint + Clock + Sync> Doors<Inlet<'a, T>, BufW
         let _ = told;
     }
 
-    fn worker_ends(&self, why: CallFault) {
+    fn worker_ends(&self, why: WorkerEnd) {
         let told = match why {
-            CallFault::Refused(DeskFault::Full) => {
+            WorkerEnd::ShareUsed => {
+                eprintln!(self.rt; "agents and clock: their share of the entries is used")
+            }
+            WorkerEnd::Untold(CallFault::Refused(DeskFault::Full)) => {
                 eprintln!(self.rt; "agents and clock: refused E11")
             }
-            CallFault::Refused(DeskFault::NoMemory) => {
+            WorkerEnd::Untold(CallFault::Refused(DeskFault::NoMemory)) => {
                 eprintln!(self.rt; "agents and clock: refused E90")
             }
-            CallFault::Refused(DeskFault::CellTaken) => {
+            WorkerEnd::Untold(CallFault::Refused(DeskFault::CellTaken)) => {
                 eprintln!(self.rt; "agents and clock: refused E91")
             }
-            CallFault::Refused(DeskFault::Stale) => {
+            WorkerEnd::Untold(CallFault::Refused(DeskFault::Stale)) => {
                 eprintln!(self.rt; "agents and clock: refused E95")
             }
-            CallFault::Failed | CallFault::Unkept => {
+            WorkerEnd::Untold(CallFault::Failed | CallFault::Unkept) => {
                 eprintln!(self.rt; "agents and clock: refused X5")
             }
         };

@@ -1,9 +1,7 @@
 -- what a client may do
-use Rattle.std.specs.Prelude.{◌≡◌, ◌≢◌, ◌<◌, ◌≤◌, ℕ, Bool, true, false, List, [], ◌++◌, length, All}
+use Rattle.std.specs.Prelude.{◌≡◌, ◌<◌, ◌≤◌, ℕ, Bool, true, false}
 use Rattle.wh_event.specs.declared.event.Command.{Command}
 use Rattle.wh_event.specs.declared.event.Command.TheVariants as command
-use Rattle.wh_event.specs.declared.entry.Entry.{Entry}
-use Rattle.wh_crew.specs.Work.{command_of}
 use Rattle.wh_serve.specs.declared.allowance.Rights.{Rights}
 use Rattle.wh_serve.specs.declared.allowance.Allowance.{Allowance}
 use Rattle.wh_serve.specs.declared.call.NoReceipt.{NoReceipt}
@@ -26,11 +24,3 @@ abbrev pub IsWhyNone : Allowance → ℕ → Command → NoReceipt → Type 0
 IsWhyNone may held asked without.Barred = allows may.rights asked ≡ false
 IsWhyNone may held asked without.ShareUsed = (allows may.rights asked ≡ true) × (may.entries ≤ held)
 IsWhyNone may held asked (without.Refused fault) = MayCall may held asked
-
--- A client's entries keep to what it may do: behind those that it had before, it has the right to each that was added, and where
--- one was, there are no more of all of them than may be its own.
-pub record KeepsTo (may : Allowance) (before entries : List (ℕ × Entry)) : Type 0 where
-  pub added : List (ℕ × Entry)
-  pub entries_are : entries ≡ before ++ added
-  pub allowed : All (λ x. allows may.rights (command_of x.1.event) ≡ true) added
-  pub few : added ≢ [] → length entries ≤ may.entries

@@ -21,6 +21,15 @@ pub enum Full {
     Journal,
 }
 
+/// Why the worker for agents and clock ended before the clients were through.
+#[derive(Clone, Copy, Debug, PartialEq, Eq)]
+pub enum WorkerEnd {
+    /// It has as many entries as may be its own.
+    ShareUsed,
+    /// A call told no receipt.
+    Untold(CallFault),
+}
+
 /// Where clients come in, each over one connection after another. All that names a client is called in its own thread.
 pub trait Doors<R: Read, W: Write>: Sync {
     /// The client's next connection. It may take as long as the client does. `None`: no more are to come.
@@ -36,8 +45,8 @@ pub trait Doors<R: Read, W: Write>: Sync {
     /// A command of the client was answered E11: its share of the entries is used, or the journal is full. Told at each such command.
     fn is_full(&self, client: u32, what: Full);
 
-    /// The worker for all agents and the clock, where there is one beside the clients, ends here, at a call that told no receipt.
-    fn worker_ends(&self, why: CallFault);
+    /// The worker for all agents and the clock, where there is one beside the clients, ends here, before they are through.
+    fn worker_ends(&self, why: WorkerEnd);
 
     /// A connection is over, told at once, with how the client was served. Whoever takes the writer drops it, so that its other end is
     /// told that no more comes.

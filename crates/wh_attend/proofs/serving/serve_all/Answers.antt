@@ -1,12 +1,19 @@
+use Rattle.std.proofs.Common.{List, subst}
 use Rattle.std.specs.Prelude.{option_map}
+use Rattle.wh_event.specs.declared.entry.Entry.{Entry}
 use Rattle.wh_service.proofs.Hosted.{told_by}
+use Rattle.wh_attend.specs.Shares.{IsPacingOf}
 use Rattle.wh_attend.proofs.ByOptions.{boards_by, serves_clients, unserved_by}
 use Rattle.wh_attend.proofs.serving.serve_all.Goals as goal
 
 pub returns-clause-ok : goal.returns-clause-ok
 returns-clause-ok g c =
+    let options = c.args.options.now in
+    let pace = c.pacing_of-pace.result in
+    let paced : IsPacingOf options.every options c.args.warehouse.book.history pace =
+        subst (λ (h : List Entry). IsPacingOf options.every options h pace) c.history.ensures.value c.pacing_of-pace.ensures in
     serves_clients c.join-came.result.1 g.P.Planner.fits_map g.P.Planner.slot_count _ _ c.args.options.now _ _ _ (λ r. r.history.warehouse.book.history) (λ r. r.history.warehouse.book.state) (λ r. r.connections.items) (λ r. r.worker)
-    _ _ c.form_of-form.ensures c.pace_of-pace.ensures c.join-came.ensures.second.0
+    _ _ c.form_of-form.ensures paced c.join-came.ensures.second.0
 
 pub returns-clause-boards : goal.returns-clause-boards
 returns-clause-boards g c =

@@ -24,7 +24,7 @@ finish-requires-after_bounds g c κs within =
     (paced_order (λ (history : List Entry) d had has n. Attended (length g.N.DeskName.cells) g.P.Planner.fits_map g.P.Planner.slot_count g.N.DeskName.origin.site.grid (receipt_text c.args.form g.N.DeskName.origin history) (λ x. g.R.Read.remaining x) (λ x. g.W.Write.contents x) d had has n)
     (λ history. attended_caller (length g.N.DeskName.cells) g.P.Planner.fits_map g.P.Planner.slot_count g.N.DeskName.origin.site.grid (receipt_text c.args.form g.N.DeskName.origin history) (λ x. g.R.Read.remaining x) (λ x. g.W.Write.contents x))
     c.args.clients.items c.args.passes.items c.pop.new.self.items left.reports.passes.items left.reports.connections.items g.N.DeskName.callers c.in-Some.own left.paced.pass c.requires.passes parts same s.count.0 s.count.1 s.served
-    (paces_caller (length g.N.DeskName.cells) c.args.pace.turns left.paced.viewer.past c.in-Some.own left.paced.pass left.paced.ended s.turns))
+    (paces_caller (length g.N.DeskName.cells) c.args.pace left.paced.viewer.past c.in-Some.own left.paced.pass left.paced.ended s.turns))
 
 pub returns-else-is_before-clause-leaves : goal.returns-else-is_before-clause-leaves
 returns-else-is_before-clause-leaves g c =
@@ -53,6 +53,6 @@ returns-else-is_before-clause-leaves g c =
           (λ k p less at. get_before c.pop.new.self.items c.in-Some.own p k (omega (arith, less, same)) (subst (λ (l : List Received). slice_get l k ≡ Some p) parts at))
           (λ k p at. get_left left.reports.passes.items (left.paced.pass ∷ []) k p at)
           s.count.0 s.count.1 s.served lists begin;
-      paced = paced_in (length g.N.DeskName.cells) c.args.pace.turns (length c.args.clients.items) g.N.DeskName.origin book.history c.args.passes.items c.pop.new.self.items left.reports.passes.items c.in-Some.own left.paced.pass left.paced.viewer.past left.paced.ended
+      paced = paced_in (length g.N.DeskName.cells) c.args.pace (length c.args.clients.items) g.N.DeskName.origin book.history c.args.passes.items c.pop.new.self.items left.reports.passes.items c.in-Some.own left.paced.pass left.paced.viewer.past left.paced.ended
           parts same s.turns begins lists begin;
     }
