@@ -337,13 +337,21 @@ judge 'three turns' "$(client c0 close)" 'entries 0;closed;'
 ended 5
 judge 'three turns: ticks' "$(grep -c '^63 tick' "$scratch/log")" 3
 
-# a share by the words, and what is full is told once
+# a share by the words, and what is full is told once; a worker has a share of its own
 afresh c0 c1
-begin --share 2 --journal 4 --every 1 --turns 100000 --client "0=$scratch/c0:all" --client "1=$scratch/c1"
+begin --share 4 --journal 4 --every 1 --turns 100000 --client "0=$scratch/c0:all" --client "1=$scratch/c1"
 log_has 4 ' = '
-judge 'the worker fills the journal' "$(client c0 'submit x A B')" 'entries 0;refused E11;'
+judge 'a share is no promise where all are more' "$(client c0 'submit x A B')" 'entries 0;refused E11;'
 killed
-judge 'a full journal is told' "$(grep -c E11 "$scratch/errors") $(grep -cx 'client 0: the journal is full' "$scratch/errors")" '1 1'
+judge 'a full journal is told' "$(grep -cx 'agents and clock: their share of the entries is used' "$scratch/errors") $(grep -cx 'client 0: the journal is full' "$scratch/errors")" '1 1'
+afresh c0 c1
+begin --journal 9 --every 1 --turns 100000 --client "0=$scratch/c0:all" --client "1=$scratch/c1"
+log_has 3 '^63 '
+judge 'a worker leaves the others theirs' "$(client c1 'submit x A B' 'submit x A B' 'submit x A B' 'submit x A B')" \
+    'entries 0;accepted 0;accepted 1;accepted 2;refused E11;'
+judge 'and who is to close may' "$(client c0 close)" 'entries 0;closed;'
+ended 5
+judge 'the worker had its share' "$(grep -c '^63 ' "$scratch/log") $(grep -cx 'agents and clock: their share of the entries is used' "$scratch/errors")" '3 1'
 afresh c0 c1
 begin --share 2 --client "0=$scratch/c0:all" --client "1=$scratch/c1"
 judge 'a share by the words' "$(client c1 'submit x A B' 'submit x A B' 'submit x A B' 'submit x A B')" \
@@ -362,6 +370,11 @@ judge 'one pipe' "$(refused "$scratch/site" "${words[@]}" --client "4=$scratch/c
 : > "$scratch/c4/out"
 judge 'a file and no pipe' "$(refused "$scratch/site" "${words[@]}" --client "4=$scratch/c4")" '|refused X5 4|3|log*'
 judge 'the pipes of another' "$(refused "$scratch/site" "${words[@]}" --client "2=$scratch/c0/.")" '|refused X5 2|3|log*'
+judge 'a board in place of a pipe' "$(refused "$scratch/site" "${words[@]}" --board "$scratch/c0/in" | cut -d '|' -f 1-3)" '|refused X6|3'
+judge 'the pipe is still there' "$([[ -p $scratch/c0/in ]] && echo there)" there
+judge 'a board in place of the log' "$(refused "$scratch/site" "${words[@]}" --board "$scratch/c0/../log" | cut -d '|' -f 1-3)" '|refused X6|3'
+judge 'the log is still there' "$(head -n 1 -- "$scratch/log")" 'wlog 2'
+rm -- "$scratch"/log*
 { cat -- "$scratch/site"; echo %%; } > "$scratch/behind"
 judge 'a section behind the points' "$(refused "$scratch/behind" "${words[@]}")" '|refused X7|2|log*'
 echo 'submit x A B' >> "$scratch/behind"
