@@ -3,8 +3,8 @@
 //! in walls.
 
 use crate::errands::{
-    Found, delivered_by_layers, delivered_in, delivered_led, delivered_unled, outcome, parked,
-    parked_by_layers, parked_in,
+    Found, delivered_by_layers, delivered_in, delivered_led, delivered_round, delivered_unled, outcome,
+    parked, parked_by_layers, parked_in,
 };
 use std::alloc::{AllocError, Global};
 use std::test::Fail;
@@ -232,6 +232,8 @@ fn answered(
     let agree = by_intervals(alloc, grid, others, loc, stops, pair) == both
         && in_memory(alloc, grid, others, loc, stops, pair) == both
         && delivered_led(alloc, grid, others, loc, pair)
+            == delivered_by_layers(alloc, grid, others, loc, &pair)
+        && delivered_round(alloc, grid, others, loc, pair)
             == delivered_by_layers(alloc, grid, others, loc, &pair)
         && both.delivered != Found::NoAnswer
         && both.parked != Found::NoAnswer;

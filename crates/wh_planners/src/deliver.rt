@@ -12,9 +12,9 @@ ghost use Rattle.wh_shared.specs.Shares.{stored_grid, room, slots};
 ghost use Rattle.wh_planners.specs.Sharing.{IsFilled};
 
 use std::alloc::{AllocError, Global};
+use wh_detours::deliver_round;
 use wh_field::Sight;
 use wh_grid::{Cell, Grid};
-use wh_intervals::deliver_sighted;
 use wh_path::TimedPath;
 use wh_resv::Reservations;
 use wh_search::{Fault, SearchMemory};
@@ -108,7 +108,7 @@ pub fn deliver_shared(
     match ask_fields(alloc, store, share, loc, stops) {
         Ok(levels) => {
             let sights = sights_of(store, stops, levels);
-            deliver_sighted(
+            deliver_round(
                 alloc,
                 memory,
                 grid,

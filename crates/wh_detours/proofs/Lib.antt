@@ -1,0 +1,3 @@
+pub mod Detours
+pub mod Filling
+pub mod Filtered

@@ -1,0 +1,3 @@
+pub mod Taken
+pub mod Filled
+pub mod Laws

@@ -1,0 +1,124 @@
+//! The call for a task of two to eight stops, with detours round others that stay.
+#![tactic(auto)]
+
+ghost use Rattle.std.specs.Prelude.{◌≡◌, ℕ, ◌+◌, ◌-◌, ◌<◌, ◌≤◌, List, IfOk, length};
+ghost use Rattle.wh_grid.specs.declared.cell.Cell.{Cell};
+ghost use Rattle.wh_grid.specs.Grids.{IsPassable};
+ghost use Rattle.wh_path.specs.Paths.{last_index};
+ghost use Rattle.wh_resv.specs.Others.{MayRest};
+ghost use Rattle.wh_search.specs.Deliveries.{IsDelivery, IsLawful, IfNoPath, AreStops};
+ghost use Rattle.wh_search.specs.Frontiers.{IsErrand};
+ghost use Rattle.wh_search.specs.Guides.{guide_estimate};
+ghost use Rattle.wh_search.specs.Sights.{AreSightsOf};
+ghost use Rattle.wh_search.specs.Tours.{IsTour};
+ghost use Rattle.wh_intervals.specs.Tasks.{IsTaskOf};
+
+use crate::barred::is_barred;
+use crate::fields::{fields_over, sights_over};
+use crate::taken::without_taken;
+use std::alloc::Global;
+use wh_field::Sight;
+use wh_grid::{Cell, Grid};
+use wh_intervals::{deliver_sighted, over_intervals, sighted_errand};
+use wh_path::TimedPath;
+use wh_resv::Reservations;
+use wh_search::errand::Errand;
+use wh_search::guide::onward_by_sights;
+use wh_search::{Fault, SearchMemory, find_straight};
+
+/// A least path, by fields over the grid without the cells that are taken.
+fn deliver_without(
+    alloc: Global,
+    memory: &mut SearchMemory,
+    grid: &Grid,
+    others: &Reservations,
+    loc: Cell,
+    stops: &[Cell],
+) -> Result<TimedPath, Fault>
+    requires inside { IsPassable grid.now loc }
+    requires clear { MayRest others.now loc 0 }
+    requires stops { AreStops stops.now }
+    ensures lawful { IfOk result (λ p. IsLawful grid.now others.now loc stops.now p) }
+    ensures least { IfOk result (λ p. (q : List Cell) → IsDelivery grid.now others.now loc stops.now q → last_index p ≤ last_index q) }
+    ensures none { IfNoPath result ((q : List Cell) → IsDelivery grid.now others.now loc stops.now q → ⊥) }
+{
+    let Ok(open) = without_taken(alloc, grid, others) else {
+        return Err(Fault::NoMemory);
+    };
+    let Ok(kept) = fields_over(alloc, &open, loc, stops) else {
+        return Err(Fault::NoMemory);
+    };
+    let sights = sights_over(&open, stops, &kept);
+    deliver_sighted(
+        alloc,
+        memory,
+        &open,
+        others,
+        loc,
+        stops,
+        &sights[..stops.len()],
+    )
+}
+
+/// A least path, where each delivery has more steps than are estimated at the start.
+fn deliver_beyond(
+    alloc: Global,
+    memory: &mut SearchMemory,
+    errand: &Errand,
+    stops: &[Cell],
+    sights: &[Option<Sight>],
+) -> Result<TimedPath, Fault>
+    requires errand { IsErrand errand.now }
+    requires task { IsTaskOf errand.now.grid.now errand.now.others.now errand.now.loc stops.now errand.now }
+    requires clear { MayRest errand.now.others.now errand.now.loc 0 }
+    requires stops { AreStops stops.now }
+    requires sights { length sights.now ≡ length stops.now }
+    requires late { (q : List Cell) → IsTour errand.now.grid.now errand.now.others.now errand.now.loc errand.now.via.now errand.now.ends.now q → guide_estimate errand.now.guide errand.now.first errand.now.loc < last_index q }
+    ensures lawful { IfOk result (λ p. IsLawful errand.now.grid.now errand.now.others.now errand.now.loc stops.now p) }
+    ensures least { IfOk result (λ p. (q : List Cell) → IsDelivery errand.now.grid.now errand.now.others.now errand.now.loc stops.now q → last_index p ≤ last_index q) }
+    ensures none { IfNoPath result ((q : List Cell) → IsDelivery errand.now.grid.now errand.now.others.now errand.now.loc stops.now q → ⊥) }
+{
+    if is_barred(errand.others, errand.loc, stops, sights) {
+        return deliver_without(alloc, memory, errand.grid, errand.others, errand.loc, stops);
+    }
+    match over_intervals(alloc, errand) {
+        Ok(Some(path)) => Ok(path),
+        Ok(None) => Err(Fault::NoPath),
+        Err(_) => Err(Fault::NoMemory),
+    }
+}
+
+/// A lawful path from loc through the stops, with the least last index of all, guided by fields that are filled up to a
+/// level; in memory that is kept from one search to the next. Where others that stay bar a way by them, it is searched
+/// for by fields of its own, on the grid without the cells of those. Neither makes another path a least one.
+/// `NoPath` exactly where no path delivers, however long; else `NoMemory` where memory ran out.
+pub fn deliver_round<'x>(
+    alloc: Global,
+    memory: &mut SearchMemory,
+    grid: &'x Grid,
+    others: &'x Reservations<'x>,
+    loc: Cell,
+    stops: &'x [Cell],
+    sights: &'x [Option<Sight<'x>>],
+) -> Result<TimedPath, Fault>
+    requires inside { IsPassable grid.now loc }
+    requires clear { MayRest others.now loc 0 }
+    requires stops { AreStops stops.now }
+    requires sights { AreSightsOf grid.now stops.now sights.now }
+    ensures lawful { IfOk result (λ p. IsLawful grid.now others.now loc stops.now p) }
+    ensures least { IfOk result (λ p. (q : List Cell) → IsDelivery grid.now others.now loc stops.now q → last_index p ≤ last_index q) }
+    ensures none { IfNoPath result ((q : List Cell) → IsDelivery grid.now others.now loc stops.now q → ⊥) }
+{
+    let Some(soonest) = others.not_before(stops[stops.len() - 1]) else {
+        return Err(Fault::NoPath);
+    };
+    let Ok(onward) = onward_by_sights(alloc, stops, sights) else {
+        return Err(Fault::NoMemory);
+    };
+    let errand = sighted_errand(grid, others, loc, stops, sights, &onward, soonest);
+    match find_straight(alloc, memory, &errand) {
+        Ok(Some(path)) => Ok(path),
+        Ok(None) => deliver_beyond(alloc, memory, &errand, stops, sights),
+        Err(_) => Err(Fault::NoMemory),
+    }
+}

@@ -1,0 +1,74 @@
+// Detours round those that stay: the map without the places at which somebody is at each time from now on, and the fields
+// of the stops over it. They are made for one search.
+#pragma once
+
+#include "errand.hpp"
+
+class Detours {
+    const Grid& grid_;
+    std::vector<uint32_t> places_;
+    Table tables_[MOST_STOPS], queue_;
+    uint32_t passable_ = 0;
+
+public:
+    explicit Detours(const Grid& grid) : grid_(grid) {}
+
+    uint32_t passable() const { return passable_; }
+
+    // Whether on the way to some stop, down its field and round those places, each next place is one of them.
+    bool are_wanted(const Reservations& others, uint32_t start, const uint32_t* stops, uint32_t count,
+                    const Bounded* fields) const {
+        for (uint32_t leg = 0; leg < count; ++leg)
+            if (is_barred(others, leg == 0 ? start : stops[leg - 1], fields[leg].table)) return true;
+        return false;
+    }
+
+    // Makes the map and the fields, each filled as those that are shared.
+    void make(const Reservations& others, uint32_t start, const uint32_t* stops, uint32_t count, Bounded* fields) {
+        bar(others);
+        if (!queue_) queue_.reset(new uint32_t[grid_.size()]);
+        for (uint32_t leg = 0; leg < count; ++leg) {
+            if (!tables_[leg]) tables_[leg].reset(new uint32_t[grid_.size()]);
+            fields[leg] = fill_field(tables_[leg].get(), stops[leg], leg == 0 ? start : stops[leg - 1]);
+        }
+    }
+
+private:
+    bool is_barred(const Reservations& others, uint32_t cell, const uint32_t* table) const {
+        for (uint32_t left = table[cell]; left > 0; --left) {
+            uint32_t nexts[MOVES];
+            list_moves(cell, grid_.stride, nexts);
+            uint32_t move = 1;
+            while (move < MOVES && (table[nexts[move]] >= left || others.is_taken(nexts[move]))) ++move;
+            if (move == MOVES) return true;
+            cell = nexts[move];
+        }
+        return false;
+    }
+
+    void bar(const Reservations& others) {
+        places_ = grid_.places;
+        passable_ = grid_.passable;
+        for (uint32_t agent = 0; agent < others.views.size(); ++agent) {
+            const uint32_t cell = others.views[agent].at(0);
+            if (agent == others.self() || !others.is_taken(cell)) continue;
+            places_[cell] = BLOCKED;
+            --passable_;
+        }
+    }
+
+    Bounded fill_field(uint32_t* table, uint32_t goal, uint32_t from) {
+        memcpy(table, places_.data(), grid_.size() * sizeof(uint32_t));
+        table[goal] = 0;
+        uint32_t* head = queue_.get();
+        uint32_t* tail = head;
+        *tail++ = goal;
+        for (uint32_t distance = 1; head != tail; ++distance) {
+            if (table[from] != UNSEEN && distance > table[from] + Fields::FARTHER) break;
+            uint32_t* const end = tail;
+            tail = spread(table, head, end, end, grid_.stride, distance);
+            head = end;
+        }
+        return {table, table[from] == UNSEEN ? UNSEEN : table[from] + Fields::FARTHER + 1};
+    }
+};
