@@ -16,13 +16,13 @@ use Rattle.wh_detours.specs.Laws.{SameDeliveries, AllLeastThere}
 never_taken : (others : Others) (p : List Cell) (k : ℕ) → All (λ q. IsFree others.nofollow p q) others.paths → IsTaken others (at p k) → ⊥
 never_taken others p k free taken = taken k (λ i q b e. (free i q b).apart k (sym e))
 
-pub delivers_there : (g without : Floor) (others : Others) (loc : Cell) (stops p : List Cell) → IsWithoutTaken g others without → IsDelivery g others loc stops p → IsDelivery without others loc stops p
-delivers_there g without others loc stops p w d =
+pub delivers_there : (g without : Floor) (others : Others) (paths : List (List Cell)) (loc : Cell) (stops p : List Cell) → IsWithoutTaken g others paths without → IsDelivery g others loc stops p → IsDelivery without others loc stops p
+delivers_there g without others paths loc stops p w d =
     record {
       starts = d.starts;
       walk = record {
         non_empty = d.walk.non_empty;
-        passable = λ k. (w.each (at p k)).1 (record { passable = d.walk.passable k; free = never_taken others p k d.free });
+        passable = λ k. (w.each (at p k)).1 (record { passable = d.walk.passable k; free = λ t s. never_taken others p k d.free t });
         moves = d.walk.moves;
       };
       free = d.free;
@@ -30,8 +30,8 @@ delivers_there g without others loc stops p w d =
       delivers = d.delivers;
     }
 
-pub delivers_here : (g without : Floor) (others : Others) (loc : Cell) (stops p : List Cell) → IsWithoutTaken g others without → IsDelivery without others loc stops p → IsDelivery g others loc stops p
-delivers_here g without others loc stops p w d =
+pub delivers_here : (g without : Floor) (others : Others) (paths : List (List Cell)) (loc : Cell) (stops p : List Cell) → IsWithoutTaken g others paths without → IsDelivery without others loc stops p → IsDelivery g others loc stops p
+delivers_here g without others paths loc stops p w d =
     record {
       starts = d.starts;
       walk = record {
@@ -45,25 +45,25 @@ delivers_here g without others loc stops p w d =
     }
 
 pub same_deliveries : SameDeliveries
-same_deliveries g without others loc stops p w = (delivers_there g without others loc stops p w, delivers_here g without others loc stops p w)
+same_deliveries g without others paths loc stops p w = (delivers_there g without others paths loc stops p w, delivers_here g without others paths loc stops p w)
 
-pub lawful_here : (g without : Floor) (others : Others) (loc : Cell) (stops p : List Cell) → IsWithoutTaken g others without → IsLawful without others loc stops p → IsLawful g others loc stops p
-lawful_here g without others loc stops p w l =
+pub lawful_here : (g without : Floor) (others : Others) (paths : List (List Cell)) (loc : Cell) (stops p : List Cell) → IsWithoutTaken g others paths without → IsLawful without others loc stops p → IsLawful g others loc stops p
+lawful_here g without others paths loc stops p w l =
     record {
-      is_delivery = delivers_here g without others loc stops p w l.is_delivery;
+      is_delivery = delivers_here g without others paths loc stops p w l.is_delivery;
       bounded = omega (arith, l.bounded, mul-le (length stops) (passable_cells without) (length stops) (passable_cells g) (omega arith) w.no_more);
     }
 
 pub all_least_there : AllLeastThere
-all_least_there g without others loc stops p w l =
+all_least_there g without others paths loc stops p w l =
     record {
-      lawful = lawful_here g without others loc stops p w l.lawful;
-      least = λ q d. l.least q (delivers_there g without others loc stops q w d);
+      lawful = lawful_here g without others paths loc stops p w l.lawful;
+      least = λ q d. l.least q (delivers_there g without others paths loc stops q w d);
     }
 
 -- who may rest somewhere is at no cell that is taken
-pub start_left : (g : Floor) (others : Others) (loc : Cell) → IsPassable g loc → MayRest others loc 0 → IsLeft g others loc
-start_left g others loc inside clear = record { passable = inside; free = λ taken. taken 0 (λ i q b. (clear i q b).away 0 (omega arith)) }
+pub start_left : (g : Floor) (others : Others) (paths : List (List Cell)) (n : ℕ) (loc : Cell) → IsPassable g loc → MayRest others loc 0 → IsLeft g others paths n loc
+start_left g others paths n loc inside clear = record { passable = inside; free = λ taken s. taken 0 (λ i q b. (clear i q b).away 0 (omega arith)) }
 
 pub no_path_weaker : {T : Type 0} (r : Result T Fault) (P Q : Type 0) → (P → Q) → IfNoPath r P → IfNoPath r Q
 no_path_weaker (Ok x) P Q f h = h

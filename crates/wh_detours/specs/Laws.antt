@@ -9,11 +9,11 @@ use Rattle.wh_detours.specs.Taken.{IsWithoutTaken}
 -- the same paths deliver on both
 abbrev pub SameDeliveries : Type 0
 SameDeliveries =
-    (g without : Floor) (others : Others) (loc : Cell) (stops path : List Cell)
-    → IsWithoutTaken g others without → IsDelivery g others loc stops path ↔ IsDelivery without others loc stops path
+    (g without : Floor) (others : Others) (paths : List (List Cell)) (loc : Cell) (stops path : List Cell)
+    → IsWithoutTaken g others paths without → IsDelivery g others loc stops path ↔ IsDelivery without others loc stops path
 
 -- a least path there is one on the whole grid
 abbrev pub AllLeastThere : Type 0
 AllLeastThere =
-    (g without : Floor) (others : Others) (loc : Cell) (stops path : List Cell)
-    → IsWithoutTaken g others without → IsLeast without others loc stops path → IsLeast g others loc stops path
+    (g without : Floor) (others : Others) (paths : List (List Cell)) (loc : Cell) (stops path : List Cell)
+    → IsWithoutTaken g others paths without → IsLeast without others loc stops path → IsLeast g others loc stops path

@@ -26,12 +26,13 @@ use wh_search::errand::Errand;
 use wh_search::guide::onward_by_sights;
 use wh_search::{Fault, SearchMemory, find_straight};
 
-/// A least path, by fields over the grid without the cells that are taken.
+/// A least path, by fields over the grid without the cells that are taken, where one of these paths begins.
 fn deliver_without(
     alloc: Global,
     memory: &mut SearchMemory,
     grid: &Grid,
     others: &Reservations,
+    paths: &[TimedPath],
     loc: Cell,
     stops: &[Cell],
 ) -> Result<TimedPath, Fault>
@@ -42,17 +43,17 @@ fn deliver_without(
     ensures least { IfOk result (λ p. (q : List Cell) → IsDelivery grid.now others.now loc stops.now q → last_index p ≤ last_index q) }
     ensures none { IfNoPath result ((q : List Cell) → IsDelivery grid.now others.now loc stops.now q → ⊥) }
 {
-    let Ok(open) = without_taken(alloc, grid, others) else {
+    let Ok(without) = without_taken(alloc, grid, others, paths) else {
         return Err(Fault::NoMemory);
     };
-    let Ok(kept) = fields_over(alloc, &open, loc, stops) else {
+    let Ok(kept) = fields_over(alloc, &without, loc, stops) else {
         return Err(Fault::NoMemory);
     };
-    let sights = sights_over(&open, stops, &kept);
+    let sights = sights_over(&without, stops, &kept);
     deliver_sighted(
         alloc,
         memory,
-        &open,
+        &without,
         others,
         loc,
         stops,
@@ -65,6 +66,7 @@ fn deliver_beyond(
     alloc: Global,
     memory: &mut SearchMemory,
     errand: &Errand,
+    paths: &[TimedPath],
     stops: &[Cell],
     sights: &[Option<Sight>],
 ) -> Result<TimedPath, Fault>
@@ -79,7 +81,15 @@ fn deliver_beyond(
     ensures none { IfNoPath result ((q : List Cell) → IsDelivery errand.now.grid.now errand.now.others.now errand.now.loc stops.now q → ⊥) }
 {
     if is_barred(errand.others, errand.loc, stops, sights) {
-        return deliver_without(alloc, memory, errand.grid, errand.others, errand.loc, stops);
+        return deliver_without(
+            alloc,
+            memory,
+            errand.grid,
+            errand.others,
+            paths,
+            errand.loc,
+            stops,
+        );
     }
     match over_intervals(alloc, errand) {
         Ok(Some(path)) => Ok(path),
@@ -90,13 +100,14 @@ fn deliver_beyond(
 
 /// A lawful path from loc through the stops, with the least last index of all, guided by fields that are filled up to a
 /// level; in memory that is kept from one search to the next. Where others that stay bar a way by them, it is searched
-/// for by fields of its own, on the grid without the cells of those. Neither makes another path a least one.
-/// `NoPath` exactly where no path delivers, however long; else `NoMemory` where memory ran out.
+/// for by fields of its own, on the grid without their cells, as far as they stand in these paths. That changes nothing in
+/// which paths are least. `NoPath` exactly where no path delivers, however long; else `NoMemory` where memory ran out.
 pub fn deliver_round<'x>(
     alloc: Global,
     memory: &mut SearchMemory,
     grid: &'x Grid,
     others: &'x Reservations<'x>,
+    paths: &[TimedPath],
     loc: Cell,
     stops: &'x [Cell],
     sights: &'x [Option<Sight<'x>>],
@@ -118,7 +129,7 @@ pub fn deliver_round<'x>(
     let errand = sighted_errand(grid, others, loc, stops, sights, &onward, soonest);
     match find_straight(alloc, memory, &errand) {
         Ok(Some(path)) => Ok(path),
-        Ok(None) => deliver_beyond(alloc, memory, &errand, stops, sights),
+        Ok(None) => deliver_beyond(alloc, memory, &errand, paths, stops, sights),
         Err(_) => Err(Fault::NoMemory),
     }
 }

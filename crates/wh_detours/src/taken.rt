@@ -1,11 +1,12 @@
 //! The cells at which somebody is at each time, and the grid without them.
 #![tactic(auto)]
 
-ghost use Rattle.std.specs.Prelude.{◌≡◌, ℕ, ◌+◌, ◌*◌, ◌<◌, ◌↔◌, IsTrue, IfOk, OnOk, length};
-ghost use Rattle.wh_detours.specs.Taken.{IsTaken, IsLeft, IsWithoutTaken, IsFiltered};
+ghost use Rattle.std.specs.Prelude.{◌≡◌, ℕ, ◌*◌, ◌↔◌, IsTrue, IfOk, length};
+ghost use Rattle.wh_detours.specs.Taken.{IsTaken, IsWithoutTaken, IsBarredIf};
 
 use std::alloc::{AllocError, Global};
 use wh_grid::{Cell, Grid};
+use wh_path::TimedPath;
 use wh_resv::Reservations;
 use wh_timetable::Occupancy;
 
@@ -16,39 +17,29 @@ pub fn is_taken(others: &Reservations, cell: Cell) -> bool
     others.next_free(cell, 0).is_none()
 }
 
-/// Whether a cell may be walked on, and is not taken.
-fn is_left(grid: &Grid, others: &Reservations, cell: Cell) -> bool
-    ensures { IsTrue result ↔ IsLeft grid.now others.now cell }
+/// Bars a cell that is taken.
+fn bar(walkable: &mut [bool], grid: &Grid, others: &Reservations, cell: Cell)
+    requires { length walkable.old ≡ length grid.now.walkable }
+    ensures { IsBarredIf grid.now others.now cell walkable.old walkable.new }
 {
-    grid.passable(cell) && !is_taken(others, cell)
+    if grid.passable(cell) && is_taken(others, cell) {
+        walkable[cell.y as usize * grid.width() as usize + cell.x as usize] = false;
+    }
 }
 
-/// Adds which cells of a row are left.
-fn add_row(
-    walkable: &mut Vec<bool>,
+/// The same grid without the cells at which somebody is at each time, as far as one of these paths begins there. It takes
+/// a byte a cell; the error comes where memory is wanting.
+pub fn without_taken(
+    alloc: Global,
     grid: &Grid,
     others: &Reservations,
-    y: u16,
-) -> Result<(), AllocError>
-    requires within { y < grid.now.height }
-    requires above { IsFiltered grid.now others.now (y * grid.now.width) walkable.old.items }
-    ensures { OnOk result (IsFiltered grid.now others.now ((y + 1) * grid.now.width) walkable.new.items) }
+    paths: &[TimedPath],
+) -> Result<Grid, AllocError>
+    ensures { IfOk result (λ without. IsWithoutTaken grid.now others.now paths.now without) }
 {
-    for x in 0..grid.width() {
-        walkable.push(is_left(grid, others, Cell { x, y }))?;
-    }
-    Ok(())
-}
-
-/// The same grid without the cells at which somebody is at each time. It takes a byte a cell; the error comes where
-/// memory is wanting.
-pub fn without_taken(alloc: Global, grid: &Grid, others: &Reservations) -> Result<Grid, AllocError>
-    ensures { IfOk result (λ without. IsWithoutTaken grid.now others.now without) }
-{
-    let mut walkable = Vec::new(alloc);
-    walkable.reserve(grid.rows().len())?;
-    for y in 0..grid.height() {
-        add_row(&mut walkable, grid, others, y)?;
+    let mut walkable = grid.rows().to_vec(alloc)?;
+    for path in paths {
+        bar(&mut walkable, grid, others, path.at(0));
     }
     Ok(Grid::new(grid.width(), grid.height(), walkable))
 }

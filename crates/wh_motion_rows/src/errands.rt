@@ -152,6 +152,7 @@ pub(crate) fn delivered_round(
     alloc: Global,
     grid: &Grid,
     others: &Reservations,
+    paths: &[TimedPath],
     loc: Cell,
     stops: [Cell; 2],
 ) -> Found {
@@ -171,7 +172,16 @@ pub(crate) fn delivered_round(
         Some(Sight::new(&second, MOST_LEVEL)),
     ];
     let mut memory = SearchMemory::empty(alloc);
-    outcome(deliver_round(alloc, &mut memory, grid, others, loc, &stops, &sights))
+    outcome(deliver_round(
+        alloc,
+        &mut memory,
+        grid,
+        others,
+        paths,
+        loc,
+        &stops,
+        &sights,
+    ))
 }
 
 /// How many arrivals are expanded then, where there is a path.

@@ -83,7 +83,8 @@ fn sights_of<'a>(
 }
 
 /// A least path through the stops, guided by the shared fields of all of them, or of as many first ones as the store has
-/// room for. What other planners have filled changes nothing in it.
+/// room for; and, where others that stay bar a way by them, by fields of its own, as far as they stand in these paths.
+/// What other planners have filled changes nothing in it.
 pub fn deliver_shared(
     alloc: Global,
     store: &mut SharedFields,
@@ -91,6 +92,7 @@ pub fn deliver_shared(
     memory: &mut SearchMemory,
     grid: &Grid,
     others: &Reservations,
+    paths: &[TimedPath],
     loc: Cell,
     stops: &[Cell],
 ) -> Result<TimedPath, Fault>
@@ -113,6 +115,7 @@ pub fn deliver_shared(
                 memory,
                 grid,
                 others,
+                paths,
                 loc,
                 stops,
                 &sights[..stops.len()],
