@@ -1,3 +1,4 @@
+pub mod Ways
 pub mod Detours
 pub mod Filling
 pub mod Filtered

@@ -1,15 +1,24 @@
--- fields of some stops, each filled to a level
-use Rattle.std.specs.Prelude.{◌≡◌, ℕ, ◌<◌, List, length, slice_index_or}
+-- fields of some stops, each filled beyond the cell from which it goes there
+use Rattle.std.specs.Prelude.{◌≡◌, ℕ, ◌+◌, ◌<◌, List, length, min, Option, Some, None, slice_index_or}
 use Rattle.wh_grid.specs.declared.cell.Cell.{Cell}
 use Rattle.wh_grid.specs.Grids.{Floor}
 use Rattle.wh_path.specs.Paths.{cell_at}
+use Rattle.wh_field.specs.Distances.{distance}
+use Rattle.wh_detours.specs.Barred.{cell_before}
 use Rattle.wh_detours.specs.declared.filled.Filled.{Filled}
 
--- it is the field of this stop, over this grid
-abbrev pub IsFilledFrom : Floor → Cell → Filled → Type 0
-IsFilledFrom g stop f = (f.field.grid ≡ g) × (f.field.cell ≡ stop)
+-- 16 steps beyond a distance, but no more than the greatest level of a field, which it is where there is no distance
+abbrev pub level_past : Option ℕ → ℕ
+level_past None = 4294967293
+level_past (Some n) = min (n + 16) 4294967293
+
+-- it is the field of this stop, over this grid, as far as it serves who comes from this cell
+pub record IsFilledFor (g : Floor) (from stop : Cell) (f : Filled) : Type 0 where
+  pub grid : f.field.grid ≡ g
+  pub source : f.field.cell ≡ stop
+  pub level : f.level ≡ level_past (distance g stop from)
 
 -- these are the fields of the first n stops, in order
-pub record AreFilled (g : Floor) (stops : List Cell) (n : ℕ) (fields : List Filled) : Type 0 where
+pub record AreFilled (g : Floor) (loc : Cell) (stops : List Cell) (n : ℕ) (fields : List Filled) : Type 0 where
   pub size : length fields ≡ n
-  pub each : (l : ℕ) (f : Filled) → l < n → IsFilledFrom g (cell_at stops l) (slice_index_or fields l f)
+  pub each : (l : ℕ) (f : Filled) → l < n → IsFilledFor g (cell_before loc stops l) (cell_at stops l) (slice_index_or fields l f)

@@ -1,16 +1,25 @@
 //! Whether those that stay bar the way to a stop.
 #![tactic(auto)]
 
-ghost use Rattle.std.specs.Prelude.{◌≡◌, ℕ, ◌+◌, ◌<◌, ◌≤◌, IsTrue, length};
+ghost use Rattle.std.specs.Prelude.{◌≡◌, ℕ, ◌+◌, ◌<◌, ◌≤◌, IsTrue, IfSome, IfNone, false, length};
+ghost use Rattle.wh_grid.specs.declared.cell.Cell.{Cell};
+ghost use Rattle.wh_search.specs.Sights.{AreSightsOf, IsSightAt};
+ghost use Rattle.wh_detours.specs.Barred.{IsShut, IsClearWithin, IsClearBy, IsShutSomewhere, AreClear, IsNearer, IsStuck};
 
 use crate::taken::is_taken;
 use wh_field::Sight;
-use wh_grid::Cell;
+use wh_grid::{Cell, Grid};
 use wh_resv::Reservations;
 use wh_search::moves::moves_from;
 
-/// Of the cells beside a cell the first one that is just one step nearer, and not taken.
-fn nearer(others: &Reservations, sight: Sight, cell: Cell) -> Option<Cell> {
+/// Of the cells beside a cell the first one that is nearer by a sight, and not taken.
+fn nearer(grid: &Grid, others: &Reservations, sight: Sight, cell: Cell) -> Option<Cell>
+    requires { sight.field.now.grid ≡ grid.now }
+    ensures some { IfSome result (λ d. IsNearer others.now sight.entry cell d) }
+    ensures none { IfNone result (IsStuck grid.now others.now sight.entry cell) }
+{
+    let _width = grid.width();
+    let _height = grid.height();
     let beside = moves_from(cell);
     let lefts = sight.estimates(cell);
     for i in 1..5 {
@@ -23,31 +32,62 @@ fn nearer(others: &Reservations, sight: Sight, cell: Cell) -> Option<Cell> {
 
 /// Whether the way down the field of a stop from a cell, round the cells that are taken, comes to where each next cell
 /// is. Where the stop is farther than it is looked for, or no walk leads there, it does not.
-fn is_leg_barred(others: &Reservations, sight: Sight, from: Cell) -> bool {
+fn is_leg_barred(grid: &Grid, others: &Reservations, sight: Sight, from: Cell) -> bool
+    requires { sight.field.now.grid ≡ grid.now }
+    ensures shut { IsTrue result → (c : Cell) × IsShut grid.now others.now sight.entry.field.now.cell c }
+    ensures clear { result ≡ false → IsClearWithin grid.now others.now from sight.entry.field.now.cell sight.entry.level }
+{
     let whole = sight.estimate(from);
     if whole > sight.level {
         return false;
     }
     let mut cell = from;
-    for _ in 0..whole {
-        match nearer(others, sight, cell) {
-            Some(next) => cell = next,
-            None => return true,
-        }
+    let mut left = whole;
+    while left > 0 {
+        let Some(next) = nearer(grid, others, sight, cell) else {
+            return true;
+        };
+        cell = next;
+        left -= 1;
     }
     false
 }
 
-/// Whether that is so on the way from some stop to the next one, or to the first.
-pub fn is_barred(others: &Reservations, loc: Cell, stops: &[Cell], sights: &[Option<Sight>]) -> bool
-    requires { length sights.now ≡ length stops.now }
+/// The same, where there is a sight of the stop.
+fn is_way_barred(
+    grid: &Grid,
+    others: &Reservations,
+    sight: Option<Sight>,
+    from: Cell,
+    stop: Cell,
+) -> bool
+    requires { IsSightAt grid.now sight stop }
+    ensures shut { IsTrue result → (c : Cell) × IsShut grid.now others.now stop c }
+    ensures clear { result ≡ false → IsClearBy grid.now others.now from stop sight.entry }
+{
+    let _ = stop;
+    match sight {
+        Some(sight) => is_leg_barred(grid, others, sight, from),
+        None => false,
+    }
+}
+
+/// Whether that is so on the way to some stop from the one before.
+pub fn is_barred(
+    grid: &Grid,
+    others: &Reservations,
+    loc: Cell,
+    stops: &[Cell],
+    sights: &[Option<Sight>],
+) -> bool
+    requires { AreSightsOf grid.now stops.now sights.now }
+    ensures shut { IsTrue result → IsShutSomewhere grid.now others.now stops.now }
+    ensures clear { result ≡ false → AreClear grid.now others.now loc stops.now sights.now (length stops.now) }
 {
     let mut from = loc;
     for i in 0..stops.len() {
-        if let Some(sight) = sights[i] {
-            if is_leg_barred(others, sight, from) {
-                return true;
-            }
+        if is_way_barred(grid, others, sights[i], from, stops[i]) {
+            return true;
         }
         from = stops[i];
     }

@@ -49,7 +49,7 @@ fn deliver_without(
     let Ok(kept) = fields_over(alloc, &without, loc, stops) else {
         return Err(Fault::NoMemory);
     };
-    let sights = sights_over(&without, stops, &kept);
+    let sights = sights_over(&without, loc, stops, &kept);
     deliver_sighted(
         alloc,
         memory,
@@ -74,13 +74,13 @@ fn deliver_beyond(
     requires task { IsTaskOf errand.now.grid.now errand.now.others.now errand.now.loc stops.now errand.now }
     requires clear { MayRest errand.now.others.now errand.now.loc 0 }
     requires stops { AreStops stops.now }
-    requires sights { length sights.now ≡ length stops.now }
+    requires sights { AreSightsOf errand.now.grid.now stops.now sights.now }
     requires late { (q : List Cell) → IsTour errand.now.grid.now errand.now.others.now errand.now.loc errand.now.via.now errand.now.ends.now q → guide_estimate errand.now.guide errand.now.first errand.now.loc < last_index q }
     ensures lawful { IfOk result (λ p. IsLawful errand.now.grid.now errand.now.others.now errand.now.loc stops.now p) }
     ensures least { IfOk result (λ p. (q : List Cell) → IsDelivery errand.now.grid.now errand.now.others.now errand.now.loc stops.now q → last_index p ≤ last_index q) }
     ensures none { IfNoPath result ((q : List Cell) → IsDelivery errand.now.grid.now errand.now.others.now errand.now.loc stops.now q → ⊥) }
 {
-    if is_barred(errand.others, errand.loc, stops, sights) {
+    if is_barred(errand.grid, errand.others, errand.loc, stops, sights) {
         return deliver_without(
             alloc,
             memory,

@@ -1,5 +1,7 @@
+use Rattle.std.proofs.Common.{◌≡◌}
+use Rattle.wh_detours.specs.Barred.{cell_before}
 use Rattle.wh_detours.specs.Filled.{AreFilled}
 use Rattle.wh_detours.proofs.fields.fields_over.Given as goal
 
 abbrev pub invariant-loop-stop : goal.invariant-loop-stop
-invariant-loop-stop l = AreFilled l.grid l.stops l.stop-index l.kept.items
+invariant-loop-stop l = record { before_is : l.before ≡ cell_before l.fn.loc l.stops l.stop-index; filled : AreFilled l.grid l.fn.loc l.stops l.stop-index l.kept.items }
