@@ -45,11 +45,16 @@ one_nearer g stop c d m level e h move less =
     let falls = at_most m (k + 1) (distance g stop c) e (distance_falls g stop d c k (inside g stop c m e) (move_back c d move) known) in
     known ∙ ap (λ (x : ℕ). Some x) (let z : k ≡ m - 1 = omega arith in z)
 
+-- how far it is from where it starts
+pub way_whole : (g : Floor) (from : Cell) (s : Sight) (whole : ℕ) → s.field.now.grid ≡ g → whole ≡ sighted s from → whole ≤ s.level → distance g s.field.now.cell from ≡ Some whole
+way_whole g from s whole e is h =
+    let n : whole ≡ capped (distance g s.field.now.cell from) s.level = is ∙ sighted_is g s from e in
+    capped_known (distance g s.field.now.cell from) s.level (omega arith) ∙ ap (λ (x : ℕ). Some x) (sym n)
+
 -- at the start
 pub way_start : (g : Floor) (others : Others) (from : Cell) (s : Sight) (whole : ℕ) → s.field.now.grid ≡ g → whole ≡ sighted s from → whole ≤ s.level → IsOnWay g others from s.field.now.cell from whole whole
 way_start g others from s whole e is h =
-    let n : whole ≡ capped (distance g s.field.now.cell from) s.level = is ∙ sighted_is g s from e in
-    let far : distance g s.field.now.cell from ≡ Some whole = capped_known (distance g s.field.now.cell from) s.level (omega arith) ∙ ap (λ (x : ℕ). Some x) (sym n) in
+    let far = way_whole g from s whole e is h in
     record {
       path = from ∷ [];
       walk = walk_one g from (inside g s.field.now.cell from whole far);
@@ -97,15 +102,19 @@ way_clear g others from stop c whole n w e is =
     )
 
 -- where it is stuck
-pub way_shut : (g : Floor) (others : Others) (from c : Cell) (s : Sight) (whole left : ℕ) → s.field.now.grid ≡ g → 0 < left → left ≤ s.level → IsOnWay g others from s.field.now.cell c whole left → IsStuck g others s c
-    → IsShut g others s.field.now.cell c
-way_shut g others from c s whole left e some h w stuck =
+pub way_shut : (g : Floor) (others : Others) (from c : Cell) (s : Sight) (whole left : ℕ) → s.field.now.grid ≡ g → whole ≡ sighted s from → whole ≤ s.level → 0 < left → left ≤ whole → IsOnWay g others from s.field.now.cell c whole left
+    → IsStuck g others s c → IsShut g others from s.field.now.cell
+way_shut g others from c s whole left e is h some few w stuck =
     let stop = s.field.now.cell in
+    let next : left ≡ left - 1 + 1 = omega arith in
     record {
+      whole = whole;
+      start = way_whole g from s whole e is h;
+      cell = c;
       left = left - 1;
-      here = w.far ∙ ap (λ (x : ℕ). Some x) (let z : left ≡ left - 1 + 1 = omega arith in z);
+      way = subst (λ (n : ℕ). IsOnWay g others from stop c whole n) next w;
       taken = λ d adjacent near. stuck d (inside g stop d (left - 1) near) (inr adjacent)
-          (omega (arith, sighted_is g s d e, sighted_is g s c e, capped_some (distance g stop c) s.level left w.far h, capped_some (distance g stop d) s.level (left - 1) near (omega arith)));
+          (omega (arith, sighted_is g s d e, sighted_is g s c e, capped_some (distance g stop c) s.level left w.far (omega arith), capped_some (distance g stop d) s.level (left - 1) near (omega arith)));
     }
 
 -- where the walk leads to the stop, or the stop is farther than the sight goes

@@ -10,11 +10,22 @@ use Rattle.wh_field.specs.declared.sight.Sight.{Sight}
 use Rattle.wh_resv.specs.Others.{Others}
 use Rattle.wh_detours.specs.Taken.{IsTaken}
 
--- a cell from which a walk leads to the stop, and each cell beside it that is nearer to the stop is taken
-pub record IsShut (g : Floor) (others : Others) (stop c : Cell) : Type 0 where
+-- a walk down the field of a stop from a cell, of `whole` steps in all, is at another cell with so many left, and came to no cell that is taken
+pub record IsOnWay (g : Floor) (others : Others) (from stop c : Cell) (whole left : ℕ) : Type 0 where
+  pub path : List Cell
+  pub walk : IsWalkBetween g from c path
+  pub size : length path + left ≡ whole + 1
+  pub free : (k : ℕ) → 0 < k → k ≤ last_index path → IsTaken others (at path k) → ⊥
+  pub far : distance g stop c ≡ Some left
+
+-- down the field of a stop from a cell, round those that are taken, it comes to where each cell that is nearer is taken
+pub record IsShut (g : Floor) (others : Others) (from stop : Cell) : Type 0 where
+  pub whole : ℕ
+  pub start : distance g stop from ≡ Some whole
+  pub cell : Cell
   pub left : ℕ
-  pub here : distance g stop c ≡ Some (left + 1)
-  pub taken : (d : Cell) → IsAdjacent c d → distance g stop d ≡ Some left → IsTaken others d
+  pub way : IsOnWay g others from stop cell whole (left + 1)
+  pub taken : (d : Cell) → IsAdjacent cell d → distance g stop d ≡ Some left → IsTaken others d
 
 -- a least walk from a cell to the stop that comes to no cell which is taken
 pub record IsClearWay (g : Floor) (others : Others) (from stop : Cell) (p : List Cell) : Type 0 where
@@ -29,9 +40,9 @@ IsClearWithin g others from stop level = (n : ℕ) → distance g stop from ≡ 
 abbrev pub cell_before : Cell → List Cell → ℕ → Cell
 cell_before loc stops i = slice_index_or (loc ∷ stops) i loc
 
--- some cell is shut on the way to one of the stops
-abbrev pub IsShutSomewhere : Floor → Others → List Cell → Type 0
-IsShutSomewhere g others stops = (i : ℕ) × (i < length stops) × ((c : Cell) × IsShut g others (cell_at stops i) c)
+-- so it is on the way to one of the stops
+abbrev pub IsShutSomewhere : Floor → Others → Cell → List Cell → Type 0
+IsShutSomewhere g others loc stops = (i : ℕ) × (i < length stops) × IsShut g others (cell_before loc stops i) (cell_at stops i)
 
 -- as far as a sight goes, where there is one
 abbrev pub IsClearBy : Floor → Others → Cell → Cell → Option Sight → Type 0
@@ -55,11 +66,3 @@ pub record IsNearer (others : Others) (s : Sight) (c d : Cell) : Type 0 where
 -- each step that leads nearer by a sight leads to a cell that is taken
 abbrev pub IsStuck : Floor → Others → Sight → Cell → Type 0
 IsStuck g others s c = (d : Cell) → IsPassable g d → IsMove c d → sighted s d < sighted s c → IsTaken others d
-
--- a walk down the field of a stop from a cell, of `whole` steps in all, is at another cell with so many left, and came to no cell that is taken
-pub record IsOnWay (g : Floor) (others : Others) (from stop c : Cell) (whole left : ℕ) : Type 0 where
-  pub path : List Cell
-  pub walk : IsWalkBetween g from c path
-  pub size : length path + left ≡ whole + 1
-  pub free : (k : ℕ) → 0 < k → k ≤ last_index path → IsTaken others (at path k) → ⊥
-  pub far : distance g stop c ≡ Some left

@@ -34,7 +34,7 @@ fn nearer(grid: &Grid, others: &Reservations, sight: Sight, cell: Cell) -> Optio
 /// is. Where the stop is farther than it is looked for, or no walk leads there, it does not.
 fn is_leg_barred(grid: &Grid, others: &Reservations, sight: Sight, from: Cell) -> bool
     requires { sight.field.now.grid ≡ grid.now }
-    ensures shut { IsTrue result → (c : Cell) × IsShut grid.now others.now sight.entry.field.now.cell c }
+    ensures shut { IsTrue result → IsShut grid.now others.now from sight.entry.field.now.cell }
     ensures clear { result ≡ false → IsClearWithin grid.now others.now from sight.entry.field.now.cell sight.entry.level }
 {
     let whole = sight.estimate(from);
@@ -62,7 +62,7 @@ fn is_way_barred(
     stop: Cell,
 ) -> bool
     requires { IsSightAt grid.now sight stop }
-    ensures shut { IsTrue result → (c : Cell) × IsShut grid.now others.now stop c }
+    ensures shut { IsTrue result → IsShut grid.now others.now from stop }
     ensures clear { result ≡ false → IsClearBy grid.now others.now from stop sight.entry }
 {
     let _ = stop;
@@ -81,7 +81,7 @@ pub fn is_barred(
     sights: &[Option<Sight>],
 ) -> bool
     requires { AreSightsOf grid.now stops.now sights.now }
-    ensures shut { IsTrue result → IsShutSomewhere grid.now others.now stops.now }
+    ensures shut { IsTrue result → IsShutSomewhere grid.now others.now loc stops.now }
     ensures clear { result ≡ false → AreClear grid.now others.now loc stops.now sights.now (length stops.now) }
 {
     let mut from = loc;

@@ -19,10 +19,8 @@ loop-left-preserved c =
 
 pub returns-in_default-clause-shut : goal.returns-in_default-clause-shut
 returns-in_default-clause-shut c = λ yes.
-    let few = c.loop-left.invariant.few in (
-      c.loop-left.cell,
-      way_shut c.args.grid.now c.args.others.now c.args.from c.loop-left.cell c.args.sight c.estimate-whole.result c.loop-left.left c.requires (omega arith) (omega arith) c.loop-left.invariant.way c.in_default.ensures.none,
-    )
+    let few = c.loop-left.invariant.few in
+    way_shut c.args.grid.now c.args.others.now c.args.from c.loop-left.cell c.args.sight c.estimate-whole.result c.loop-left.left c.requires c.estimate-whole.ensures (omega arith) (omega arith) few c.loop-left.invariant.way c.in_default.ensures.none
 
 pub returns-clause-clear : goal.returns-clause-clear
 returns-clause-clear c = λ no.
