@@ -1,5 +1,5 @@
 // Detours round those that stay: the map without the places at which somebody is at each time from now on, and the fields
-// of the stops over it. They are made for one search.
+// over it of those stops to which the way is barred. They are made for one search.
 #pragma once
 
 #include "errand.hpp"
@@ -15,19 +15,22 @@ public:
 
     uint32_t passable() const { return passable_; }
 
-    // Whether on the way to some stop, down its field and round those places, each next place is one of them.
-    bool are_wanted(const Reservations& others, uint32_t start, const uint32_t* stops, uint32_t count,
+    // The legs, as bits, on which the way down the stop's field, round those places, comes to where each next one is such.
+    uint32_t barred(const Reservations& others, uint32_t start, const uint32_t* stops, uint32_t count,
                     const Bounded* fields) const {
+        uint32_t legs = 0;
         for (uint32_t leg = 0; leg < count; ++leg)
-            if (is_barred(others, leg == 0 ? start : stops[leg - 1], fields[leg].table)) return true;
-        return false;
+            if (is_barred(others, leg == 0 ? start : stops[leg - 1], fields[leg].table)) legs |= 1u << leg;
+        return legs;
     }
 
-    // Makes the map and the fields, each filled as those that are shared.
-    void make(const Reservations& others, uint32_t start, const uint32_t* stops, uint32_t count, Bounded* fields) {
+    // Makes the map, and the fields of these legs, each filled as those that are shared.
+    void make(const Reservations& others, uint32_t start, const uint32_t* stops, uint32_t count, uint32_t legs,
+              Bounded* fields) {
         bar(others);
         if (!queue_) queue_.reset(new uint32_t[grid_.size()]);
         for (uint32_t leg = 0; leg < count; ++leg) {
+            if (!(legs >> leg & 1)) continue;
             if (!tables_[leg]) tables_[leg].reset(new uint32_t[grid_.size()]);
             fields[leg] = fill_field(tables_[leg].get(), stops[leg], leg == 0 ? start : stops[leg - 1]);
         }

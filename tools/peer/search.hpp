@@ -1,6 +1,6 @@
 // The search for a least path over places and times, round the paths of all others: the straight pass, and where that
 // finds none the search over intervals, guided by the same estimates; or, where those that stay bar the way to a stop,
-// both anew, by estimates of the map without their places. Of several least paths the one must be found that the product
+// both anew, on the map without their places. Of several least paths the one must be found that the product
 // finds, as all later replies depend on it: main.cpp says by which rules.
 #pragma once
 
@@ -57,14 +57,17 @@ private:
             if (straight_.find(errand_, start, first, whole, path)) return true;
             least = whole + 1;
         }
-        if (fields && detours_.are_wanted(reservations_, start, stops, count, fields)) return detour(start, stops, count);
+        if (fields)
+            if (const uint32_t legs = detours_.barred(reservations_, start, stops, count, fields))
+                return detour(start, stops, count, legs, fields);
         return intervals_.find(errand_, start, first, std::max(least, whole + 1), path);
     }
 
-    bool detour(uint32_t start, const uint32_t* stops, uint32_t count) {
-        Bounded fields[MOST_STOPS];
-        detours_.make(reservations_, start, stops, count, fields);
-        errand_.deliver(stops, count, fields, detours_.passable());
+    bool detour(uint32_t start, const uint32_t* stops, uint32_t count, uint32_t legs, const Bounded* fields) {
+        Bounded anew[MOST_STOPS];
+        std::copy(fields, fields + count, anew);
+        detours_.make(reservations_, start, stops, count, legs, anew);
+        errand_.deliver(stops, count, anew, detours_.passable());
         return run(start, nullptr, 0, nullptr);
     }
 };

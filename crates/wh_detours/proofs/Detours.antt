@@ -1,15 +1,17 @@
 -- nobody can be at a cell that is taken, so the same paths deliver on the grid without such cells
-use Rattle.std.proofs.Common.{ℕ, List, length, All, Result, Ok, Err, sym, subst, arith}
+use Rattle.std.proofs.Common.{ℕ, List, length, get_or, All, Option, Some, None, Result, Ok, Err, sym, subst, arith}
 use Rattle.std.proofs.lemmas.Nat.{mul-le}
 use Rattle.wh_grid.specs.declared.cell.Cell.{Cell}
 use Rattle.wh_grid.specs.Grids.{Floor, IsPassable, passable_cells}
 use Rattle.wh_resv.specs.Others.{Others, MayRest}
-use Rattle.wh_path.specs.Paths.{at, IsFree}
+use Rattle.wh_path.specs.Paths.{at, cell_at, IsFree}
 use Rattle.wh_search.specs.Deliveries.{IsDelivery, IsLawful, IfNoPath}
 use Rattle.wh_search.specs.declared.errand.Errand.{Errand}
 use Rattle.wh_search.specs.declared.fault.Fault.{Fault}
 use Rattle.wh_search.specs.declared.fault.Fault.TheVariants.{NoPath, NoMemory}
-use Rattle.wh_intervals.specs.Tasks.{IsTaskOf}
+use Rattle.wh_search.specs.Sights.{IsSightAt, AreSightsOf}
+use Rattle.wh_intervals.specs.Tasks.{IsTaskOf, IsSightOver, AreSightsOver}
+use Rattle.wh_field.specs.declared.sight.Sight.{Sight}
 use Rattle.wh_detours.specs.Taken.{IsTaken, IsLeft, IsWithoutTaken}
 use Rattle.wh_detours.specs.Laws.{SameDeliveries, AllLeastThere}
 
@@ -76,3 +78,13 @@ delivers_errand g others loc stops p e t d =
     subst (λ (x : Floor). IsDelivery x e.others.now e.loc stops p) (sym t.grid_is)
     (subst (λ (y : Others). IsDelivery g y e.loc stops p) (sym t.others_are)
     (subst (λ (z : Cell). IsDelivery g others z stops p) (sym t.from) d))
+
+-- sights of the whole grid serve there too
+sight_there : (g without : Floor) (others : Others) (paths : List (List Cell)) (stop : Cell) (o : Option Sight) → IsWithoutTaken g others paths without → IsSightAt g o stop → IsSightOver without o stop
+sight_there g without others paths stop None w h = tt
+sight_there g without others paths stop (Some s) w h =
+    record { more = λ c p. subst (λ (x : Floor). IsPassable x c) (sym h.0) ((w.each c).0 p).passable; source = h.1 }
+
+pub sights_there : (g without : Floor) (others : Others) (paths : List (List Cell)) (stops : List Cell) (sights : List (Option Sight)) → IsWithoutTaken g others paths without → AreSightsOf g stops sights → AreSightsOver without stops sights
+sights_there g without others paths stops sights w h =
+    record { size = h.size; each = λ l b. sight_there g without others paths (cell_at stops l) (get_or sights l None) w (h.each l b) }

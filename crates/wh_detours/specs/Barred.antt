@@ -1,5 +1,5 @@
 -- that cells which are taken bar the way to a stop
-use Rattle.std.specs.Prelude.{◌≡◌, ℕ, ◌+◌, ◌<◌, ◌≤◌, List, ◌∷◌, Option, Some, None, length, slice_index_or}
+use Rattle.std.specs.Prelude.{◌≡◌, ℕ, ◌+◌, ◌<◌, ◌≤◌, List, ◌∷◌, Bool, true, false, Option, Some, None, length, slice_index_or}
 use Rattle.wh_grid.specs.declared.cell.Cell.{Cell}
 use Rattle.wh_grid.specs.Grids.{Floor, IsPassable, IsAdjacent, IsMove}
 use Rattle.wh_path.specs.Paths.{at, cell_at, last_index}
@@ -40,18 +40,15 @@ IsClearWithin g others from stop level = (n : ℕ) → distance g stop from ≡ 
 abbrev pub cell_before : Cell → List Cell → ℕ → Cell
 cell_before loc stops i = slice_index_or (loc ∷ stops) i loc
 
--- so it is on the way to one of the stops
-abbrev pub IsShutSomewhere : Floor → Others → Cell → List Cell → Type 0
-IsShutSomewhere g others loc stops = (i : ℕ) × (i < length stops) × IsShut g others (cell_before loc stops i) (cell_at stops i)
-
 -- as far as a sight goes, where there is one
 abbrev pub IsClearBy : Floor → Others → Cell → Cell → Option Sight → Type 0
 IsClearBy g others from stop None = Unit {0}
 IsClearBy g others from stop (Some s) = IsClearWithin g others from stop s.level
 
--- the way to each of the first n stops is clear
-abbrev pub AreClear : Floor → Others → Cell → List Cell → List (Option Sight) → ℕ → Type 0
-AreClear g others loc stops sights n = (i : ℕ) → i < n → IsClearBy g others (cell_before loc stops i) (cell_at stops i) (slice_index_or sights i None)
+-- of the ways to the first n stops it is told which are shut and which are clear
+pub record AreBarred (g : Floor) (others : Others) (loc : Cell) (stops : List Cell) (sights : List (Option Sight)) (barred : List Bool) (n : ℕ) : Type 0 where
+  pub shut : (i : ℕ) → i < n → slice_index_or barred i false ≡ true → IsShut g others (cell_before loc stops i) (cell_at stops i)
+  pub clear : (i : ℕ) → i < n → slice_index_or barred i false ≡ false → IsClearBy g others (cell_before loc stops i) (cell_at stops i) (slice_index_or sights i None)
 
 -- what a sight estimates
 abbrev pub sighted : Sight → Cell → ℕ

@@ -1,5 +1,5 @@
 -- fields of some stops, each filled beyond the cell from which it goes there
-use Rattle.std.specs.Prelude.{◌≡◌, ℕ, ◌+◌, ◌<◌, List, length, min, Option, Some, None, slice_index_or}
+use Rattle.std.specs.Prelude.{◌≡◌, ℕ, ◌+◌, ◌<◌, List, length, min, Bool, true, false, Option, Some, None, slice_index_or}
 use Rattle.wh_grid.specs.declared.cell.Cell.{Cell}
 use Rattle.wh_grid.specs.Grids.{Floor}
 use Rattle.wh_path.specs.Paths.{cell_at}
@@ -18,7 +18,12 @@ pub record IsFilledFor (g : Floor) (from stop : Cell) (f : Filled) : Type 0 wher
   pub source : f.field.cell ≡ stop
   pub level : f.level ≡ level_past (distance g stop from)
 
--- these are the fields of the first n stops, in order
-pub record AreFilled (g : Floor) (loc : Cell) (stops : List Cell) (n : ℕ) (fields : List Filled) : Type 0 where
+-- it is there just where it is wanted
+abbrev pub IsFilledIf : Floor → Cell → Cell → Bool → Option Filled → Type 0
+IsFilledIf g from stop wanted None = wanted ≡ false
+IsFilledIf g from stop wanted (Some f) = (wanted ≡ true) × IsFilledFor g from stop f
+
+-- these are the wanted ones of the fields of the first n stops, each in its place
+pub record AreFilled (g : Floor) (loc : Cell) (stops : List Cell) (wanted : List Bool) (n : ℕ) (fields : List (Option Filled)) : Type 0 where
   pub size : length fields ≡ n
-  pub each : (l : ℕ) (f : Filled) → l < n → IsFilledFor g (cell_before loc stops l) (cell_at stops l) (slice_index_or fields l f)
+  pub each : (l : ℕ) → l < n → IsFilledIf g (cell_before loc stops l) (cell_at stops l) (slice_index_or wanted l false) (slice_index_or fields l None)

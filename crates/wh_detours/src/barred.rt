@@ -4,7 +4,7 @@
 ghost use Rattle.std.specs.Prelude.{◌≡◌, ℕ, ◌+◌, ◌<◌, ◌≤◌, IsTrue, IfSome, IfNone, false, length};
 ghost use Rattle.wh_grid.specs.declared.cell.Cell.{Cell};
 ghost use Rattle.wh_search.specs.Sights.{AreSightsOf, IsSightAt};
-ghost use Rattle.wh_detours.specs.Barred.{IsShut, IsClearWithin, IsClearBy, IsShutSomewhere, AreClear, IsNearer, IsStuck};
+ghost use Rattle.wh_detours.specs.Barred.{IsShut, IsClearWithin, IsClearBy, AreBarred, IsNearer, IsStuck};
 
 use crate::taken::is_taken;
 use wh_field::Sight;
@@ -72,24 +72,24 @@ fn is_way_barred(
     }
 }
 
-/// Whether that is so on the way to some stop from the one before.
-pub fn is_barred(
+/// On the way to which stops, each from the one before, that is so.
+pub fn barred_ways(
     grid: &Grid,
     others: &Reservations,
     loc: Cell,
     stops: &[Cell],
     sights: &[Option<Sight>],
-) -> bool
-    requires { AreSightsOf grid.now stops.now sights.now }
-    ensures shut { IsTrue result → IsShutSomewhere grid.now others.now loc stops.now }
-    ensures clear { result ≡ false → AreClear grid.now others.now loc stops.now sights.now (length stops.now) }
+) -> [bool; 8]
+    requires few { length stops.now ≤ 8 }
+    requires sights { AreSightsOf grid.now stops.now sights.now }
+    ensures size { length result ≡ 8 }
+    ensures each { AreBarred grid.now others.now loc stops.now sights.now result (length stops.now) }
 {
+    let mut barred = [false; 8];
     let mut from = loc;
     for i in 0..stops.len() {
-        if is_way_barred(grid, others, sights[i], from, stops[i]) {
-            return true;
-        }
+        barred[i] = is_way_barred(grid, others, sights[i], from, stops[i]);
         from = stops[i];
     }
-    false
+    barred
 }

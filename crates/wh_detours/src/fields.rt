@@ -1,10 +1,10 @@
 //! The fields of the stops over a grid that is made for one search.
 #![tactic(auto)]
 
-ghost use Rattle.std.specs.Prelude.{◌≡◌, ℕ, ◌<◌, ◌≤◌, IfOk, None, length, slice_index_or};
+ghost use Rattle.std.specs.Prelude.{◌≡◌, ℕ, ◌<◌, ◌≤◌, IfOk, IfSome, None, length, slice_index_or};
 ghost use Rattle.wh_path.specs.Paths.{cell_at};
-ghost use Rattle.wh_search.specs.Sights.{IsSightAt};
-ghost use Rattle.wh_detours.specs.Filled.{IsFilledFor, AreFilled};
+ghost use Rattle.wh_intervals.specs.Tasks.{IsSightOver, AreSightsOver};
+ghost use Rattle.wh_detours.specs.Filled.{IsFilledFor, IsFilledIf, AreFilled};
 
 use crate::filled::Filled;
 use std::alloc::{AllocError, Global};
@@ -27,42 +27,82 @@ fn filled_from(alloc: Global, grid: &Grid, stop: Cell, cell: Cell) -> Result<Fil
     Ok(Filled { field, level })
 }
 
-/// The field of each stop, filled beyond the stop before it.
+/// The same, where it is wanted.
+fn filled_if(
+    alloc: Global,
+    grid: &Grid,
+    stop: Cell,
+    cell: Cell,
+    wanted: bool,
+) -> Result<Option<Filled>, AllocError>
+    ensures { IfOk result (λ f. IsFilledIf grid.now cell stop wanted f) }
+{
+    if !wanted {
+        return Ok(None);
+    }
+    let filled = filled_from(alloc, grid, stop, cell)?;
+    Ok(Some(filled))
+}
+
+/// The wanted ones of the fields of the stops, each filled beyond the stop before it.
 pub fn fields_over(
     alloc: Global,
     grid: &Grid,
     loc: Cell,
     stops: &[Cell],
-) -> Result<Vec<Filled>, AllocError>
-    ensures { IfOk result (λ kept. AreFilled grid.now loc stops.now (length stops.now) kept.items) }
+    wanted: [bool; 8],
+) -> Result<Vec<Option<Filled>>, AllocError>
+    requires { length stops.now ≤ 8 }
+    ensures { IfOk result (λ kept. AreFilled grid.now loc stops.now wanted (length stops.now) kept.items) }
 {
     let mut kept = Vec::new(alloc);
     let mut before = loc;
-    for stop in stops {
-        kept.push(filled_from(alloc, grid, *stop, before)?)?;
-        before = *stop;
+    for i in 0..stops.len() {
+        kept.push(filled_if(alloc, grid, stops[i], before, wanted[i])?)?;
+        before = stops[i];
     }
     Ok(kept)
 }
 
-/// These fields as far as their levels, each in its place.
+/// A field as far as its level, where it is there; else another sight of the same stop.
+fn sight_or<'a>(
+    grid: &Grid,
+    stop: Cell,
+    kept: &'a Option<Filled>,
+    sight: Option<Sight<'a>>,
+) -> Option<Sight<'a>>
+    requires kept { IfSome kept.now (λ f. (f.field.grid ≡ grid.now) × (f.field.cell ≡ stop)) }
+    requires sight { IsSightOver grid.now sight stop }
+    ensures { IsSightOver grid.now result stop }
+{
+    let _ = grid;
+    let _ = stop;
+    match kept {
+        Some(filled) => Some(Sight::new(&filled.field, filled.level)),
+        None => sight,
+    }
+}
+
+/// These fields as far as their levels, each in its place, and for the other stops the sights that are there.
 pub fn sights_over<'a>(
     grid: &Grid,
     loc: Cell,
     stops: &[Cell],
-    kept: &'a [Filled],
+    wanted: [bool; 8],
+    kept: &'a [Option<Filled>],
+    sights: &'a [Option<Sight<'a>>],
 ) -> [Option<Sight<'a>>; 8]
     requires few { length stops.now ≤ 8 }
-    requires filled { AreFilled grid.now loc stops.now (length stops.now) kept.now }
+    requires filled { AreFilled grid.now loc stops.now wanted (length stops.now) kept.now }
+    requires sights { AreSightsOver grid.now stops.now sights.now }
     ensures size { length result ≡ 8 }
-    ensures each { (l : ℕ) → l < length stops.now → IsSightAt grid.now (slice_index_or result l None) (cell_at stops.now l) }
+    ensures each { (l : ℕ) → l < length stops.now → IsSightOver grid.now (slice_index_or result l None) (cell_at stops.now l) }
 {
-    let _ = grid;
     let _ = loc;
-    let _ = stops;
-    let mut sights = [None; 8];
-    for i in 0..kept.len() {
-        sights[i] = Some(Sight::new(&kept[i].field, kept[i].level));
+    let _ = wanted;
+    let mut all = [None; 8];
+    for i in 0..stops.len() {
+        all[i] = sight_or(grid, stops[i], &kept[i], sights[i]);
     }
-    sights
+    all
 }

@@ -13,51 +13,54 @@ ghost use Rattle.wh_search.specs.Sights.{AreSightsOf};
 ghost use Rattle.wh_search.specs.Tours.{IsTour};
 ghost use Rattle.wh_intervals.specs.Tasks.{IsTaskOf};
 
-use crate::barred::is_barred;
+use crate::barred::barred_ways;
 use crate::fields::{fields_over, sights_over};
 use crate::taken::without_taken;
 use std::alloc::Global;
 use wh_field::Sight;
 use wh_grid::{Cell, Grid};
-use wh_intervals::{deliver_sighted, over_intervals, sighted_errand};
+use wh_intervals::{deliver_over, over_intervals, sighted_errand};
 use wh_path::TimedPath;
 use wh_resv::Reservations;
 use wh_search::errand::Errand;
 use wh_search::guide::onward_by_sights;
 use wh_search::{Fault, SearchMemory, find_straight};
 
-/// A least path, by fields over the grid without the cells that are taken, where one of these paths begins.
+/// A least path on the grid without the cells that are taken, where one of these paths begins; by fields over it where the
+/// way is barred.
 fn deliver_without(
     alloc: Global,
     memory: &mut SearchMemory,
-    grid: &Grid,
-    others: &Reservations,
+    errand: &Errand,
     paths: &[TimedPath],
-    loc: Cell,
     stops: &[Cell],
+    sights: &[Option<Sight>],
+    barred: [bool; 8],
 ) -> Result<TimedPath, Fault>
-    requires inside { IsPassable grid.now loc }
-    requires clear { MayRest others.now loc 0 }
+    requires inside { IsPassable errand.now.grid.now errand.now.loc }
+    requires clear { MayRest errand.now.others.now errand.now.loc 0 }
     requires stops { AreStops stops.now }
-    ensures lawful { IfOk result (λ p. IsLawful grid.now others.now loc stops.now p) }
-    ensures least { IfOk result (λ p. (q : List Cell) → IsDelivery grid.now others.now loc stops.now q → last_index p ≤ last_index q) }
-    ensures none { IfNoPath result ((q : List Cell) → IsDelivery grid.now others.now loc stops.now q → ⊥) }
+    requires sights { AreSightsOf errand.now.grid.now stops.now sights.now }
+    ensures lawful { IfOk result (λ p. IsLawful errand.now.grid.now errand.now.others.now errand.now.loc stops.now p) }
+    ensures least { IfOk result (λ p. (q : List Cell) → IsDelivery errand.now.grid.now errand.now.others.now errand.now.loc stops.now q → last_index p ≤ last_index q) }
+    ensures none { IfNoPath result ((q : List Cell) → IsDelivery errand.now.grid.now errand.now.others.now errand.now.loc stops.now q → ⊥) }
 {
-    let Ok(without) = without_taken(alloc, grid, others, paths) else {
+    let (others, loc) = (errand.others, errand.loc);
+    let Ok(without) = without_taken(alloc, errand.grid, others, paths) else {
         return Err(Fault::NoMemory);
     };
-    let Ok(kept) = fields_over(alloc, &without, loc, stops) else {
+    let Ok(kept) = fields_over(alloc, &without, loc, stops, barred) else {
         return Err(Fault::NoMemory);
     };
-    let sights = sights_over(&without, loc, stops, &kept);
-    deliver_sighted(
+    let all = sights_over(&without, loc, stops, barred, &kept, sights);
+    deliver_over(
         alloc,
         memory,
         &without,
         others,
         loc,
         stops,
-        &sights[..stops.len()],
+        &all[..stops.len()],
     )
 }
 
@@ -80,16 +83,9 @@ fn deliver_beyond(
     ensures least { IfOk result (λ p. (q : List Cell) → IsDelivery errand.now.grid.now errand.now.others.now errand.now.loc stops.now q → last_index p ≤ last_index q) }
     ensures none { IfNoPath result ((q : List Cell) → IsDelivery errand.now.grid.now errand.now.others.now errand.now.loc stops.now q → ⊥) }
 {
-    if is_barred(errand.grid, errand.others, errand.loc, stops, sights) {
-        return deliver_without(
-            alloc,
-            memory,
-            errand.grid,
-            errand.others,
-            paths,
-            errand.loc,
-            stops,
-        );
+    let barred = barred_ways(errand.grid, errand.others, errand.loc, stops, sights);
+    if barred.contains(&true) {
+        return deliver_without(alloc, memory, errand, paths, stops, sights, barred);
     }
     match over_intervals(alloc, errand) {
         Ok(Some(path)) => Ok(path),
@@ -99,9 +95,9 @@ fn deliver_beyond(
 }
 
 /// A lawful path from loc through the stops, with the least last index of all, guided by fields that are filled up to a
-/// level; in memory that is kept from one search to the next. Where others that stay bar a way by them, it is searched
-/// for by fields of its own, on the grid without their cells, as far as they stand in these paths. That changes nothing in
-/// which paths are least. `NoPath` exactly where no path delivers, however long; else `NoMemory` where memory ran out.
+/// level; in memory that is kept from one search to the next. Where others that stay bar the way to a stop, it is searched
+/// for on the grid without their cells, as far as they stand in these paths, and by a field of its own in place of that
+/// stop's. That changes nothing in which paths are least. `NoPath` exactly where no path delivers, however long; else `NoMemory` where memory ran out.
 pub fn deliver_round<'x>(
     alloc: Global,
     memory: &mut SearchMemory,

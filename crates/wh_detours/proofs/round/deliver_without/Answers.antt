@@ -3,33 +3,35 @@ use Rattle.wh_grid.specs.declared.cell.Cell.{Cell}
 use Rattle.wh_path.specs.Paths.{last_index}
 use Rattle.wh_search.specs.Deliveries.{IsDelivery, IsLawful}
 use Rattle.wh_search.proofs.Stops.{ok_weaker}
-use Rattle.wh_detours.proofs.Detours.{delivers_there, lawful_here, start_left, no_path_weaker}
+use Rattle.wh_detours.proofs.Detours.{delivers_there, lawful_here, start_left, sights_there, no_path_weaker}
 use Rattle.wh_detours.proofs.round.deliver_without.Goals as goal
 
-pub deliver_sighted-requires-clause-inside : goal.deliver_sighted-requires-clause-inside
-deliver_sighted-requires-clause-inside c = (c.in-Ok.ensures.each c.args.loc).1 (start_left c.args.grid.now c.args.others.now c.args.paths.now (length c.args.paths.now) c.args.loc c.requires.inside c.requires.clear)
+pub sights_over-all-requires-clause-sights : goal.sights_over-all-requires-clause-sights
+sights_over-all-requires-clause-sights c = sights_there c.args.errand.now.grid.now c.in-Ok.without c.args.errand.now.others.now c.args.paths.now c.args.stops.now c.args.sights.now c.in-Ok.ensures c.requires.sights
+
+pub deliver_over-requires-clause-inside : goal.deliver_over-requires-clause-inside
+deliver_over-requires-clause-inside c =
+    let e = c.args.errand.now in
+    (c.in-Ok.ensures.each e.loc).1 (start_left e.grid.now e.others.now c.args.paths.now (length c.args.paths.now) e.loc c.requires.inside c.requires.clear)
 
 pub returns-clause-lawful : goal.returns-clause-lawful
 returns-clause-lawful c =
-    let g = c.args.grid.now in
-    let o = c.args.others.now in
+    let e = c.args.errand.now in
     let stops = c.args.stops.now in
-    ok_weaker c.deliver_sighted.result (λ p. IsLawful c.in-Ok.without o c.args.loc stops p) (λ p. IsLawful g o c.args.loc stops p)
-    (λ p. lawful_here g c.in-Ok.without o c.args.paths.now c.args.loc stops p c.in-Ok.ensures) c.deliver_sighted.ensures.lawful
+    ok_weaker c.deliver_over.result (λ p. IsLawful c.in-Ok.without e.others.now e.loc stops p) (λ p. IsLawful e.grid.now e.others.now e.loc stops p)
+    (λ p. lawful_here e.grid.now c.in-Ok.without e.others.now c.args.paths.now e.loc stops p c.in-Ok.ensures) c.deliver_over.ensures.lawful
 
 pub returns-clause-least : goal.returns-clause-least
 returns-clause-least c =
-    let g = c.args.grid.now in
-    let o = c.args.others.now in
+    let e = c.args.errand.now in
     let stops = c.args.stops.now in
-    ok_weaker c.deliver_sighted.result (λ p. (q : List Cell) → IsDelivery c.in-Ok.without o c.args.loc stops q → last_index p ≤ last_index q)
-    (λ p. (q : List Cell) → IsDelivery g o c.args.loc stops q → last_index p ≤ last_index q)
-    (λ p h q d. h q (delivers_there g c.in-Ok.without o c.args.paths.now c.args.loc stops q c.in-Ok.ensures d)) c.deliver_sighted.ensures.least
+    ok_weaker c.deliver_over.result (λ p. (q : List Cell) → IsDelivery c.in-Ok.without e.others.now e.loc stops q → last_index p ≤ last_index q)
+    (λ p. (q : List Cell) → IsDelivery e.grid.now e.others.now e.loc stops q → last_index p ≤ last_index q)
+    (λ p h q d. h q (delivers_there e.grid.now c.in-Ok.without e.others.now c.args.paths.now e.loc stops q c.in-Ok.ensures d)) c.deliver_over.ensures.least
 
 pub returns-clause-none : goal.returns-clause-none
 returns-clause-none c =
-    let g = c.args.grid.now in
-    let o = c.args.others.now in
+    let e = c.args.errand.now in
     let stops = c.args.stops.now in
-    no_path_weaker c.deliver_sighted.result ((q : List Cell) → IsDelivery c.in-Ok.without o c.args.loc stops q → ⊥) ((q : List Cell) → IsDelivery g o c.args.loc stops q → ⊥)
-    (λ h q d. h q (delivers_there g c.in-Ok.without o c.args.paths.now c.args.loc stops q c.in-Ok.ensures d)) c.deliver_sighted.ensures.none
+    no_path_weaker c.deliver_over.result ((q : List Cell) → IsDelivery c.in-Ok.without e.others.now e.loc stops q → ⊥) ((q : List Cell) → IsDelivery e.grid.now e.others.now e.loc stops q → ⊥)
+    (λ h q d. h q (delivers_there e.grid.now c.in-Ok.without e.others.now c.args.paths.now e.loc stops q c.in-Ok.ensures d)) c.deliver_over.ensures.none

@@ -4,8 +4,8 @@ use Rattle.wh_grid.specs.declared.cell.Cell.{Cell}
 use Rattle.wh_grid.specs.Grids.{passable_cells}
 use Rattle.wh_path.specs.Paths.{last_index, cell_at}
 use Rattle.wh_resv.specs.Others.{MayRest}
-use Rattle.wh_search.proofs.SightedStops.{sights_estimates}
 use Rattle.wh_search.proofs.Stops.{tour_delivery, delivery_ends, via_size, last_only, last_part, one_only}
+use Rattle.wh_intervals.proofs.Over.{estimates_over}
 use Rattle.wh_intervals.proofs.sighted.sighted_errand.Goals as goal
 
 pub first_end-requires : goal.first_end-requires
@@ -34,7 +34,7 @@ returns-clause-errand c =
       horizon_is = c.horizon-horizon.ensures.value;
       limit_is = omega (arith, c.horizon-horizon.ensures.value);
       small = omega (arith, c.horizon-horizon.ensures.bound);
-      guided = sights_estimates g stops via ends c.args.sights.now c.args.onward.now many refl (last_part stops) c.requires.sights c.requires.onward;
+      guided = estimates_over g stops via ends c.args.sights.now c.args.onward.now many refl (last_part stops) c.requires.sights c.requires.onward;
       not_sooner = λ k s e.
           let is : cell_at stops n ≡ s.cell = one_only (cell_at stops n) s.cell (subst (λ (w : List Cell). Contains w s.cell) (last_part stops ∙ last_only stops n (omega arith)) e.delivered) in
           (c.requires.soonest k).0 (subst (λ (d : Cell). MayRest c.args.others.now d k) (sym is) e.rests);
