@@ -97,7 +97,8 @@ fn deliver_beyond(
 /// A lawful path from loc through the stops, with the least last index of all, guided by fields that are filled up to a
 /// level; in memory that is kept from one search to the next. Where others that stay bar the way to a stop, it is searched
 /// for on the grid without their cells, as far as they stand in these paths, and by a field of its own in place of that
-/// stop's. That changes nothing in which paths are least. `NoPath` exactly where no path delivers, however long; else `NoMemory` where memory ran out.
+/// stop's. That changes nothing in which paths are least. `NoPath` exactly where no path delivers, however long; else
+/// `NoMemory` where memory ran out.
 pub fn deliver_round<'x>(
     alloc: Global,
     memory: &mut SearchMemory,
