@@ -1,5 +1,5 @@
-// Detours round those that stay: the map without the places at which somebody is at each time from now on, and the fields
-// over it of those stops to which the way is barred. They are made for one search.
+// Detours round those that stay: the map without their places, and the fields over it of those stops to which the way is
+// barred by places that are taken, at which somebody is at each time from now on. They are made for one search.
 #pragma once
 
 #include "errand.hpp"
@@ -49,13 +49,14 @@ private:
         return false;
     }
 
+    // Of the places that are taken, those of agents that stay.
     void bar(const Reservations& others) {
         places_ = grid_.places;
         passable_ = grid_.passable;
         for (uint32_t agent = 0; agent < others.views.size(); ++agent) {
-            const uint32_t cell = others.views[agent].at(0);
-            if (agent == others.self() || !others.is_taken(cell)) continue;
-            places_[cell] = BLOCKED;
+            const PathView& view = others.views[agent];
+            if (agent == others.self() || view.last != 0 || !others.is_taken(view.at(0))) continue;
+            places_[view.at(0)] = BLOCKED;
             --passable_;
         }
     }

@@ -5,7 +5,7 @@ use Rattle.std.proofs.lemmas.Nat.{div-mul-add, mod-mul-add}
 use Rattle.std.proofs.lemmas.Option.{get_or_from_slice_get, slice_get-get_or}
 use Rattle.wh_grid.specs.declared.cell.Cell.{Cell}
 use Rattle.wh_grid.specs.Grids.{Floor, IsPassable}
-use Rattle.wh_path.specs.Paths.{at, path_of}
+use Rattle.wh_path.specs.Paths.{at, last_index, path_of}
 use Rattle.wh_resv.specs.Others.{Others}
 use Rattle.wh_search.proofs.Cells.{same_cell, past_end, count-subset, marked_count-is}
 use Rattle.wh_detours.specs.Taken.{IsTaken, IsLeft, IsWithoutTaken, IsFiltered, IsBarredIf}
@@ -39,22 +39,23 @@ filtered_none g others paths =
       none_added = λ i e. e;
     }
 
--- a cell where the next path does not begin
-left_more : (g : Floor) (others : Others) (paths : List (List Cell)) (n : ℕ) (c : Cell) → (IsTaken others c → at (path_of paths n) 0 ≡ c → ⊥) → IsLeft g others paths n c → IsLeft g others paths (n + 1) c
+-- a cell where the next path does not stay
+left_more : (g : Floor) (others : Others) (paths : List (List Cell)) (n : ℕ) (c : Cell) → (IsTaken others c → last_index (path_of paths n) ≡ 0 → at (path_of paths n) 0 ≡ c → ⊥) → IsLeft g others paths n c → IsLeft g others paths (n + 1) c
 left_more g others paths n c other l =
     record {
       passable = l.passable;
       free = λ taken s. elim (cases_lt s.0 n) [
-        | inl b ↦ l.free taken (s.0, b, s.2)
-        | inr b ↦ (let below = s.1 in let e : s.0 ≡ n = omega arith in other taken (sym (ap (λ i. at (path_of paths i) 0) e) ∙ s.2))
+        | inl b ↦ l.free taken (s.0, b, s.2, s.3)
+        | inr b ↦ (let below = s.1 in let e : s.0 ≡ n = omega arith in
+            other taken (sym (ap (λ i. last_index (path_of paths i)) e) ∙ s.2) (sym (ap (λ i. at (path_of paths i) 0) e) ∙ s.3))
       ];
     }
 
 left_less : (g : Floor) (others : Others) (paths : List (List Cell)) (n : ℕ) (c : Cell) → IsLeft g others paths (n + 1) c → IsLeft g others paths n c
-left_less g others paths n c l = record { passable = l.passable; free = λ taken s. l.free taken (s.0, (let below = s.1 in omega arith), s.2) }
+left_less g others paths n c l = record { passable = l.passable; free = λ taken s. l.free taken (s.0, (let below = s.1 in omega arith), s.2, s.3) }
 
 -- one more path
-pub filtered_more : (g : Floor) (others : Others) (paths : List (List Cell)) (n : ℕ) (walkable now : List Bool) → IsFiltered g others paths n walkable → IsBarredIf g others (at (path_of paths n) 0) walkable now
+pub filtered_more : (g : Floor) (others : Others) (paths : List (List Cell)) (n : ℕ) (walkable now : List Bool) → IsFiltered g others paths n walkable → IsBarredIf g others (path_of paths n) walkable now
     → IsFiltered g others paths (n + 1) now
 filtered_more g others paths n walkable now f (inr kept) =
     let here = at (path_of paths n) 0 in
@@ -62,7 +63,7 @@ filtered_more g others paths n walkable now f (inr kept) =
     (record {
       size = f.size;
       each = λ c wide high. (
-        (λ e. let l = (f.each c wide high).0 e in left_more g others paths n c (λ taken is. kept.1 (subst (IsPassable g) (sym is) l.passable) (subst (IsTaken others) (sym is) taken)) l),
+        (λ e. let l = (f.each c wide high).0 e in left_more g others paths n c (λ taken stays is. kept.1 stays (subst (IsPassable g) (sym is) l.passable) (subst (IsTaken others) (sym is) taken)) l),
         (λ l. (f.each c wide high).1 (left_less g others paths n c l)),
       );
       none_added = f.none_added;
@@ -71,7 +72,7 @@ filtered_more g others paths n walkable now f (inl barred) =
     let here = at (path_of paths n) 0 in
     let p = here.y * g.width + here.x in
     let less = set walkable p false in
-    let within : p < length walkable = omega (arith, f.size, walkable_below g here barred.1) in
+    let within : p < length walkable = omega (arith, f.size, walkable_below g here barred.2) in
     let not_here : (i : ℕ) → get_or less i false ≡ true → i ≢ p = λ i e is. let z : false ≡ true = sym (get_or-set_same walkable p false false within) ∙ ap (λ j. get_or less j false) (sym is) ∙ e in cc in
     let other : (i : ℕ) → i ≢ p → get_or less i false ≡ get_or walkable i false = λ i apart. get_or-set_other walkable p i false false apart in
     subst (IsFiltered g others paths (n + 1)) (sym barred.0)
@@ -79,10 +80,10 @@ filtered_more g others paths n walkable now f (inl barred) =
       size = length-set walkable p false ∙ f.size;
       each = λ c wide high. (
         (λ e. let apart = not_here (c.y * g.width + c.x) e in
-            left_more g others paths n c (λ taken is. apart (ap (λ (d : Cell). d.y * g.width + d.x) (sym is))) ((f.each c wide high).0 (sym (other (c.y * g.width + c.x) apart) ∙ e))),
+            left_more g others paths n c (λ taken stays is. apart (ap (λ (d : Cell). d.y * g.width + d.x) (sym is))) ((f.each c wide high).0 (sym (other (c.y * g.width + c.x) apart) ∙ e))),
         (λ l. let apart : c.y * g.width + c.x ≢ p = λ e.
-            let is = one_place g.width here c barred.1.in_width wide (sym e) in
-            l.free (subst (IsTaken others) is barred.2) (n, (let z : n < n + 1 = omega arith in z), is) in
+            let is = one_place g.width here c barred.2.in_width wide (sym e) in
+            l.free (subst (IsTaken others) is barred.3) (n, (let z : n < n + 1 = omega arith in z), barred.1, is) in
             other (c.y * g.width + c.x) apart ∙ (f.each c wide high).1 (left_less g others paths n c l)),
       );
       none_added = λ i e. f.none_added i (sym (other i (not_here i e)) ∙ e);

@@ -26,7 +26,7 @@ use wh_search::errand::Errand;
 use wh_search::guide::onward_by_sights;
 use wh_search::{Fault, SearchMemory, find_straight};
 
-/// A least path on the grid without the cells that are taken, where one of these paths begins; by fields over it where the
+/// A least path on the grid without the cells that are taken, where one of these paths stays; by fields over it where the
 /// way is barred.
 fn deliver_without(
     alloc: Global,

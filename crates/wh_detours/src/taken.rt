@@ -17,18 +17,22 @@ pub fn is_taken(others: &Reservations, cell: Cell) -> bool
     others.next_free(cell, 0).is_none()
 }
 
-/// Bars a cell that is taken.
-fn bar(walkable: &mut [bool], grid: &Grid, others: &Reservations, cell: Cell)
+/// Bars the cell of a path that stays there, where it is taken.
+fn bar(walkable: &mut [bool], grid: &Grid, others: &Reservations, path: &TimedPath)
     requires { length walkable.old ≡ length grid.now.walkable }
-    ensures { IsBarredIf grid.now others.now cell walkable.old walkable.new }
+    ensures { IsBarredIf grid.now others.now path.now walkable.old walkable.new }
 {
+    if path.remaining() > 0 {
+        return;
+    }
+    let cell = path.at(0);
     if grid.passable(cell) && is_taken(others, cell) {
         walkable[cell.y as usize * grid.width() as usize + cell.x as usize] = false;
     }
 }
 
-/// The same grid without the cells at which somebody is at each time, as far as one of these paths begins there. It takes
-/// a byte a cell; the error comes where memory is wanting.
+/// The same grid without the cells at which somebody is at each time, as far as one of these paths stays there. It takes a
+/// byte a cell; the error comes where memory is wanting.
 pub fn without_taken(
     alloc: Global,
     grid: &Grid,
@@ -39,7 +43,7 @@ pub fn without_taken(
 {
     let mut walkable = grid.rows().to_vec(alloc)?;
     for path in paths {
-        bar(&mut walkable, grid, others, path.at(0));
+        bar(&mut walkable, grid, others, path);
     }
     Ok(Grid::new(grid.width(), grid.height(), walkable))
 }

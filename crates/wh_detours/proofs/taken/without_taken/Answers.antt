@@ -3,7 +3,7 @@ use Rattle.std.proofs.Math.Seq.{take-append_seam}
 use Rattle.std.proofs.lemmas.List.{get_or_default}
 use Rattle.wh_grid.specs.declared.cell.Cell.{Cell}
 use Rattle.wh_grid.specs.Grids.{Floor}
-use Rattle.wh_path.specs.Paths.{at, path_of}
+use Rattle.wh_path.specs.Paths.{path_of}
 use Rattle.wh_detours.specs.Taken.{IsWithoutTaken, IsFiltered, IsBarredIf}
 use Rattle.wh_detours.proofs.Filtered.{filtered_more, filtered_all}
 use Rattle.wh_detours.proofs.taken.without_taken.Goals as goal
@@ -15,8 +15,7 @@ loop-path-preserved c =
     let paths = c.args.paths.now in
     let n = c.loop-path.path-index in
     let item : path_of paths n ≡ c.path-item.result = get_or_default paths n [] c.path-item.result (omega arith) ∙ sym c.path-item.is in
-    let start : at (path_of paths n) 0 ≡ c.at.result = ap (λ (p : List Cell). at p 0) item ∙ sym c.at.ensures in
-    let was = subst (λ (d : Cell). IsBarredIf g o d c.loop-path.walkable.items c.bar.new.walkable) (sym start) (rw c.deref_mut.ensures.value at c.bar.ensures) in
+    let was = subst (λ (p : List Cell). IsBarredIf g o p c.loop-path.walkable.items c.bar.new.walkable) (sym item) (rw c.deref_mut.ensures.value at c.bar.ensures) in
     let now = c.bar.new.walkable in
     let size : c.loop-path.walkable.len ≡ length now = omega arith in
     let rest = drop (length now) c.loop-path.walkable.items in
