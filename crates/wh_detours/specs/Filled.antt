@@ -1,9 +1,10 @@
 -- fields of some stops, each filled beyond the cell from which it goes there
-use Rattle.std.specs.Prelude.{◌≡◌, ℕ, ◌+◌, ◌<◌, List, length, min, Bool, true, false, Option, Some, None, slice_index_or}
+use Rattle.std.specs.Prelude.{◌≡◌, ℕ, ◌+◌, ◌<◌, List, length, min, Bool, true, false, Option, Some, None, IsSomeAnd, slice_index_or}
 use Rattle.wh_grid.specs.declared.cell.Cell.{Cell}
 use Rattle.wh_grid.specs.Grids.{Floor}
 use Rattle.wh_path.specs.Paths.{cell_at}
 use Rattle.wh_field.specs.Distances.{distance}
+use Rattle.wh_field.specs.declared.sight.Sight.{Sight}
 use Rattle.wh_detours.specs.Barred.{cell_before}
 use Rattle.wh_detours.specs.declared.filled.Filled.{Filled}
 
@@ -27,3 +28,8 @@ IsFilledIf g from stop wanted (Some f) = (wanted ≡ true) × IsFilledFor g from
 pub record AreFilled (g : Floor) (loc : Cell) (stops : List Cell) (wanted : List Bool) (n : ℕ) (fields : List (Option Filled)) : Type 0 where
   pub size : length fields ≡ n
   pub each : (l : ℕ) → l < n → IsFilledIf g (cell_before loc stops l) (cell_at stops l) (slice_index_or wanted l false) (slice_index_or fields l None)
+
+-- of a stop with a field of its own it is a sight of that field as far as its level; else it is what was there
+abbrev pub IsSightFor : Option Filled → Option Sight → Option Sight → Type 0
+IsSightFor None was sight = sight ≡ was
+IsSightFor (Some f) was sight = IsSomeAnd sight (λ s. (s.field.now ≡ f.field) × (s.level ≡ f.level))

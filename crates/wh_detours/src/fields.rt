@@ -4,7 +4,7 @@
 ghost use Rattle.std.specs.Prelude.{◌≡◌, ℕ, ◌<◌, ◌≤◌, IfOk, IfSome, None, length, slice_index_or};
 ghost use Rattle.wh_path.specs.Paths.{cell_at};
 ghost use Rattle.wh_intervals.specs.Tasks.{IsSightOver, AreSightsOver};
-ghost use Rattle.wh_detours.specs.Filled.{IsFilledFor, IsFilledIf, AreFilled};
+ghost use Rattle.wh_detours.specs.Filled.{IsFilledFor, IsFilledIf, AreFilled, IsSightFor};
 
 use crate::filled::Filled;
 use std::alloc::{AllocError, Global};
@@ -73,7 +73,8 @@ fn sight_or<'a>(
 ) -> Option<Sight<'a>>
     requires kept { IfSome kept.now (λ f. (f.field.grid ≡ grid.now) × (f.field.cell ≡ stop)) }
     requires sight { IsSightOver grid.now sight stop }
-    ensures { IsSightOver grid.now result stop }
+    ensures over { IsSightOver grid.now result stop }
+    ensures which { IsSightFor kept.now sight.entry result }
 {
     let _ = grid;
     let _ = stop;
@@ -97,6 +98,7 @@ pub fn sights_over<'a>(
     requires sights { AreSightsOver grid.now stops.now sights.now }
     ensures size { length result ≡ 8 }
     ensures each { (l : ℕ) → l < length stops.now → IsSightOver grid.now (slice_index_or result l None) (cell_at stops.now l) }
+    ensures which { (l : ℕ) → l < length stops.now → IsSightFor (slice_index_or kept.now l None) (slice_index_or sights.now l None) (slice_index_or result l None) }
 {
     let _ = loc;
     let _ = wanted;
