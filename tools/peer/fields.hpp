@@ -43,9 +43,12 @@ struct Bounded {
 };
 
 class Fields {
+public:
+    static constexpr uint32_t FARTHER = 16;          // steps beyond the distance from which a leg starts
+
+private:
     static constexpr uint32_t SLOTS = 4;             // of each agent's planner, as the product has by default
     static constexpr size_t ROOM = 64 << 20;         // bytes for all fields, but for those of one task in any case
-    static constexpr uint32_t FARTHER = 16;          // steps beyond the distance from which a leg starts
 
     struct Entry {
         uint32_t goal = NONE;

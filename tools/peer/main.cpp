@@ -19,6 +19,10 @@
 //   else moves, and as many steps a leg as there are passable places.
 // - Straight pass: unless nobody may rest at the last stop so soon, a walk of just as many steps as are estimated at
 //   the start is sought depth first, by those moves alone by which the estimate falls, of the moves the last one first.
+// - Where that finds none, the way to each stop is walked down its field from the stop before, always to the first place
+//   beside that is nearer and not taken: at which not somebody else is at each time from now on. Where on the way to some
+//   stop none is left, all is sought anew as from the start, by the rules above and below, on the map without the places
+//   of those that have no steps left, and with the field over that map of each such stop.
 // - Over intervals: an arrival is a place, a number of stops behind, a time, and until when nobody else comes there, or
 //   the last time at which anything is sought. Of those that wait one of the least bound comes first, by time and
 //   estimate; all bounds up to the least that a path may have (from when on one may rest at the last stop, and one more

@@ -101,6 +101,9 @@ public:
         }
     }
 
+    // Whether somebody is at a cell at each time, as one that stays there is.
+    bool is_taken(uint32_t cell) const { return next_free(cell, 0) == NONE; }
+
     // From when on nobody else is at a cell where no other ends.
     uint32_t rest_from(uint32_t cell) const {
         uint32_t free = 0;

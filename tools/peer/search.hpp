@@ -1,9 +1,11 @@
 // The search for a least path over places and times, round the paths of all others: the straight pass, and where that
-// finds none the search over intervals, guided by the same estimates. Of several least paths the one must be found that
-// the product finds, as all later replies depend on it: main.cpp says by which rules.
+// finds none the search over intervals, guided by the same estimates; or, where those that stay bar the way to a stop,
+// both anew, on the map without their places. Of several least paths the one must be found that the product
+// finds, as all later replies depend on it: main.cpp says by which rules.
 #pragma once
 
 #include "check.hpp"
+#include "detours.hpp"
 #include "intervals.hpp"
 #include "straight.hpp"
 
@@ -13,12 +15,14 @@ class Search {
     Errand errand_;
     Straight straight_;
     Intervals intervals_;
+    Detours detours_;
 
 public:
     std::vector<uint32_t> path;    // the last that was found
 
     explicit Search(const Site& site)
-        : site_(site), reservations_(site.nofollow), errand_(reservations_), straight_(site.grid), intervals_(site.grid) {}
+        : site_(site), reservations_(site.nofollow), errand_(reservations_), straight_(site.grid), intervals_(site.grid),
+          detours_(site.grid) {}
 
     std::vector<PathView>& views() { return reservations_.views; }
 
@@ -26,7 +30,7 @@ public:
     bool deliver(uint32_t self, uint32_t start, const uint32_t* stops, uint32_t count, const Bounded* fields) {
         reservations_.reserve(self, stops[count - 1]);
         errand_.deliver(stops, count, fields, site_.grid.passable);
-        const bool found = run(start);
+        const bool found = run(start, stops, count, fields);
         if (!found) path.clear();
         CHECK_PATH(site_, views(), self, path, stops, count, nullptr);
         return found;
@@ -36,14 +40,15 @@ public:
     bool park(uint32_t self, uint32_t start, const uint32_t* field) {
         reservations_.reserve(self, NONE);
         errand_.park(field, site_.grid.passable);
-        const bool found = run(start);
+        const bool found = run(start, nullptr, 0, nullptr);
         if (!found) path.clear();
         CHECK_PATH(site_, views(), self, path, nullptr, 1, field);
         return found;
     }
 
 private:
-    bool run(uint32_t start) {
+    // By the errand's estimates. The fields are those of the stops where a detour may be made.
+    bool run(uint32_t start, const uint32_t* stops, uint32_t count, const Bounded* fields) {
         const uint32_t first = errand_.arrive(0, start);
         const uint32_t whole = errand_.estimate(first, start);
         uint32_t least = reservations_.first_end();    // no path is shorter
@@ -52,6 +57,17 @@ private:
             if (straight_.find(errand_, start, first, whole, path)) return true;
             least = whole + 1;
         }
+        if (fields)
+            if (const uint32_t legs = detours_.barred(reservations_, start, stops, count, fields))
+                return detour(start, stops, count, legs, fields);
         return intervals_.find(errand_, start, first, std::max(least, whole + 1), path);
+    }
+
+    bool detour(uint32_t start, const uint32_t* stops, uint32_t count, uint32_t legs, const Bounded* fields) {
+        Bounded anew[MOST_STOPS];
+        std::copy(fields, fields + count, anew);
+        detours_.make(reservations_, start, stops, count, legs, anew);
+        errand_.deliver(stops, count, anew, detours_.passable());
+        return run(start, nullptr, 0, nullptr);
     }
 };

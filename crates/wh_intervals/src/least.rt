@@ -17,8 +17,8 @@ use wh_search::errand::Errand as Task;
 use wh_search::{SearchMemory, find_straight};
 
 /// A least tour, or none where there is no tour, by a search over intervals. Each tour has more steps than are estimated
-/// at the start.
-fn over_intervals(alloc: Global, errand: &Task) -> Result<Option<TimedPath>, AllocError>
+/// at the start, as is known once the straight pass has found none.
+pub fn over_intervals(alloc: Global, errand: &Task) -> Result<Option<TimedPath>, AllocError>
     requires errand { IsErrand errand.now }
     requires clear { MayRest errand.now.others.now errand.now.loc 0 }
     requires late { (q : List Cell) → IsTour errand.now.grid.now errand.now.others.now errand.now.loc errand.now.via.now errand.now.ends.now q → guide_estimate errand.now.guide errand.now.first errand.now.loc < last_index q }

@@ -3,8 +3,8 @@
 //! in walls.
 
 use crate::errands::{
-    Found, delivered_by_layers, delivered_in, delivered_led, delivered_unled, outcome, parked,
-    parked_by_layers, parked_in,
+    Found, delivered_by_layers, delivered_in, delivered_led, delivered_round, delivered_unled,
+    outcome, parked, parked_by_layers, parked_in,
 };
 use std::alloc::{AllocError, Global};
 use std::test::Fail;
@@ -224,6 +224,7 @@ fn answered(
     alloc: Global,
     grid: &Grid,
     others: &Reservations,
+    paths: &[TimedPath],
     loc: Cell,
     stops: &[Cell],
     pair: [Cell; 2],
@@ -232,6 +233,8 @@ fn answered(
     let agree = by_intervals(alloc, grid, others, loc, stops, pair) == both
         && in_memory(alloc, grid, others, loc, stops, pair) == both
         && delivered_led(alloc, grid, others, loc, pair)
+            == delivered_by_layers(alloc, grid, others, loc, &pair)
+        && delivered_round(alloc, grid, others, paths, loc, pair)
             == delivered_by_layers(alloc, grid, others, loc, &pair)
         && both.delivered != Found::NoAnswer
         && both.parked != Found::NoAnswer;
@@ -255,7 +258,7 @@ fn asked(
     if !grid.passable(loc) || !others.may_rest(loc, 0) {
         return Ok(Scene::NotAsked);
     }
-    match answered(alloc, grid, &others, loc, stops, pair) {
+    match answered(alloc, grid, &others, paths, loc, stops, pair) {
         Some(both) => told(alloc, grid, paths, nofollow, stops, pair, both),
         None => Ok(Scene::Differs),
     }

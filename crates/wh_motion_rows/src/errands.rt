@@ -1,7 +1,8 @@
 //! What the files about searches share: floors, paths, and each search in one form, so that what they find can be compared.
 
 use std::alloc::{AllocError, Global};
-use wh_field::{Field, Sight};
+use wh_detours::deliver_round;
+use wh_field::{Field, GrowingField, MOST_LEVEL, Sight};
 use wh_grid::{Cell, Grid};
 use wh_intervals::{deliver, deliver_guided, deliver_sighted, guided_steps, park, park_in};
 use wh_path::TimedPath;
@@ -144,6 +145,43 @@ pub(crate) fn delivered_led(
     };
     let fields = [Some(&first), Some(&second)];
     outcome(deliver_guided(alloc, grid, others, loc, &stops, &fields))
+}
+
+/// By the search that makes detours round who stays, led by the fields of both stops, which are filled.
+pub(crate) fn delivered_round(
+    alloc: Global,
+    grid: &Grid,
+    others: &Reservations,
+    paths: &[TimedPath],
+    loc: Cell,
+    stops: [Cell; 2],
+) -> Found {
+    if !grid.passable(loc) || !others.may_rest(loc, 0) {
+        return Found::NoAnswer;
+    }
+    let (Ok(mut first), Ok(mut second)) = (
+        GrowingField::from(alloc, grid, stops[0]),
+        GrowingField::from(alloc, grid, stops[1]),
+    ) else {
+        return Found::NoAnswer;
+    };
+    first.fill_to(MOST_LEVEL);
+    second.fill_to(MOST_LEVEL);
+    let sights = [
+        Some(Sight::new(&first, MOST_LEVEL)),
+        Some(Sight::new(&second, MOST_LEVEL)),
+    ];
+    let mut memory = SearchMemory::empty(alloc);
+    outcome(deliver_round(
+        alloc,
+        &mut memory,
+        grid,
+        others,
+        paths,
+        loc,
+        &stops,
+        &sights,
+    ))
 }
 
 /// How many arrivals are expanded then, where there is a path.

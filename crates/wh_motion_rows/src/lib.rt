@@ -7,6 +7,8 @@ mod agree;
 #[cfg(test)]
 mod beyond;
 #[cfg(test)]
+mod detours;
+#[cfg(test)]
 mod errands;
 #[cfg(test)]
 mod field;

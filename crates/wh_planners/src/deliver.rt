@@ -12,9 +12,9 @@ ghost use Rattle.wh_shared.specs.Shares.{stored_grid, room, slots};
 ghost use Rattle.wh_planners.specs.Sharing.{IsFilled};
 
 use std::alloc::{AllocError, Global};
+use wh_detours::deliver_round;
 use wh_field::Sight;
 use wh_grid::{Cell, Grid};
-use wh_intervals::deliver_sighted;
 use wh_path::TimedPath;
 use wh_resv::Reservations;
 use wh_search::{Fault, SearchMemory};
@@ -83,7 +83,8 @@ fn sights_of<'a>(
 }
 
 /// A least path through the stops, guided by the shared fields of all of them, or of as many first ones as the store has
-/// room for. What other planners have filled changes nothing in it.
+/// room for; and, where others that stay bar a way by them, by fields of its own, as far as they stand in these paths.
+/// What other planners have filled changes nothing in it.
 pub fn deliver_shared(
     alloc: Global,
     store: &mut SharedFields,
@@ -91,6 +92,7 @@ pub fn deliver_shared(
     memory: &mut SearchMemory,
     grid: &Grid,
     others: &Reservations,
+    paths: &[TimedPath],
     loc: Cell,
     stops: &[Cell],
 ) -> Result<TimedPath, Fault>
@@ -108,11 +110,12 @@ pub fn deliver_shared(
     match ask_fields(alloc, store, share, loc, stops) {
         Ok(levels) => {
             let sights = sights_of(store, stops, levels);
-            deliver_sighted(
+            deliver_round(
                 alloc,
                 memory,
                 grid,
                 others,
+                paths,
                 loc,
                 stops,
                 &sights[..stops.len()],

@@ -58,7 +58,15 @@ pub fn plan_delivery(
     }
     match reserve(alloc, scene) {
         Ok(others) => match deliver_shared(
-            alloc, fields, share, memory, scene.grid, &others, loc, stops,
+            alloc,
+            fields,
+            share,
+            memory,
+            scene.grid,
+            &others,
+            scene.paths,
+            loc,
+            stops,
         ) {
             Ok(path) => Ok(path),
             Err(Fault::NoPath) => Err(PlanFault::NoPath),

@@ -1,0 +1,5 @@
+pub mod Ways
+pub mod Telling
+pub mod Detours
+pub mod Filling
+pub mod Filtered

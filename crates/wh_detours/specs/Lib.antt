@@ -1,0 +1,4 @@
+pub mod Taken
+pub mod Barred
+pub mod Filled
+pub mod Laws
