@@ -31,6 +31,7 @@ use wh_path::TimedPath;
 use wh_state::{Arrivals, Floor};
 use wh_tasks::{Load, TaskSet};
 use wh_text::Name;
+use wh_timetable::Timetable;
 
 /// The state, the history that led to it, and what the opening state was made of.
 #[derive(Drop)]
@@ -155,6 +156,15 @@ impl Book {
         ensures few { length result.now ≤ 256 }
     {
         self.floor.paths()
+    }
+
+    /// The paths, any two of them free of each other, for planners.
+    pub fn timetable(&self) -> &Timetable
+        ensures value { result.now ≡ self.now.state.paths }
+        ensures free { AllFree self.now.site.layout.nofollow self.now.state.paths }
+        ensures few { length result.now ≤ 256 }
+    {
+        self.floor.timetable()
     }
 
     /// The tasks.
@@ -406,22 +416,23 @@ impl Book {
         }
     }
 
-    /// The agent takes the task by the path.
+    /// The agent takes the task by the path. The book stays as it is, and has room for the path.
     pub fn draft_took(
-        &self,
+        &mut self,
         alloc: Global,
         caller: u32,
         agent: u32,
         task: u32,
         path: TimedPath,
     ) -> Result<Draft, AllocError>
-        requires due { IsDue self.now.state agent }
-        requires lawful { (job : Job) × IsNext self.now.site self.now.state agent task job
-            × IsLawful self.now.site.grid self.now.site.layout.nofollow self.now.state.paths agent (length job.stops) (Delivers job.stops) path }
-        requires room { 1 ≤ self.now.entry_room }
-        ensures { IfOk result (Drafts self.now caller (Asked.Request agent)) }
+        requires due { IsDue self.old.state agent }
+        requires lawful { (job : Job) × IsNext self.old.site self.old.state agent task job
+            × IsLawful self.old.site.grid self.old.site.layout.nofollow self.old.state.paths agent (length job.stops) (Delivers job.stops) path }
+        requires room { 1 ≤ self.old.entry_room }
+        ensures book { self.new ≡ self.old }
+        ensures drafts { IfOk result (Drafts self.old caller (Asked.Request agent)) }
     {
-        let _kept = &self.history;
+        self.floor.reserve_path(&path)?;
         let entry = Entry {
             caller,
             event: Event::Request { agent },
@@ -436,20 +447,22 @@ impl Book {
         })
     }
 
-    /// The agent makes way by the path.
+    /// The agent makes way by the path. The book stays as it is, and has room for the path.
     pub fn draft_parked(
-        &self,
+        &mut self,
         alloc: Global,
         caller: u32,
         agent: u32,
         path: TimedPath,
     ) -> Result<Draft, AllocError>
-        requires due { IsDue self.now.state agent }
-        requires makes_way { MakesWay self.now.state agent }
-        requires lawful { IsLawful self.now.site.grid self.now.site.layout.nofollow self.now.state.paths agent 2 (ParksAt (IsAllowed self.now.site self.now.state agent)) path }
-        requires room { 1 ≤ self.now.entry_room }
-        ensures { IfOk result (Drafts self.now caller (Asked.Request agent)) }
+        requires due { IsDue self.old.state agent }
+        requires makes_way { MakesWay self.old.state agent }
+        requires lawful { IsLawful self.old.site.grid self.old.site.layout.nofollow self.old.state.paths agent 2 (ParksAt (IsAllowed self.old.site self.old.state agent)) path }
+        requires room { 1 ≤ self.old.entry_room }
+        ensures book { self.new ≡ self.old }
+        ensures drafts { IfOk result (Drafts self.old caller (Asked.Request agent)) }
     {
+        self.floor.reserve_path(&path)?;
         let point = self.setting.point_at(path.end());
         let entry = Entry {
             caller,

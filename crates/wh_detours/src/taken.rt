@@ -8,7 +8,6 @@ use std::alloc::{AllocError, Global};
 use wh_grid::{Cell, Grid};
 use wh_path::TimedPath;
 use wh_resv::Reservations;
-use wh_timetable::Occupancy;
 
 /// Whether at each time somebody is at a cell.
 pub fn is_taken(others: &Reservations, cell: Cell) -> bool

@@ -13,7 +13,7 @@ use Rattle.wh_search.proofs.Expands.{arrives_one}
 use Rattle.wh_intervals.specs.Arrivals.{Arrival, Stands, Covered, IsInterval, total}
 use Rattle.wh_intervals.specs.Closings.{Notes}
 use Rattle.wh_intervals.specs.Efforts.{arrival, IsOneOf, GoesOn, IsPart, AreExpandedBy}
-use Rattle.wh_timetable.specs.Questions.{IsClear}
+use Rattle.wh_resv.specs.Questions.{IsClear}
 use Rattle.wh_intervals.specs.Laws.{IsSettled}
 use Rattle.wh_intervals.specs.Problems.{Problem, IsProblem}
 use Rattle.wh_intervals.specs.Queues.{Waiting, Pops}

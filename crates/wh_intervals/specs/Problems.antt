@@ -21,8 +21,8 @@ pub record Problem : Type 0 where
   pub limit : ℕ
   pub base : ℕ
 
-abbrev pub problem : {T : Type 0} → (T → Others) → Errand T → Problem
-problem others e = record { grid = e.grid.now; others = others e.others.now; via = e.via.now; ends = e.ends.now; start = record { leg = e.first; cell = e.loc }; estimate = guide_estimate e.guide; limit = e.limit; base = e.base }
+abbrev pub problem : Errand → Problem
+problem e = record { grid = e.grid.now; others = e.others.now; via = e.via.now; ends = e.ends.now; start = record { leg = e.first; cell = e.loc }; estimate = guide_estimate e.guide; limit = e.limit; base = e.base }
 
 -- its numbers are right
 pub record IsProblem (p : Problem) : Type 0 where

@@ -9,17 +9,17 @@ ghost use Rattle.wh_search.specs.States.{IsEnd};
 ghost use Rattle.wh_intervals.specs.Problems.{problem, IsProblem};
 
 use wh_grid::{Cell, Grid};
+use wh_resv::Reservations;
 use wh_search::guide::Guide;
 use wh_search::noted::holds;
-use wh_timetable::Occupancy;
 
 /// What an agent is to do: beside whom, from where, through which stops in order, and to which ends;
 /// how many stops it has behind it at once, the last time that is looked at, and a time before which
 /// no path ends.
-#[derive_where(Clone, Copy)]
-pub struct Errand<'a, T> {
+#[derive(Clone, Copy)]
+pub struct Errand<'a> {
     pub grid: &'a Grid,
-    pub others: &'a T,
+    pub others: &'a Reservations<'a>,
     pub loc: Cell,
     pub via: &'a [Cell],
     pub ends: &'a [Cell],
@@ -29,11 +29,11 @@ pub struct Errand<'a, T> {
     pub base: u64,
 }
 
-impl<'a, T: Occupancy> Errand<'a, T> {
+impl<'a> Errand<'a> {
     /// Whether a passable cell is one of the ends. There may be many, and they are gone through only
     /// where the estimate is 0, as it is at each of them.
     fn ends_at(&self, cell: Cell) -> bool
-        requires errand { IsProblem (problem T.others self.now) }
+        requires errand { IsProblem (problem self.now) }
         requires inside { IsPassable self.now.grid.now cell }
         ensures { IsTrue result ↔ Contains self.now.ends.now cell }
     {
@@ -45,9 +45,9 @@ impl<'a, T: Occupancy> Errand<'a, T> {
 
     /// Whether an agent at a passable cell with so many stops behind it at k is at an end.
     pub fn is_end(&self, leg: usize, cell: Cell, k: u64) -> bool
-        requires errand { IsProblem (problem T.others self.now) }
+        requires errand { IsProblem (problem self.now) }
         requires inside { IsPassable self.now.grid.now cell }
-        ensures { IsTrue result ↔ IsEnd (T.others self.now.others.now) self.now.via.now self.now.ends.now k (record { leg = leg; cell = cell }) }
+        ensures { IsTrue result ↔ IsEnd self.now.others.now self.now.via.now self.now.ends.now k (record { leg = leg; cell = cell }) }
     {
         leg == self.via.len() && self.ends_at(cell) && self.others.may_rest(cell, k)
     }
@@ -55,9 +55,9 @@ impl<'a, T: Occupancy> Errand<'a, T> {
 
 /// A time before which no path ends at a cell where nobody may rest before `soonest`. Under the rule
 /// that nobody follows it is one later: in the tick after another has left the cell nobody comes to it.
-pub fn first_end<T: Occupancy>(others: &T, cell: Cell, soonest: u64) -> u64
-    requires { (k : ℕ) → MayRest (T.others others.now) cell k → soonest ≤ k }
-    ensures { (k : ℕ) → MayEnd (T.others others.now) cell k → result ≤ k }
+pub fn first_end(others: &Reservations, cell: Cell, soonest: u64) -> u64
+    requires { (k : ℕ) → MayRest others.now cell k → soonest ≤ k }
+    ensures { (k : ℕ) → MayEnd others.now cell k → result ≤ k }
 {
     let _ = cell;
     if others.nofollow() && soonest > 0 {

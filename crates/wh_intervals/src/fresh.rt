@@ -14,8 +14,8 @@ use std::alloc::{AllocError, Global};
 use wh_field::Field;
 use wh_grid::{Cell, Grid};
 use wh_path::TimedPath;
+use wh_resv::Reservations;
 use wh_search::Fault;
-use wh_timetable::Occupancy;
 
 /// The field of each stop.
 fn fields_from(alloc: Global, grid: &Grid, stops: &[Cell]) -> Result<Vec<Field>, AllocError>
@@ -47,19 +47,19 @@ fn lent<'a>(grid: &Grid, stops: &[Cell], kept: &'a [Field]) -> [Option<&'a Field
 /// A lawful path from loc through the stops, with the least last index of all; it makes the field
 /// of each stop. `NoPath` exactly where no path delivers, however long; else `NoMemory` where
 /// memory ran out.
-pub fn deliver<'x, T: Occupancy>(
+pub fn deliver<'x>(
     alloc: Global,
     grid: &'x Grid,
-    others: &'x T,
+    others: &'x Reservations<'x>,
     loc: Cell,
     stops: &'x [Cell],
 ) -> Result<TimedPath, Fault>
     requires inside { IsPassable grid.now loc }
-    requires clear { MayRest (T.others others.now) loc 0 }
+    requires clear { MayRest others.now loc 0 }
     requires stops { AreStops stops.now }
-    ensures lawful { IfOk result (λ p. IsLawful grid.now (T.others others.now) loc stops.now p) }
-    ensures least { IfOk result (λ p. (q : List Cell) → IsDelivery grid.now (T.others others.now) loc stops.now q → last_index p ≤ last_index q) }
-    ensures none { IfNoPath result ((q : List Cell) → IsDelivery grid.now (T.others others.now) loc stops.now q → ⊥) }
+    ensures lawful { IfOk result (λ p. IsLawful grid.now others.now loc stops.now p) }
+    ensures least { IfOk result (λ p. (q : List Cell) → IsDelivery grid.now others.now loc stops.now q → last_index p ≤ last_index q) }
+    ensures none { IfNoPath result ((q : List Cell) → IsDelivery grid.now others.now loc stops.now q → ⊥) }
 {
     match fields_from(alloc, grid, stops) {
         Ok(kept) => {

@@ -19,30 +19,30 @@ use std::alloc::{AllocError, Global};
 use wh_field::{Field, NearestField};
 use wh_grid::{Cell, Grid};
 use wh_path::TimedPath;
+use wh_resv::Reservations;
 use wh_search::Fault;
 use wh_search::errand::arrive;
 use wh_search::guide::{Guide, onward_of};
-use wh_timetable::Occupancy;
 
 /// A least path, or none where there is no delivery; and what was expanded.
-fn find<'x, T: Occupancy>(
+fn find<'x>(
     alloc: Global,
     grid: &'x Grid,
-    others: &'x T,
+    others: &'x Reservations<'x>,
     loc: Cell,
     stops: &'x [Cell],
     fields: &'x [Option<&'x Field>],
     expanded: &mut Vec<Stay>,
 ) -> Result<Option<TimedPath>, AllocError>
     requires inside { IsPassable grid.now loc }
-    requires clear { MayRest (T.others others.now) loc 0 }
+    requires clear { MayRest others.now loc 0 }
     requires stops { AreStops stops.now }
     requires fields { AreFieldsOf grid.now stops.now fields.now }
-    ensures expanded { IfOk result (λ found. IfSome found (λ p. IsSearch grid.now (T.others others.now) loc stops.now fields.now (last_index p) expanded.new.items)) }
+    ensures expanded { IfOk result (λ found. IfSome found (λ p. IsSearch grid.now others.now loc stops.now fields.now (last_index p) expanded.new.items)) }
     ensures moves { IfOk result (λ found. IfSome found (λ p. MovesAtMost p (length expanded.new.items))) }
     ensures found { IfOk result (λ found. MatchOption found
-        ((q : List Cell) → IsDelivery grid.now (T.others others.now) loc stops.now q → ⊥)
-        (λ p. IsLeast grid.now (T.others others.now) loc stops.now p)) }
+        ((q : List Cell) → IsDelivery grid.now others.now loc stops.now q → ⊥)
+        (λ p. IsLeast grid.now others.now loc stops.now p)) }
 {
     let Some(soonest) = others.not_before(stops[stops.len() - 1]) else {
         return Ok(None);
@@ -72,21 +72,21 @@ fn find<'x, T: Occupancy>(
 /// A lawful path from loc through the stops, with the least last index of all. The fields that are
 /// there guide the search. `NoPath` exactly where no path delivers, however long; else `NoMemory`
 /// where memory ran out.
-pub fn deliver_guided<'x, T: Occupancy>(
+pub fn deliver_guided<'x>(
     alloc: Global,
     grid: &'x Grid,
-    others: &'x T,
+    others: &'x Reservations<'x>,
     loc: Cell,
     stops: &'x [Cell],
     fields: &'x [Option<&'x Field>],
 ) -> Result<TimedPath, Fault>
     requires inside { IsPassable grid.now loc }
-    requires clear { MayRest (T.others others.now) loc 0 }
+    requires clear { MayRest others.now loc 0 }
     requires stops { AreStops stops.now }
     requires fields { AreFieldsOf grid.now stops.now fields.now }
-    ensures lawful { IfOk result (λ p. IsLawful grid.now (T.others others.now) loc stops.now p) }
-    ensures least { IfOk result (λ p. (q : List Cell) → IsDelivery grid.now (T.others others.now) loc stops.now q → last_index p ≤ last_index q) }
-    ensures none { IfNoPath result ((q : List Cell) → IsDelivery grid.now (T.others others.now) loc stops.now q → ⊥) }
+    ensures lawful { IfOk result (λ p. IsLawful grid.now others.now loc stops.now p) }
+    ensures least { IfOk result (λ p. (q : List Cell) → IsDelivery grid.now others.now loc stops.now q → last_index p ≤ last_index q) }
+    ensures none { IfNoPath result ((q : List Cell) → IsDelivery grid.now others.now loc stops.now q → ⊥) }
 {
     let mut expanded = Vec::new(alloc);
     match find(alloc, grid, others, loc, stops, fields, &mut expanded) {
@@ -101,21 +101,21 @@ pub fn deliver_guided<'x, T: Occupancy>(
 /// They are those of a best-first search: each can be reached and may, by the fields, lead to a
 /// least path, and for all that may lead to a shorter one they stand. Of no state at any time do two
 /// stand. They are no fewer than the moves of some least path.
-pub fn guided_steps<'x, T: Occupancy>(
+pub fn guided_steps<'x>(
     alloc: Global,
     grid: &'x Grid,
-    others: &'x T,
+    others: &'x Reservations<'x>,
     loc: Cell,
     stops: &'x [Cell],
     fields: &'x [Option<&'x Field>],
 ) -> Result<u64, Fault>
     requires inside { IsPassable grid.now loc }
-    requires clear { MayRest (T.others others.now) loc 0 }
+    requires clear { MayRest others.now loc 0 }
     requires stops { AreStops stops.now }
     requires fields { AreFieldsOf grid.now stops.now fields.now }
-    ensures effort { IfOk result (λ n. IsEffort grid.now (T.others others.now) loc stops.now fields.now n) }
-    ensures enough { IfOk result (λ n. IsEnough grid.now (T.others others.now) loc stops.now n) }
-    ensures none { IfNoPath result ((q : List Cell) → IsDelivery grid.now (T.others others.now) loc stops.now q → ⊥) }
+    ensures effort { IfOk result (λ n. IsEffort grid.now others.now loc stops.now fields.now n) }
+    ensures enough { IfOk result (λ n. IsEnough grid.now others.now loc stops.now n) }
+    ensures none { IfNoPath result ((q : List Cell) → IsDelivery grid.now others.now loc stops.now q → ⊥) }
 {
     let mut expanded = Vec::new(alloc);
     match find(alloc, grid, others, loc, stops, fields, &mut expanded) {
@@ -126,21 +126,21 @@ pub fn guided_steps<'x, T: Occupancy>(
 }
 
 /// A least path to one of the allowed cells, or none, by the field of them all; and what was expanded.
-fn find_by<'x, T: Occupancy>(
+fn find_by<'x>(
     alloc: Global,
     grid: &'x Grid,
-    others: &'x T,
+    others: &'x Reservations<'x>,
     loc: Cell,
     allowed: &'x [Cell],
     field: &'x NearestField,
     expanded: &mut Vec<Stay>,
 ) -> Result<Option<TimedPath>, AllocError>
     requires inside { IsPassable grid.now loc }
-    requires clear { MayRest (T.others others.now) loc 0 }
+    requires clear { MayRest others.now loc 0 }
     requires field { field.now ≡ record { grid = grid.now; cells = allowed.now } }
     ensures { IfOk result (λ found. MatchOption found
-        ((q : List Cell) → IsParking grid.now (T.others others.now) loc allowed.now q → ⊥)
-        (λ p. IsLeastParking grid.now (T.others others.now) loc allowed.now p)) }
+        ((q : List Cell) → IsParking grid.now others.now loc allowed.now q → ⊥)
+        (λ p. IsLeastParking grid.now others.now loc allowed.now p)) }
 {
     let horizon = others.horizon();
     let errand = Errand {
@@ -158,18 +158,18 @@ fn find_by<'x, T: Occupancy>(
 }
 
 /// A least path to one of the allowed cells, or none; it makes the field of them all.
-fn find_parking<T: Occupancy>(
+fn find_parking(
     alloc: Global,
     grid: &Grid,
-    others: &T,
+    others: &Reservations,
     loc: Cell,
     allowed: &[Cell],
 ) -> Result<Option<TimedPath>, AllocError>
     requires inside { IsPassable grid.now loc }
-    requires clear { MayRest (T.others others.now) loc 0 }
+    requires clear { MayRest others.now loc 0 }
     ensures { IfOk result (λ found. MatchOption found
-        ((q : List Cell) → IsParking grid.now (T.others others.now) loc allowed.now q → ⊥)
-        (λ p. IsLeastParking grid.now (T.others others.now) loc allowed.now p)) }
+        ((q : List Cell) → IsParking grid.now others.now loc allowed.now q → ⊥)
+        (λ p. IsLeastParking grid.now others.now loc allowed.now p)) }
 {
     let field = NearestField::from(alloc, grid, allowed)?;
     let mut expanded = Vec::new(alloc);
@@ -179,17 +179,17 @@ fn find_parking<T: Occupancy>(
 /// A lawful path from loc to one of the allowed cells, with the least last index of all; it makes
 /// the field of them all. `NoPath` exactly where no path parks, however long; else `NoMemory` where
 /// memory ran out.
-pub fn park<'x, T: Occupancy>(
+pub fn park<'x>(
     alloc: Global,
     grid: &'x Grid,
-    others: &'x T,
+    others: &'x Reservations<'x>,
     loc: Cell,
     allowed: &'x [Cell],
 ) -> Result<TimedPath, Fault>
     requires inside { IsPassable grid.now loc }
-    requires clear { MayRest (T.others others.now) loc 0 }
-    ensures least { IfOk result (λ p. IsLeastParking grid.now (T.others others.now) loc allowed.now p) }
-    ensures none { IfNoPath result ((q : List Cell) → IsParking grid.now (T.others others.now) loc allowed.now q → ⊥) }
+    requires clear { MayRest others.now loc 0 }
+    ensures least { IfOk result (λ p. IsLeastParking grid.now others.now loc allowed.now p) }
+    ensures none { IfNoPath result ((q : List Cell) → IsParking grid.now others.now loc allowed.now q → ⊥) }
 {
     match find_parking(alloc, grid, others, loc, allowed) {
         Ok(Some(path)) => Ok(path),

@@ -24,26 +24,26 @@ use crate::stay::{Stay, stay_of};
 use crate::trail::walk_back;
 use std::alloc::{AllocError, Global};
 use wh_path::TimedPath;
-use wh_timetable::Occupancy;
+use wh_resv::Reservations;
 
 /// Expands a node that was taken from the queue, for those times of its interval for which none is
 /// expanded yet.
-fn take<T: Occupancy>(
-    errand: &Errand<T>,
+fn take(
+    errand: &Errand,
     states: &mut States,
     expanded: &mut Vec<Stay>,
     index: usize,
 ) -> Result<(), AllocError>
-    requires errand { IsProblem (problem T.others errand.now) }
-    requires kept { IsKept (problem T.others errand.now) states.old.nodes.items states.old.queue (Some index) }
+    requires errand { IsProblem (problem errand.now) }
+    requires kept { IsKept (problem errand.now) states.old.nodes.items states.old.queue (Some index) }
     requires within { index < vec_len states.old.nodes }
-    requires told { IsTold (problem T.others errand.now) states.old.nodes.items states.old.queue (Some index) (closed_by (get interval_eq states.old.intervals)) expanded.old.items }
-    requires first { (b i : ℕ) → Waiting states.old.queue b i → bound_at (problem T.others errand.now) (node_at states.old.nodes.items index) ≤ b }
-    requires past { (i : Span) (t : ℕ) → closed_by (get interval_eq states.old.intervals) i ≡ Some t → bound_at (problem T.others errand.now) (node_in i t) ≤ bound_at (problem T.others errand.now) (node_at states.old.nodes.items index) }
-    requires may_lead { (q : List Cell) → IsTour errand.now.grid.now (T.others errand.now.others.now) errand.now.loc errand.now.via.now errand.now.ends.now q → total_at (problem T.others errand.now) (node_at states.old.nodes.items index) ≤ last_index q }
-    requires no_end { IsEnd (T.others errand.now.others.now) errand.now.via.now errand.now.ends.now (node_at states.old.nodes.items index).time (state_of (node_at states.old.nodes.items index)) → ⊥ }
-    ensures kept { OnOk result (IsKept (problem T.others errand.now) states.new.nodes.items states.new.queue None) }
-    ensures told { OnOk result (IsTold (problem T.others errand.now) states.new.nodes.items states.new.queue None (closed_by (get interval_eq states.new.intervals)) expanded.new.items) }
+    requires told { IsTold (problem errand.now) states.old.nodes.items states.old.queue (Some index) (closed_by (get interval_eq states.old.intervals)) expanded.old.items }
+    requires first { (b i : ℕ) → Waiting states.old.queue b i → bound_at (problem errand.now) (node_at states.old.nodes.items index) ≤ b }
+    requires past { (i : Span) (t : ℕ) → closed_by (get interval_eq states.old.intervals) i ≡ Some t → bound_at (problem errand.now) (node_in i t) ≤ bound_at (problem errand.now) (node_at states.old.nodes.items index) }
+    requires may_lead { (q : List Cell) → IsTour errand.now.grid.now errand.now.others.now errand.now.loc errand.now.via.now errand.now.ends.now q → total_at (problem errand.now) (node_at states.old.nodes.items index) ≤ last_index q }
+    requires no_end { IsEnd errand.now.others.now errand.now.via.now errand.now.ends.now (node_at states.old.nodes.items index).time (state_of (node_at states.old.nodes.items index)) → ⊥ }
+    ensures kept { OnOk result (IsKept (problem errand.now) states.new.nodes.items states.new.queue None) }
+    ensures told { OnOk result (IsTold (problem errand.now) states.new.nodes.items states.new.queue None (closed_by (get interval_eq states.new.intervals)) expanded.new.items) }
 {
     let node = states.nodes[index];
     let Some(last) = close(&mut states.intervals, node)? else {
@@ -55,18 +55,18 @@ fn take<T: Occupancy>(
 }
 
 /// A least tour, or none where there is no tour; and what was expanded, whatever was there before.
-pub fn search<T: Occupancy>(
+pub fn search(
     alloc: Global,
-    errand: &Errand<T>,
+    errand: &Errand,
     expanded: &mut Vec<Stay>,
 ) -> Result<Option<TimedPath>, AllocError>
-    requires errand { IsProblem (problem T.others errand.now) }
-    requires clear { MayRest (T.others errand.now.others.now) errand.now.loc 0 }
-    ensures expanded { IfOk result (λ found. IfSome found (λ p. AreExpandedBy errand.now.grid.now (T.others errand.now.others.now) errand.now.via.now errand.now.loc (guide_estimate errand.now.guide) errand.now.base errand.now.limit (last_index p) expanded.new.items)) }
+    requires errand { IsProblem (problem errand.now) }
+    requires clear { MayRest errand.now.others.now errand.now.loc 0 }
+    ensures expanded { IfOk result (λ found. IfSome found (λ p. AreExpandedBy errand.now.grid.now errand.now.others.now errand.now.via.now errand.now.loc (guide_estimate errand.now.guide) errand.now.base errand.now.limit (last_index p) expanded.new.items)) }
     ensures moves { IfOk result (λ found. IfSome found (λ p. MovesAtMost p (length expanded.new.items))) }
     ensures found { IfOk result (λ found. MatchOption found
-        ((q : List Cell) → IsTour errand.now.grid.now (T.others errand.now.others.now) errand.now.loc errand.now.via.now errand.now.ends.now q → ⊥)
-        (λ p. IsLeastTour errand.now.grid.now (T.others errand.now.others.now) errand.now.loc errand.now.via.now errand.now.ends.now p)) }
+        ((q : List Cell) → IsTour errand.now.grid.now errand.now.others.now errand.now.loc errand.now.via.now errand.now.ends.now q → ⊥)
+        (λ p. IsLeastTour errand.now.grid.now errand.now.others.now errand.now.loc errand.now.via.now errand.now.ends.now p)) }
 {
     let left = errand.guide.estimate(errand.first, errand.loc);
     if left > errand.limit {

@@ -1,19 +1,19 @@
-//! The search over intervals, by visits and by a timetable, with the straight pass and without, ends when the plain one by
-//! layers of time does: on small made maps with walls, beside agents that wander, rest in doors, meet one another or stand
-//! in walls.
+//! The search over intervals, beside paths and beside a timetable, with the straight pass and without, ends when the plain
+//! one by layers of time does: on small made maps with walls, beside agents that wander, rest in doors, meet one another
+//! or stand in walls.
 
 use crate::errands::{
     Found, delivered_by_layers, delivered_in, delivered_led, delivered_round, delivered_unled,
-    outcome, parked, parked_by_layers, parked_in,
+    parked, parked_by_layers, parked_in,
 };
+use crate::timetable::say_the_same;
 use std::alloc::{AllocError, Global};
 use std::test::Fail;
 use wh_grid::{Cell, Grid};
-use wh_intervals::{deliver_guided, park};
 use wh_path::TimedPath;
 use wh_resv::Reservations;
 use wh_search::SearchMemory;
-use wh_timetable::{Beside, Sides, Timetable};
+use wh_timetable::Timetable;
 
 /// Numbers that look drawn by lot, the same in each run.
 #[derive(Drop)]
@@ -145,41 +145,34 @@ fn in_memory(
     Both { delivered, parked }
 }
 
-/// By a timetable, from where its first agent is.
-fn by_timetable(
-    alloc: Global,
-    grid: &Grid,
-    all: &Timetable,
-    nofollow: bool,
-    stops: &[Cell],
-    pair: [Cell; 2],
-) -> Option<Both> {
-    if all.paths().is_empty() || stops.len() < 2 || stops.len() > 8 {
-        return None;
-    }
-    let others = Beside::of(all, 0, nofollow);
-    let loc = all.paths()[0].at(0);
-    if !grid.passable(loc) || !others.may_rest(loc, 0) {
-        return None;
-    }
-    let bare = [None; 8];
-    let fields = &bare[..stops.len()];
-    Some(Both {
-        delivered: outcome(deliver_guided(alloc, grid, &others, loc, stops, fields)),
-        parked: outcome(park(alloc, grid, &others, loc, &pair)),
-    })
+/// The same path a step later.
+fn a_step_later(alloc: Global, path: &TimedPath) -> Result<TimedPath, AllocError> {
+    let mut late = TimedPath::one(alloc, path.start())?;
+    late.push(path.start())?;
+    late.follow(path)?;
+    Ok(late)
 }
 
-/// Whether there is a timetable of the paths; they are added to it one by one.
-fn add_all(alloc: Global, all: &mut Timetable, paths: &[TimedPath]) -> Result<bool, AllocError> {
-    for path in paths {
-        let count = all.paths().len();
-        if count >= 1000 || !all.may_go(count as u32, path) {
-            return Ok(false);
-        }
-        all.add(alloc, path.copy(alloc)?)?;
+/// One more agent stays where a path ends, and then goes by the path, a step later.
+fn join(alloc: Global, all: &mut Timetable, path: &TimedPath) -> Result<(), AllocError> {
+    let agent = all.paths().len();
+    all.add(TimedPath::one(alloc, path.end())?)?;
+    let late = a_step_later(alloc, path)?;
+    all.reserve(&late)?;
+    if agent < all.paths().len() {
+        all.adopt(agent, late);
     }
-    Ok(true)
+    Ok(())
+}
+
+/// A timetable of the paths, after a tick.
+fn timetable_of(alloc: Global, paths: &[TimedPath]) -> Result<Timetable, AllocError> {
+    let mut all = Timetable::empty(alloc, 20)?;
+    for path in paths {
+        join(alloc, &mut all, path)?;
+    }
+    all.tick();
+    Ok(all)
 }
 
 /// What can be said of a made scene.
@@ -187,33 +180,30 @@ fn add_all(alloc: Global, all: &mut Timetable, paths: &[TimedPath]) -> Result<bo
 enum Scene {
     /// The agent may not rest where it is.
     NotAsked,
-    /// All searches agree, and there is no timetable of it.
-    Asked,
-    /// All searches agree, those by a timetable too.
-    InTimetable,
+    /// All searches agree, those beside a timetable too.
+    Agree,
     Differs,
 }
 
-/// What the timetable says, if there is one.
+/// Whether beside the others of the first agent of a timetable all answers are those beside these others.
 fn told(
     alloc: Global,
     grid: &Grid,
-    paths: &[TimedPath],
-    nofollow: bool,
+    all: &Timetable,
+    others: &Reservations,
+    loc: Cell,
     stops: &[Cell],
     pair: [Cell; 2],
     expected: Both,
 ) -> Result<Scene, AllocError> {
-    let sides = Sides {
-        width: 5,
-        height: 4,
-    };
-    let mut all = Timetable::empty(alloc, sides, 0)?;
-    if !add_all(alloc, &mut all, paths)? {
-        return Ok(Scene::Asked);
+    if all.paths().is_empty() {
+        return Ok(Scene::Differs);
     }
-    if by_timetable(alloc, grid, &all, nofollow, stops, pair) == Some(expected) {
-        Ok(Scene::InTimetable)
+    let beside = Reservations::beside(alloc, all, 0, others.nofollow())?;
+    if say_the_same(&beside, others)
+        && by_intervals(alloc, grid, &beside, loc, stops, pair) == expected
+    {
+        Ok(Scene::Agree)
     } else {
         Ok(Scene::Differs)
     }
@@ -259,7 +249,10 @@ fn asked(
         return Ok(Scene::NotAsked);
     }
     match answered(alloc, grid, &others, paths, loc, stops, pair) {
-        Some(both) => told(alloc, grid, paths, nofollow, stops, pair, both),
+        Some(both) => {
+            let all = timetable_of(alloc, paths)?;
+            told(alloc, grid, &all, &others, loc, stops, pair, both)
+        }
         None => Ok(Scene::Differs),
     }
 }
@@ -287,22 +280,18 @@ fn make_scene(alloc: Global, dice: &mut Dice, nofollow: bool) -> Result<Scene, A
     )
 }
 
-/// Whether the searches agree on some made scenes, of which a good part can be asked, and a good part has a timetable.
+/// Whether the searches agree on some made scenes, of which a good part can be asked.
 fn agree_on_many(alloc: Global, nofollow: bool) -> Result<bool, AllocError> {
     let mut dice = Dice { state: 2011 };
-    let (mut asked, mut in_timetable) = (0u32, 0u32);
+    let mut asked = 0u32;
     for _ in 0..60u8 {
         match make_scene(alloc, &mut dice, nofollow)? {
             Scene::NotAsked => {}
-            Scene::Asked => asked = asked.saturating_add(1),
-            Scene::InTimetable => {
-                asked = asked.saturating_add(1);
-                in_timetable = in_timetable.saturating_add(1);
-            }
+            Scene::Agree => asked = asked.saturating_add(1),
             Scene::Differs => return Ok(false),
         }
     }
-    Ok(asked > 20 && in_timetable > 10)
+    Ok(asked > 20)
 }
 
 #[test]

@@ -13,6 +13,7 @@ use std::alloc::Global;
 use wh_grid::Grid;
 use wh_path::TimedPath;
 use wh_shared::SharedFields;
+use wh_timetable::Timetable;
 
 /// What a planner sees of the warehouse.
 #[derive(Clone, Copy)]
@@ -22,7 +23,7 @@ pub struct Scene<'a> {
     /// Whether no agent may follow another.
     pub nofollow: bool,
     /// The paths of all agents from now on, by the agent's number.
-    pub paths: &'a [TimedPath],
+    pub paths: &'a Timetable,
     /// The number of the agent that asks.
     pub agent: usize,
 }

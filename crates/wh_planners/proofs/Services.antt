@@ -109,8 +109,10 @@ module _ (g : Floor) (nofollow : Bool) (paths : List (List Cell)) (agent : ℕ) 
         none l.0 (service_of 2 (ParksAt (Contains allowed.now)) l.0 l.1)
 
 -- the cell from which the search sets out is the agent's
-pub loc_is : (paths : List (List Cell)) (agent : ℕ) (mine : List Cell) (loc : Cell) → agent < length paths → loc ≡ at (get_or paths agent mine) 0 → loc ≡ place_of paths agent
-loc_is paths agent mine loc known e = e ∙ ap (λ (q : List Cell). at q 0) (get_or_default paths agent mine [] known)
+pub loc_is : (all paths : List (List Cell)) (agent : ℕ) (mine : List Cell) (loc : Cell) → agent < length paths → all ≡ paths → mine ≡ get_or all agent mine →
+    loc ≡ at mine 0 → loc ≡ place_of paths agent
+loc_is all paths agent mine loc known same read e =
+    e ∙ ap (λ (q : List Cell). at q 0) (read ∙ ap (λ (ps : List (List Cell)). get_or ps agent mine) same ∙ get_or_default paths agent mine [] known)
 
 -- what the search says of the answer that there is no path
 pub no_path : (f : Fault) (P : Type 0) → f ≡ NoPath → (let r : Result (List Cell) Fault = Err f in IfNoPath r P) → P

@@ -71,9 +71,10 @@ fn deliver(alloc: Global, scene: &Scene, stops: &[Cell]) -> Result<Option<TimedP
     ensures found { IfOk result (λ r. IfSome r (GoesPatiently scene.now.grid.now scene.now.paths.now scene.now.agent stops.now)) }
     ensures none { IfOk result (λ r. IfNone r (HasNoClearWay scene.now.grid.now scene.now.paths.now scene.now.agent (Delivers stops.now))) }
 {
-    let avoid = other_ends(alloc, scene.paths, scene.agent)?;
-    let here = scene.paths[scene.agent].at(0);
-    let wait = last_to_rest(scene.paths, scene.agent);
+    let paths = scene.paths.paths();
+    let avoid = other_ends(alloc, paths, scene.agent)?;
+    let here = paths[scene.agent].at(0);
+    let wait = last_to_rest(paths, scene.agent);
     tour(alloc, scene.grid, here, wait, stops, &avoid)
 }
 
@@ -85,11 +86,12 @@ fn park(alloc: Global, scene: &Scene, allowed: &[Cell]) -> Result<Option<TimedPa
     ensures found { IfOk result (λ r. IfSome r (ParksPatiently scene.now.grid.now scene.now.paths.now scene.now.agent allowed.now)) }
     ensures none { IfOk result (λ r. IfNone r (HasNoClearWay scene.now.grid.now scene.now.paths.now scene.now.agent (ParksAt (Contains allowed.now)))) }
 {
-    let avoid = other_ends(alloc, scene.paths, scene.agent)?;
-    let here = scene.paths[scene.agent].at(0);
+    let paths = scene.paths.paths();
+    let avoid = other_ends(alloc, paths, scene.agent)?;
+    let here = paths[scene.agent].at(0);
     match route_to_nearest(alloc, scene.grid, here, allowed, &avoid)? {
         Some((index, leg)) => {
-            let wait = last_to_rest(scene.paths, scene.agent);
+            let wait = last_to_rest(paths, scene.agent);
             let mut path = waiting(alloc, here, wait)?;
             path.follow(&leg)?;
             Ok(Some(path))

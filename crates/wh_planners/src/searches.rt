@@ -28,7 +28,7 @@ fn reserve<'a>(alloc: Global, scene: &Scene<'a>) -> Result<Reservations<'a>, All
     let Ok(agent) = u32::try_from(scene.agent) else {
         return Err(AllocError);
     };
-    Reservations::build(alloc, scene.paths, agent, scene.nofollow)
+    Reservations::beside(alloc, scene.paths, agent, scene.nofollow)
 }
 
 /// A least lawful path through the stops.
@@ -52,21 +52,14 @@ pub fn plan_delivery(
     ensures least { IfOk result (HasNoShorter scene.now.grid.now scene.now.nofollow scene.now.paths.now scene.now.agent (Delivers stops.now)) }
     ensures none { IfErr result (λ fault. fault ≡ PlanFault.NoPath → HasNoService scene.now.grid.now scene.now.nofollow scene.now.paths.now scene.now.agent (Delivers stops.now)) }
 {
-    let loc = scene.paths[scene.agent].at(0);
+    let paths = scene.paths.paths();
+    let loc = paths[scene.agent].at(0);
     if !scene.grid.passable(loc) {
         return Err(PlanFault::NoPath);
     }
     match reserve(alloc, scene) {
         Ok(others) => match deliver_shared(
-            alloc,
-            fields,
-            share,
-            memory,
-            scene.grid,
-            &others,
-            scene.paths,
-            loc,
-            stops,
+            alloc, fields, share, memory, scene.grid, &others, paths, loc, stops,
         ) {
             Ok(path) => Ok(path),
             Err(Fault::NoPath) => Err(PlanFault::NoPath),
@@ -90,7 +83,8 @@ pub fn plan_parking(
     ensures least { IfOk result (HasNoShorter scene.now.grid.now scene.now.nofollow scene.now.paths.now scene.now.agent (ParksAt (Contains allowed.now))) }
     ensures none { IfErr result (λ fault. fault ≡ PlanFault.NoPath → HasNoService scene.now.grid.now scene.now.nofollow scene.now.paths.now scene.now.agent (ParksAt (Contains allowed.now))) }
 {
-    let loc = scene.paths[scene.agent].at(0);
+    let paths = scene.paths.paths();
+    let loc = paths[scene.agent].at(0);
     if !scene.grid.passable(loc) {
         return Err(PlanFault::NoPath);
     }

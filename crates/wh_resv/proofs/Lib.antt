@@ -1,3 +1,2 @@
-pub mod Staying
-pub mod Chains
-pub mod Noting
+pub mod Later
+pub mod Telling

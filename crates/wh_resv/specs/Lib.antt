@@ -1,3 +1,5 @@
 pub mod Others
 pub mod Calls
-pub mod Visits
+pub mod Questions
+pub mod Looks
+pub mod Telling

@@ -1,118 +1,119 @@
-//! What is asked of noted visits. Each question goes over those to one cell.
+//! What is asked of the others' stays. Each question goes over those at one place.
 #![tactic(auto)]
 
-ghost use Rattle.std.specs.Prelude.{◌≡◌, ◌≢◌, ℕ, ◌+◌, ◌-◌, ◌<◌, ◌≤◌, ◌^◌, ◌↔◌, ◌⊎◌, IsTrue, IfSome, IfNone, List, length, remove};
-ghost use Rattle.wh_grid.specs.declared.cell.Cell.{Cell};
+ghost use Rattle.std.specs.Prelude.{◌≡◌, ◌≢◌, ℕ, ◌+◌, ◌-◌, ◌<◌, ◌≤◌, ◌^◌, ◌↔◌, ◌⊎◌, IsTrue, IfSome, IfNone, List, length, remove, All};
+ghost use Rattle.wh_grid.specs.declared.cell.Cell.{Cell as Spot};
 ghost use Rattle.wh_path.specs.Paths.{at, path_of};
+ghost use Rattle.wh_timetable.specs.Timetables.{IsTold};
 ghost use Rattle.wh_resv.specs.Calls.{IsVacant, NoneExchanges};
-ghost use Rattle.wh_resv.specs.Visits.{IsDuring, IsLogOf, Bars};
+ghost use Rattle.wh_resv.specs.Looks.{IsOthers, IsDuring, Bars};
+ghost use Rattle.wh_resv.specs.Others.{StaysAway};
+ghost use Rattle.wh_resv.specs.Questions.{IsLastFree};
 
-use crate::visits::{MOST, Visit, VisitLog, is_during};
+use crate::looks::{is_during, is_free, is_kept_from, is_others, last_end, next_start};
 use wh_grid::Cell;
 use wh_path::TimedPath;
+use wh_timetable::{Stay, Stays};
 
-/// Whether nobody is at a cell at time k.
-pub fn none_there(log: &VisitLog, paths: &[TimedPath], except: usize, cell: Cell, k: u64) -> bool
-    requires { IsLogOf log.now.heads.items log.now.visits.items paths.now except }
+/// Whether none of the others is at a cell at time k.
+pub fn none_there(stays: &Stays, paths: &[TimedPath], except: usize, cell: Cell, k: u64) -> bool
+    requires { IsTold stays.now paths.now }
     ensures { IsTrue result ↔ IsVacant (remove paths.now except) cell k }
 {
     let _ = paths;
-    let _ = except;
-    let mut at = log.first(cell);
-    while at > 0 {
-        if is_during(log.visits[at - 1], k) {
-            return false;
-        }
-        at = log.before(at - 1);
-    }
-    true
+    is_free(stays.list(cell), except, cell, stays.time(k))
 }
 
-/// Whether by a visit somebody is at its cell at k + 1, or leaves it for another one between k and k + 1.
-fn bars(paths: &[TimedPath], visit: Visit, from: Cell, k: u64) -> bool
+/// Whether by a stay another is at a cell at the time of k + 1, or leaves it for the first one between k and k + 1.
+fn bars(
+    paths: &[TimedPath],
+    stay: Stay,
+    except: usize,
+    from: Cell,
+    to: Cell,
+    k: u64,
+    time: u64,
+    next: u64,
+) -> bool
     requires time { k + 1 < 2 ^ 64 }
-    requires within { IsDuring visit k → visit.path < length paths.now }
-    ensures { IsTrue result ↔ Bars paths.now visit from k }
+    requires within { IsOthers stay except to → IsDuring stay time → stay.agent < length paths.now }
+    ensures { IsTrue result ↔ Bars paths.now stay except from to k time next }
 {
-    if is_during(visit, k + 1) {
+    if !is_others(stay, except, to) {
+        return false;
+    }
+    if is_during(stay, next) {
         return true;
     }
-    is_during(visit, k) && paths[visit.path as usize].at(k + 1).is(from)
+    is_during(stay, time) && paths[stay.agent as usize].at(k + 1).is(from)
 }
 
-/// Whether nobody is at a cell at k + 1, nor leaves it for another one between k and k + 1.
+/// Whether none of the others is at a cell at k + 1, nor leaves it for the first one between k and k + 1.
 pub fn is_open(
-    log: &VisitLog,
+    stays: &Stays,
     paths: &[TimedPath],
     except: usize,
     from: Cell,
     to: Cell,
     k: u64,
 ) -> bool
-    requires log { IsLogOf log.now.heads.items log.now.visits.items paths.now except }
+    requires told { IsTold stays.now paths.now }
     requires time { k + 1 < 2 ^ 64 }
     ensures { IsTrue result ↔ (IsVacant (remove paths.now except) to (k + 1) × NoneExchanges (remove paths.now except) from to k) }
 {
-    let _ = except;
-    let mut at = log.first(to);
-    while at > 0 {
-        if bars(paths, log.visits[at - 1], from, k) {
+    let time = stays.time(k);
+    let next = stays.time(k + 1);
+    let list = stays.list(to);
+    for stay in list {
+        if bars(paths, *stay, except, from, to, k, time, next) {
             return false;
         }
-        at = log.before(at - 1);
     }
     true
 }
 
-/// Whether somebody is at a cell from a time on that is no later than k, for ever.
-pub fn is_kept(log: &VisitLog, paths: &[TimedPath], except: usize, cell: Cell, k: u64) -> bool
-    requires { IsLogOf log.now.heads.items log.now.visits.items paths.now except }
+/// Whether one of the others is at a cell from a time on that is no later than k, for ever.
+pub fn is_kept(stays: &Stays, paths: &[TimedPath], except: usize, cell: Cell, k: u64) -> bool
+    requires { IsTold stays.now paths.now }
     ensures { IsTrue result → (j : ℕ) → k ≤ j → IsVacant (remove paths.now except) cell j → ⊥ }
 {
     let _ = paths;
-    let _ = except;
-    let mut at = log.first(cell);
-    while at > 0 {
-        let visit = log.visits[at - 1];
-        if visit.until == MOST && u64::from(visit.time) <= k {
-            return true;
-        }
-        at = log.before(at - 1);
-    }
-    false
+    is_kept_from(stays.list(cell), except, cell, stays.time(k))
 }
 
-/// The sooner one of two times, where the second is later than k.
-fn sooner(soon: u64, time: u64, k: u64) -> u64
-    ensures less { result ≤ soon }
-    ensures late { k < time → result ≤ time }
-    ensures one { (result ≡ soon) ⊎ ((result ≡ time) × (k < time)) }
-{
-    if time > k { soon.min(time) } else { soon }
-}
-
-/// The first time after k at which somebody is at a cell, where nobody is at k; none where nobody ever comes.
-pub fn next_visit(
-    log: &VisitLog,
+/// The last time up to which none of the others is at a cell, where none is at time k; none where none ever comes.
+pub fn free_until(
+    stays: &Stays,
     paths: &[TimedPath],
     except: usize,
     cell: Cell,
     k: u64,
 ) -> Option<u64>
-    requires log { IsLogOf log.now.heads.items log.now.visits.items paths.now except }
+    requires told { IsTold stays.now paths.now }
     requires vacant { IsVacant (remove paths.now except) cell k }
-    ensures later { IfSome result (λ t. k < t) }
-    ensures taken { IfSome result (λ t. IsVacant (remove paths.now except) cell t → ⊥) }
-    ensures free { IfSome result (λ t. (j : ℕ) → k < j → j < t → IsVacant (remove paths.now except) cell j) }
-    ensures none { IfNone result ((j : ℕ) → k < j → IsVacant (remove paths.now except) cell j) }
+    ensures some { IfSome result (λ u. IsLastFree (remove paths.now except) cell k u) }
+    ensures none { IfNone result (All (λ q. StaysAway q cell k) (remove paths.now except)) }
 {
     let _ = paths;
-    let _ = except;
-    let mut soon = u64::MAX;
-    let mut at = log.first(cell);
-    while at > 0 {
-        soon = sooner(soon, u64::from(log.visits[at - 1].time), k);
-        at = log.before(at - 1);
+    let start = next_start(stays.list(cell), except, cell, stays.time(k));
+    if start == u64::MAX {
+        None
+    } else {
+        Some((start - 1).saturating_sub(stays.clock()))
     }
-    if soon == u64::MAX { None } else { Some(soon) }
+}
+
+/// The time from which on none of the others is at a cell; none where one ends there.
+pub fn not_before(stays: &Stays, paths: &[TimedPath], except: usize, cell: Cell) -> Option<u64>
+    requires { IsTold stays.now paths.now }
+    ensures some { IfSome result (λ t. (k : ℕ) → All (λ q. StaysAway q cell k) (remove paths.now except) ↔ t ≤ k) }
+    ensures none { IfNone result ((k : ℕ) → All (λ q. StaysAway q cell k) (remove paths.now except) → ⊥) }
+{
+    let _ = paths;
+    let end = last_end(stays.list(cell), except, cell);
+    if end == u64::MAX {
+        None
+    } else {
+        Some(end.saturating_sub(stays.clock()))
+    }
 }

@@ -1,70 +1,62 @@
 //! The paths of all agents but one.
 #![tactic(auto)]
 
-ghost use Rattle.std.specs.Prelude.{◌≡◌, ◌≢◌, ℕ, ◌+◌, ◌<◌, ◌≤◌, ◌^◌, ◌↔◌, IsTrue, IfOk, IfSome, IfNone, List, length, remove, All};
-ghost use Rattle.wh_grid.specs.declared.cell.Cell.{Cell};
-ghost use Rattle.wh_resv.specs.Others.{MayStep, MayRest, StaysAway};
+ghost use Rattle.std.specs.Prelude.{◌≡◌, ◌≢◌, ℕ, ◌+◌, ◌<◌, ◌≤◌, ◌^◌, ◌↔◌, IsTrue, IfOk, IfSome, IfNone, length, remove, All};
 ghost use Rattle.wh_path.specs.Paths.{horizon, at};
+ghost use Rattle.wh_timetable.specs.Timetables.{IsTold};
+ghost use Rattle.wh_resv.specs.Others.{MayStep, MayRest};
 ghost use Rattle.wh_resv.specs.Calls.{IsVacant, NoneExchanges};
-ghost use Rattle.wh_resv.specs.Visits.{IsLogOf};
+ghost use Rattle.wh_resv.specs.Questions.{IsLastFree, IsNextFree, IsNeverFree};
+ghost use Rattle.wh_resv.specs.Telling.{noted_of};
 
-use crate::away::{all_away_from, all_stay_away};
 use crate::ends::greatest_end;
-use crate::enter::log_of;
-use crate::questions::{is_kept, is_open, next_visit, none_there};
-use crate::visits::VisitLog;
+use crate::questions::{free_until, is_kept, is_open, none_there, not_before};
+use crate::times::next_free;
+use crate::told::Told;
 use std::alloc::{AllocError, Global};
 use std::marker::Model;
 use wh_grid::Cell;
 use wh_path::TimedPath;
+use wh_timetable::{Stays, Timetable};
 
-/// The paths of all agents but one, and whether nobody may follow another. Their visits are noted by cells, so that a
-/// question looks at those to one cell.
+/// The paths of all agents but one, and whether nobody may follow another. A question looks at the stays at one cell's
+/// place, those of the one among them.
 #[derive(Drop)]
 pub struct Reservations<'a> {
     paths: &'a [TimedPath],
     except: usize,
     nofollow: bool,
-    log: VisitLog,
+    told: Told<'a>,
     latest: u64,
 }
 
 impl<'a> Model for Reservations<'a> {
     ghost use Rattle.std.specs.Prelude.{◌≡◌, ◌<◌, ◌^◌, List, length, remove};
-    ghost use Rattle.wh_resv.specs.Others.{Others};
     ghost use Rattle.wh_path.specs.Paths.{horizon};
-    ghost use Rattle.wh_resv.specs.Visits.{IsLogOf};
+    ghost use Rattle.wh_timetable.specs.Timetables.{IsTold};
+    ghost use Rattle.wh_resv.specs.Others.{Others};
+    ghost use Rattle.wh_resv.specs.Telling.{noted_of};
 
     ghost Value = { Others };
 
     ghost view = { λ r. record { paths = remove r.paths.now r.except; nofollow = r.nofollow } };
 
-    ghost invariant = { λ r. IsLogOf r.log.heads.items r.log.visits.items r.paths.now r.except
+    ghost invariant = { λ r. IsTold (noted_of r.told) r.paths.now
         × (r.latest ≡ horizon (remove r.paths.now r.except)) × (r.latest < 2 ^ 61) };
 }
 
-/// Whether none of the others is at a cell at time k or later.
-fn none_comes(paths: &[TimedPath], except: usize, cell: Cell, k: u64) -> bool
+/// The time from which all of the paths but one rest.
+fn latest_of(paths: &[TimedPath], except: usize) -> u64
     requires { except < length paths.now }
-    ensures { IsTrue result ↔ All (λ q. StaysAway q cell k) (remove paths.now except) }
+    ensures value { result ≡ horizon (remove paths.now except) }
+    ensures bound { result < 2 ^ 61 }
 {
-    all_stay_away(&paths[..except], cell, k) && all_stay_away(&paths[except + 1..], cell, k)
-}
-
-/// The time from which on none of the others is at a cell; none where one ends there.
-fn not_before(paths: &[TimedPath], except: usize, cell: Cell) -> Option<u64>
-    requires { except < length paths.now }
-    ensures some { IfSome result (λ t. (k : ℕ) → All (λ q. StaysAway q cell k) (remove paths.now except) ↔ t ≤ k) }
-    ensures none { IfNone result ((k : ℕ) → All (λ q. StaysAway q cell k) (remove paths.now except) → ⊥) }
-{
-    let before = all_away_from(&paths[..except], cell)?;
-    let after = all_away_from(&paths[except + 1..], cell)?;
-    Some(before.max(after))
+    greatest_end(&paths[..except]).max(greatest_end(&paths[except + 1..]))
 }
 
 impl<'a> Reservations<'a> {
-    /// The paths of all agents but the one of this number. It notes each step of each path;
-    /// `AllocError` where memory ran out.
+    /// The paths of all agents but the one of this number. It notes each step of each path; `AllocError` where memory ran
+    /// out, or a number of an agent has more than 32 bits.
     pub fn build(
         alloc: Global,
         paths: &'a [TimedPath],
@@ -75,15 +67,48 @@ impl<'a> Reservations<'a> {
         ensures { IfOk result (λ r. r ≡ record { paths = remove paths.now except; nofollow = nofollow }) }
     {
         let except = except as usize;
-        let log = log_of(alloc, paths, except)?;
-        let latest = greatest_end(&paths[..except]).max(greatest_end(&paths[except + 1..]));
+        let stays = Stays::of(alloc, paths)?;
         Ok(Reservations {
             paths,
             except,
             nofollow,
-            log,
-            latest,
+            told: Told::Own(stays),
+            latest: latest_of(paths, except),
         })
+    }
+
+    /// The paths of all agents of a timetable but the one of this number, where it has stays to tell. It takes no memory,
+    /// and time by the number of agents alone.
+    pub fn kept(all: &'a Timetable, except: usize, nofollow: bool) -> Option<Self>
+        requires { except < length all.now }
+        ensures { IfSome result (λ r. r ≡ record { paths = remove all.now except; nofollow = nofollow }) }
+    {
+        let stays = all.stays()?;
+        let paths = all.paths();
+        Some(Reservations {
+            paths,
+            except,
+            nofollow,
+            told: Told::Kept(stays),
+            latest: latest_of(paths, except),
+        })
+    }
+
+    /// The paths of all agents of a timetable but the one of this number. Where it has no stays to tell, it is as with
+    /// `build`.
+    pub fn beside(
+        alloc: Global,
+        all: &'a Timetable,
+        except: u32,
+        nofollow: bool,
+    ) -> Result<Self, AllocError>
+        requires { except < length all.now }
+        ensures { IfOk result (λ r. r ≡ record { paths = remove all.now except; nofollow = nofollow }) }
+    {
+        match Reservations::kept(all, except as usize, nofollow) {
+            Some(others) => Ok(others),
+            None => Reservations::build(alloc, all.paths(), except, nofollow),
+        }
     }
 
     /// The time from which all others rest: their greatest last index, 0 where there is none.
@@ -105,7 +130,7 @@ impl<'a> Reservations<'a> {
     pub fn vacant(&self, cell: Cell, k: u64) -> bool
         ensures { IsTrue result ↔ IsVacant self.now.paths cell k }
     {
-        none_there(&self.log, self.paths, self.except, cell, k)
+        none_there(self.told.stays(), self.paths, self.except, cell, k)
     }
 
     /// Whether an agent may go from one cell, where nobody else is at k, to another between k
@@ -115,7 +140,7 @@ impl<'a> Reservations<'a> {
         requires time { k + 1 < 2 ^ 64 }
         ensures { IsTrue result ↔ MayStep self.now from to k }
     {
-        if !is_open(&self.log, self.paths, self.except, from, to, k) {
+        if !is_open(self.told.stays(), self.paths, self.except, from, to, k) {
             return false;
         }
         if self.nofollow && !from.is(to) {
@@ -139,7 +164,10 @@ impl<'a> Reservations<'a> {
     pub fn may_rest(&self, cell: Cell, k: u64) -> bool
         ensures { IsTrue result ↔ MayRest self.now cell k }
     {
-        none_comes(self.paths, self.except, cell, k)
+        match self.not_before(cell) {
+            None => false,
+            Some(since) => since <= k,
+        }
     }
 
     /// The time from which on an agent may rest at a cell, and before which nobody may; none where nobody ever may.
@@ -148,18 +176,7 @@ impl<'a> Reservations<'a> {
         ensures since { IfSome result (λ t. (k : ℕ) → t ≤ k → MayRest self.now cell k) }
         ensures none { IfNone result ((k : ℕ) → MayRest self.now cell k → ⊥) }
     {
-        not_before(self.paths, self.except, cell)
-    }
-
-    /// The first time after k at which somebody is at a cell, where nobody is at k; none where nobody ever comes.
-    pub fn next_visit(&self, cell: Cell, k: u64) -> Option<u64>
-        requires { IsVacant self.now.paths cell k }
-        ensures later { IfSome result (λ t. k < t) }
-        ensures taken { IfSome result (λ t. IsVacant self.now.paths cell t → ⊥) }
-        ensures free { IfSome result (λ t. (j : ℕ) → k < j → j < t → IsVacant self.now.paths cell j) }
-        ensures none { IfNone result ((j : ℕ) → k < j → IsVacant self.now.paths cell j) }
-    {
-        next_visit(&self.log, self.paths, self.except, cell, k)
+        not_before(self.told.stays(), self.paths, self.except, cell)
     }
 
     /// Whether somebody is at a cell from a time on that is no later than k, for ever. Where it is not so found, somebody
@@ -167,6 +184,24 @@ impl<'a> Reservations<'a> {
     pub fn is_kept(&self, cell: Cell, k: u64) -> bool
         ensures { IsTrue result → (j : ℕ) → k ≤ j → IsVacant self.now.paths cell j → ⊥ }
     {
-        is_kept(&self.log, self.paths, self.except, cell, k)
+        is_kept(self.told.stays(), self.paths, self.except, cell, k)
+    }
+
+    /// The last time up to which nobody is at a cell, where nobody is at time k; none where an agent may rest there from
+    /// then on.
+    pub fn free_until(&self, cell: Cell, k: u64) -> Option<u64>
+        requires { IsVacant self.now.paths cell k }
+        ensures some { IfSome result (λ u. IsLastFree self.now.paths cell k u) }
+        ensures none { IfNone result (MayRest self.now cell k) }
+    {
+        free_until(self.told.stays(), self.paths, self.except, cell, k)
+    }
+
+    /// The first time from k on at which nobody is at a cell; none where somebody always is.
+    pub fn next_free(&self, cell: Cell, k: u64) -> Option<u64>
+        ensures some { IfSome result (λ f. IsNextFree self.now.paths cell k f) }
+        ensures none { IfNone result (IsNeverFree self.now.paths cell k) }
+    {
+        next_free(self, cell, k)
     }
 }

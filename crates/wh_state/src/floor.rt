@@ -1,8 +1,8 @@
 //! The floor: the state of the warehouse, by columns.
 #![tactic(auto)]
 
-ghost use Rattle.std.specs.Prelude.{◌≡◌, ◌≢◌, ℕ, ◌+◌, ◌-◌, ◌<◌, ◌≤◌, List, [], ◌∷◌, ◌++◌, length, map, IfOk, OnOk, OnErr, Some, slice_get, IsTrue, ◌↔◌, All};
-ghost use Rattle.wh_path.specs.Paths.{advanced, end, ends, others};
+ghost use Rattle.std.specs.Prelude.{◌≡◌, ◌≢◌, ℕ, ◌+◌, ◌-◌, ◌<◌, ◌≤◌, List, [], ◌∷◌, ◌++◌, length, IfOk, OnOk, OnErr, Some, slice_get, slice_set, IsTrue, ◌↔◌, All};
+ghost use Rattle.wh_path.specs.Paths.{end, ends, others};
 ghost use Rattle.wh_tasks.specs.declared.task.Load.{Load as Burden};
 ghost use Rattle.wh_tasks.specs.declared.task.Task.{Task as Job};
 ghost use Rattle.wh_tasks.specs.Tasks.{IsTask, IsOpen};
@@ -16,6 +16,7 @@ use wh_grid::{Cell, Grid};
 use wh_path::TimedPath;
 use wh_tasks::{EndSet, Load, PathEnds, Places, TaskSet};
 use wh_text::Name;
+use wh_timetable::Timetable;
 
 /// The state of the warehouse. For each agent it has a path from now on, the cell where that ends, a load, and its
 /// planner's slots.
@@ -23,7 +24,7 @@ use wh_text::Name;
 pub struct Floor {
     clock: u32,
     closed: bool,
-    paths: Vec<TimedPath>,
+    paths: Timetable,
     ends: PathEnds,
     loads: Vec<Load>,
     slots: Vec<u32>,
@@ -39,7 +40,7 @@ impl Model for Floor {
       state = record {
         clock = f.clock;
         closed = f.closed;
-        paths = f.paths.items;
+        paths = f.paths;
         loads = f.loads.items;
         slots = f.slots.items;
         tasks = f.tasks.tasks;
@@ -47,7 +48,7 @@ impl Model for Floor {
       room = f.tasks.room;
     } };
 
-    ghost invariant = { λ f. IsSound f.clock f.paths.items f.ends f.loads.items f.slots.items f.tasks.tasks };
+    ghost invariant = { λ f. IsSound f.clock f.paths f.ends f.loads.items f.slots.items f.tasks.tasks };
 }
 
 impl Floor {
@@ -64,10 +65,11 @@ impl Floor {
         requires seats { length slots.items ≡ length starts.now }
         ensures { IfOk result (λ floor. floor.state ≡ standing_at starts.now clock slots.items) }
     {
-        let mut paths = Vec::new(alloc);
+        let cells = grid.width() as usize * grid.height() as usize;
+        let mut paths = Timetable::empty(alloc, cells)?;
         let mut loads = Vec::new(alloc);
         for start in starts {
-            paths.push(TimedPath::one(alloc, *start)?)?;
+            paths.add(TimedPath::one(alloc, *start)?)?;
             loads.push(Load::None)?;
         }
         let ends = PathEnds::of(alloc, grid.width(), grid.height(), starts)?;
@@ -101,7 +103,15 @@ impl Floor {
         ensures value { result.now ≡ self.now.state.paths }
         ensures few { length result.now ≤ 256 }
     {
-        self.paths.as_slice()
+        self.paths.paths()
+    }
+
+    /// The paths of all agents, for planners.
+    pub fn timetable(&self) -> &Timetable
+        ensures value { result.now ≡ self.now.state.paths }
+        ensures few { length result.now ≤ 256 }
+    {
+        &self.paths
     }
 
     /// The loads of all agents.
@@ -184,7 +194,15 @@ impl Floor {
         ensures picked { result.picked ≡ picked (moved self.now.state) }
         ensures dropped { result.dropped ≡ dropped (moved self.now.state) }
     {
-        foretell_all(&self.paths, &self.loads, &self.tasks)
+        foretell_all(self.paths.paths(), &self.loads, &self.tasks)
+    }
+
+    /// Makes room, so that an agent may go by the path without new memory for who is where. Nothing changes that
+    /// anybody sees.
+    pub fn reserve_path(&mut self, path: &TimedPath) -> Result<(), AllocError>
+        ensures same { self.new ≡ self.old }
+    {
+        self.paths.reserve(path)
     }
 
     /// An agent without a load goes by a path from now on to fetch an open task, and the agents arrive.
@@ -203,8 +221,7 @@ impl Floor {
         requires { agent < length self.old.state.paths }
         ensures { self.new.state ≡ adopted agent path self.old.state }
     {
-        self.ends.set(agent, path.end());
-        self.paths[agent as usize] = path;
+        adopt(&mut self.paths, &mut self.ends, agent, path);
     }
 
     /// An agent's planner has so many slots from now on.
@@ -229,7 +246,7 @@ impl Floor {
         ensures room { self.new.room ≡ self.old.room }
     {
         self.clock += 1;
-        advance_all(&mut self.paths);
+        self.paths.tick();
     }
 
     /// The arrivals of all agents.
@@ -239,7 +256,12 @@ impl Floor {
         ensures dropped { result.dropped ≡ dropped self.old.state }
         ensures room { self.new.room ≡ self.old.room }
     {
-        arrive_all(self.clock, &self.paths, &mut self.loads, &mut self.tasks)
+        arrive_all(
+            self.clock,
+            self.paths.paths(),
+            &mut self.loads,
+            &mut self.tasks,
+        )
     }
 
     /// An agent without a load goes by a path from now on to fetch an open task.
@@ -250,18 +272,19 @@ impl Floor {
         ensures { (task : Job) × IsTask self.old.state.tasks n task × (self.new.state ≡ adopted agent path (assigned agent n task self.old.state)) }
     {
         let _task = self.tasks.task(n);
-        self.ends.set(agent, path.end());
-        self.paths[agent as usize] = path;
+        adopt(&mut self.paths, &mut self.ends, agent, path);
         self.loads[agent as usize] = Load::Fetching(n);
         self.tasks.assign(n, agent);
     }
 }
 
-/// Each path loses its first cell where a second follows.
-fn advance_all(paths: &mut [TimedPath])
-    ensures { paths.new ≡ map advanced paths.old }
+/// An agent goes by a path from now on, and ends where that ends.
+fn adopt(paths: &mut Timetable, ends: &mut PathEnds, agent: u32, path: TimedPath)
+    requires known { agent < length paths.old }
+    requires ended { agent < length ends.old }
+    ensures paths { paths.new ≡ slice_set paths.old agent path }
+    ensures ends { ends.new ≡ slice_set ends.old agent (end path) }
 {
-    for path in paths.iter_mut() {
-        path.advance();
-    }
+    ends.set(agent, path.end());
+    paths.adopt(agent as usize, path);
 }

@@ -298,7 +298,7 @@ impl<P: Planner> Warehouse<P> {
         let scene = Scene {
             grid: self.book.setting().grid(),
             nofollow: self.book.setting().nofollow(),
-            paths: self.book.paths(),
+            paths: self.book.timetable(),
             agent: agent as usize,
         };
         let duty = Duty::Deliver {
@@ -323,7 +323,7 @@ impl<P: Planner> Warehouse<P> {
         let scene = Scene {
             grid: self.book.setting().grid(),
             nofollow: self.book.setting().nofollow(),
-            paths: self.book.paths(),
+            paths: self.book.timetable(),
             agent: agent as usize,
         };
         self.planners[agent as usize].plan(alloc, &mut self.fields, &scene, Duty::Park { allowed })

@@ -9,6 +9,7 @@ use wh_grid::{Cell, Grid};
 use wh_path::TimedPath;
 use wh_planner::{Duty, PlanFault, Planner, Scene};
 use wh_shared::SharedFields;
+use wh_timetable::Timetable;
 
 /// Plans on every grid, and never has memory.
 #[derive(Drop)]
@@ -60,10 +61,11 @@ fn a_box_plans_as_the_planner_in_it(rt: HostRuntime) -> Result<(), Fail> {
     if !planner.fits(&grid) {
         return Err("it plans on every grid".into());
     }
+    let all = Timetable::of(rt.alloc(), 2, &paths)?;
     let scene = Scene {
         grid: &grid,
         nofollow: true,
-        paths: &paths,
+        paths: &all,
         agent: 0,
     };
     let duty = Duty::Park { allowed: &[here] };

@@ -15,6 +15,7 @@ use wh_planners::Sharing;
 use wh_resv::Reservations;
 use wh_search::layers;
 use wh_shared::SharedFields;
+use wh_timetable::Timetable;
 
 const STOPS: [Cell; 3] = [
     Cell { x: 6, y: 5 },
@@ -69,10 +70,12 @@ fn a_path_is_as_short_as_by_whole_fields(rt: HostRuntime) -> Result<(), Fail> {
         TimedPath::one(rt.alloc(), other)?,
     ];
     let whole = steps_by_whole_fields(rt.alloc(), &grid, &paths, loc)?;
+    let cells = grid.width() as usize * grid.height() as usize;
+    let all = Timetable::of(rt.alloc(), cells, &paths)?;
     let scene = Scene {
         grid: &grid,
         nofollow: true,
-        paths: &paths,
+        paths: &all,
         agent: 0,
     };
     let shared = steps(planner.plan(

@@ -43,6 +43,7 @@ fn take(alloc: Global, floor: &mut Floor, agent: u32, n: u32, cells: &[Cell]) ->
         return Err("it may not take the task".into());
     }
     let path = TimedPath::over(Vec::from_slice(alloc, cells)?);
+    floor.reserve_path(&path)?;
     floor.take(agent, n, path);
     Ok(())
 }
@@ -53,6 +54,7 @@ fn park(alloc: Global, floor: &mut Floor, agent: u32, cells: &[Cell]) -> Result<
         return Err("it may not go there".into());
     }
     let path = TimedPath::over(Vec::from_slice(alloc, cells)?);
+    floor.reserve_path(&path)?;
     floor.park(agent, path);
     Ok(())
 }

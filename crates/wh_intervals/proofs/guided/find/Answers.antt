@@ -12,11 +12,11 @@ use Rattle.wh_search.proofs.Stops.{ok_weaker, some_weaker, path_weaker, tour_del
 use Rattle.wh_intervals.proofs.guided.find.Goals as goal
 
 pub returns-in_default-clause-found : goal.returns-in_default-clause-found
-returns-in_default-clause-found g c = λ q d. c.in_default.ensures.none (last_index q) (delivery_rests c.args.grid.now (g.T.Occupancy.others c.args.others.now) c.args.loc c.args.stops.now q d)
+returns-in_default-clause-found c = λ q d. c.in_default.ensures.none (last_index q) (delivery_rests c.args.grid.now c.args.others.now c.args.loc c.args.stops.now q d)
 
 pub search-requires-clause-errand : goal.search-requires-clause-errand
-search-requires-clause-errand g c =
-    let o = g.T.Occupancy.others c.args.others.now in
+search-requires-clause-errand c =
+    let o = c.args.others.now in
     let g = c.args.grid.now in
     let stops = c.args.stops.now in
     let n = length stops - 1 in
@@ -39,8 +39,8 @@ search-requires-clause-errand g c =
     }
 
 pub returns-clause-found : goal.returns-clause-found
-returns-clause-found g c =
-    let o = g.T.Occupancy.others c.args.others.now in
+returns-clause-found c =
+    let o = c.args.others.now in
     let g = c.args.grid.now in
     let stops = c.args.stops.now in
     let n = length stops - 1 in
@@ -52,8 +52,8 @@ returns-clause-found g c =
     (λ found h. path_weaker g o c.args.loc stops via ends found c.requires.stops.0 refl (last_part stops) h) c.search.ensures.found
 
 pub returns-clause-expanded : goal.returns-clause-expanded
-returns-clause-expanded g c =
-    let o = g.T.Occupancy.others c.args.others.now in
+returns-clause-expanded c =
+    let o = c.args.others.now in
     let g = c.args.grid.now in
     let stops = c.args.stops.now in
     let onward = c.deref.result.now in

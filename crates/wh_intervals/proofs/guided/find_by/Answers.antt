@@ -11,8 +11,8 @@ use Rattle.wh_search.proofs.Nearest.{nearest_estimates}
 use Rattle.wh_intervals.proofs.guided.find_by.Goals as goal
 
 pub search-requires-clause-errand : goal.search-requires-clause-errand
-search-requires-clause-errand g c =
-    let o = g.T.Occupancy.others c.args.others.now in
+search-requires-clause-errand c =
+    let o = c.args.others.now in
     let g = c.args.grid.now in
     let ends = c.args.allowed.now in
     record {
@@ -25,8 +25,8 @@ search-requires-clause-errand g c =
     }
 
 pub returns : goal.returns
-returns g c =
-    let o = g.T.Occupancy.others c.args.others.now in
+returns c =
+    let o = c.args.others.now in
     let g = c.args.grid.now in
     let ends = c.args.allowed.now in
     ok_weaker c.search.result

@@ -14,8 +14,8 @@ use Rattle.wh_intervals.proofs.Told.{part_of, last_within, rest_kept, past_expan
 use Rattle.wh_intervals.proofs.search.take.Goals as goal
 
 pub returns-in_default-clause-kept : goal.returns-in_default-clause-kept
-returns-in_default-clause-kept g c =
-    let p = problem g.T.Occupancy.others c.args.errand.now in
+returns-in_default-clause-kept c =
+    let p = problem c.args.errand.now in
     let nodes = c.args.states.now.nodes.items in
     let queue = c.args.states.now.queue in
     let closed = closed_by (get interval_eq c.args.states.now.intervals) in
@@ -28,8 +28,8 @@ returns-in_default-clause-kept g c =
     kept_done p nodes queue c.args.index c.requires.kept (past_expanded p nodes queue c.args.expanded.now.items n past.since (c.requires.told.spent (interval_of n) past.since past.closed_is) past.from r.from)
 
 pub returns-in_default-clause-told : goal.returns-in_default-clause-told
-returns-in_default-clause-told g c =
-    let p = problem g.T.Occupancy.others c.args.errand.now in
+returns-in_default-clause-told c =
+    let p = problem c.args.errand.now in
     let nodes = c.args.states.now.nodes.items in
     let queue = c.args.states.now.queue in
     let stays = c.args.expanded.now.items in
@@ -42,8 +42,8 @@ returns-in_default-clause-told g c =
     subst (λ (f : Interval → Option ℕ). IsTold p nodes queue None f stays) (sym (if_none c.in_ok-last.field-0 _ c.in_default.is c.in_ok-last.ensures.same)) (told_skip p nodes queue c.args.index closed stays c.requires.told past)
 
 pub expand-requires-clause-in_time : goal.expand-requires-clause-in_time
-expand-requires-clause-in_time g c =
-    let p = problem g.T.Occupancy.others c.args.errand.now in
+expand-requires-clause-in_time c =
+    let p = problem c.args.errand.now in
     let nodes = c.args.states.now.nodes.items in
     let closed = closed_by (get interval_eq c.args.states.now.intervals) in
     let n = node_at nodes c.args.index in
@@ -55,8 +55,8 @@ expand-requires-clause-in_time g c =
     omega (arith, c.from.ensures, last_within p nodes c.args.states.now.queue closed c.args.expanded.now.items n last c.requires.told.spent rest)
 
 pub returns-clause-kept : goal.returns-clause-kept
-returns-clause-kept g c =
-    let p = problem g.T.Occupancy.others c.args.errand.now in
+returns-clause-kept c =
+    let p = problem c.args.errand.now in
     let nodes = c.args.states.now.nodes.items in
     let queue = c.args.states.now.queue in
     let stays = c.args.expanded.now.items in
@@ -73,8 +73,8 @@ returns-clause-kept g c =
     rest_kept p nodes queue new c.expand.new.self.queue c.args.index closed stays last c.requires.told within c.requires.past made.kept made.spreads rest onward c.requires.no_end
 
 pub returns-clause-told : goal.returns-clause-told
-returns-clause-told g c =
-    let p = problem g.T.Occupancy.others c.args.errand.now in
+returns-clause-told c =
+    let p = problem c.args.errand.now in
     let nodes = c.args.states.now.nodes.items in
     let queue = c.args.states.now.queue in
     let stays = c.args.expanded.now.items in

@@ -1,10 +1,10 @@
-use Rattle.std.proofs.Common.{◌≡◌, ◌∙◌, ◌+◌, ◌<◌, ℕ, List, [], Option, IfSome, IfNone, length, ap, sym, subst}
-use Rattle.std.proofs.lemmas.List.{get_or_default}
+use Rattle.std.proofs.Common.{◌≡◌, ◌∙◌, ◌+◌, ◌<◌, ℕ, List, Option, IfSome, IfNone, length, ap, sym, subst}
 use Rattle.wh_grid.specs.declared.cell.Cell.{Cell}
 use Rattle.wh_path.specs.Paths.{at, cell_at, ends, others, place_of, horizon}
 use Rattle.wh_field.specs.Distances.{IsRoute, IsNearestRoute}
 use Rattle.wh_planners.specs.Patience.{ParksPatiently}
 use Rattle.wh_planners.proofs.Patience.{patient_park, no_parking}
+use Rattle.wh_planners.proofs.Services.{loc_is}
 use Rattle.wh_planners.proofs.patient.park.Goals as goal
 
 pub returns-in-Some-clause-found : goal.returns-in-Some-clause-found
@@ -15,13 +15,14 @@ returns-in-Some-clause-found c =
     let allowed = c.args.allowed.now in
     let near = c.in-Some in
     let path = c.in_ok-path-in-Some.path in
-    let here : c.at-here.result ≡ place_of paths s.agent = c.at-here.ensures ∙ ap (λ (p : List Cell). at p 0) (get_or_default paths s.agent c.index-scene-scene.result [] c.requires.agent) in
-    let avoid : c.deref.result.now ≡ ends (others paths s.agent) = c.deref.ensures.value ∙ c.in_ok-avoid.ensures in
+    let read : c.paths-paths.result.now ≡ paths = c.paths-paths.ensures in
+    let here : c.at-here.result ≡ place_of paths s.agent = loc_is c.paths-paths.result.now paths s.agent c.index-paths-scene.result c.at-here.result c.requires.agent read c.index-paths-scene.is c.at-here.ensures in
+    let avoid : c.deref.result.now ≡ ends (others paths s.agent) = c.deref.ensures.value ∙ c.in_ok-avoid.ensures ∙ ap (λ (ps : List (List Cell)). ends (others ps s.agent)) read in
     let O : Option (ℕ × List Cell) → Type 0 = λ r. IfSome r (λ n. IsNearestRoute g c.at-here.result allowed c.deref.result.now n.0 n.1) in
     let found : IsNearestRoute g c.at-here.result allowed c.deref.result.now near.index near.leg = subst O near.is c.in_ok-index.ensures.found in
     let H : Cell → Type 0 = λ from. IsNearestRoute g from allowed c.deref.result.now near.index near.leg in
     let A : List Cell → Type 0 = λ cells. IsNearestRoute g (place_of paths s.agent) allowed cells near.index near.leg in
-    let wait : length path ≡ horizon (others paths s.agent) + 1 = c.in_ok-path-in-Some.ensures.size ∙ ap (λ (n : ℕ). n + 1) c.last_to_rest-wait.ensures.value in
+    let wait : length path ≡ horizon (others paths s.agent) + 1 = c.in_ok-path-in-Some.ensures.size ∙ ap (λ (n : ℕ). n + 1) (c.last_to_rest-wait.ensures.value ∙ ap (λ (ps : List (List Cell)). horizon (others ps s.agent)) read) in
     let stays : (k : ℕ) → at path k ≡ place_of paths s.agent = λ k. c.in_ok-path-in-Some.ensures.stays k ∙ here in
     subst (ParksPatiently g paths s.agent allowed) (sym c.in_ok-follow-in-Some.ensures.ok)
     (patient_park g s.nofollow paths s.agent allowed near.index near.leg path c.requires.free c.requires.agent c.requires.resting (subst A avoid (subst H here found)) (wait, stays))
@@ -32,8 +33,9 @@ returns-clause-none c =
     let g = s.grid.now in
     let paths = s.paths.now in
     let allowed = c.args.allowed.now in
-    let here : c.at-here.result ≡ place_of paths s.agent = c.at-here.ensures ∙ ap (λ (p : List Cell). at p 0) (get_or_default paths s.agent c.index-scene-scene.result [] c.requires.agent) in
-    let avoid : c.deref.result.now ≡ ends (others paths s.agent) = c.deref.ensures.value ∙ c.in_ok-avoid.ensures in
+    let read : c.paths-paths.result.now ≡ paths = c.paths-paths.ensures in
+    let here : c.at-here.result ≡ place_of paths s.agent = loc_is c.paths-paths.result.now paths s.agent c.index-paths-scene.result c.at-here.result c.requires.agent read c.index-paths-scene.is c.at-here.ensures in
+    let avoid : c.deref.result.now ≡ ends (others paths s.agent) = c.deref.ensures.value ∙ c.in_ok-avoid.ensures ∙ ap (λ (ps : List (List Cell)). ends (others ps s.agent)) read in
     let W : Cell → List Cell → Type 0 = λ from cells. (j : ℕ) (q : List Cell) → j < length allowed → IsRoute g from (cell_at allowed j) cells q → ⊥ in
     let O : Option (ℕ × List Cell) → Type 0 = λ r. IfNone r (W c.at-here.result c.deref.result.now) in
     let none : W c.at-here.result c.deref.result.now = subst O c.in-None.is c.in_ok-index.ensures.none in

@@ -8,33 +8,33 @@ pub returns-then-not-passable-clause-none : goal.returns-then-not-passable-claus
 returns-then-not-passable-clause-none c = λ e.
     let scene = c.args.scene.now in
     let paths = scene.paths.now in
-    let here = loc_is paths scene.agent c.index-scene-scene.result c.at-loc.result c.requires.agent c.at-loc.ensures in
+    let here = loc_is c.paths-paths.result.now paths scene.agent c.index-paths-scene.result c.at-loc.result c.requires.agent c.paths-paths.ensures c.index-paths-scene.is c.at-loc.ensures in
     no_service scene.grid.now scene.nofollow paths scene.agent (ParksAt (Contains c.args.allowed.now)) (λ p. let t = c.passable.ensures.1 (subst (IsPassable scene.grid.now) (sym here) p) in let f = c.if-not-passable.true in cc)
 
 pub park_in-requires-clause-clear : goal.park_in-requires-clause-clear
 park_in-requires-clause-clear c =
     let scene = c.args.scene.now in
     let paths = scene.paths.now in
-    let here = loc_is paths scene.agent c.index-scene-scene.result c.at-loc.result c.requires.agent c.at-loc.ensures in
+    let here = loc_is c.paths-paths.result.now paths scene.agent c.index-paths-scene.result c.at-loc.result c.requires.agent c.paths-paths.ensures c.index-paths-scene.is c.at-loc.ensures in
     rests_clear scene.grid.now scene.nofollow paths scene.agent c.requires.agent c.requires.resting c.requires.free c.in-Ok.others c.at-loc.result c.in-Ok.ensures here
 
 pub returns-in-Ok-park_in-clause-lawful : goal.returns-in-Ok-park_in-clause-lawful
 returns-in-Ok-park_in-clause-lawful c =
     let scene = c.args.scene.now in
     let paths = scene.paths.now in
-    let here = loc_is paths scene.agent c.index-scene-scene.result c.at-loc.result c.requires.agent c.at-loc.ensures in
+    let here = loc_is c.paths-paths.result.now paths scene.agent c.index-paths-scene.result c.at-loc.result c.requires.agent c.paths-paths.ensures c.index-paths-scene.is c.at-loc.ensures in
     lawful_parking scene.grid.now scene.nofollow paths scene.agent c.in-Ok.others c.at-loc.result c.in-Ok.ensures here c.args.allowed.now c.in-Ok-park_in.path c.in-Ok-park_in.ensures.least
 
 pub returns-in-Ok-park_in-clause-least : goal.returns-in-Ok-park_in-clause-least
 returns-in-Ok-park_in-clause-least c =
     let scene = c.args.scene.now in
     let paths = scene.paths.now in
-    let here = loc_is paths scene.agent c.index-scene-scene.result c.at-loc.result c.requires.agent c.at-loc.ensures in
+    let here = loc_is c.paths-paths.result.now paths scene.agent c.index-paths-scene.result c.at-loc.result c.requires.agent c.paths-paths.ensures c.index-paths-scene.is c.at-loc.ensures in
     least_parking scene.grid.now scene.nofollow paths scene.agent c.in-Ok.others c.at-loc.result c.in-Ok.ensures here c.args.allowed.now c.in-Ok-park_in.path c.in-Ok-park_in.ensures.least
 
 pub returns-in-Err-NoPath-clause-none : goal.returns-in-Err-NoPath-clause-none
 returns-in-Err-NoPath-clause-none c = λ e.
     let scene = c.args.scene.now in
     let paths = scene.paths.now in
-    let here = loc_is paths scene.agent c.index-scene-scene.result c.at-loc.result c.requires.agent c.at-loc.ensures in
+    let here = loc_is c.paths-paths.result.now paths scene.agent c.index-paths-scene.result c.at-loc.result c.requires.agent c.paths-paths.ensures c.index-paths-scene.is c.at-loc.ensures in
     no_parking scene.grid.now scene.nofollow paths scene.agent c.in-Ok.others c.at-loc.result c.in-Ok.ensures here c.args.allowed.now (no_path c.in-Err-NoPath.field-0 _ c.in-Err-NoPath.field-0-is c.in-Err-NoPath.ensures.none)

@@ -1,10 +1,7 @@
-use Rattle.std.proofs.Common.{length}
-use Rattle.wh_resv.specs.Visits.{visit_at, IsDuring, Bars}
-use Rattle.wh_resv.proofs.Chains.{IsPassed}
+use Rattle.std.proofs.Common.{ℕ, ◌<◌}
+use Rattle.wh_timetable.specs.Stays.{stay_at}
+use Rattle.wh_resv.specs.Looks.{Bars}
 use Rattle.wh_resv.proofs.questions.is_open.Given as goal
 
-abbrev pub invariant-loop-at : goal.invariant-loop-at
-invariant-loop-at l = IsPassed l.log.visits.items l.fn.to l.at (λ i. Bars l.paths (visit_at l.log.visits.items i) l.from l.k → ⊥)
-
-abbrev pub decreases-loop-at : goal.decreases-loop-at
-decreases-loop-at l = l.at
+abbrev pub invariant-loop-stay : goal.invariant-loop-stay
+invariant-loop-stay l = (j : ℕ) → j < l.stay-index → Bars l.paths (stay_at l.list j) l.except l.from l.to l.k l.time l.next → ⊥

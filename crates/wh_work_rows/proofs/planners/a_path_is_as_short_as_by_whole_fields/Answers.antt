@@ -22,4 +22,4 @@ all_free-resting c d ne p q pc qd = rw (pc, qd) (record { pair = pair _ _ (free-
 pub plan-requires-clause-free : goal.plan-requires-clause-free
 plan-requires-clause-free g c =
     let ne : record { x = 0; y = 5 } ≡ record { x = 5; y = 5 } → ⊥ = λ e. let x : 0 ≡ 5 = ap (λ cell. cell.x) e in absurd (omega (arith, x)) in
-    all_free-resting _ _ ne _ _ c.in_ok-one.ensures c.in_ok-one-2.ensures
+    rw c.in_ok-all.ensures (all_free-resting _ _ ne _ _ c.in_ok-one.ensures c.in_ok-one-2.ensures)

@@ -6,5 +6,5 @@ use Rattle.wh_state.proofs.floor.Floor.other_ends.Goals as goal
 
 pub returns : goal.returns
 returns c =
-    c.but.ensures ∙ ends-others c.self.inside.paths.items c.self.inside.ends c.args.agent c.self.invariant.ends_each
+    c.but.ensures ∙ ends-others c.self.inside.paths c.self.inside.ends c.args.agent c.self.invariant.ends_each
     ∙ ap (λ (v : Standing). ends (others v.state.paths c.args.agent)) c.self.view_is

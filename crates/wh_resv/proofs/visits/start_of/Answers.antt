@@ -1,7 +1,0 @@
-use Rattle.std.proofs.Common.{◌*◌, ◌/◌, ◌%◌, ap}
-use Rattle.wh_resv.specs.Visits.{start_of}
-use Rattle.wh_resv.proofs.visits.start_of.Goals as goal
-
-pub returns-clause-value : goal.returns-clause-value
-unfolding start_of
-returns-clause-value c = ap (λ n. n * 1540483477 % 4294967296 / 32768) c.number_of.ensures

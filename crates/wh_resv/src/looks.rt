@@ -1,0 +1,74 @@
+//! What is asked of the stays at one place. Each question goes over them all, which are few.
+#![tactic(auto)]
+
+ghost use Rattle.std.specs.Prelude.{◌≡◌, ◌≢◌, ℕ, ◌+◌, ◌<◌, ◌≤◌, ◌^◌, ◌↔◌, ◌⊎◌, IsTrue, List, length};
+ghost use Rattle.wh_grid.specs.declared.cell.Cell.{Cell as Spot};
+ghost use Rattle.wh_timetable.specs.Stays.{stay_at};
+ghost use Rattle.wh_resv.specs.Looks.{IsOthers, IsDuring, IsFreeFor, IsKeptFrom, IsNextStart, IsLastEnd};
+
+use wh_grid::Cell;
+use wh_timetable::Stay;
+
+/// Whether a stay is one of another than the agent of this number at a cell, and takes time.
+pub fn is_others(stay: Stay, except: usize, cell: Cell) -> bool
+    ensures { IsTrue result ↔ IsOthers stay except cell }
+{
+    stay.cell.is(cell) && stay.agent as usize != except && stay.from < stay.until
+}
+
+/// Whether a stay takes in a time.
+pub fn is_during(stay: Stay, time: u64) -> bool
+    ensures { IsTrue result ↔ IsDuring stay time }
+{
+    stay.from <= time && time < stay.until
+}
+
+/// Whether nobody else is at a cell at a time.
+pub fn is_free(stays: &[Stay], except: usize, cell: Cell, time: u64) -> bool
+    ensures { IsTrue result ↔ IsFreeFor stays.now except cell time }
+{
+    for stay in stays {
+        if is_during(*stay, time) && is_others(*stay, except, cell) {
+            return false;
+        }
+    }
+    true
+}
+
+/// Whether somebody else is at a cell from a time on that is no later, for ever.
+pub fn is_kept_from(stays: &[Stay], except: usize, cell: Cell, time: u64) -> bool
+    ensures { IsTrue result → IsKeptFrom stays.now except cell time }
+{
+    for stay in stays {
+        if stay.until == u64::MAX && stay.from <= time && is_others(*stay, except, cell) {
+            return true;
+        }
+    }
+    false
+}
+
+/// The first time after one at which a stay of somebody else at a cell begins, the greatest number where none does.
+pub fn next_start(stays: &[Stay], except: usize, cell: Cell, time: u64) -> u64
+    ensures { IsNextStart stays.now except cell time result }
+{
+    let mut start = u64::MAX;
+    for stay in stays {
+        if time < stay.from && stay.from < start && is_others(*stay, except, cell) {
+            start = stay.from;
+        }
+    }
+    start
+}
+
+/// The time at which the last stay of somebody else at a cell is over, 0 where there is none.
+pub fn last_end(stays: &[Stay], except: usize, cell: Cell) -> u64
+    ensures { IsLastEnd stays.now except cell result }
+{
+    let mut end = 0;
+    for stay in stays {
+        if end < stay.until && is_others(*stay, except, cell) {
+            end = stay.until;
+        }
+    }
+    end
+}
