@@ -5,3 +5,4 @@ pub mod Ways
 pub mod Reachable
 pub mod Reaching
 pub mod Quiet
+pub mod Steps

@@ -10,6 +10,8 @@ ghost use Rattle.wh_judge.specs.Courses.{GoesPast};
 use wh_grid::{Cell, Grid};
 use wh_path::{TimedPath, conflict};
 use wh_planner::last_to_rest;
+use wh_resv::Reservations;
+use wh_timetable::Timetable;
 
 /// How many stops are behind an agent that comes to the cell with `before` of them behind it.
 fn go_past(stops: &[Cell], before: usize, here: Cell) -> usize
@@ -67,8 +69,8 @@ fn are_free(nofollow: bool, p: &TimedPath, q: &TimedPath) -> bool
     }
 }
 
-/// Whether the path is free of each other agent's path.
-fn free_of_others(nofollow: bool, paths: &[TimedPath], agent: usize, path: &TimedPath) -> bool
+/// Whether the path is free of each other agent's path, looked at one by one.
+fn free_of_each(nofollow: bool, paths: &[TimedPath], agent: usize, path: &TimedPath) -> bool
     ensures { IsTrue result ↔ All (λ other. IsFree nofollow path.now other) (others paths.now agent) }
 {
     for i in 0..paths.len() {
@@ -79,11 +81,38 @@ fn free_of_others(nofollow: bool, paths: &[TimedPath], agent: usize, path: &Time
     true
 }
 
+/// Whether the path is free of the others' paths: whether nobody bars one of its steps, or its rest at the end.
+fn goes_free(others: &Reservations, path: &TimedPath) -> bool
+    ensures { IsTrue result ↔ All (λ other. IsFree others.now.nofollow path.now other) others.now.paths }
+{
+    if !others.vacant(path.at(0), 0) {
+        return false;
+    }
+    for k in 0..path.remaining() {
+        if !others.may_enter(path.at(k), path.at(k + 1), k) {
+            return false;
+        }
+    }
+    others.may_rest(path.end(), path.remaining())
+}
+
+/// Whether the path is free of each other agent's path. It takes time by the path's length where the timetable has stays
+/// to tell.
+fn free_of_others(nofollow: bool, paths: &Timetable, agent: usize, path: &TimedPath) -> bool
+    requires { agent < length paths.now }
+    ensures { IsTrue result ↔ All (λ other. IsFree nofollow path.now other) (others paths.now agent) }
+{
+    match Reservations::kept(paths, agent, nofollow) {
+        Some(others) => goes_free(&others, path),
+        None => free_of_each(nofollow, paths.paths(), agent, path),
+    }
+}
+
 /// Whether the agent may adopt the path, whatever its duty of `legs` legs asks of it. The cheap questions come first.
 pub fn is_course(
     grid: &Grid,
     nofollow: bool,
-    paths: &[TimedPath],
+    paths: &Timetable,
     agent: usize,
     legs: u64,
     path: &TimedPath,
@@ -92,8 +121,9 @@ pub fn is_course(
     requires legs { legs ≤ 8 }
     ensures { IsTrue result ↔ IsLawful grid.now nofollow paths.now agent legs (λ _. ⊤) path.now }
 {
-    let bound = last_to_rest(paths, agent) + legs * grid.cells() as u64;
-    let starts = path.at(0).is(paths[agent].at(0));
+    let list = paths.paths();
+    let bound = last_to_rest(list, agent) + legs * grid.cells() as u64;
+    let starts = path.at(0).is(list[agent].at(0));
     if !starts {
         return false;
     }
@@ -110,7 +140,7 @@ pub fn is_course(
 pub fn may_deliver(
     grid: &Grid,
     nofollow: bool,
-    paths: &[TimedPath],
+    paths: &Timetable,
     agent: usize,
     stops: &[Cell],
     path: &TimedPath,

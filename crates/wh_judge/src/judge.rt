@@ -46,13 +46,13 @@ fn answer(
             accept(alloc, instance, floor, client, stops.stops(), task)
         }
         (Reply::Took { task, path }, Event::Request { agent }) => {
-            Ok(take(instance, floor, near, agent, task, path))
+            take(instance, floor, near, agent, task, path)
         }
         (Reply::Rested, Event::Request { agent }) => {
             Ok(rest(instance, floor, near, is_quiet, agent))
         }
         (Reply::Parked { point, path }, Event::Request { agent }) => {
-            Ok(park(instance, floor, near, agent, &point, path))
+            park(instance, floor, near, agent, &point, path)
         }
         (
             Reply::Clock {
@@ -200,8 +200,8 @@ impl<'a> Judge<'a> {
         floor
     }
 
-    /// Whether the entry is a step from the state; if so, it is made. The error is out of memory, where a task is new or
-    /// it is to be seen that there is no clear way; then the state stays.
+    /// Whether the entry is a step from the state; if so, it is made. The error is out of memory, where a task or a path is
+    /// new or it is to be seen that there is no clear way; then the state stays.
     pub fn step(&mut self, alloc: Global, entry: Entry) -> Result<bool, AllocError>
         ensures step { IfOk result (IsStep self.old.site self.old.state entry self.new.state) }
         ensures kept { IfOk result (λ b. b ≡ false → self.new.state ≡ self.old.state) }

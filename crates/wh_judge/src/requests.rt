@@ -1,7 +1,7 @@
 //! The answers to an agent that asks for something to do.
 #![tactic(auto)]
 
-ghost use Rattle.std.specs.Prelude.{◌≡◌, ◌<◌, ◌↔◌, true, false, IsTrue, IfOk, length};
+ghost use Rattle.std.specs.Prelude.{◌≡◌, ◌<◌, ◌↔◌, true, false, IsTrue, IfOk, OnErr, length};
 ghost use Rattle.wh_path.specs.Paths.{end};
 ghost use Rattle.wh_points.specs.Points.{IsPointCell};
 ghost use Rattle.wh_tasks.specs.declared.task.Task.{Task as Job};
@@ -45,7 +45,7 @@ fn may_take(
     may_deliver(
         instance.grid(),
         instance.nofollow(),
-        floor.paths(),
+        floor.timetable(),
         agent as usize,
         stops,
         path,
@@ -64,14 +64,14 @@ fn may_park(instance: &Instance, floor: &Floor, agent: u32, path: &TimedPath) ->
     is_course(
         instance.grid(),
         instance.nofollow(),
-        floor.paths(),
+        floor.timetable(),
         agent as usize,
         2,
         path,
     )
 }
 
-/// Whether the agent may take the task by the path; if so, it does.
+/// Whether the agent may take the task by the path; if so, it does. The error is out of memory; then the state stays.
 pub fn take(
     instance: &Instance,
     floor: &mut Floor,
@@ -79,21 +79,23 @@ pub fn take(
     agent: u32,
     n: u32,
     path: TimedPath,
-) -> bool
+) -> Result<bool, AllocError>
     requires reached { IsReachable instance.now floor.old.state }
     requires grid { near.old.grid ≡ instance.now.grid }
-    ensures answer { Decides instance.now floor.old.state (replies.Took n path) (events.Request agent) floor.new.state result }
-    ensures kept { result ≡ false → floor.new.state ≡ floor.old.state }
+    ensures answer { IfOk result (Decides instance.now floor.old.state (replies.Took n path) (events.Request agent) floor.new.state) }
+    ensures kept { IfOk result (λ b. b ≡ false → floor.new.state ≡ floor.old.state) }
+    ensures err { OnErr result (floor.new.state ≡ floor.old.state) }
     ensures grid { near.new.grid ≡ instance.now.grid }
 {
     if !is_due(floor, agent) {
-        return false;
+        return Ok(false);
     }
     if !may_take(instance, floor, near, agent, n, &path) {
-        return false;
+        return Ok(false);
     }
+    floor.reserve_path(&path)?;
     floor.take(agent, n, path);
-    true
+    Ok(true)
 }
 
 /// Whether the agent may be told to rest. It takes constant time where the note tells it.
@@ -122,7 +124,8 @@ pub fn rest(
     true
 }
 
-/// Whether the agent may make way by the path to the point of this name; if so, it does.
+/// Whether the agent may make way by the path to the point of this name; if so, it does. The error is out of memory; then
+/// the state stays.
 pub fn park(
     instance: &Instance,
     floor: &mut Floor,
@@ -130,27 +133,29 @@ pub fn park(
     agent: u32,
     point: &Name,
     path: TimedPath,
-) -> bool
+) -> Result<bool, AllocError>
     requires reached { IsReachable instance.now floor.old.state }
     requires grid { near.old.grid ≡ instance.now.grid }
-    ensures answer { Decides instance.now floor.old.state (replies.Parked point.now path) (events.Request agent) floor.new.state result }
-    ensures kept { result ≡ false → floor.new.state ≡ floor.old.state }
+    ensures answer { IfOk result (Decides instance.now floor.old.state (replies.Parked point.now path) (events.Request agent) floor.new.state) }
+    ensures kept { IfOk result (λ b. b ≡ false → floor.new.state ≡ floor.old.state) }
+    ensures err { OnErr result (floor.new.state ≡ floor.old.state) }
     ensures grid { near.new.grid ≡ instance.now.grid }
 {
     if !is_due(floor, agent) {
-        return false;
+        return Ok(false);
     }
     if !instance.is_at(point, path.end()) {
-        return false;
+        return Ok(false);
     }
     if !may_park(instance, floor, agent, &path) {
-        return false;
+        return Ok(false);
     }
     if !makes_way(instance, floor, near, agent) {
-        return false;
+        return Ok(false);
     }
+    floor.reserve_path(&path)?;
     floor.park(agent, path);
-    true
+    Ok(true)
 }
 
 /// Whether a due agent lacks a clear way for what it is to do.

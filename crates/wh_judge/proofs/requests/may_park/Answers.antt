@@ -11,7 +11,7 @@ returns c =
     let s = c.args.floor.now.state in
     let agent = c.args.agent in
     let path = c.args.path.now in
-    let course = rw (c.grid.ensures.value, c.nofollow.ensures, c.paths.ensures.value) at c.is_course.ensures in
+    let course = rw (c.grid.ensures.value, c.nofollow.ensures, c.timetable.ensures.value) at c.is_course.ensures in
     let may = rw c.end.ensures at (c.may_end.ensures.0 c.if-not-may_end.false) in
     let serves = (park-allowed site s agent (end path)).0 (record { point = c.requires.point; may_end = may }) in (
       λ ok. lawful-from site.grid site.layout.nofollow s.paths agent 2 (ParksAt (IsAllowed site s agent)) path (course.0 ok) serves,

@@ -3,8 +3,8 @@ use Rattle.std.proofs.lemmas.Bool.{false≢true}
 use Rattle.wh_grid.specs.declared.cell.Cell.{Cell}
 use Rattle.wh_path.specs.Paths.{IsFree}
 use Rattle.wh_judge.proofs.Courses.{path-read, others-more, others-all, others-at}
-use Rattle.wh_judge.proofs.course.free_of_others.Goals as goal
-use Rattle.wh_judge.proofs.course.free_of_others.Goals.{else-i-agent-via-then-i-agent+else-not-are_free, else-i-agent-via-else-i-agent}
+use Rattle.wh_judge.proofs.course.free_of_each.Goals as goal
+use Rattle.wh_judge.proofs.course.free_of_each.Goals.{else-i-agent-via-then-i-agent+else-not-are_free, else-i-agent-via-else-i-agent}
 
 pub returns-then-not-are_free : goal.returns-then-not-are_free
 returns-then-not-are_free c =
