@@ -10,7 +10,7 @@
 #define CHECK_NEAREST(...) check_nearest(__VA_ARGS__)
 
 #include "fields.hpp"
-#include "reservations.hpp"
+#include "timetable.hpp"
 
 inline void demand(bool good, const char* what) {
     if (good) return;
@@ -20,7 +20,7 @@ inline void demand(bool good, const char* what) {
 
 struct PathCheck {
     const Site& site;
-    const std::vector<PathView>& views;
+    const Timetable& timetable;
     uint32_t self;
     const std::vector<uint32_t>& path;    // empty where none was found
     const uint32_t* stops;    // null: a parking is sought, where the field is 0
@@ -30,8 +30,9 @@ struct PathCheck {
     void check() const {
         if (path.empty()) return check_none();
         uint32_t horizon = uint32_t(path.size());
-        for (const PathView& view : views) horizon = std::max(horizon, view.last);
-        demand(path[0] == views[self].at(0), "the path starts elsewhere");
+        for (uint32_t agent = 0; agent < timetable.agents(); ++agent)
+            horizon = std::max(horizon, timetable.left(agent));
+        demand(path[0] == at(self, 0), "the path starts elsewhere");
         uint32_t leg = 0;
         for (uint32_t time = 0; time < horizon; ++time) {
             const uint32_t from = path[std::min<size_t>(time, path.size() - 1)];
@@ -44,23 +45,26 @@ struct PathCheck {
         }
         demand(leg + 1 == count && is_goal(path.back()), "the path serves not its errand");
         // more would take minutes
-        if (size_t(site.grid.passable) * views.size() <= 50000)
+        if (size_t(site.grid.passable) * timetable.agents() <= 50000)
             demand(plain_length(horizon, uint32_t(path.size())) + 1 == path.size(), "the path is not least");
     }
 
     // No path was found. From the horizon on each leg is a walk on a still map.
     void check_none() const {
         uint32_t horizon = 0;
-        for (uint32_t agent = 0; agent < views.size(); ++agent)
-            if (agent != self) horizon = std::max(horizon, views[agent].last);
-        if (size_t(site.grid.passable) * views.size() <= 4000)
+        for (uint32_t agent = 0; agent < timetable.agents(); ++agent)
+            if (agent != self) horizon = std::max(horizon, timetable.left(agent));
+        if (size_t(site.grid.passable) * timetable.agents() <= 4000)
             demand(plain_length(horizon, horizon + count * site.grid.passable + 1) == NONE - 1, "there is a path");
     }
 
+    // Where an agent is by its path, so many steps from now.
+    uint32_t at(uint32_t agent, uint32_t time) const { return timetable.at(agent, timetable.now() + time); }
+
     bool is_free(uint32_t from, uint32_t to, uint32_t time) const {
-        for (uint32_t agent = 0; agent < views.size(); ++agent) {
+        for (uint32_t agent = 0; agent < timetable.agents(); ++agent) {
             if (agent == self) continue;
-            const uint32_t before = views[agent].at(time), after = views[agent].at(time + 1);
+            const uint32_t before = at(agent, time), after = at(agent, time + 1);
             if (after == to || (before == to && after == from)) return false;
             if (site.nofollow && from != to && (before == to || after == from)) return false;
         }
@@ -68,8 +72,8 @@ struct PathCheck {
     }
 
     bool is_goal(uint32_t cell) const {
-        for (uint32_t agent = 0; agent < views.size(); ++agent)
-            if (agent != self && views[agent].end() == cell) return false;
+        for (uint32_t agent = 0; agent < timetable.agents(); ++agent)
+            if (agent != self && timetable.at(agent, NONE) == cell) return false;
         return stops ? cell == stops[count - 1] : field[cell] == 0;
     }
 
@@ -86,7 +90,7 @@ struct PathCheck {
 
     // The steps of a least path, by all states of each time in turn.
     uint32_t plain_length(uint32_t horizon, uint32_t most) const {
-        const uint32_t start = views[self].at(0), stride = site.grid.stride;
+        const uint32_t start = at(self, 0), stride = site.grid.stride;
         std::vector<uint32_t> now{start * MOST_STOPS + leg_at(0, start)}, next;
         std::vector<uint32_t> met(site.grid.size() * MOST_STOPS, 0);
         for (uint32_t time = 0; time < most; ++time, now.swap(next), next.clear()) {

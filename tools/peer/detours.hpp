@@ -49,16 +49,13 @@ private:
         return false;
     }
 
-    // Of the places that are taken, those of agents that stay.
     void bar(const Reservations& others) {
         places_ = grid_.places;
         passable_ = grid_.passable;
-        for (uint32_t agent = 0; agent < others.views.size(); ++agent) {
-            const PathView& view = others.views[agent];
-            if (agent == others.self() || view.last != 0 || !others.is_taken(view.at(0))) continue;
-            places_[view.at(0)] = BLOCKED;
+        others.for_each_at_rest([&](uint32_t cell) {
+            places_[cell] = BLOCKED;
             --passable_;
-        }
+        });
     }
 
     Bounded fill_field(uint32_t* table, uint32_t goal, uint32_t from) {

@@ -11,6 +11,7 @@
 
 class Search {
     const Site& site_;
+    const Timetable& timetable_;
     Reservations reservations_;
     Errand errand_;
     Straight straight_;
@@ -20,29 +21,27 @@ class Search {
 public:
     std::vector<uint32_t> path;    // the last that was found
 
-    explicit Search(const Site& site)
-        : site_(site), reservations_(site.nofollow), errand_(reservations_), straight_(site.grid), intervals_(site.grid),
-          detours_(site.grid) {}
-
-    std::vector<PathView>& views() { return reservations_.views; }
+    Search(const Site& site, const Timetable& timetable)
+        : site_(site), timetable_(timetable), reservations_(timetable, site.nofollow), errand_(reservations_),
+          straight_(site.grid), intervals_(site.grid), detours_(site.grid) {}
 
     // A least path through the stops.
     bool deliver(uint32_t self, uint32_t start, const uint32_t* stops, uint32_t count, const Bounded* fields) {
-        reservations_.reserve(self, stops[count - 1]);
+        reservations_.look(self, stops[count - 1]);
         errand_.deliver(stops, count, fields, site_.grid.passable);
         const bool found = run(start, stops, count, fields);
         if (!found) path.clear();
-        CHECK_PATH(site_, views(), self, path, stops, count, nullptr);
+        CHECK_PATH(site_, timetable_, self, path, stops, count, nullptr);
         return found;
     }
 
     // A least path to a cell where the field is 0.
     bool park(uint32_t self, uint32_t start, const uint32_t* field) {
-        reservations_.reserve(self, NONE);
+        reservations_.look(self, NONE);
         errand_.park(field, site_.grid.passable);
         const bool found = run(start, nullptr, 0, nullptr);
         if (!found) path.clear();
-        CHECK_PATH(site_, views(), self, path, nullptr, 1, field);
+        CHECK_PATH(site_, timetable_, self, path, nullptr, 1, field);
         return found;
     }
 

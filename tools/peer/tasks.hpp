@@ -2,7 +2,7 @@
 #pragma once
 
 #include "check.hpp"
-#include "reservations.hpp"
+#include "timetable.hpp"
 
 struct Task {
     uint32_t stops[MOST_STOPS];

@@ -6,11 +6,9 @@
 #include "tasks.hpp"
 
 struct Agent {
-    std::vector<uint32_t> path;
-    uint32_t now = 0, last = 0;    // where in the path it is, and the path's end
     uint32_t here = 0;
     uint32_t task = NONE;
-    uint32_t wanted = NONE;        // the cell of its next stop
+    uint32_t wanted = NONE;    // the cell of its next stop
 };
 
 struct Visits {
@@ -20,11 +18,11 @@ struct Visits {
 class Warehouse {
     Site site_;
     Output& output_;
-    uint32_t clock_ = 0;
     bool is_closed_ = false;
     // No open task is clear of all paths' ends: until something changes only one who stands in the way has to look.
     bool is_quiet_ = false;
     std::vector<Agent> agents_;
+    Timetable timetable_;
     Tasks tasks_;
     PathEnds ends_;
     std::vector<uint32_t> queue_;    // shared by all that goes breadth first, so that it stays in the cache
@@ -35,14 +33,14 @@ class Warehouse {
 
 public:
     Warehouse(Site&& site, Output& output)
-        : site_(std::move(site)), output_(output), agents_(site_.starts.size()), tasks_(site_.grid.size()),
+        : site_(std::move(site)), output_(output), agents_(site_.starts.size()),
+          timetable_(site_.starts, site_.grid.size()), tasks_(site_.grid.size()),
           ends_{std::vector<uint16_t>(site_.grid.size(), NOBODY)}, queue_(site_.grid.size()),
-          fields_(site_.grid, queue_, agents_.size()), nearest_(site_.grid, queue_), search_(site_) {
+          fields_(site_.grid, queue_, agents_.size()), nearest_(site_.grid, queue_), search_(site_, timetable_) {
         for (uint32_t agent = 0; agent < agents_.size(); ++agent) {
             const uint32_t start = site_.starts[agent];
             if (ends_.agents[start] != NOBODY) die("two agents start at one point");
             ends_.agents[start] = uint16_t(agent);
-            agents_[agent].path.assign(1, start);
             agents_[agent].here = start;
         }
     }
@@ -69,7 +67,7 @@ public:
         }
         task.count = uint8_t(submission.count);
         task.agent = NONE;
-        task.submitted = clock_;
+        task.submitted = timetable_.now();
         const uint32_t number = tasks_.add(task);
         is_quiet_ = false;
         history_.note(Event::SUBMIT, kept, Reply::ACCEPTED, number);
@@ -79,30 +77,31 @@ public:
     void token(uint32_t self) {
         if (UNLIKELY(is_closed_)) return refuse_closed(Event::TOKEN, self);
         if (UNLIKELY(self >= agents_.size())) return refuse_unknown(Event::TOKEN, self);
-        const Agent& agent = agents_[self];
-        if (const uint32_t left = agent.last - agent.now) {
+        if (const uint32_t left = timetable_.left(self)) {
             history_.note(Event::TOKEN, self, Reply::E5, left);
             return output_.line("refused E5 ", left);
         }
-        if (tasks_.open().empty() || (is_quiet_ && !tasks_.is_stop(agent.here))) return rest(self);
+        if (tasks_.open().empty() || (is_quiet_ && !tasks_.is_stop(agents_[self].here))) return rest(self);
         choose(self);
     }
 
     void tick() {
         if (UNLIKELY(is_closed_)) return refuse_closed(Event::TICK, 0);
-        if (UNLIKELY(clock_ == LAST_CLOCK)) {
+        if (UNLIKELY(timetable_.now() == LAST_CLOCK)) {
             history_.note(Event::TICK, 0, Reply::E7);
             return output_.line("refused E7");
         }
-        ++clock_;
+        timetable_.tick();
+        const uint32_t clock = timetable_.now();
         Visits visits;
-        for (Agent& agent : agents_) {
-            if (agent.now == agent.last) continue;
-            agent.here = agent.path[++agent.now];
+        for (uint32_t self = 0; self < agents_.size(); ++self) {
+            if (timetable_.end(self) < clock) continue;    // it has been there before
+            Agent& agent = agents_[self];
+            agent.here = timetable_.at(self, clock);
             if (agent.here == agent.wanted) arrive(agent, visits);
         }
-        history_.note(Event::TICK, 0, Reply::CLOCK, clock_, visits.picked, visits.dropped);
-        output_.line("clock ", clock_, " picked ", visits.picked, " dropped ", visits.dropped);
+        history_.note(Event::TICK, 0, Reply::CLOCK, clock, visits.picked, visits.dropped);
+        output_.line("clock ", clock, " picked ", visits.picked, " dropped ", visits.dropped);
     }
 
     // A replay without spare planners, which is all that the peer does, has none to hand in.
@@ -159,52 +158,37 @@ private:
         // the first stops are the last used
         for (uint32_t leg = task.count; leg-- > 0;)
             fields[leg] = fields_.get(task.stops[leg], leg == 0 ? agent.here : task.stops[leg - 1]);
-        look_round();
         if (!search_.deliver(self, agent.here, task.stops, task.count, fields)) return refuse_path(self);
-        const uint32_t kept = adopt(self);
+        const std::vector<uint32_t>& path = search_.path;
+        const uint32_t kept = adopt(self, path);
         tasks_.assign(number, self);
         agent.task = number;
         Visits visits;    // no tick made them, so no reply tells them
         arrive(agent, visits);
-        history_.note(Event::TOKEN, self, Reply::TOOK, number, kept, agent.last + 1);
-        output_.line("took ", number, " end ", agent.last);
+        history_.note(Event::TOKEN, self, Reply::TOOK, number, kept, uint32_t(path.size()));
+        output_.line("took ", number, " end ", uint32_t(path.size()) - 1);
     }
 
     void make_way(uint32_t self) {
         const uint32_t* field = fields_.to_nearest(site_.points, [&](uint32_t cell) {
             return !tasks_.is_last_stop(cell) && !ends_.is_others(self, cell);
         });
-        look_round();
         if (!search_.park(self, agents_[self].here, field)) return refuse_path(self);
-        const uint32_t kept = adopt(self);
-        const Agent& agent = agents_[self];
-        uint32_t point = 0;
-        while (site_.points[point].cell != agent.path.back()) ++point;
-        history_.note(Event::TOKEN, self, Reply::PARKED, point, kept, agent.last + 1);
-        output_.line("parked ", site_.points[point].name, " end ", agent.last);
-    }
-
-    void look_round() {
-        std::vector<PathView>& views = search_.views();
-        views.resize(agents_.size());
-        for (size_t index = 0; index < agents_.size(); ++index) {
-            const Agent& agent = agents_[index];
-            views[index] = {agent.path.data() + agent.now, agent.last - agent.now};
-        }
-    }
-
-    // The agent goes by the path that was found; answers where the history keeps it.
-    uint32_t adopt(uint32_t self) {
-        Agent& agent = agents_[self];
         const std::vector<uint32_t>& path = search_.path;
-        const uint32_t kept = history_.keep_path(path);
-        ends_.agents[agent.path.back()] = NOBODY;
+        const uint32_t kept = adopt(self, path);
+        uint32_t point = 0;
+        while (site_.points[point].cell != path.back()) ++point;
+        history_.note(Event::TOKEN, self, Reply::PARKED, point, kept, uint32_t(path.size()));
+        output_.line("parked ", site_.points[point].name, " end ", uint32_t(path.size()) - 1);
+    }
+
+    // The agent goes by a path that was found; answers where the history keeps it.
+    uint32_t adopt(uint32_t self, const std::vector<uint32_t>& path) {
+        ends_.agents[agents_[self].here] = NOBODY;    // who asks is at its path's end
         ends_.agents[path.back()] = uint16_t(self);
-        agent.path.assign(path.begin(), path.end());
-        agent.now = 0;
-        agent.last = uint32_t(path.size()) - 1;
+        timetable_.adopt(self, path);
         is_quiet_ = false;
-        return kept;
+        return history_.keep_path(path);
     }
 
     // A stop may be named several times in a row: one arrival visits them all.
