@@ -29,8 +29,19 @@ private:
         uint32_t since = 0;    // when the agent is at the first cell
         uint32_t end = 0;      // when it is at the last one, where it stays
     };
+    // The stays at the cells that share a slot, in no order, and for how many more of them room is still to be made.
+    struct Slot {
+        Stays stays;
+        size_t wanted = 0;
+        // Once for all of them. Where they are few it is room for four and a quarter of those that are there, so that all
+        // seldom move.
+        void grow() {
+            if (stays.capacity() - stays.size() < wanted) stays.reserve(stays.size() + std::max(wanted, 4 + stays.size() / 4));
+            wanted = 0;
+        }
+    };
     std::vector<Path> paths_;
-    std::vector<Stays> slots_;    // for each the stays at the cells that share it, in no order
+    std::vector<Slot> slots_;
     uint32_t mask_ = 0;
     uint32_t now_ = 0;
 
@@ -55,7 +66,7 @@ public:
     }
 
     // All stays from now on at a cell, among some at others and some that are over.
-    const Stays& stays(uint32_t cell) const { return slots_[slot(cell)]; }
+    const Stays& stays(uint32_t cell) const { return slots_[slot(cell)].stays; }
 
     void tick() { ++now_; }
 
@@ -78,22 +89,33 @@ private:
         for (const uint32_t cell : cells) {
             if (cell == before) continue;
             before = cell;
-            Stays& stays = slots_[slot(cell)];
+            Stays& stays = slots_[slot(cell)].stays;
             const auto is_gone = [&](const Stay& stay) { return stay.agent == agent || stay.to < now_; };
             stays.erase(std::remove_if(stays.begin(), stays.end(), is_gone), stays.end());
         }
     }
 
+    // Makes room for the stays of a path, at each slot once for all of them.
+    void make_room(const std::vector<uint32_t>& cells) {
+        uint32_t before = NONE;
+        for (const uint32_t cell : cells) {
+            slots_[slot(cell)].wanted += cell != before;
+            before = cell;
+        }
+        for (const uint32_t cell : cells) slots_[slot(cell)].grow();
+    }
+
     void put_in(uint32_t agent, const Path& path) {
+        make_room(path.cells);
         Stay stay{path.cells[0], agent, now_, now_};
         for (uint32_t time = now_; time < path.end; ++time) {
             const uint32_t next = path.cells[time + 1 - now_];
             if (next == stay.cell) continue;
             stay.to = time;
-            slots_[slot(stay.cell)].push_back(stay);
+            slots_[slot(stay.cell)].stays.push_back(stay);
             stay = {next, agent, time + 1, time + 1};
         }
         stay.to = NONE;
-        slots_[slot(stay.cell)].push_back(stay);
+        slots_[slot(stay.cell)].stays.push_back(stay);
     }
 };

@@ -1,8 +1,8 @@
 //! `warehouse`: tells whether a warehouse of agents on a grid is well-formed, replays a script of commands to it, verifies
 //! the log of a run, and runs clients, agents and a clock over it in threads.
 //!
-//! What matters stands in `wh_service`, over any reader and any writer. This file joins it to the process: its words, its
-//! standard streams, and its exit status. It also says how a planner is made, and no crate below knows any kind of them.
+//! The logic is in `wh_service`, over any reader and any writer. This file connects it to the process: its words, its
+//! standard streams, and its exit status. It also says how a planner is made, and no crate below knows any kind of planner.
 #![tactic(auto)]
 
 ghost use Rattle.std.specs.Prelude.{◌≡◌, true, IfOk};

@@ -11,7 +11,7 @@ use wh_lines::Lines;
 use wh_options::{Fleet, PlannerKind, ReplayOptions, Replies, Tail};
 use wh_planner::Planner;
 use wh_planners::{Patient, Sharing};
-use wh_service::{PlannerParts, serve};
+use wh_service::{PlannerParts, replay};
 
 /// A tree of nine cells: its least walks are unique.
 pub const MAP: &str = "type octile\nheight 3\nwidth 5\nmap\n@.@.@\n.....\n@.@.@\n";
@@ -23,7 +23,7 @@ pub const POINTS: &str =
 /// The agents stand on the parkings.
 pub const AGENTS: &str = "agent P0\nagent P1\n";
 
-/// Serves an input with boxed planners of a kind, of 4 slots each on a bank of 1024, and so many spare ones; the replies are
+/// Serves an input with boxed planners of a kind, of 4 slots each on a bank of 1024, and a number of spare ones; the replies are
 /// told so, and the tail follows them. Some: what stopped it.
 pub fn served<R: Read + Drop, W: Write>(
     alloc: Global,
@@ -66,7 +66,7 @@ pub fn served<R: Read + Drop, W: Write>(
         vehicles: None,
     };
     let mut lines = Lines::new(reader);
-    match serve(alloc, &mut lines, writer, &options, make) {
+    match replay(alloc, &mut lines, writer, &options, make) {
         Ok(_) => None,
         Err(trouble) => Some(trouble),
     }

@@ -11,7 +11,8 @@ use wh_edge::{Site, Trouble, read_site};
 use wh_lines::Lines;
 use wh_options::{PlannerKind, Replies, Tail};
 use wh_planners::Patient;
-use wh_service::{Form, ReplayFault, Warehouse, claim, replay};
+use wh_replay::replay;
+use wh_service::{Form, ReplayFault, Warehouse, claim};
 
 const SCRIPT: &str = "submit x A B\nsubmit x A P1\ntick\nclose\ntick\n";
 

@@ -5,7 +5,7 @@ use std::alloc::Global;
 use std::test::*;
 use wh_options::{PlannerKind, Tail};
 
-/// An input of two rows of 2100 cells with so many stations, row by row, and as many agents on the first of them.
+/// An input of two rows of 2100 cells with the given number of stations, row by row, and as many agents on the first of them.
 fn crowd(alloc: Global, stations: u32, agents: u32) -> Result<Vec<u8>, Fail> {
     let mut text = Vec::new(alloc);
     text.extend_from_slice(b"type octile\nheight 2\nwidth 2100\nmap\n")?;

@@ -39,7 +39,7 @@ struct Told {
     free: [u32; 3],
 }
 
-/// A planner on a map, with so many slots of the bank.
+/// A planner on a map, with the given number of slots of the bank.
 fn member<P: Planner, F: Fn(PlannerParts) -> Result<P, AllocError>>(
     alloc: Global,
     map: &str,
@@ -94,7 +94,7 @@ fn step_through<P: Planner>(
     Ok(())
 }
 
-/// So many planners, each on its map with its slots of the bank.
+/// The given number of planners, each on its map with its slots of the bank.
 fn members<P: Planner, F: Fn(PlannerParts) -> Result<P, AllocError>>(
     alloc: Global,
     wanted: &[(&str, u32)],

@@ -30,7 +30,7 @@ const LEDGER: ReplayOptions<'static> = ReplayOptions {
     ..PLAIN
 };
 
-/// Words behind `warehouse replay`, and the options that they give.
+/// Words after `warehouse replay`, and the options that they give.
 const REPLAYS: [(&[&str], ReplayOptions<'static>); 17] = [
     (&[], PLAIN),
     (&["--slots=8", "--tail=ledger", "--replies=full"], LEDGER),
@@ -315,7 +315,7 @@ const CLIENTS: [ClientOptions<'static>; 3] = [
     },
 ];
 
-/// Words for running clients, behind `warehouse live --log=a`, that name none, or not each its own.
+/// Words for running clients, after `warehouse live --log=a`, that name none, or not each its own.
 const NO_CLIENTS: [&[&str]; 16] = [
     &["--client="],
     &["--client", "c"],
@@ -335,7 +335,7 @@ const NO_CLIENTS: [&[&str]; 16] = [
     &["--client=0=c", "--client=1=c:tick"],
 ];
 
-/// The program's name, with these words behind it.
+/// The program's name, followed by these words.
 fn command<'a>(alloc: Global, words: &[&'a str]) -> Result<Vec<&'a str>, AllocError> {
     let mut all = Vec::new(alloc);
     all.push("warehouse")?;

@@ -30,7 +30,7 @@ struct Shown {
     errors: Vec<u8>,
 }
 
-/// Calls the program with these words behind its name.
+/// Calls the program with these words after its name.
 fn call<R: AllocGlobal + Threads + Wait + Clock + Sync>(
     rt: &R,
     files: &HostRuntime,

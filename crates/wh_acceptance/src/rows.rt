@@ -270,7 +270,7 @@ const SITES: [(&str, PlannerKind, &str, &str); 7] = [
         "type octile\nheight 1\nwidth 5\nmap\n.....\n%%\nstation S 0 0\nparking M 2 0\nparking N 1 0\nstation T 4 0\nagent S\nagent M\n%%\nsubmit x S T\ntoken 0\ntoken 1\ntick\n",
         "accepted 0\nrefused E6\nrested\nclock 1 picked 0 dropped 0\n",
     ),
-    // The other goes from M to T in 4 steps, and is at (1,0) after the first. So the least path waits one step, goes to Q in
+    // The other goes from M to T in 4 steps, and is at (1,0) after the first. So the shortest path waits one step, goes to Q in
     // two and comes back in two.
     (
         "a delivery where it started",

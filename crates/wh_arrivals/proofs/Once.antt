@@ -4,7 +4,8 @@ use Rattle.std.specs.Prelude.{slice_index}
 use Rattle.std.specs.List.{AllByRecursion, AllZip}
 use Rattle.std.proofs.lemmas.List.{get_or_default, same_lists}
 use Rattle.std.proofs.lemmas.Option.{same_Some}
-use Rattle.wh_words.specs.Lines.{IsLine, text_of}
+use Rattle.wh_words.specs.Lines.{text_of}
+use Rattle.wh_text.specs.Lines.{IsLine}
 use Rattle.wh_log.proofs.LineLaws.{one_line, not_whole, one_text}
 use Rattle.wh_vehicles.specs.declared.report.Report.{Report}
 use Rattle.wh_arrivals.specs.Arrivals.{IsArrival, IsFurthest, TellsSteps, IsFirstBad, OneReading}

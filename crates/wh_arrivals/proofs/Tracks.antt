@@ -6,7 +6,8 @@ use Rattle.std.proofs.lemmas.Bool.{cases_lt}
 use Rattle.std.proofs.lemmas.List.{length-set, length-replicate, get_or-replicate, get_or-set_same, get_or-set_other, append-nil, append_assoc}
 use Rattle.std.proofs.lemmas.List.Elements.{Contains-push, Contains-push_cases, Contains-append_left}
 use Rattle.std.proofs.lemmas.Grind.{flat_map-append}
-use Rattle.wh_words.specs.Lines.{IsLine, text_of}
+use Rattle.wh_words.specs.Lines.{text_of}
+use Rattle.wh_text.specs.Lines.{IsLine}
 use Rattle.wh_vehicles.specs.declared.report.Report.{Report}
 use Rattle.wh_arrivals.specs.Arrivals.{IsArrival, IsFurthest, TellsSteps, IsFirstBad}
 

@@ -1,18 +1,19 @@
 -- what a file of arrivals says, which may have been cut anywhere
 use Rattle.std.specs.Prelude.{◌≡◌, ℕ, ◌+◌, ◌<◌, ◌≤◌, ◌⊎◌, List, ◌∷◌, ◌++◌, Some, Contains, length, slice_index}
 use Rattle.std.specs.List.{AllByRecursion, AllZip}
-use Rattle.wh_words.specs.Lines.{IsLine, text_of}
+use Rattle.wh_words.specs.Lines.{text_of}
+use Rattle.wh_text.specs.Lines.{IsLine}
 use Rattle.wh_vehicles.specs.Reports.{report_of}
 use Rattle.wh_vehicles.specs.declared.report.Report.{Report}
 use Rattle.wh_arrivals.specs.declared.reading.ReadFault.{ReadFault}
 use Rattle.wh_arrivals.specs.declared.reading.ReadFault.TheVariants.{NoMemory, BadLine}
 
--- the line is this report, of one of so many agents
+-- the line is this report, of one of the given number of agents
 pub record IsArrival (agents : ℕ) (line : List ℕ) (report : Report) : Type 0 where
   pub says : report_of line ≡ Some report
   pub known : report.agent < agents
 
--- The text's lines are these reports, in order. What stands behind the last line feed is a line that was cut, and no report.
+-- The text's lines are these reports, in order. What follows the last line feed is a line that was cut, and no report.
 pub record Holds (agents : ℕ) (text : List ℕ) (reports : List Report) : Type 0 where
   pub lines : List (List ℕ)
   pub cut : List ℕ
@@ -47,7 +48,7 @@ pub record IsFirstBad (agents : ℕ) (text : List ℕ) (number : ℕ) : Type 0 w
   pub said : AllZip (IsArrival agents) before reports
   pub bad : (report : Report) → ¬ IsArrival agents line report
 
--- why no steps are told; of want of memory nothing is said
+-- why no steps are told; when out of memory, nothing is said
 abbrev pub TellsFault : ℕ → List ℕ → ReadFault → Type 0
 TellsFault agents text NoMemory = Unit {0}
 TellsFault agents text (BadLine number) = IsFirstBad agents text number

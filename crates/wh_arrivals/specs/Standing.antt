@@ -49,7 +49,7 @@ TooEarlyIsNever =
     ComesTooEarly book ahead steps agent → MayHaveHappened book other book.history fleet → length fleet.drive.vehicles ≡ length steps →
     ¬ ((i : ℕ) → i < length steps → reached fleet.drive i ≡ slice_index steps i)
 
--- Why vehicles cannot stand there; of want of memory nothing is said. Under the rule against following an agent is named
+-- Why vehicles cannot stand there; when out of memory, nothing is said. Under the rule against following an agent is named
 -- whose vehicle comes too early.
 abbrev pub TellsStandFault : Seen → ℕ → List ℕ → StandFault → Type 0
 TellsStandFault book ahead steps NoMemory = Unit {0}

@@ -30,7 +30,7 @@ fn advance_all(paths: &mut [TimedPath])
     }
 }
 
-/// The agent goes by another path from now on.
+/// The agent follows another path from now on.
 fn give(
     alloc: Global,
     paths: &mut Vec<TimedPath>,

@@ -26,7 +26,7 @@ impl From<AllocError> for ReadFault {
     }
 }
 
-/// What a line reports of one of so many agents.
+/// What a line reports of one of the given number of agents.
 fn arrival(agents: u32, line: &[u8]) -> Option<Report>
     ensures none { IfNone result ((report : Told) → ¬ IsArrival agents line.now report) }
     ensures some { IfSome result (IsArrival agents line.now) }
@@ -39,7 +39,7 @@ fn arrival(agents: u32, line: &[u8]) -> Option<Report>
     }
 }
 
-/// Step 0 for each of so many agents.
+/// Step 0 for each of the given number of agents.
 fn no_steps(alloc: Global, agents: u32) -> Result<Vec<u64>, AllocError>
     ensures { IfOk result (λ steps. steps.items ≡ replicate agents 0) }
 {
@@ -55,8 +55,8 @@ fn note(steps: &mut Vec<u64>, report: Report)
     steps[agent] = steps[agent].max(report.step);
 }
 
-/// The step at which each of so many vehicles has arrived, by the text of a file of arrivals: lines `at AGENT STEP`. The file
-/// may have been cut anywhere: what stands behind the last line feed is no arrival. It goes over the text once, and takes memory
+/// The step at which each of a number of vehicles has arrived, by the text of a file of arrivals: lines `at AGENT STEP`. The file
+/// may have been cut anywhere: what follows the last line feed is not an arrival. It reads the text once, and takes memory
 /// for one number an agent.
 pub fn read_arrivals(alloc: Global, agents: u32, text: &[u8]) -> Result<Vec<u64>, ReadFault>
     ensures ok { IfOk result (λ steps. TellsSteps agents text.now steps.items) }

@@ -2,3 +2,4 @@ mod Attended
 pub mod Callers
 mod ByOptions
 mod Wholes
+mod SharesFit

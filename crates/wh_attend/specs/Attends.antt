@@ -39,7 +39,7 @@ use Rattle.wh_attend.specs.declared.ready.Ready.{Ready}
 abbrev pub log_of : Seen → List ℕ
 log_of book = lines_text (log_lines Two (told_by book))
 
--- A run is ready. A site was read, and the input ended behind it; its text stands beside the log, or a beginning of it does; by the log
+-- A run is ready. A site was read, and the input ended after it; its text stands beside the log, or a beginning of it does; by the log
 -- the run starts from this, with one planner for each agent, and with the clients and their spare planners.
 pub record IsReady {X : Type 0} (gives : PlannerParts → Result X AllocError → Type 0) (options : AttendOptions) (old new : Input) (file beside : Option (List ℕ)) (site : Site) (run : Ready X) : Type 0 where
   pub site_read : SiteKept old new site.grid site.layout run.text.items
@@ -71,8 +71,8 @@ pub record Serves {R W X : Type 0} (fits : X → Floor → Bool) (count : X → 
 abbrev pub ShowsRun : {X : Type 0} → Ready X → Seen → Result Unit ShowFault → (showed shows : Option (Option (List (List ℕ)))) → Type 0
 ShowsRun run final last showed shows = BoardsFrom (origin_of final) run.start.book.history final.history last showed shows
 
--- A run was ready, its site was kept beside the log, and its clients were served. The file is the log of the whole run now, old entries and
--- new ones, if it tells its bytes, and all of it is synced; that log was written, and the board of the whole run was shown.
+-- A run was ready, its site was kept beside the log, and its clients were served. The file is the log of the whole run now, old
+-- and new entries, if it tells its bytes, and all of it is synced; that log was written, and the board of the whole run was shown.
 pub record Attends {R W X : Type 0} (fits : X → Floor → Bool) (count : X → ℕ) (remaining : R → Option (List ℕ)) (contents : W → Option (List ℕ)) (gives : PlannerParts → Result X AllocError → Type 0) (options : AttendOptions)
     (old new : Input) (had has file synced holds : Option (List ℕ)) (beside : Siding) (showed shows : Option (Option (List (List ℕ)))) : Type 0 where
   pub site : Site
@@ -86,20 +86,20 @@ pub record Attends {R W X : Type 0} (fits : X → Floor → Bool) (count : X →
   pub tells : Appends had has (log_of final)
   pub boards : ShowsRun run final (Ok tt) showed shows
 
--- A site was read, and more stands behind it.
+-- A site was read, and more follows it.
 pub record IsFollowed (old new : Input) : Type 0 where
   pub site : Site
   pub text : List ℕ
   pub site_read : SiteKept old new site.grid site.layout text
   pub more : new.ended ≡ false
 
--- A run is ready, but that this client has no way in.
+-- A run is ready, except that this client has no way in.
 pub record EndsAtHall {X : Type 0} (gives : PlannerParts → Result X AllocError → Type 0) (options : AttendOptions) (client : ℕ) (old new : Input) (file beside : Option (List ℕ)) : Type 0 where
   pub site : Site
   pub run : Ready X
   pub ready : IsReady gives options old new file beside site run
 
--- why no run is ready, the earlier first: the site, what stands behind it, both files, the bank and the planners, the hall
+-- why no run is ready, the earlier first: the site, what follows it, both files, the bank and the planners, the hall
 abbrev pub IsWhyUnready : {X : Type 0} → (PlannerParts → Result X AllocError → Type 0) → AttendOptions → Trouble → (old new : Input) → (file beside : Option (List ℕ)) → Type 0
 IsWhyUnready gives options told old new file beside =
     SiteFault told old new
@@ -115,7 +115,7 @@ pub record StopsAside {X : Type 0} (gives : PlannerParts → Result X AllocError
   pub left : LeavesFront beside.before beside.after run.text.items
   pub has_failed : beside.failed ≡ true
 
--- why a log was not begun: its file took it not, or memory was wanting
+-- why a log was not begun: its file took it not, or memory ran out
 abbrev pub IsWhyUnbegun : Trouble → Type 0
 IsWhyUnbegun trouble.Unkept = Unit {0}
 IsWhyUnbegun trouble.NoMemory = Unit {0}
@@ -133,7 +133,7 @@ pub record StopsAttending {X D : Type 0} (gives : PlannerParts → Result X Allo
   pub is_set : IsSet beside run.text.items
   pub why : IsWhyNoHistory screen told
 
--- Why a log was not written: the file that keeps it failed before, or memory was wanting, and nothing was written; or a front of it was.
+-- Why a log was not written: the file that keeps it failed before, or memory ran out, and nothing was written; or a front of it was.
 abbrev pub IsWhyUntold : Trouble → List ℕ → (had has : Option (List ℕ)) → Type 0
 IsWhyUntold trouble.Unkept log had has = Keeps had has
 IsWhyUntold trouble.NoMemory log had has = Keeps had has

@@ -22,12 +22,12 @@ rights_of r = record { submit = r.submit; token = r.token; tick = r.tick; replac
 abbrev pub no_rights : Rights
 no_rights = record { submit = false; token = false; tick = false; replace = false; close = false }
 
--- among how many the entries of the journal are shared: the named clients, and the worker for agents and clock where there is one
+-- among how many the entries of the journal are shared: the named clients, and the worker for agents and clock, if there is one
 abbrev pub sharers : (every : Option ℕ) → (named : ℕ) → ℕ
 sharers None named = named
 sharers (Some every) named = named + 1
 
--- how many entries more each named client may have: as many as are said; else those of the journal are shared equally among so many, and
+-- how many more entries each named client may have: the number given; else an equal part of the journal's, and
 -- each has one at least
 abbrev pub share_of : (share : Option ℕ) → (journal among : ℕ) → ℕ
 share_of None journal among = max (journal / among) 1
@@ -37,7 +37,7 @@ share_of (Some share) journal among = share
 abbrev pub worker_number : ℕ
 worker_number = 63
 
--- There are so many clients: up to 64, and beside a worker one for each number below its own.
+-- The number of clients is right: up to 64, and beside a worker one for each number below its own.
 abbrev pub HaveRoom : (every : Option ℕ) → (many : ℕ) → Type 0
 HaveRoom None many = many ≤ 64
 HaveRoom (Some every) many = many ≡ worker_number
@@ -57,7 +57,7 @@ pub record IsNamed (clients : List ClientOptions) (number : ℕ) (named : Client
   pub there : Contains clients named
   pub number_is : named.number ≡ number
 
--- A client with so many entries before the run, whose word gave it these rights: it may have its share of entries beside them, and as
+-- A client with a given number of entries before the run, whose word gave it these rights: it may have its share of entries beside them, and as
 -- many planners stand by for it as the options name.
 pub record IsGuest {X : Type 0} (gives : PlannerParts → Result X AllocError → Type 0) (options : AttendOptions) (grid : Floor) (bank : Bank) (had : ℕ) (rights : ClientRights) (client : Client X) : Type 0 where
   pub rights_are : client.allowance.rights ≡ rights_of rights
@@ -76,7 +76,7 @@ IsClient gives options grid bank earlier number client =
     ((named : ClientOptions) × IsNamed options.clients.items number named × IsGuest gives options grid bank (length (entries_of earlier number)) named.rights client)
     ⊎ (All (λ named. named.number ≢ number) options.clients.items × IsNobody client)
 
--- A client for each number from 0 on: for all that were named, and for all that have entries, but for the worker where there is one.
+-- A client for each number from 0 on: for all that were named, and for all that have entries, except for the worker, if there is one.
 pub record AreClients {X : Type 0} (gives : PlannerParts → Result X AllocError → Type 0) (options : AttendOptions) (grid : Floor) (bank : Bank) (earlier : List Entry) (clients : List (Client X)) : Type 0 where
   pub few : HaveRoom options.every (length clients)
   pub named : All (λ named. named.number < length clients) options.clients.items

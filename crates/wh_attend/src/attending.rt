@@ -25,8 +25,8 @@ use wh_planner::Planner;
 use wh_serve::Doors;
 use wh_service::{PlannerParts, keep_trouble};
 
-/// Makes the file the log of the run so far, but for its end line, and the warehouse that goes on from there. Planners are made for the
-/// very book, so that none is refused for anything but want of memory.
+/// Makes the file the log of the run so far, except for its end line, and the warehouse that goes on from there. Planners are made for the
+/// very book, so that none is refused for anything but lack of memory.
 fn begin<L: LogFile, P: Planner>(
     alloc: Global,
     file: &mut L,
@@ -53,16 +53,16 @@ fn begin<L: LogFile, P: Planner>(
 
 /// Reads a site, finds out from the log file and the file beside it what the run starts from, makes one planner for each agent, with the
 /// slots that its state tells, and those that stand by for clients, keeps the site's text beside the log, and serves running clients, who
-/// come in at the doors, over the log; of a run that was closed nobody is served. Each has the rights that its word gave it, and may have
-/// as many entries more as the options name, or else its share of those that the journal may have more; a client that nobody named may do
-/// nothing. Where the options name a worker, it takes turns for all agents and the clock, until the clients are through. Boards of the run
+/// connect at the doors, over the log; a closed run serves nobody. Each has the rights that its word gave it, and may have
+/// as many more entries as the options name, or else its share of the journal's; a client that was not named may do nothing.
+/// Where the options name a worker, it takes turns for all agents and the clock, until the clients are through. Boards of the run
 /// are shown on the screen meanwhile, if there is one, which comes back once the clients were served. When all are through the file is
-/// given the line that ends the log, and the log of the whole run, old entries and new ones, is written. What stands in the log outlives a
-/// kill, and no reply is told before its entry was synced. `make` makes one planner of its parts, and its error tells that memory is
-/// wanting. What can go wrong is told in this order: the site, what stands behind it, the file beside the log, the log, the bank and the
+/// given the line that ends the log, and the log of the whole run, old and new entries, is written. What is in the log
+/// survives a kill, and no reply is told before its entry was synced. `make` makes one planner of its parts, and fails only when out
+/// of memory. Errors are reported in this order: the site, what follows it, the file beside the log, the log, the bank and the
 /// planners, a client without a way in, what is written beside the log, the log's beginning, the first board, the run, the end of the log,
-/// the writer, the last board. Before the clients are served nothing is written to the output. The file of the log comes back where all
-/// went well: else it is let go, and no more is said of it here.
+/// the writer, the last board. Before the clients are served nothing is written to the output. The log's file is returned
+/// if all went well; else it is dropped, and nothing more is said of it here.
 pub fn attend<
     R: Read,
     W: Write,

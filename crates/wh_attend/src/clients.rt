@@ -177,7 +177,7 @@ pub(crate) struct Staff<P: Planner> {
 }
 
 /// Makes the planners of the agents, with the slots that the start's state tells, and then those that stand by for clients. The error
-/// tells why one of them got no slots, or that memory is wanting.
+/// tells why one of them got no slots, or that memory ran out.
 pub(crate) fn make_staff<P: Planner, F: Fn(PlannerParts) -> Result<P, AllocError>>(
     alloc: Global,
     options: &AttendOptions<'_>,

@@ -15,7 +15,7 @@ use wh_log::{NoMemory, log_text};
 use wh_planner::Planner;
 use wh_service::{keep_trouble, write_text};
 
-/// The log of the warehouse's run. The error is want of memory.
+/// The log of the warehouse's run. Fails when out of memory.
 fn text_of<P: Planner>(alloc: Global, warehouse: &Warehouse<P>) -> Result<Vec<u8>, Trouble>
     ensures ok { IfOk result (λ text. text.items ≡ log_of warehouse.now.book) }
     ensures fault { IfErr result (λ told. told ≡ Trouble.NoMemory) }

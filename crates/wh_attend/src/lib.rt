@@ -4,12 +4,14 @@
 mod attending;
 mod clients;
 mod ending;
+mod laws;
 mod ready;
 mod serving;
 mod shares;
 
 pub use attending::attend;
 pub use clients::named_by;
+pub use laws::shares_fit;
 
 // handed on, for callers: what the items above take and speak of
 pub use wh_continue::{FileJournal, LogFile};

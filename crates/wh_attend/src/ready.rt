@@ -36,7 +36,7 @@ pub struct Ready<P> {
     pub clients: Vec<Client<P>>,
 }
 
-/// Reads a site behind which the input ends.
+/// Reads a site with which the input ends.
 fn read_alone<R: Read>(lines: &mut Lines<R>, alloc: Global) -> Result<KeptSite, Trouble>
     ensures ok { IfOk result (λ kept. SiteKept lines.old lines.new kept.site.grid kept.site.points kept.text.items) }
     ensures alone { IfOk result (λ _. lines.new.ended ≡ true) }

@@ -1,4 +1,4 @@
-//! The clients of a run are served, beside a thread that lets them go.
+//! The clients of a run are served, beside a thread that releases them.
 
 ghost use Rattle.std.specs.Prelude.{◌≡◌, ◌≤◌, ◌+◌, IfErr, IfOk, length, option_map};
 ghost use Rattle.wh_desk.specs.Pasts.{origin_of};

@@ -13,7 +13,7 @@ use wh_service::pace_of;
 /// The number of the worker for agents and clock, the last one.
 pub(crate) const WORKER_NUMBER: u32 = 63;
 
-/// Among how many the entries of the journal are shared: the named clients, and the worker where there is one.
+/// Among how many the entries of the journal are shared: the named clients, and the worker if there is one.
 pub(crate) fn sharers(options: &AttendOptions<'_>) -> u64
     requires { 1 ≤ length options.now.clients.items }
     ensures value { result ≡ sharers options.now.every (length options.now.clients.items) }
@@ -38,7 +38,7 @@ pub(crate) fn share_of(share: Option<u32>, journal: u32, among: u64) -> u64
     }
 }
 
-/// How many entries more the worker may have: what the shares of the named clients leave, and as many as one of them at least.
+/// How many more entries the worker may have: what the shares of the named clients leave, at least as many as one of them.
 fn worker_share(options: &AttendOptions<'_>) -> u64
     ensures value { result ≡ worker_share options.now.share options.now.journal (length options.now.clients.items) }
     ensures few { result ≤ 4294967296 }

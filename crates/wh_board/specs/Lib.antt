@@ -1,5 +1,5 @@
 pub mod Pasts
 pub mod Boards
 pub mod Rules
--- handed on, for the crates above
+-- re-exported for the crates above
 pub use Rattle.wh_book.specs.Drafts

@@ -52,7 +52,7 @@ abbrev pub last_of : Past → List Past → Past
 last_of p [] = p
 last_of p (q ∷ qs) = last_of q qs
 
--- the past that was added last; where there is none, one of no meaning
+-- the past that was added last; where there is none, a meaningless one
 abbrev pub latest : List Past → Past
 latest [] = record { origin = record { site = nowhere; opening = opened nowhere.layout 0 [] }; history = [] }
 latest (p ∷ ps) = last_of p ps

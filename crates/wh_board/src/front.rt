@@ -193,7 +193,7 @@ impl Front {
     }
 }
 
-/// Adds what is offered behind the pasts that were seen, so many and the first, and says whether it did.
+/// Adds what is offered after the pasts that were seen (their number and the first), and returns whether it did.
 fn advance(
     count: &Count,
     number: u64,

@@ -17,7 +17,7 @@ use std::sync::Wait;
 use wh_book::Book;
 use wh_event::Entry;
 
-/// So many viewers may live at once.
+/// At most this many viewers may live at once.
 pub const VIEWERS: usize = 64;
 
 /// Why there is no viewer.

@@ -120,7 +120,7 @@ kept-seats site opening history state entry new kept step =
 pub kept-served : (site : Site) (opening : State) (history : List Entry) (state : State) → IsKept site opening history state → IsFormed site → AllServed history
 kept-served site opening history state kept formed = none_is_refused_a_path site history state formed (kept-reached site opening history state kept)
 
--- on a well-formed instance no entry that is added is a refusal for want of a path
+-- on a well-formed instance no entry that is added is a refusal for lack of a path
 pub step-served : (site : Site) (opening : State) (history : List Entry) (state : State) (entry : Entry) (new : State) → IsKept site opening history state →
     Step site state entry new → IsFormed site → entry.reply ≢ Reply.Refused Refusal.NoPath
 step-served site opening history state entry new kept step formed =

@@ -11,7 +11,7 @@ use Rattle.wh_event.specs.declared.entry.Entry.{Entry}
 use Rattle.wh_event.specs.declared.event.Event.{Event}
 use Rattle.wh_event.specs.declared.reply.Reply.{Reply}
 use Rattle.wh_event.specs.declared.reply.Refusal.{Refusal}
-use Rattle.wh_state.specs.Floors.{Standing}
+use Rattle.wh_state.specs.Standings.{Standing}
 use Rattle.wh_book.specs.declared.draft.Change.{Change}
 use Rattle.wh_book.specs.declared.draft.Draft.{Draft}
 
@@ -38,7 +38,7 @@ CanChange Change.Tick f = f.state.clock < last_clock
 CanChange (Change.Seat agent slots) f = agent < length f.state.paths
 CanChange Change.Shut f = Unit {0}
 
--- What callers see of a book: the setting, the opening state, the state, the history that led to it, and for how many
+-- The public view of a book: the setting, the opening state, the state, the history that led to it, and for how many
 -- more entries and tasks it has room.
 pub record Seen : Type 0 where
   pub site : Site
@@ -53,7 +53,7 @@ pub record IsKept (site : Site) (opening : State) (history : List Entry) (state 
   pub is_opening : IsOpening site opening
   pub run : Run site opening history state
 
--- the book tells what it told, but for its room
+-- the book tells what it told, except for its room
 pub record IsSame (old new : Seen) : Type 0 where
   pub site : new.site ≡ old.site
   pub opening : new.opening ≡ old.opening
@@ -87,10 +87,10 @@ pub record MayPark (layout : Layout) (s : State) (ends : List Cell) (cell : Cell
   pub point : IsPointCell layout cell
   pub may_end : MayEnd s ends cell
 
--- what a tick is answered
+-- the reply to a tick
 abbrev pub ticked : State → Reply
 ticked s = Reply.Clock (s.clock + 1) (picked (moved s)) (dropped (moved s))
 
--- no entry is a refusal for want of a path
+-- no entry is a refusal for lack of a path
 abbrev pub AllServed : List Entry → Type 0
 AllServed entries = All (λ entry. entry.reply ≢ Reply.Refused Refusal.NoPath) entries

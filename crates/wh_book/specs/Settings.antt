@@ -6,7 +6,7 @@ use Rattle.wh_core.specs.Steps.{IsFirstFault, IsUnknownName, IsParkingName}
 use Rattle.wh_event.specs.declared.reply.Refusal.{Refusal}
 use Rattle.wh_book.specs.declared.setting.Fault.{Fault}
 
--- what is known of the points on their grid: they were read as they have to be, and the agents are few
+-- what is known of the points on their grid: they were read correctly, and the agents are few
 pub record IsSite (site : Site) : Type 0 where
   pub layout : IsLayout site.grid site.layout
   pub few : length site.layout.agents ≤ 256

@@ -24,11 +24,12 @@ use crate::parking::free_points;
 use crate::setting::{Fault, Setting};
 use std::alloc::{AllocError, Global};
 use std::marker::Model;
+use wh_core::{LAST_CLOCK, MOST_TASKS};
 use wh_event::{Entry, Event, KeptStops, Refusal, Reply, Spare, Stops};
 use wh_field::LazyField;
 use wh_grid::Cell;
 use wh_path::TimedPath;
-use wh_state::{Arrivals, Floor};
+use wh_state::{Arrivals, FleetState};
 use wh_tasks::{Load, TaskSet};
 use wh_text::Name;
 use wh_timetable::Timetable;
@@ -39,7 +40,7 @@ pub struct Book {
     setting: Setting,
     first_clock: u32,
     first_slots: Vec<u32>,
-    floor: Floor,
+    floor: FleetState,
     history: Vec<Entry>,
 }
 
@@ -82,7 +83,7 @@ impl Book {
         let _agents = setting.agents();
         let first_slots = Vec::from_slice(alloc, slots.as_slice())?;
         let starts = setting.starts(alloc)?;
-        let floor = Floor::open(alloc, setting.grid(), clock, starts.as_slice(), slots)?;
+        let floor = FleetState::open(alloc, setting.grid(), clock, starts.as_slice(), slots)?;
         Ok(Book {
             setting,
             first_clock: clock,
@@ -93,12 +94,12 @@ impl Book {
     }
 
     /// The book of a history that was told elsewhere, which is a run from the opening of this clock and these slots to the
-    /// state of the floor. It takes no memory and always succeeds.
+    /// state. It takes no memory and always succeeds.
     pub fn resume(
         setting: Setting,
         first_clock: u32,
         first_slots: Vec<u32>,
-        floor: Floor,
+        floor: FleetState,
         history: Vec<Entry>,
     ) -> Book
         requires opening { IsOpening setting (opened setting.layout first_clock first_slots.items) }
@@ -329,7 +330,7 @@ impl Book {
             }
         };
         let task = self.floor.tasks().len();
-        if task == 1_000_000 {
+        if task == MOST_TASKS {
             return Ok(self.refuse(caller, Event::Submit { client, stops }, Refusal::TasksFull));
         }
         self.reserve_task(alloc)?;
@@ -352,7 +353,7 @@ impl Book {
         ensures { Drafts self.now caller Asked.Tick result }
     {
         let clock = self.clock();
-        if clock == 1_000_000_000 {
+        if clock == LAST_CLOCK {
             return self.refuse(caller, Event::Tick, Refusal::ClockFull);
         }
         let arrivals = self.floor.next_arrivals();
@@ -389,7 +390,7 @@ impl Book {
         }
     }
 
-    /// The agent gets a spare planner, where there is one that fits.
+    /// The agent gets a spare planner, if there is one that fits.
     pub fn draft_replace(&self, caller: u32, agent: u32, spare: Spare) -> Draft
         requires not_closed { self.now.state.closed ≡ false }
         requires room { 1 ≤ self.now.entry_room }
@@ -500,7 +501,7 @@ impl Book {
 }
 
 /// Makes the change. It takes no memory.
-fn apply(floor: &mut Floor, change: Change)
+fn apply(floor: &mut FleetState, change: Change)
     requires { CanChange change floor.old }
     ensures { Changes change floor.old.state floor.new.state }
 {

@@ -8,11 +8,11 @@ ghost use Rattle.wh_tasks.specs.declared.task.Task.{Task as Job};
 ghost use Rattle.wh_core.specs.Steps.{NoneIsNext, other_ends};
 
 use wh_field::LazyField;
-use wh_state::Floor;
+use wh_state::FleetState;
 
 /// The task that the agent takes: of those that it may take, the nearest one. The field is filled no further than to that
 /// task. It takes no memory.
-pub fn nearest(floor: &Floor, agent: u32, near: &mut LazyField) -> Option<u32>
+pub fn nearest(floor: &FleetState, agent: u32, near: &mut LazyField) -> Option<u32>
     requires { agent < length floor.now.state.paths }
     ensures grid { near.new.grid ≡ near.old.grid }
     ensures none { IfNone result (NoneIsNext floor.now.state agent) }

@@ -9,13 +9,13 @@ ghost use Rattle.wh_book.specs.Drafts.{MayEnd, MayPark};
 use std::alloc::{AllocError, Global};
 use wh_grid::Cell;
 use wh_points::Points;
-use wh_state::Floor;
+use wh_state::FleetState;
 
 /// The cells of the points where no open task is delivered and where no other's path ends.
 pub fn free_points(
     alloc: Global,
     points: &Points,
-    floor: &Floor,
+    floor: &FleetState,
     agent: u32,
 ) -> Result<Vec<Cell>, AllocError>
     requires { agent < length floor.now.state.paths }
@@ -31,7 +31,7 @@ pub fn free_points(
 }
 
 /// Whether no open task is delivered at the cell, and no other's path ends there.
-pub fn may_end(floor: &Floor, agent: u32, cell: Cell) -> bool
+pub fn may_end(floor: &FleetState, agent: u32, cell: Cell) -> bool
     requires { agent < length floor.now.state.paths }
     ensures { IsTrue result ↔ MayEnd floor.now.state (other_ends floor.now.state agent) cell }
 {

@@ -16,7 +16,7 @@ abbrev pub claimed : List Holding → ℕ
 claimed [] = 0
 claimed (v ∷ vs) = v.slots + claimed vs
 
--- Conservation: the one word, which counts the free slots, and the slots of all seats make up the total. The table
+-- Conservation: the one word, which counts the free slots, and the slots of all seats add up to the total. The table
 -- keeps this at every step, so no slot is ever lost, made or given out twice.
 abbrev pub IsConserved : ℕ → State (Unit {0}) Holding → Type 0
 IsConserved total s = (length s.words ≡ 1) × (slice_index s.words 0 + claimed s.views ≡ total) × (total < 4294967296)

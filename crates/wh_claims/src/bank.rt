@@ -26,7 +26,7 @@ impl Bank {
     ghost use Rattle.std.specs.Arc.{arc_value};
     ghost use Rattle.wh_claims.specs.Bank.{bank_total, Belongs, found};
 
-    /// A bank of so many slots, all of them free, and its first seat. An error comes only where memory is short.
+    /// A bank of the given number of slots, all of them free, and its first seat. Fails only when out of memory.
     pub fn new(alloc: Global, total: u32) -> Result<(Arc<Bank, Global>, BankSeat), AllocError>
         ensures total { IfOk result (λ r. bank_total (arc_value r.0) ≡ total) }
         ensures seat { IfOk result (λ r. Belongs r.1 (arc_value r.0)) }

@@ -1,4 +1,4 @@
-//! Claims, which give their slots back where they are dropped.
+//! Claims, which give their slots back when dropped.
 ghost use Rattle.std.specs.Prelude.{◌≡◌};
 ghost use Rattle.std.specs.Arc.{arc_value};
 ghost use Rattle.wh_claims.specs.Stake.{IsStakeIn, stake_slots};
@@ -8,7 +8,7 @@ use crate::stake::Stake;
 use std::alloc::Global;
 use std::sync::Arc;
 
-/// Slots of a bank that nobody else has. They are given back where it is dropped.
+/// Slots of a bank that nobody else has. They are given back when it is dropped.
 pub struct Claim {
     bank: Arc<Bank, Global>,
     stake: Stake,
@@ -20,9 +20,9 @@ pub struct Claim {
 /// Why nothing was claimed. The numbers are slots.
 #[derive(Clone, Copy, Debug, PartialEq, Eq)]
 pub enum Refusal {
-    /// So many slots were free at the look, fewer than were asked for.
+    /// This many slots were free at the look, fewer than were asked for.
     Short { free: u32 },
-    /// Enough slots were free at the look, but the number had changed by the exchange: so many were free then.
+    /// Enough slots were free at the look, but the number had changed by the exchange: this many were free then.
     Raced { seen: u32 },
 }
 
@@ -39,7 +39,7 @@ impl Claim {
     ghost use Rattle.wh_claims.specs.Bank.{bank_total, Belongs, found};
     ghost use Rattle.wh_claims.specs.Claim.{claim_bank, claim_amount, claim_found, IsRefusal};
 
-    /// Claims so many slots, by one look and one exchange. It makes one try, never waits, and takes no memory.
+    /// Claims the given number of slots, by one look and one exchange. It makes one try, never waits, and takes no memory.
     pub fn take(bank: Arc<Bank, Global>, seat: BankSeat, slots: u32) -> Result<Claim, ClaimRefused>
         requires { Belongs seat (arc_value bank) }
         ensures amount { IfOk result (λ c. claim_amount c ≡ slots) }

@@ -10,7 +10,7 @@ pub struct Holding {
     pub found: LinkedList<u64>,
 }
 
-/// Free slots and the slots of all seats make up the total.
+/// Free slots and the slots of all seats add up to the total.
 pub struct Conserved;
 
 impl TableRule<(), Holding, u32> for Conserved {

@@ -33,7 +33,7 @@ impl Stake {
         bank.table.shared.load::<Looks>(&mut self.seat, 0) as u32
     }
 
-    /// Takes so many slots where `free` are free, and returns how many were free.
+    /// Takes the given number of slots where `free` are free, and returns how many were free.
     pub(crate) fn take(&mut self, bank: &Bank, free: u32, slots: u32) -> u32
         requires { IsStakeIn self.old bank.now × (slots ≤ free) }
         ensures same { IsStakeIn self.new bank.now }

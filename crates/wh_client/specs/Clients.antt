@@ -37,7 +37,7 @@ count_rights r = one_if r.submit + one_if r.token + one_if r.tick + one_if r.rep
 abbrev pub names : List Text → Text → Bool
 names words word = list_any (λ w. bytes_eq w word) words
 
--- each word names a right, these are the rights named, and there are no more words than rights: none stands twice
+-- each word names a right, these are the rights named, and there are no more words than rights: none is repeated
 pub record NamesRights (words : List Text) (rights : ClientRights) : Type 0 where
   pub each : list_all is_right words ≡ true
   pub single : length words ≡ count_rights rights
@@ -68,7 +68,7 @@ GivesPlace text c = (c.folder.now ≢ [])
     × (((¬ Has is_colon text) × (c.folder.now ≡ text) × (c.rights ≡ submit_alone))
     ⊎ (Has is_colon text × (c.folder.now ≡ before_first is_colon text) × SpellsRights (after_first is_colon text) c.rights))
 
--- the number before the first `=`, and behind it a folder and perhaps rights
+-- the number before the first `=`, and after it a folder and perhaps rights
 abbrev pub GivesClient : Text → ClientOptions → Type 0
 GivesClient text c = Has is_equals text × IsNumber (before_first is_equals text) c.number
     × GivesPlace (after_first is_equals text) c

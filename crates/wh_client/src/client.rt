@@ -128,7 +128,7 @@ fn number_of(text: &str) -> Option<u32>
     }
 }
 
-/// The folder and the rights that stand behind the number.
+/// The folder and the rights that follow the number.
 fn folder_and_rights<'a>(
     alloc: Global,
     text: &'a str,

@@ -11,7 +11,7 @@ abbrev pub IsPartOf : Beside → (held text : List ℕ) → Type 0
 IsPartOf Whole held text = held ≡ text
 IsPartOf Begun held text = IsFront held text × (length held < length text)
 
--- The file was read, and holds so much of the text. A file that tells its bytes was read as it was.
+-- The file was read, and holds this much of the text. A file that tells its bytes was read as it was.
 pub record StandsBeside (file : Option (List ℕ)) (text : List ℕ) (beside : Beside) : Type 0 where
   pub held : List ℕ
   pub held_is : IfSome file (λ bytes. held ≡ bytes)

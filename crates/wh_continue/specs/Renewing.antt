@@ -1,4 +1,4 @@
--- a log of version 1 as one of version 2: each of its lines but the first is a line of version 2 too, and means the same
+-- a log of version 1 as one of version 2: each of its lines except the first is a line of version 2 too, and means the same
 use Rattle.std.specs.Prelude.{option_map, ◌≡◌, ◌⊎◌, ℕ, Bool, List, take, slice_set, Option, Some, IfSome}
 use Rattle.wh_words.specs.Lines.{text_of as lines_text}
 use Rattle.wh_log.specs.declared.version.Version.{Version}
@@ -27,6 +27,6 @@ LeavesHalfRenewed version bytes file holds = IfSome file (λ text. (left : List 
 abbrev pub OnesAreTwos : Type 0
 OnesAreTwos = (content : Content) → Fits One content → Fits Two content × (in_two One (lines_text (log_lines One content)) ≡ lines_text (log_lines Two content))
 
--- And so is one that was cut anywhere behind its second line.
+-- And so is one that was cut anywhere after its second line.
 abbrev pub CutOnesAreTwos : Type 0
 CutOnesAreTwos = (content : Content) (is_ended : Bool) (text : List ℕ) (bytes : ℕ) → Holds One content is_ended text bytes → Holds Two content is_ended (in_two One text) bytes

@@ -75,12 +75,12 @@ Opens file holds lines = holds ≡ option_map (λ _. lines) file
 abbrev pub LeavesFront : (file holds : Option (List ℕ)) → List ℕ → Type 0
 LeavesFront file holds lines = IfSome file (λ text. (left : List ℕ) × (holds ≡ Some left) × ((left ≡ text) ⊎ IsFront left lines))
 
--- it was cut to nothing, or not, and a front of these lines was written
+-- it was cut to nothing or not, and a front of these lines was written
 abbrev pub OpensShort : KeepFault → (file holds : Option (List ℕ)) → Bool → List ℕ → Type 0
 OpensShort NoMemory file holds failed lines = holds ≡ file
 OpensShort Unkept file holds failed lines = (failed ≡ true) × LeavesFront file holds lines
 
--- Why a log was not begun: for want of memory nothing was done; or the file failed.
+-- Why a log was not begun: for lack of memory nothing was done; or the file failed.
 abbrev pub BeginsShort : KeepFault → Start → (file holds : Option (List ℕ)) → Bool → Type 0
 BeginsShort NoMemory start file holds failed = holds ≡ file
 BeginsShort Unkept start file holds failed = (failed ≡ true) × IsLeft start file holds

@@ -32,8 +32,8 @@ pub record Begins (site : Site) (slots text : List ℕ) (book : Seen) : Type 0 w
   pub front : IsFront text (first_lines slots)
   pub unbegun : IsUnbegun site slots book
 
--- The lines that stand whole in so many bytes are the log of a run of this site, in this version, but for its end line, and
--- the book goes on from their entries. Behind them stand the end line, or bytes with no line feed.
+-- The lines that stand whole in this many bytes are the log of a run of this site, in this version, except for its end line, and
+-- the book goes on from their entries. After them comes the end line, or bytes with no line feed.
 pub record GoesOnFrom (site : Site) (version : Version) (text : List ℕ) (bytes : ℕ) (book : Seen) : Type 0 where
   pub content : Content
   pub is_ended : Bool
@@ -55,7 +55,7 @@ abbrev pub HasOwnSlots : Reply → Type 0
 HasOwnSlots (Replaced slots) = IsSlots slots
 HasOwnSlots reply = Unit {0}
 
--- and so it is of each entry
+-- and this holds for each entry
 abbrev pub AllOwn : List Entry → Type 0
 AllOwn history = (k : ℕ) (entry : Entry) → slice_get history k ≡ Some entry → HasOwnSlots entry.reply
 
@@ -82,7 +82,7 @@ TellsOther history (Bad line) = (place : ℕ) × IsFirstOther history place × (
 TellsOther history Unread = ⊥
 TellsOther history NoMemory = ⊥
 
--- Of a text with which no run goes on: the first line, from 1, with which no log of a run of this site goes on; or, where
+-- For a text with which no run goes on: the first line, from 1, with which no log of a run of this site goes on; or, where
 -- fewer than two lines stand whole, the first that is not as it was to be written.
 pub record BreaksAt (site : Site) (slots text : List ℕ) (line : ℕ) : Type 0 where
   pub bytes : ℕ

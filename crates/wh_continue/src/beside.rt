@@ -27,7 +27,7 @@ pub enum BesideFault {
     Other,
     /// It cannot be read, is no file of bytes, or another has it.
     Unread,
-    /// Memory was wanting.
+    /// Out of memory.
     NoMemory,
 }
 
@@ -75,8 +75,8 @@ pub fn look_beside<L: LogFile>(
     }
 }
 
-/// Makes a file hold the text and nothing else, and syncs it. One that holds all of it is synced too, since whoever wrote it
-/// may not have done so.
+/// Makes a file hold the text and nothing else, and syncs it. One that holds all of it is synced too, since its writer may
+/// not have done so.
 pub fn keep_beside<L: LogFile>(file: &mut L, text: &[u8], beside: Beside) -> Result<(), KeepFault>
     requires stands { StandsBeside (L.contents file.old) text.now beside }
     ensures ok { OnOk result (Opens (L.contents file.old) (L.contents file.new) text.now) }

@@ -29,7 +29,7 @@ use wh_resume::Book;
 pub enum KeepFault {
     /// X5: a call of the file failed.
     Unkept,
-    /// E90: memory was wanting.
+    /// E90: out of memory.
     NoMemory,
 }
 
@@ -97,7 +97,7 @@ fn renew<L: LogFile>(file: &mut L, version: Version) -> Result<(), KeepFault>
     }
 }
 
-/// Cuts the log in a file behind so many bytes, and syncs it, once it is one of version 2.
+/// Cuts the log in a file after the given number of bytes, and syncs it, once it is one of version 2.
 fn keep_front<L: LogFile>(file: &mut L, version: Version, bytes: usize) -> Result<(), KeepFault>
     ensures ok { OnOk result (L.contents file.new ≡ front_of bytes (told_in_two version (L.contents file.old))) }
     ensures synced { OnOk result (L.synced file.new ≡ L.contents file.new) }
@@ -137,7 +137,7 @@ fn write_opening<L: LogFile>(alloc: Global, file: &mut L, book: &Book) -> Result
     write_alone(file, text.as_slice())
 }
 
-/// Makes the file the log of the run so far, of version 2, but for the end line: a log of version 1 is made one of version 2,
+/// Makes the file the log of the run so far, of version 2, except for the end line: a log of version 1 is made one of version 2,
 /// then what was cut is taken away; where no run was begun the first two lines are written.
 pub fn begin_log<L: LogFile>(alloc: Global, file: &mut L, start: &Start) -> Result<(), KeepFault>
     requires starts { IsStartOf (L.contents file.old) start.now }
@@ -152,7 +152,7 @@ pub fn begin_log<L: LogFile>(alloc: Global, file: &mut L, start: &Start) -> Resu
     }
 }
 
-/// Appends the line that ends a log of so many entries, and syncs.
+/// Appends the line that ends a log of the given number of entries, and syncs.
 pub fn end_log<J: Journal>(alloc: Global, journal: &mut J, entries: u64) -> Result<(), KeepFault>
     ensures ok { OnOk result (Appends (J.contents journal.old) (J.contents journal.new) (last_line entries)) }
     ensures synced { OnOk result (J.synced journal.new ≡ J.contents journal.new) }
@@ -174,7 +174,7 @@ fn count_text(entries: u64) -> ArrayVec<u8, 64>
     line
 }
 
-/// The entries from this one on; none where there are no more than so many.
+/// The entries from this one on; none where there are no more than that many.
 fn behind(history: &[Entry], first: u32) -> &[Entry]
     ensures { result.now ≡ drop first history.now }
 {
@@ -227,7 +227,7 @@ pub fn tell_first<W: Write>(writer: &mut W, entries: u64, text: &[u8]) -> Result
 
 /// Goes on from a start over the log file in which it was found, and serves the script that is left in the reader, to the
 /// reader's end. First the file is made the log of the run so far, and the line `entries N` tells how many entries that has.
-/// Where an entry is named, those from it on are told again behind that line, as the log has them. Then the script is served
+/// Where an entry is named, those from it on are told again after that line, as the log has them. Then the script is served
 /// as `continue_run` does; at its end the file is given the line that ends the log, so that it is the log of the whole run.
 pub fn run_on<R: Read, W: Write, L: LogFile, P: Planner>(
     lines: &mut Lines<R>,

@@ -32,7 +32,7 @@ pub enum StartFault {
     Bad { line: u64 },
     /// X5: the file cannot be read, is no file of bytes, or another has it.
     Unread,
-    /// E90: memory was wanting.
+    /// E90: out of memory.
     NoMemory,
 }
 
@@ -103,7 +103,7 @@ fn recover_file<L: LogFile>(
 }
 
 /// Finds out what a run of the site starts from, by what its log file holds, where each planner is to have these slots, 2 to
-/// 64, at an opening. A log of either version is gone on from. A file in which fewer than two lines stand whole is taken for a
+/// 64, at an opening. A log of either version is resumed. A file in which fewer than two lines stand whole is taken for a
 /// run that was not begun only where it holds a beginning of the two lines that this very run would write first: no other is.
 /// The file is read piece by piece, and not changed: memory is taken for the run and for a line or two.
 ///

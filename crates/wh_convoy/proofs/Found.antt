@@ -1,7 +1,7 @@
 -- how many bytes of a text are whole lines, and where vehicles stand by them
 use Rattle.std.proofs.Common.{◌≡◌, ℕ, ◌+◌, ◌-◌, ◌≤◌, ◌∙◌, inl, inr, List, [], ◌∷◌, ◌++◌, length, sym, refl, ap, arith, length-append}
 use Rattle.std.proofs.lemmas.List.{append_assoc}
-use Rattle.wh_words.specs.Lines.{IsLine}
+use Rattle.wh_text.specs.Lines.{IsLine}
 use Rattle.wh_convoy.specs.Standing.{EndsFeed, IsWhole}
 
 -- what stands before the rest of the text is whole lines

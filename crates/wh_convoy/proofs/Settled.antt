@@ -55,7 +55,7 @@ pub unkept_files : (fault : ConvoyFault) (entries : List Entry) (text came said 
 unkept_files fault entries text came said stood stands synced had is same u =
     subst (λ f. Unsettles f entries came said stood stands synced had had) (sym is) (refl, subst (λ t. UnsettlesFiles t came stood stands synced) same u)
 
--- nothing was told, since memory was wanting
+-- nothing was told, since memory ran out
 pub starved_files : (fault : ConvoyFault) (entries : List Entry) (came said : List ℕ) (stood stands synced : Held) (had : Option (List ℕ)) → fault ≡ NoMemory →
     UnsettlesFiles (lines_for entries) came stood stands synced → Unsettles fault entries came said stood stands synced had had
 starved_files fault entries came said stood stands synced had is u = subst (λ f. Unsettles f entries came said stood stands synced had had) (sym is) (refl, u)

@@ -1,9 +1,9 @@
 -- what is served, what stands in the two files, and what is told
 use Rattle.std.specs.Prelude.{◌≡◌, ◌⊎◌, ℕ, Bool, true, List, [], ◌++◌, Option}
 use Rattle.std.specs.Io.KnownBytes.{Appends, Keeps, IsAtEnd}
-use Rattle.wh_text.specs.Lines.{lines_of}
+use Rattle.wh_text.specs.Lines.{lines_of, IsLine}
 use Rattle.wh_words.specs.Lines.{text_of as lines_text}
-use Rattle.wh_lines.specs.Text.{EndsLine, IsPlain}
+use Rattle.wh_lines.specs.Text.{EndsLine}
 use Rattle.wh_lines.specs.Input.{Input, left, Takes}
 use Rattle.wh_lines.specs.Output.{WritesFront}
 use Rattle.wh_grid.specs.Grids.{Floor}
@@ -45,7 +45,7 @@ pub record ConvoysLines {X : Type 0} (fits : X → Floor → Bool) (count : X �
 -- what ended a round: no whole line waits that is served, or all was read
 abbrev pub EndsBy : Round → Input → List ℕ → Type 0
 EndsBy Served after begun = begun ≡ []
-EndsBy Ended after begun = IsPlain begun × IsAtEnd (left after)
+EndsBy Ended after begun = IsLine begun × IsAtEnd (left after)
 
 -- Whole lines were served, and what they are told and what is kept of them waits.
 pub record Gathers {X : Type 0} (fits : X → Floor → Bool) (count : X → ℕ) (text : Answered → List ℕ) (bound : ℕ) (round : Round) (before after : Input) (old new : Depot X)
@@ -100,7 +100,7 @@ UnsettlesFiles text came stood stands synced = IsCutInLog text stood stands sync
 abbrev pub StandsBehind : List Entry → (came : List ℕ) → (stood stands synced : Held) → Type 0
 StandsBehind entries came stood stands synced = UnsettlesFiles (lines_for entries) came stood stands synced
 
--- Why what waits was not kept and told: a file failed, or memory was wanting, and nothing was told; or all is kept, and a front was
+-- Why what waits was not kept and told: a file failed, or memory ran out, and nothing was told; or all is kept, and a front was
 -- told.
 abbrev pub Unsettles : ConvoyFault → List Entry → (came said : List ℕ) → (stood stands synced : Held) → (had has : Option (List ℕ)) → Type 0
 Unsettles Unkept entries came said stood stands synced had has = (has ≡ had) × StandsBehind entries came stood stands synced

@@ -49,7 +49,7 @@ StopsBeginning (SetOut fault) again start bytes had has files holds synced log_f
 StopsBeginning (Script fault) again start bytes had has files holds synced log_failed arrivals_failed = ⊥
 StopsBeginning (End fault) again start bytes had has files holds synced log_failed arrivals_failed = ⊥
 
--- Why there are no vehicles: the planners are refused, or memory was wanting.
+-- Why there are no vehicles: the planners are refused, or memory ran out.
 abbrev pub MansNot : {X : Type 0} → (X → Floor → Bool) → (X → ℕ) → RideFault → Seen → (planners : List X) → Type 0
 MansNot fits count (Begin fault) book planners = ⊥
 MansNot fits count Uncounted book planners = ⊥

@@ -1,6 +1,6 @@
 -- where vehicles stand as a run goes on
 use Rattle.std.specs.Prelude.{◌≡◌, ◌⊎◌, ℕ, ◌-◌, ◌<◌, ◌≤◌, true, List, [], ◌∷◌, ◌++◌, length, slice_index}
-use Rattle.wh_words.specs.Lines.{IsLine}
+use Rattle.wh_text.specs.Lines.{IsLine}
 use Rattle.wh_book.specs.Drafts.{Seen}
 use Rattle.wh_arrivals.specs.Arrivals.{TellsSteps, IsFirstBad}
 use Rattle.wh_arrivals.specs.Standing.{Stand, ComesTooEarly}
@@ -12,7 +12,7 @@ use Rattle.wh_convoy.specs.declared.finding.StoodFault.TheVariants.{BadLine, Ast
 abbrev pub EndsFeed : List ℕ → Type 0
 EndsFeed bytes = (bytes ≡ []) ⊎ ((front : List ℕ) × (bytes ≡ front ++ 10 ∷ []))
 
--- So many bytes of the text are whole lines, and what stands behind them is a line that was cut.
+-- This many bytes of the text are whole lines, and what follows them is a line that was cut.
 pub record IsWhole (text : List ℕ) (bytes : ℕ) : Type 0 where
   pub front : List ℕ
   pub cut : List ℕ
@@ -45,7 +45,7 @@ pub record IsAstray (book : Seen) (ahead : ℕ) (text : List ℕ) (agent : ℕ) 
 abbrev pub IsLost : Seen → List ℕ → Type 0
 IsLost book text = IsLine text × (0 < steps_of book)
 
--- why they cannot go on; of want of memory nothing is said
+-- why they cannot go on; when out of memory, nothing is said
 abbrev pub IsWhyNotStood : Seen → ℕ → List ℕ → StoodFault → Type 0
 IsWhyNotStood book ahead text (BadLine line) = IsFirstBad (length book.state.paths) text line ⊎ ((line ≡ 1) × IsLost book text)
 IsWhyNotStood book ahead text (Astray agent) = IsAstray book ahead text agent

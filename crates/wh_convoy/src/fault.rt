@@ -19,7 +19,7 @@ pub enum ConvoyFault {
     Unwritten,
     /// X5: one of the files failed.
     Unkept,
-    /// E90: memory was wanting for what is to be told or kept, or the log has no number for one more entry.
+    /// E90: out of memory for what is to be told or kept, or the log has no number for one more entry.
     NoMemory,
 }
 

@@ -28,11 +28,11 @@ pub enum StoodFault {
     BadLine(u64),
     /// L1: the vehicle of this agent has come further than the clock, or to a cell that another's is to leave before.
     Astray(u32),
-    /// E90: memory was wanting.
+    /// E90: out of memory.
     NoMemory,
 }
 
-/// How many bytes of a text are whole lines. What stands behind them is a line that was cut.
+/// How many bytes of a text are whole lines. What follows them is a line that was cut.
 fn whole_bytes(text: &[u8]) -> usize
     ensures { IsWhole text.now result }
 {

@@ -1,4 +1,4 @@
-//! Lines that are served while what they are told, and what is kept of them, waits.
+//! Lines that are served while their output, and what is kept of them, waits.
 #![tactic(auto)]
 
 ghost use Rattle.std.specs.Prelude.{◌≡◌, ◌≢◌, [], IfErr, IfOk, OnErr, OnOk};
@@ -18,13 +18,10 @@ use wh_dispatch::{Vehicles, serve};
 use wh_event::Command;
 use wh_journal::Round;
 use wh_lines::{CommandLine, Lines, Next};
-use wh_log::Form;
+use wh_log::{Form, MOST_ENTRIES};
 use wh_planner::Planner;
 use wh_replay::Warehouse;
 use wh_words::whole_line;
-
-/// The numbers of a log have at most nine digits, so with one more entry the file would be no log.
-const MOST_ENTRIES: usize = 999_999_999;
 
 /// Where more is to be told no further line is served before that is told.
 const MOST_SAID: usize = 1_048_576;
@@ -54,7 +51,7 @@ impl Waiting {
     }
 }
 
-/// Serves a line, of which a front is kept. The command is a room for what it asks.
+/// Serves a line, of which only a front is kept. The command is a room for what it asks.
 fn serve_one<P: Planner>(
     line: &CommandLine,
     command: &mut Command,
@@ -92,7 +89,7 @@ fn is_enough(bytes: &[u8], said: usize) -> bool {
     whole_line(bytes).is_none() || said >= MOST_SAID
 }
 
-/// Serves the next line, for which it may wait, and then each whole line that waits behind it, unless too much is to be told by
+/// Serves the next line, for which it may wait, and then each further whole line that waits, unless too much is to be told by
 /// then.
 pub(crate) fn gather<R: Read, W: Write, P: Planner>(
     lines: &mut Lines<R>,

@@ -31,9 +31,9 @@ pub enum RideFault {
     Begin(KeepFault),
     /// X3: how many entries the run has so far, or those to be told again, was not told; nothing was served.
     Uncounted,
-    /// The planners are refused, or memory was wanting for the warehouse; nothing was served.
+    /// The planners are refused, or memory ran out for the warehouse; nothing was served.
     Resume(ResumeFault),
-    /// E90: memory was wanting for the vehicles; nothing was served.
+    /// E90: out of memory for the vehicles; nothing was served.
     NoMemory,
     /// X3, E90: what vehicles are told as they set out was not told to the end; nothing was served.
     SetOut(DispatchFault),
@@ -142,7 +142,7 @@ fn ride<R: Read, W: Write, L: LogFile, P: Planner>(
 
 /// Goes on from a start over the files in which it was found, with vehicles that stand so, and serves the script that is left in the reader,
 /// to the reader's end. First both files are made those of the run so far, and the line `entries N` tells how many entries that has.
-/// Where an entry is named, those from it on are told again behind that line, as the log has them. Then the vehicles set out: all
+/// Where an entry is named, those from it on are told again after that line, as the log has them. Then the vehicles set out: all
 /// visits that they have made are told, and the steps that they are to make. Then the script is served as `convoy` does; at its end
 /// the log is given the line that ends it. The clock waits while a vehicle is `behind` steps or more behind.
 pub fn ride_on<R: Read, W: Write, L: LogFile, P: Planner>(

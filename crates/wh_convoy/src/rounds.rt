@@ -19,7 +19,7 @@ use wh_log::Form;
 use wh_planner::Planner;
 use wh_replay::Warehouse;
 
-/// Serves a round: the next line, for which it may wait, and the whole lines that wait behind it. Then it keeps the entries, then the
+/// Serves a round: the next line, for which it may wait, and the further whole lines that wait. Then it keeps the entries, then the
 /// reports that moved vehicles, and then tells what the lines are told.
 fn serve_round<R: Read, W: Write, L: Journal, P: Planner>(
     lines: &mut Lines<R>,
@@ -68,7 +68,7 @@ fn serve_round<R: Read, W: Write, L: Journal, P: Planner>(
 }
 
 /// Serves the script that is left in the reader, to the reader's end, over a log and a file of arrivals. Lines are what they are in
-/// `wh_dispatch::dispatch`, but that what follows the last line feed is no line: one that was cut is not served. In rounds, before each read that
+/// `wh_dispatch::dispatch`, except that what follows the last line feed is not a line: one that was cut is not served. In rounds, before each read that
 /// may wait and at the end, the lines of all new entries are appended to the log and synced, then the reports that moved vehicles
 /// to the file of arrivals, and then what the lines are told is written. So whoever is told a step finds after a stop all that it rests on.
 pub fn convoy<R: Read, W: Write, L: Journal, P: Planner>(

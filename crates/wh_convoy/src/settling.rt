@@ -92,7 +92,7 @@ fn lines_behind(alloc: Global, history: &[Entry], first: usize) -> Result<Vec<u8
 }
 
 /// Keeps the entries of the history from this place on, then the reports that moved vehicles, and then tells what lines are told,
-/// and flushes. Where memory is wanting for the entries' lines nothing is kept.
+/// and flushes. Where memory runs out for the entries' lines nothing is kept.
 pub(crate) fn settle<L: Journal, W: Write>(
     alloc: Global,
     log: &mut L,

@@ -1,4 +1,4 @@
--- there is one reply to an event, but for the path
+-- there is one reply to an event, except for the path
 use Rattle.std.proofs.Common.{◌≡◌, ◌≢◌, ℕ, ◌+◌, ◌<◌, ◌≤◌, ◌∙◌, ◌⊎◌, inl, inr, List, [], ◌∷◌, ◌++◌, Bool, true, false, length, get_or, drop, sym, subst, refl, ap, arith}
 use Prim.Native.Nat.{zero, suc}
 use Rattle.std.specs.Prelude.{All}

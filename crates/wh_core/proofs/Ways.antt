@@ -184,7 +184,7 @@ pub ways_on_formed : (site : Site) (entries : List Entry) (s : State) (agent : �
 ways_on_formed site entries s agent formed r due =
     formed-ways site s agent formed r.is_opening.layout (seats-reached site entries s r) (sound-reached site entries s r).orderly due
 
--- so no request is refused for want of a path
+-- so no request is refused for lack of a path
 refused-path : (site : Site) (s : State) (refusal : Refusal) (event : Event) → ((agent : ℕ) → IsDue s agent → HasWays site s agent) →
     Refuses site s refusal event → refusal ≢ Refusal.NoPath
 refused-path site s Refusal.NoPath (Event.Request agent) ways why e = elim why.1 [

@@ -17,7 +17,7 @@ use Rattle.wh_event.specs.declared.entry.Entry.{Entry}
 use Rattle.wh_event.specs.declared.reply.Reply.{Reply}
 use Rattle.wh_event.specs.declared.reply.Refusal.{Refusal}
 
--- a state from which a warehouse may begin: the agents start at points that differ, with a planner's slots for each
+-- a state from which a warehouse may begin: the agents start at different points, with a planner's slots for each
 pub record IsOpening (site : Site) (s : State) : Type 0 where
   pub layout : IsLayout site.grid site.layout
   pub clock : ℕ
@@ -38,7 +38,7 @@ pub record HasSeats (site : Site) (s : State) : Type 0 where
   pub loads : length s.loads ≡ length site.layout.agents
   pub slots : length s.slots ≡ length site.layout.agents
 
--- So it is in each state of a run.
+-- This holds in each state of a run.
 abbrev pub SeatsStay : Type 0
 SeatsStay = (site : Site) (entries : List Entry) (s : State) → IsReached site entries s → HasSeats site s
 
@@ -47,7 +47,7 @@ abbrev pub LimitsHold : Type 0
 LimitsHold =
     (site : Site) (entries : List Entry) (s : State) → IsReached site entries s → (length s.tasks ≤ most_tasks) × (s.clock ≤ last_clock)
 
--- Two agents that differ, both known.
+-- Two different agents, both known.
 pub record AreTwo (s : State) (i j : ℕ) : Type 0 where
   pub first : i < length s.paths
   pub second : j < length s.paths
@@ -76,14 +76,14 @@ NoneFollow =
     (site : Site) (entries : List Entry) (old : State) (entry : Entry) (new : State) (i j : ℕ) → site.layout.nofollow ≡ true →
     IsReached site entries old → Step site old entry new → AreTwo old i j → place_of new.paths i ≢ place_of old.paths j
 
--- In one step an agent goes to a neighbour of its cell or stays there, and where it then is can be walked on.
+-- In one step an agent goes to a neighbour of its cell or stays there, and is then on a passable cell.
 abbrev pub EachStepIsAMove : Type 0
 EachStepIsAMove =
     (site : Site) (entries : List Entry) (old : State) (entry : Entry) (new : State) (i : ℕ) → IsReached site entries old →
     Step site old entry new → i < length old.paths →
     IsMove (place_of old.paths i) (place_of new.paths i) × IsPassable site.grid (place_of new.paths i)
 
--- At an event that is no tick all agents stay where they are.
+-- At an event that is not a tick all agents stay where they are.
 abbrev pub OnlyTicksMove : Type 0
 OnlyTicksMove =
     (site : Site) (old : State) (entry : Entry) (new : State) (i : ℕ) → Step site old entry new → entry.event ≢ Event.Tick →
@@ -101,7 +101,7 @@ EndsDiffer =
     (site : Site) (entries : List Entry) (s : State) (i j : ℕ) → IsReached site entries s → AreTwo s i j →
     end (path_of s.paths i) ≢ end (path_of s.paths j)
 
--- A phase goes over into itself or a later one: open, assigned, carried, done.
+-- A phase stays or moves to a later one: open, assigned, carried, done.
 abbrev pub IsForward : Phase → Phase → Type 0
 IsForward Phase.Open later = Unit {0}
 IsForward Phase.Assigned Phase.Assigned = Unit {0}
@@ -128,7 +128,7 @@ TasksGoForward =
     (site : Site) (old : State) (entries : List Entry) (new : State) (n : ℕ) (task : Task) → Run site old entries new →
     IsTask old.tasks n task → (later : Task) × IsTask new.tasks n later × IsLater task later
 
--- After so many entries of a run from old to new the agent was at the cell, and this was the clock.
+-- After n entries of a run from old to new the agent was at the cell, and this was the clock.
 pub record WasAt (site : Site) (old : State) (entries : List Entry) (new : State) (count : ℕ) (agent : Option ℕ) (cell : Cell) (clock : ℕ) : Type 0 where
   pub state : State
   pub before : Run site old (take count entries) state
@@ -159,7 +159,7 @@ pub record IsTimed (clock : ℕ) (task : Task) : Type 0 where
   pub in_order : (i j : ℕ) → i ≤ j → j < visited task → slice_index task.visits i ≤ slice_index task.visits j
   pub last : (i : ℕ) → i < visited task → slice_index task.visits i ≤ clock
 
--- So they lie for each task, in each state of a run.
+-- This holds for each task, in each state of a run.
 abbrev pub ClocksLieInOrder : Type 0
 ClocksLieInOrder =
     (site : Site) (entries : List Entry) (s : State) (n : ℕ) (task : Task) → IsReached site entries s → IsTask s.tasks n task →
@@ -181,8 +181,8 @@ NoLoadAtRest =
     (site : Site) (entries : List Entry) (s : State) (agent : ℕ) → IsReached site entries s → agent < length s.paths →
     steps_left s.paths agent ≡ 0 → load_of s agent ≡ Load.None
 
--- An agent fetches a task exactly where the task is assigned to it, and carries it with so many visits exactly where it
--- is carried by it and has so many.
+-- An agent fetches a task exactly where the task is assigned to it, and carries it with n visits exactly where it
+-- is carried by it and has n.
 pub record LoadsAgree (s : State) (agent : ℕ) : Type 0 where
   pub fetching : (n : ℕ) → (load_of s agent ≡ Load.Fetching n)
       ↔ ((task : Task) × IsTask s.tasks n task × (task.agent ≡ Some agent) × (phase task ≡ Phase.Assigned))
@@ -213,7 +213,7 @@ abbrev pub accepted : List Entry → List ℕ
 accepted [] = []
 accepted (entry ∷ entries) = accepted_by entry.reply (accepted entries)
 
--- The numbers are 0, 1, 2 and so on, so many of them.
+-- The numbers are 0, 1, 2 and so on, up to a given count.
 pub record CountUp (numbers : List ℕ) (count : ℕ) : Type 0 where
   pub count_is : length numbers ≡ count
   pub each : (k : ℕ) → k < count → slice_index numbers k ≡ k
@@ -223,7 +223,7 @@ abbrev pub TaskNumbersCountUp : Type 0
 TaskNumbersCountUp =
     (site : Site) (entries : List Entry) (s : State) → IsReached site entries s → CountUp (accepted entries) (length s.tasks)
 
--- What was asked and answered tells the state: two runs of the same entries from one opening state lead to one state.
+-- Requests and replies determine the state: two runs of the same entries from one opening state lead to one state.
 abbrev pub HistoryTellsTheState : Type 0
 HistoryTellsTheState =
     (site : Site) (opening : State) (entries : List Entry) (one other : State) → IsOpening site opening → Run site opening entries one →
@@ -239,7 +239,7 @@ AgreeButForPath (Reply.Parked point path) (Reply.Refused Refusal.NoPath) = Unit 
 AgreeButForPath (Reply.Refused Refusal.NoPath) (Reply.Parked point path) = Unit {0}
 AgreeButForPath one other = one ≡ other
 
--- In a state there is one reply to an event, but for the path.
+-- In a state there is one reply to an event, except for the path.
 abbrev pub RepliesAgree : Type 0
 RepliesAgree =
     (site : Site) (old : State) (event : Event) (one other : Reply) (a b : State) → IsLayout site.grid site.layout →
@@ -277,14 +277,14 @@ DutiesHaveClearWays =
     (site : Site) (entries : List Entry) (s : State) (agent : ℕ) → IsFormed site → IsReached site entries s → IsDue s agent →
     HasWays site s agent
 
--- So on a well-formed instance no event of a run is refused for want of a path.
+-- So on a well-formed instance no event of a run is refused for lack of a path.
 abbrev pub NoneIsRefusedAPath : Type 0
 NoneIsRefusedAPath =
     (site : Site) (entries : List Entry) (s : State) → IsFormed site → IsReached site entries s →
     All (λ entry. entry.reply ≢ Reply.Refused Refusal.NoPath) entries
 
--- Where a due agent has a clear way for a delivery, it has a lawful path: it waits until the others rest, and then goes
--- the clear way, of which each leg is cut short.
+-- Where a due agent has a clear way for a delivery, it has a lawful path: it waits until the others rest, and then goes the
+-- clear way, with each leg cut short.
 abbrev pub ClearDeliveriesAreLawful : Type 0
 ClearDeliveriesAreLawful =
     (site : Site) (entries : List Entry) (s : State) (agent : ℕ) (stops way : List Cell) → IsReached site entries s → IsDue s agent →

@@ -1,4 +1,4 @@
--- worked rows: on one small map, entries that are a run, and entries that are none
+-- worked rows: on one small map, entries that are a run, and entries that are not
 use Rattle.std.specs.Prelude.{ℕ, List, [], ◌∷◌, ◌++◌, true, false, replicate}
 use Rattle.wh_grid.specs.declared.cell.Cell.{Cell}
 use Rattle.wh_points.specs.declared.points.Kind.{Kind}
@@ -119,7 +119,7 @@ abbrev pub NoPathPastThePickup : Type 0
 NoPathPastThePickup = IsNoRunAt (site_a 0 1) (then_one (
     entry (Event.Request 0) (Reply.Took 0 (cell 0 1 ∷ cell 1 1 ∷ cell 2 1 ∷ cell 3 1 ∷ cell 3 0 ∷ []))))
 
--- so many steps of waiting, and then the path of 6 steps from P0 by A to B
+-- a number of steps of waiting, and then the path of 6 steps from P0 by A to B
 abbrev pub waits : ℕ → List Cell
 waits n = replicate n (cell 0 1) ++ cell 0 1 ∷ cell 1 1 ∷ cell 1 0 ∷ cell 1 1 ∷ cell 2 1 ∷ cell 3 1 ∷ cell 3 0 ∷ []
 
@@ -131,7 +131,7 @@ NoEndlessWait = IsNoRunAt (site_a 0 1) (then_one (entry (Event.Request 0) (Reply
 abbrev pub LongestWait : Type 0
 LongestWait = IsRunAt (site_a 0 1) (then_one (entry (Event.Request 0) (Reply.Took 0 (waits 12))))
 
--- No want of a path may be told where there is a clear way.
+-- No request may be refused for lack of a path where there is a clear way.
 abbrev pub NoRefusalWithAClearWay : Type 0
 NoRefusalWithAClearWay = IsNoRunAt (site_a 0 1) (then_one (entry (Event.Request 0) (Reply.Refused Refusal.NoPath)))
 

@@ -47,7 +47,7 @@ abbrev pub submitted : List ℕ → List Cell → State → State
 submitted client stops s =
     record s { tasks = s.tasks ++ record { client = client; stops = stops; submitted = s.clock; agent = None; visits = [] } ∷ [] }
 
--- the agent goes by the path from now on
+-- the agent follows the path from now on
 abbrev pub adopted : ℕ → List Cell → State → State
 adopted agent path s = record s { paths = slice_set s.paths agent path }
 
@@ -62,7 +62,7 @@ assigned agent n task s = record s {
 abbrev pub moved : State → State
 moved s = record s { clock = s.clock + 1; paths = map advanced s.paths }
 
--- the agent's planner has so many slots from now on
+-- the agent's planner has this many slots from now on
 abbrev pub reseated : ℕ → ℕ → State → State
 reseated agent count s = record s { slots = slice_set s.slots agent count }
 

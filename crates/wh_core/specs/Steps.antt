@@ -117,7 +117,7 @@ Answers site old (Reply.Took n path) (Event.Request agent) new =
     × ((task : Task) × IsNext site old agent n task
     × IsLawful site.grid site.layout.nofollow old.paths agent (length task.stops) (Delivers task.stops) path
     × (new ≡ arrived (adopted agent path (assigned agent n task old))))
--- it rests where there is none, and it stands in no delivery's way
+-- it rests if there is none and it is in no delivery's way
 Answers site old Reply.Rested (Event.Request agent) new =
     IsDue old agent × NoneIsNext old agent × (¬ IsDeliveryCell old (place_of old.paths agent)) × (new ≡ old)
 -- in a delivery's way, it goes to a point where it may park, by a lawful path
@@ -132,12 +132,12 @@ Answers site old (Reply.Clock now first last) Event.Tick new =
 -- a planner that fits takes the place of the agent's
 Answers site old (Reply.Replaced slots) (Event.Replace agent (Spare.Fits count)) new =
     IsKnown old agent × (slots ≡ count) × (new ≡ reseated agent count old)
--- closed, it stays as it is
+-- once closed, it stays as it is
 Answers site old Reply.Closed Event.Close new = (old.closed ≡ false) × (new ≡ shut old)
 -- no other reply is given
 Answers site old reply event new = ⊥
 
--- one step of the warehouse; callers play no part
+-- one step of the warehouse; callers do not matter
 abbrev pub Step : Site → State → Entry → State → Type 0
 Step site old entry new = Answers site old entry.reply entry.event new
 

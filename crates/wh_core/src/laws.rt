@@ -26,12 +26,12 @@ pub fn none_follow()
     ensures { NoneFollow }
 {}
 
-/// In one step an agent goes to a neighbour of its cell or stays there, and where it then is can be walked on.
+/// In one step an agent goes to a neighbour of its cell or stays there, and is then on a passable cell.
 pub fn each_step_is_a_move()
     ensures { EachStepIsAMove }
 {}
 
-/// At an event that is no tick all agents stay where they are.
+/// At an event that is not a tick all agents stay where they are.
 pub fn only_ticks_move()
     ensures { OnlyTicksMove }
 {}
@@ -101,7 +101,7 @@ pub fn limits_hold()
     ensures { LimitsHold }
 {}
 
-/// In a state there is one reply to an event, but for the path that the planner gave, or that it found none.
+/// In a state there is one reply to an event, except for the path that the planner gave, or that it found none.
 pub fn replies_agree()
     ensures { RepliesAgree }
 {}
@@ -131,7 +131,7 @@ pub fn duties_have_clear_ways()
     ensures { DutiesHaveClearWays }
 {}
 
-/// On a well-formed instance no event of a run is refused for want of a path.
+/// On a well-formed instance no event of a run is refused for lack of a path.
 pub fn none_is_refused_a_path()
     ensures { NoneIsRefusedAPath }
 {}

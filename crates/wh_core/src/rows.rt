@@ -1,4 +1,4 @@
-//! Worked rows: entries that are a run, and entries that are none. Each function's contract is the row.
+//! Worked rows: entries that are a run, and entries that are not. Each function's contract is the row.
 
 ghost use Rattle.wh_core.specs.Rows.{DeliveredAtOnce, SubmitRefusals, OneDelivery, LongestWait};
 ghost use Rattle.wh_core.specs.Rows.{NoRestWhileWorkWaits, NoPathPastThePickup, NoEndlessWait, NoRefusalWithAClearWay, NoPickupInvented};
@@ -38,7 +38,7 @@ pub fn no_endless_wait()
     ensures { NoEndlessWait }
 {}
 
-/// No want of a path may be told where there is a clear way.
+/// No request may be refused for lack of a path where there is a clear way.
 pub fn no_refusal_with_a_clear_way()
     ensures { NoRefusalWithAClearWay }
 {}

@@ -33,7 +33,7 @@ told_push : (xs : List (ℕ × Entry)) (x : ℕ × Entry) → spares_told (xs ++
 told_push [] x = append-nil (told_by x.1.event)
 told_push (y ∷ xs) x = ap (λ l. told_by y.1.event ++ l) (told_push xs x) ∙ sym (append_assoc (told_by y.1.event) (spares_told xs) (told_by x.1.event))
 
--- so many planners were lent, and those that are left are the rest
+-- this many planners were lent, and those that are left are the rest
 pub record Lending {X : Type 0} (fits : X → Floor → Bool) (count : X → ℕ) (grid : Floor) (spares : List X) (told : List Spare) (left : List X) : Type 0 where
   pub lent : LentFromEnd fits count grid spares told
   pub rest : reverse left ≡ drop (length told) (reverse spares)

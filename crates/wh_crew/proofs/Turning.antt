@@ -71,7 +71,7 @@ turns_push boards board =
     ap (λ (l : List Command). turns_of boards ++ l) (sym (append-nil (turn_of board)))
     ∙ sym (flat_map-append turn_of boards (board ∷ []))
 
--- so many turns were taken
+-- this many turns were taken
 pub record Taking (ends_idle : Bool) (known : Past) (had has : Received) (turns : ℕ) : Type 0 where
   pub boards : List Board
   pub seen : All (MayTurn ends_idle known) boards

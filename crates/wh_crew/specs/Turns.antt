@@ -90,7 +90,7 @@ abbrev pub LooksUntil : {F : Type 0} → (Command → Received → F → Receive
 LooksUntil leaves ends_idle known fault had has =
     (board : Board) × MayTurn ends_idle known board × DoesUntil leaves (turn_of board) fault had has
 
--- So many turns were taken, each at a board that shows a beginning of what is known: all that may be, or fewer, up to where
+-- This many turns were taken, each at a board that shows a beginning of what is known: all that may be, or fewer, up to where
 -- nothing was to be done.
 pub record TakesTurns (pace : Pace) (known : Past) (had has : Received) (turns : ℕ) : Type 0 where
   pub boards : List Board
@@ -125,7 +125,7 @@ pub record RefusedBeside {F : Type 0} (leaves : Command → Received → F → R
   pub does : DoesUntil leaves (turns_of boards) fault had has
   pub count : length boards ≤ turns
 
--- what a call that the desk refuses leaves, whatever the command, where there are so many cells
+-- what a call that the desk refuses leaves, whatever the command, where there is a given number of cells
 abbrev pub refusal_leaves : ℕ → Command → Received → DeskFault → Received → Type 0
 refusal_leaves cells command had fault has = Refuses cells had fault has
 
@@ -134,7 +134,7 @@ abbrev pub WorksBeside : ℕ → ℕ → Past → Received → Received → Resu
 WorksBeside cells turns known had has (Ok taken) = TakesBeside turns known had has taken
 WorksBeside cells turns known had has (Err fault) = RefusedBeside (refusal_leaves cells) turns known fault had has
 
--- What the agents' worker, which had this pass, has in the whole history: the answers to what it did, and nothing else. What it
+-- What the agents' worker, which had this pass, has in the whole history: the replies to what it did, and nothing else. What it
 -- saw are boards of beginnings of that history.
 pub record TurnsIn (cells turns : ℕ) (origin : Origin) (history : List Entry) (had : Received) (ended : Result ℕ DeskFault) : Type 0 where
   pub known : Past
@@ -144,7 +144,7 @@ pub record TurnsIn (cells turns : ℕ) (origin : Origin) (history : List Entry) 
   pub has_known : IsPrefix has.known history
   pub works : WorksBeside cells turns known had has ended
 
--- why the worker's turns ended before it was through: the journal was full, or memory was wanting
+-- why the worker's turns ended before it was through: the journal was full, or memory ran out
 abbrev pub IsWhyStopped : ℕ → List Entry → DeskFault → Type 0
 IsWhyStopped cells history DeskFault.Full = length history ≡ cells
 IsWhyStopped cells history DeskFault.NoMemory = Unit {0}

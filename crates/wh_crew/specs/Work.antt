@@ -60,8 +60,8 @@ counted missed (Some DeskFault.CellTaken) = record { full = missed.full; memory 
 
 -- A worker's pass had one list and has another: it went on by entries that answer the commands, in order, without as many
 -- as were missed; and their Replaces lent the spares from the end. What it knows of goes on from what it knew of, and where
--- it missed a call since the journal was full, it knows of a history with an entry for each of so many cells. Fits and count
--- say what a planner answers.
+-- it missed a call since the journal was full, it knows of a history with an entry for each cell. Fits and count
+-- say what a planner returns.
 pub record Worked {X : Type 0} (fits : X → Floor → Bool) (count : X → ℕ) (grid : Floor) (cells : ℕ) (commands : List Command) (spares : List X)
     (had has : Received) (missed : Missed) : Type 0 where
   pub caller_is : has.caller ≡ had.caller
@@ -78,7 +78,7 @@ abbrev pub Takes : {X : Type 0} → (X → Floor → Bool) → (X → ℕ) → F
 Takes fits count grid (Event.Replace agent told) spares left = TakesLast fits count grid (Event.Replace agent told) spares left
 Takes fits count grid event spares left = left ≡ spares
 
--- One call for a command, where there are so many cells: the pass has one more entry, which answers it and takes the spare
+-- One call for a command, where there is a given number of cells: the pass has one more entry, which answers it and takes the spare
 -- that it tells, or the desk refused the call and the spares are as they were.
 abbrev pub Tried : {X : Type 0} → (X → Floor → Bool) → (X → ℕ) → Floor → ℕ → Command → Received → List X → Option DeskFault → Received → List X → Type 0
 Tried fits count grid cells command had spares None has left =
@@ -107,6 +107,6 @@ pub record AllWorked {X : Type 0} (fits : X → Floor → Bool) (count : X → �
       Worked fits count grid cells work.commands.items work.spares.items had (record { caller = i; list = entries_of history i; known = history }) n
 
 -- Where a call was missed since the journal was full, the history has just an entry for each cell. No call was missed but for
--- this, or for want of memory.
+-- this, or for lack of memory.
 abbrev pub MissedWithCause : ℕ → List Entry → List Missed → Type 0
 MissedWithCause cells history missed = AllAt (λ _ n. (0 < n.full → length history ≡ cells) × (n.other ≡ 0)) missed

@@ -17,11 +17,11 @@ use wh_planner::Planner;
 /// How the agents' worker goes on.
 #[derive(Clone, Copy, Debug, PartialEq, Eq)]
 pub struct Pace {
-    /// It takes at most so many turns.
+    /// It takes at most this many turns.
     pub turns: u32,
     /// Whether it ends where no task is open or under way.
     pub ends_idle: bool,
-    /// It rests so long behind each turn.
+    /// It rests this long after each turn.
     pub pause: Duration,
 }
 
@@ -71,7 +71,7 @@ pub(crate) fn look_and_turn<N: DeskName, H: Wait + Drop, P: Planner, R: Wait>(
 
 /// Lets each agent that is due ask for the token, in their order, or nobody where no task is open, and then the clock tick, turn
 /// by turn: by a board for each turn, which shows a beginning of what the viewer knows at the end. What it does are calls of the
-/// desk with this pass, and nothing else. It ends after so many turns, or where no task is open or under way if it is to end then,
+/// desk with this pass, and nothing else. It ends after its turns, or where no task is open or under way if it is to end then,
 /// or at the first call that the desk refuses. How many turns it took. A board may be older than what the desk has by then: an
 /// agent that moves by then is refused (E5), in an entry.
 pub fn run_agents<N: DeskName, H: Wait + Drop, P: Planner, R: Wait + Clock>(

@@ -118,7 +118,7 @@ struct Shift<N: DeskName> {
     taken: Result<u32, DeskFault>,
 }
 
-/// Each of the others works in a thread of its own, and the agents' worker in this one. All threads are joined when it returns,
+/// Each of the others works in its own thread, and the agents' worker in this one. All threads are joined when it returns,
 /// also where one could not be started.
 fn run_beside<
     N: DeskName + Send + Sync,
@@ -189,9 +189,9 @@ pub struct PacedCrew<P: Planner = Box<dyn Planner>> {
 }
 
 /// As `crew`, but the last pass is that of a worker for all agents and the clock, which takes turns (`run_agents`) beside the
-/// others: at most so many, and it rests behind each. Once the others are through it ends where nothing is open or under way,
+/// others: at most the given number, and it rests after each. Once the others are through it ends where nothing is open or under way,
 /// and always at the first call that the desk refuses. What it saw are boards of beginnings of the history, and what it has
-/// there are the answers to its turns.
+/// there are the replies to its turns.
 pub fn crew_at_pace<
     N: DeskName + Send + Sync,
     H: Wait + Send + Sync + Drop,

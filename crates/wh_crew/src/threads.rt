@@ -27,7 +27,7 @@ pub enum CrewFault {
     NoThread,
     /// E90: no memory was left.
     NoMemory,
-    /// E95: a pass has not all that its caller did, or a call was refused by E91 or E95.
+    /// E95: a pass does not have all that its caller did, or a call was refused by E91 or E95.
     Stale,
 }
 
@@ -191,7 +191,7 @@ pub(crate) fn take_apart<N: DeskName>(
     (passes, missed)
 }
 
-/// Each worker's work in a thread of its own. All threads are joined when it returns, also where one could not be started.
+/// Each worker's work in its own thread. All threads are joined when it returns, also where one could not be started.
 fn run_all<
     N: DeskName + Send + Sync,
     H: Wait + Send + Sync + Drop,
@@ -233,11 +233,11 @@ pub struct Crewed<P: Planner = Box<dyn Planner>> {
     pub missed: Vec<Missed>,
 }
 
-/// Worker i makes its commands with pass i, one call of the desk each, in a thread of its own; then the desk is finished.
+/// Worker i makes its commands with pass i, one call of the desk each, in its own thread; then the desk is finished.
 /// The history is one run from an opening state, and each entry is a worker's. For each worker its entries are those that its
 /// pass held before, and then its commands, in order, without as many as were missed. There are no more entries than the desk
-/// has cells, and just so many where a call was missed since the journal was full; else calls are missed for want of memory
-/// alone. On a well-formed instance no request is refused for want of a path.
+/// has cells, and exactly as many if a call was missed because the journal was full; else calls are missed for lack of memory
+/// alone. On a well-formed instance no request is refused for lack of a path.
 pub fn crew<
     N: DeskName + Send + Sync,
     H: Wait + Send + Sync + Drop,
@@ -306,7 +306,7 @@ fn has_other(missed: &Missed) -> bool
     missed.other != 0
 }
 
-/// Room for what so many workers leave, made before the first thread starts.
+/// Room for what the given number of workers leave, made before the first thread starts.
 pub(crate) struct Room<N: DeskName> {
     pub(crate) reports: Vec<Report<N>>,
     pub(crate) passes: Vec<Pass<N>>,

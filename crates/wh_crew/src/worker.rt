@@ -106,7 +106,7 @@ pub(crate) fn try_one<N: DeskName, H: Wait + Drop, P: Planner, R: Wait>(
     }
 }
 
-/// Lends the last spare, and answers as above. What comes back after an answer is dropped; after a refusal the spare goes back
+/// Lends the last spare, and returns as above. What comes back after an answer is dropped; after a refusal the spare goes back
 /// to its place.
 fn lend<N: DeskName, H: Wait + Drop, P: Planner, R: Wait>(
     rt: &R,

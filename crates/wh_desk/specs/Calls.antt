@@ -37,20 +37,20 @@ pub record Entered {X : Type 0} (origin : Origin) (before : Ledger X) (had : Rec
   pub has_list : has.list ≡ had.list ++ (position, entry) ∷ []
   pub has_known : has.known ≡ after.history
 
--- who is told that the journal is full knows of a history of its length, and that goes on from the one it knew of
+-- a caller that is told that the journal is full knows of a history of its length, which goes on from the one it knew of
 pub record KnowsFull (capacity : ℕ) (had has : Received) : Type 0 where
   pub caller_is : has.caller ≡ had.caller
   pub list_is : has.list ≡ had.list
   pub goes_on : IsPrefix had.known has.known
   pub is_full : length has.known ≡ capacity
 
--- what a refused call leaves of a pass, where the journal has so many positions: all as it was, but for what is known of a
+-- what a refused call leaves of a pass, where the journal has a given number of positions: all as it was, but for what is known of a
 -- full journal
 abbrev pub Refuses : ℕ → Received → DeskFault → Received → Type 0
 Refuses capacity had DeskFault.Full has = KnowsFull capacity had has
 Refuses capacity had fault has = has ≡ had
 
--- whoever is told that its pass is stale, or the journal full, is told so first of all: the journal and its planners are as
+-- a caller whose pass is stale, or whose journal is full, is told so first of all: the journal and its planners are as
 -- they were
 abbrev pub Untouched : {X : Type 0} → Ledger X → DeskFault → Ledger X → Type 0
 Untouched before DeskFault.Stale after = after ≡ before
@@ -80,7 +80,7 @@ abbrev pub IsClockAt : Origin → List Entry → ℕ → ℕ → Type 0
 IsClockAt origin history position clock =
     (before : State) × Run origin.site origin.opening (take position history) before × (clock ≡ before.clock)
 
--- what is told with a receipt is of this desk's book, and stands for a history in which the receipt's entry stands at its position
+-- what comes with a receipt is of this desk's book, and stands for a history with the receipt's entry at its position
 pub record TellsReceipt (book : Book) (origin : Origin) (position : ℕ) (entry : Entry) (told : Known) : Type 0 where
   pub book_is : told.book ≡ book
   pub origin_is : told.past.origin ≡ origin
@@ -121,7 +121,7 @@ pub record Agreed (origin : Origin) (one two : Received) : Type 0 where
   pub one_known : IsPrefix one.known history
   pub two_known : IsPrefix two.known history
 
--- on a well-formed instance none of the entries is a refusal for want of a path
+-- on a well-formed instance none of the entries is a refusal for lack of a path
 abbrev pub NoneWantsPath : Origin → List Entry → Type 0
 NoneWantsPath origin history = IsFormed origin.site → AllServed history
 

@@ -14,7 +14,7 @@ pub record OwnOf (names : List ℕ) (entries : List (ℕ × Entry)) (own : Own) 
   pub last_is : own.last ≡ last_position entries
   pub notes : AllAt (λ _ x. NoteKnows names x) own.held.items
 
--- What is made of these entries: each is in a cell, in order, and there is a note of it; each of so many callers has its own.
+-- What is made of these entries: each is in a cell, in order, and there is a note of it; each of the callers has its own.
 pub record Recalls (names : List ℕ) (callers : ℕ) (entries : List Entry) (made : Earlier) : Type 0 where
   pub cells_are : made.cells ≡ record { names = names; count = length entries }
   pub notes_length : length made.notes.items ≡ length entries
@@ -23,7 +23,7 @@ pub record Recalls (names : List ℕ) (callers : ℕ) (entries : List Entry) (ma
   pub owns_length : length made.owns.items ≡ callers
   pub owns_are : AllAt (λ caller own. OwnOf names (entries_of entries caller) own) made.owns.items
 
--- Why no desk with so many cells and callers is opened over this history. One without entries is refused for want of memory alone.
+-- Why no desk with these cells and callers is opened over this history. One without entries is refused for lack of memory alone.
 abbrev pub IsWhyUnopened : (cells callers : ℕ) → List Entry → Unopened → Type 0
 IsWhyUnopened cells callers history unopened.NoMemory = Unit {0}
 IsWhyUnopened cells callers history unopened.CellTaken = 0 < length history

@@ -23,7 +23,7 @@ pub record NoteKnows (row : List ℕ) (x : Held) : Type 0 where
   pub cell : slice_get row x.position.value ≡ Some x.note.cell
   pub known : x.note.known ≡ Some x.entry.value
 
--- The pass has all that its caller did in the history that its front knows, which has so many entries and is a run, and a
+-- The pass has all that its caller did in the history that its front knows, which has this many entries and is a run, and a
 -- note of the cell of each receipt.
 pub record PassKeeps (origin : Origin) (row : List ℕ) (book : Book) (callers caller last long : ℕ) (held : List Held) (front : Known) : Type 0 where
   pub caller_within : caller < callers

@@ -2,7 +2,7 @@ pub mod Lists
 pub mod Kept
 pub mod Calls
 pub mod Earlier
--- handed on, for the crates above
+-- re-exported for the crates above
 pub use Rattle.wh_points.specs.Formed
 pub use Rattle.wh_book.specs.Drafts
 pub use Rattle.wh_board.specs.Pasts

@@ -1,4 +1,4 @@
-//! What the calls of a desk answer.
+//! What the calls of a desk return.
 #![tactic(auto)]
 
 ghost use Rattle.std.specs.Prelude.{◌≡◌, Err};
@@ -10,7 +10,7 @@ use wh_planner::Planner;
 /// Why a call of the desk was refused. Nothing has changed then.
 #[derive(Clone, Copy, Debug, PartialEq, Eq)]
 pub enum DeskFault {
-    /// E95: the pass has not all that its caller did.
+    /// E95: the pass does not have all that its caller did.
     Stale,
     /// E11: the journal is full.
     Full,
@@ -20,7 +20,7 @@ pub enum DeskFault {
     CellTaken,
 }
 
-/// E95: a pass has not all that its caller did.
+/// E95: a pass does not have all that its caller did.
 #[derive(Clone, Copy, Debug, PartialEq, Eq)]
 pub struct Stale;
 
@@ -38,7 +38,7 @@ pub struct Receipt {
     pub told: Option<Told>,
 }
 
-/// What a call answers, and the planner that is not in the warehouse.
+/// What a call returns, and the planner that is not in the warehouse.
 #[derive(Drop)]
 pub struct Answer<P = Box<dyn Planner>> {
     pub outcome: Result<Receipt, DeskFault>,

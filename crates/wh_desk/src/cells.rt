@@ -25,7 +25,7 @@ impl Model for Cells {
 }
 
 impl Cells {
-    /// So many cells, with nothing in them.
+    /// The given number of cells, with nothing in them.
     pub fn new(alloc: Global, capacity: u64) -> Result<Cells, AllocError>
         ensures { IfOk result (λ c. length c ≡ capacity) }
     {

@@ -124,8 +124,8 @@ impl<N: DeskName, H: Wait + Drop, P: Planner> Desk<N, H, P> {
     }
 
     /// A client's task. Its entry stands in one history for good, after all that the pass had received. It may wait for the lock.
-    /// Refused: E95 where the pass has not all that its caller did, then E11 where the journal is full, E90, E91. The pass
-    /// stays as it was, but that after E11 it knows of a history that has an entry for each cell.
+    /// Refused: E95 where the pass does not have all that its caller did, then E11 where the journal is full, E90, E91. The pass
+    /// stays as it was, except that after E11 it knows of a history that has an entry for each cell.
     pub fn submit<R: Wait>(
         &self,
         rt: &R,
@@ -145,7 +145,7 @@ impl<N: DeskName, H: Wait + Drop, P: Planner> Desk<N, H, P> {
         self.call(rt, alloc, pass, command, None).outcome
     }
 
-    /// An agent takes the token. On a well-formed instance it is never refused for want of a path. Its receipt and its
+    /// An agent takes the token. On a well-formed instance it is never refused for lack of a path. Its receipt and its
     /// refusals are those of `submit`.
     pub fn request<R: Wait>(
         &self,
@@ -182,7 +182,7 @@ impl<N: DeskName, H: Wait + Drop, P: Planner> Desk<N, H, P> {
         self.call(rt, alloc, pass, Command::Tick, None).outcome
     }
 
-    /// Nothing more is to change. Its receipt and its refusals are those of `submit`.
+    /// Nothing more may change. Its receipt and its refusals are those of `submit`.
     pub fn close<R: Wait>(
         &self,
         rt: &R,
@@ -242,8 +242,8 @@ impl<N: DeskName, H: Wait + Drop, P: Planner> Desk<N, H, P> {
         Ok(viewer)
     }
 
-    /// The receipts of both passes stand at their positions among the first entries of one history, so many as are told. It
-    /// may wait for the lock. E95: a pass has not all that its caller did.
+    /// The receipts of both passes stand at their positions among the first entries of one history, as many as are told. It
+    /// may wait for the lock. E95: a pass does not have all that its caller did.
     pub fn meet<R: Wait>(&self, rt: &R, one: &Pass<N>, two: &Pass<N>) -> Result<Met, Stale>
         ensures ok { IfOk result (λ m. Together N.origin one.now two.now m.length) }
     {
@@ -252,7 +252,7 @@ impl<N: DeskName, H: Wait + Drop, P: Planner> Desk<N, H, P> {
 
     /// Ends the desk. The history is one run from an opening state; for each caller its entries are what its pass received, and
     /// there are no others. Each pass knows of a beginning of it, and on a well-formed instance none of its requests is refused
-    /// for want of a path. There are no more entries than cells. It may wait until looks end. E95: a pass has not all that its caller did; the desk
+    /// for lack of a path. There are no more entries than cells. It may wait until looks end. E95: a pass does not have all that its caller did; the desk
     /// and the passes are dropped.
     pub fn finish(self, passes: Vec<Pass<N>>) -> Result<History<P>, Stale>
         requires { InOrder N.callers passes.items }

@@ -55,7 +55,7 @@ pub(crate) struct Earlier {
     pub owns: Vec<Own>,
 }
 
-/// What so many callers have of no entries.
+/// What the given number of callers have of no entries.
 fn empty_owns(alloc: Global, callers: u32) -> Result<Vec<Own>, AllocError>
     ensures length { IfOk result (λ v. length v.items ≡ callers) }
     ensures empty { IfOk result (λ v. AllAt (λ _ own. (own.held.items ≡ []) × (own.last ≡ 0)) v.items) }
@@ -123,7 +123,7 @@ fn take_all(made: &mut Earlier, alloc: Global, history: &[Entry]) -> Result<(), 
     Ok(())
 }
 
-/// What is made of the entries of a history, of so many callers.
+/// What is made of the entries of a history, of the given number of callers.
 pub(crate) fn recall(
     alloc: Global,
     history: &[Entry],

@@ -1,4 +1,4 @@
-//! What lies under the desk's lock.
+//! What is under the desk's lock.
 #![tactic(auto)]
 
 ghost use Rattle.std.specs.Prelude.{◌≡◌, ◌≢◌, ◌<◌, ◌≤◌, ◌&&◌, ◌↔◌, [], true, false, length, IfSome, IfNone, IsSome, IfOk, IfErr, OnErr, IsErr, IsTrue, Err, MatchResult, All};
@@ -28,7 +28,7 @@ use wh_event::{Command, Entry};
 use wh_planner::Planner;
 use wh_token::{Committed, Warehouse};
 
-/// What lies under the lock. Contracts see it as its history, its state, its capacity, what was published last, and the
+/// What is under the lock. Contracts see it as its history, its state, its capacity, what was published last, and the
 /// agents' planners. The cells of the receipts lie here too: as many are set as there are entries.
 #[derive(Drop)]
 pub struct Journal<N: DeskName, H: Wait + Drop, P: Planner = Box<dyn Planner>> {
@@ -204,7 +204,7 @@ impl<N: DeskName, H: Wait + Drop, P: Planner> Journal<N, H, P> {
     }
 
     /// What it leaves. All its entries are of the callers, and there are no more of them than cells. The run is from an
-    /// opening state, and on a well-formed instance none of its requests is refused for want of a path.
+    /// opening state, and on a well-formed instance none of its requests is refused for lack of a path.
     pub fn into_history(self) -> History<P>
         ensures origin { origin_of result.warehouse.book ≡ N.origin }
         ensures opening { IsOpening N.origin.site N.origin.opening }
@@ -232,8 +232,8 @@ impl<N: DeskName, H: Wait + Drop, P: Planner> Journal<N, H, P> {
         History { warehouse, front }
     }
 
-    /// Appends an entry of the caller's, hands the pass its receipt and publishes the board. E95 comes first, where the pass has
-    /// not all that its caller did, then E11, where the journal is full: no planner is asked before these. Then come E90 and
+    /// Appends an entry of the caller's, hands the pass its receipt and publishes the board. E95 comes first, where the
+    /// pass does not have all that its caller did, then E11, where the journal is full: no planner is asked before these. Then come E90 and
     /// E91. A refusal changes neither journal nor pass, but for what a planner that was asked has learned, and that a pass that
     /// is told of a full journal knows its history; it gives the planner that was handed in back.
     pub fn enter(

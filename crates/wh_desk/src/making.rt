@@ -28,7 +28,7 @@ pub(crate) struct Made<P> {
 }
 
 /// Works the step out, adds its entry to the book and writes it into the next cell. After it nothing of the call is refused,
-/// and nothing wants memory but the board. On a refusal the planner comes back, and neither book nor cells have changed.
+/// and nothing but the board needs memory. On a refusal the planner comes back, and neither book nor cells have changed.
 pub(crate) fn make_ready<H: Wait + Drop, P: Planner>(
     warehouse: &mut Warehouse<P>,
     publisher: &mut Publisher<H>,

@@ -4,7 +4,7 @@
 use std::marker::Brand;
 
 /// Which desk it is: its cells, the book of its history, where that begins, and how many callers it has. It has no calls:
-/// whoever opens a desk picks the name, with `Brand`, and what uses a desk is generic over it.
+/// the code that opens a desk picks the name, with `Brand`, and code that uses a desk is generic over it.
 pub trait DeskName {
     ghost use Rattle.std.specs.Prelude.{ℕ, List};
     ghost use Rattle.logbook.specs.Pages.{Book};

@@ -57,7 +57,7 @@ impl<N: DeskName> Model for Pass<N> {
 impl<N: DeskName> Pass<N> {
     ghost use Rattle.wh_event.specs.declared.entry.Entry.{Entry};
 
-    /// A pass that has all that its caller did in the history that is known, which has so many entries.
+    /// A pass that has all that its caller did in the history that is known, which has the given number of entries.
     pub(crate) fn over(front: &Front, caller: u32, own: Own, known: u64) -> Pass<N>
         requires book { front.now.book ≡ N.book }
         requires run { IsRunFrom N.origin front.now.past.history }
@@ -99,7 +99,7 @@ impl<N: DeskName> Pass<N> {
         self.known
     }
 
-    /// It comes to know of a history, which has so many entries. It has all that its caller did there.
+    /// It comes to know of a history, which has the given number of entries. It has all that its caller did there.
     pub(crate) fn learn(&mut self, history: &Front, long: u64)
         requires book { history.now.book ≡ N.book }
         requires run { IsRunFrom N.origin history.now.past.history }

@@ -7,7 +7,8 @@ use Rattle.wh_grid.specs.declared.cell.Cell.{Cell}
 use Rattle.wh_grid.specs.Grids.{Floor, IsPassable}
 use Rattle.wh_path.specs.Paths.{at, last_index, path_of}
 use Rattle.wh_resv.specs.Others.{Others}
-use Rattle.wh_search.proofs.Cells.{same_cell, past_end, count-subset, marked_count-is}
+use Rattle.wh_grid.proofs.Cells.{same_cell}
+use Rattle.wh_search.proofs.Cells.{past_end, count-subset, marked_count-is}
 use Rattle.wh_detours.specs.Taken.{IsTaken, IsLeft, IsWithoutTaken, IsFiltered, IsBarredIf}
 
 -- where a list of marks has one, the mark stands there

@@ -10,7 +10,7 @@ use Rattle.wh_field.specs.declared.sight.Sight.{Sight}
 use Rattle.wh_resv.specs.Others.{Others}
 use Rattle.wh_detours.specs.Taken.{IsTaken}
 
--- a walk down the field of a stop from a cell, of `whole` steps in all, is at another cell with so many left, and came to no cell that is taken
+-- a walk down the field of a stop from a cell, of `whole` steps in all, is at another cell with a number of steps left, and avoided all taken cells
 pub record IsOnWay (g : Floor) (others : Others) (from stop c : Cell) (whole left : ℕ) : Type 0 where
   pub path : List Cell
   pub walk : IsWalkBetween g from c path
@@ -27,7 +27,7 @@ pub record IsShut (g : Floor) (others : Others) (from stop : Cell) : Type 0 wher
   pub way : IsOnWay g others from stop cell whole (left + 1)
   pub taken : (d : Cell) → IsAdjacent cell d → distance g stop d ≡ Some left → IsTaken others d
 
--- a least walk from a cell to the stop that comes to no cell which is taken
+-- a shortest walk from a cell to the stop that avoids all taken cells
 pub record IsClearWay (g : Floor) (others : Others) (from stop : Cell) (p : List Cell) : Type 0 where
   pub least : IsLeastWalk g from stop p
   pub free : (k : ℕ) → 0 < k → k ≤ last_index p → IsTaken others (at p k) → ⊥
@@ -40,7 +40,7 @@ IsClearWithin g others from stop level = (n : ℕ) → distance g stop from ≡ 
 abbrev pub cell_before : Cell → List Cell → ℕ → Cell
 cell_before loc stops i = slice_index_or (loc ∷ stops) i loc
 
--- as far as a sight goes, where there is one
+-- as far as a sight goes, if there is one
 abbrev pub IsClearBy : Floor → Others → Cell → Cell → Option Sight → Type 0
 IsClearBy g others from stop None = Unit {0}
 IsClearBy g others from stop (Some s) = IsClearWithin g others from stop s.level

@@ -13,13 +13,13 @@ abbrev pub level_past : Option ℕ → ℕ
 level_past None = 4294967293
 level_past (Some n) = min (n + 16) 4294967293
 
--- it is the field of this stop, over this grid, as far as it serves who comes from this cell
+-- it is the field of this stop, over this grid, as far as an agent that comes from this cell needs it
 pub record IsFilledFor (g : Floor) (from stop : Cell) (f : Filled) : Type 0 where
   pub grid : f.field.grid ≡ g
   pub source : f.field.cell ≡ stop
   pub level : f.level ≡ level_past (distance g stop from)
 
--- it is there just where it is wanted
+-- it is there exactly where it is needed
 abbrev pub IsFilledIf : Floor → Cell → Cell → Bool → Option Filled → Type 0
 IsFilledIf g from stop wanted None = wanted ≡ false
 IsFilledIf g from stop wanted (Some f) = (wanted ≡ true) × IsFilledFor g from stop f

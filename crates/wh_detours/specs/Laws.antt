@@ -12,7 +12,7 @@ SameDeliveries =
     (g without : Floor) (others : Others) (paths : List (List Cell)) (loc : Cell) (stops path : List Cell)
     → IsWithoutTaken g others paths without → IsDelivery g others loc stops path ↔ IsDelivery without others loc stops path
 
--- a least path there is one on the whole grid
+-- a shortest path there is one on the whole grid
 abbrev pub AllLeastThere : Type 0
 AllLeastThere =
     (g without : Floor) (others : Others) (paths : List (List Cell)) (loc : Cell) (stops path : List Cell)

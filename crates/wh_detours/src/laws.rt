@@ -1,4 +1,4 @@
-//! Why a least path on the grid without the cells that are taken is one. The functions do nothing: their contracts are
+//! Why a shortest path on the grid without the cells that are taken is one. The functions do nothing: their contracts are
 //! the laws.
 #![tactic(auto)]
 
@@ -9,7 +9,7 @@ pub fn same_deliveries()
     ensures { SameDeliveries }
 {}
 
-/// A least path there is a least path on the whole grid.
+/// A shortest path there is a shortest path on the whole grid.
 pub fn all_least_there()
     ensures { AllLeastThere }
 {}

@@ -1,4 +1,4 @@
-//! Detours round others that stay: a least path on the grid without their cells.
+//! Detours round others that stay: a shortest path on the grid without their cells.
 #![tactic(auto)]
 
 mod barred;

@@ -26,7 +26,7 @@ use wh_search::errand::Errand;
 use wh_search::guide::onward_by_sights;
 use wh_search::{Fault, SearchMemory, find_straight};
 
-/// A least path on the grid without the cells that are taken, where one of these paths stays; by fields over it where the
+/// A shortest path on the grid without the cells that are taken, where one of these paths stays; by fields over it where the
 /// way is barred.
 fn deliver_without(
     alloc: Global,
@@ -64,7 +64,7 @@ fn deliver_without(
     )
 }
 
-/// A least path, where each delivery has more steps than are estimated at the start.
+/// A shortest path, where each delivery has more steps than are estimated at the start.
 fn deliver_beyond(
     alloc: Global,
     memory: &mut SearchMemory,
@@ -94,11 +94,11 @@ fn deliver_beyond(
     }
 }
 
-/// A lawful path from loc through the stops, with the least last index of all, guided by fields that are filled up to a
+/// A lawful path from loc through the stops, with the least last index, guided by fields that are filled up to a
 /// level; in memory that is kept from one search to the next. Where others that stay bar the way to a stop, it is searched
 /// for on the grid without their cells, as far as they stand in these paths, and by a field of its own in place of that
-/// stop's. That changes nothing in which paths are least. `NoPath` exactly where no path delivers, however long; else
-/// `NoMemory` where memory ran out.
+/// stop's. That changes nothing in which paths are least. `NoPath` exactly if no path delivers, however long; `NoMemory` if
+/// memory ran out.
 pub fn deliver_round<'x>(
     alloc: Global,
     memory: &mut SearchMemory,

@@ -30,8 +30,8 @@ fn bar(walkable: &mut [bool], grid: &Grid, others: &Reservations, path: &TimedPa
     }
 }
 
-/// The same grid without the cells at which somebody is at each time, as far as one of these paths stays there. It takes a
-/// byte a cell; the error comes where memory is wanting.
+/// The same grid without the cells at which somebody is at each time, as far as one of these paths stays there. Needs one
+/// byte per cell; fails when out of memory.
 pub fn without_taken(
     alloc: Global,
     grid: &Grid,

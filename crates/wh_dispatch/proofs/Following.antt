@@ -5,10 +5,10 @@ use Rattle.std.proofs.KnownBytes.{Keeps-refl, Consumes-nil, Consumes-trans, Appe
 use Rattle.std.proofs.lemmas.Bool.{lt-ltb}
 use Rattle.std.proofs.lemmas.List.{length-append}
 use Rattle.std.proofs.lemmas.Bool.Decides.{leb_tells}
-use Rattle.wh_text.specs.Lines.{lines_of, without_cr}
+use Rattle.wh_text.specs.Lines.{lines_of, without_cr, IsLine}
 use Rattle.wh_text.specs.Words.{words_of}
 use Rattle.wh_text.proofs.CutLemmas.{lines-feed, lines-last}
-use Rattle.wh_lines.specs.Text.{EndsLine, IsPlain, short_line}
+use Rattle.wh_lines.specs.Text.{EndsLine, short_line}
 use Rattle.wh_lines.proofs.Cuts.{whole_next}
 use Rattle.wh_lines.specs.Input.{Input, left, with_failed, Takes, Gathered, Taken}
 use Rattle.wh_lines.specs.declared.lines.Next.{Next}
@@ -43,7 +43,7 @@ heard_is raw =
           ∙ sym (ap (λ (b : Bool). heard_by (cond b None (report_by (words_of text))) (cond b (Err TooLong) (command_by (words_of text)))) (lt-ltb 256 (length text) long.1))
     ]
 
--- whole lines were served, in so many turns
+-- whole lines were served, in this many turns
 pub record Following {X : Type 0} (fits : X → Floor → Bool) (count : X → ℕ) (text : Answered → List ℕ) (bound turns : ℕ) (before after : Input) (old new : Depot X) (had has : Option (List ℕ)) : Type 0 where
   pub follows : Follows fits count text bound before after old new had has
   pub many : turns ≤ length (lines_of follows.read)
@@ -55,7 +55,7 @@ cause_here (Read reads.Broken) i j k lines before fine broken endless = cause_of
 cause_here (Read reads.Endless) i j k lines before fine broken endless = cause_of i j k lines (Read reads.Endless) before fine broken endless
 cause_here Flush i j k lines before fine broken endless = tt
 
--- it is not that memory was wanting
+-- it is not that memory ran out
 line_not_starved : (fault : NoLine) → fault_of fault ≢ NoMemory
 line_not_starved (Read reads.Broken) e = cc
 line_not_starved (Read reads.Endless) e = cc
@@ -145,7 +145,7 @@ module _ {X : Type 0} (fits : X → Floor → Bool) (count : X → ℕ) (text : 
       writes = s.writes;
     }
 
-    lines_more : (raw : List ℕ) → IsPlain raw → length (lines_of (f.read ++ (raw ++ 10 ∷ []))) ≡ length (lines_of f.read) + 1
+    lines_more : (raw : List ℕ) → IsLine raw → length (lines_of (f.read ++ (raw ++ 10 ∷ []))) ≡ length (lines_of f.read) + 1
     lines_more raw plain =
         ap (λ (ls : List (List ℕ)). length ls) (f.whole (raw ++ 10 ∷ []) ∙ ap (λ l. lines_of f.read ++ l) (lines-feed raw [] plain))
         ∙ length-append (lines_of f.read) (without_cr raw ∷ [])

@@ -74,7 +74,7 @@ filter_in p (z ∷ xs) x c passes = go (λ d. filter_in p xs x d passes) (p z) r
     go rest false is (inl e) = absurd (let clash : false ≡ true = sym is ∙ subst (λ w. p w ≡ true) (sym e) passes in cc)
     go rest false is (inr there) = rest there
 
--- the numbers from one on, so many of them, each as something
+-- the numbers from one on, up to a given count, each as something
 pub in_range : {X : Type 0} (f : ℕ → X) (first count : ℕ) (x : X) → Contains (map f (range_with_len first count)) x → (k : ℕ) × (first ≤ k) × (k < first + count) × (f k ≡ x)
 in_range f first count x c =
     let size = length-map-range_with_len f first count in

@@ -488,7 +488,7 @@ module _ {X : Type 0} (fits : X → Floor → Bool) (count : X → ℕ) (text : 
           (subst (WritesFront a b) (text_one (notice_text notice)) w)
 
       module _ (in_time : (d : Drive) → IsManned old o d → AsksToGoOn old.state (Ok (Some c)) → AllKeepUp d bound) where
-        -- memory is wanting for a tick of the plan, or for a task that is taken
+        -- memory runs out for a tick of the plan, or for a task that is taken
         starved : (d : Drive) → IsManned old o d → lines.Answers fits count text bound line_of (depot old spares d) (depot old spares d) (codes "refused E90" ∷ [])
         starved d m = inr (record {
           in_time = in_time d m;

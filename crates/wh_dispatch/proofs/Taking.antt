@@ -34,7 +34,7 @@ use Rattle.wh_dispatch.specs.Visiting.{stops_of, taken_in, with_stops, kept_by, 
 use Rattle.wh_dispatch.proofs.Members.{in_cons, none_in, first_in, pairs_nil, pairs_join}
 use Rattle.wh_dispatch.proofs.Watching.{visit}
 
--- the agent had the task before, of so many stops
+-- the agent had the task before, with this many stops
 pub record HadTask (old : List Task) (n agent : ℕ) (task : Task) : Type 0 where
   pub before : Task
   pub is_task : IsTask old n before

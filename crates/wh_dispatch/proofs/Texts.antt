@@ -62,7 +62,7 @@ pub on_err : {T E A B : Type 0} (r : Result T E) → (A → B) → OnErr r A →
 on_err (Ok x) f a = tt
 on_err (Err e) f a = f a
 
--- a front of lines, of which so many were written before
+-- a front of lines, of which this many were written before
 pub lines_front : (a b c : Option (List ℕ)) (ls : List (List ℕ)) (i : ℕ) (d : List ℕ) → i < length ls → Appends a b (text_of (take i ls)) →
     WritesFront b c (reply_line (get_or ls i d)) → WritesFront a c (text_of ls)
 lines_front a b c ls i d h p w =
@@ -78,7 +78,7 @@ lines_more a b c ls i d h p w =
     let x = get_or ls i d in
     subst (λ (t : List (List ℕ)). Appends a c (text_of t)) (sym (take_more ls i d h)) (all_then a b c (take i ls) (x ∷ []) p (subst (Appends b c) (text_one x) w))
 
--- a front of pieces of lines, of which so many were written before
+-- a front of pieces of lines, of which this many were written before
 pub pieces_front : {X : Type 0} (f : X → List (List ℕ)) (a b c : Option (List ℕ)) (xs : List X) (i : ℕ) (d : X) → i < length xs → Appends a b (text_of (flat_map f (take i xs))) →
     WritesFront b c (text_of (f (get_or xs i d))) → WritesFront a c (text_of (flat_map f xs))
 pieces_front f a b c xs i d h p w =

@@ -36,7 +36,7 @@ pub record IsInStep (book : Seen) (order : Order) (d : Drive) : Type 0 where
   pub carried : IsCarriedOut book.site book.history (record { state = book.state; drive = d })
   pub time : clock d + book.opening.clock ≡ book.state.clock
 
--- Of the task so many visits were told, from the first on, and no others.
+-- The first n visits of the task were told, and no others.
 pub record IsWatched (s : State) (IsTold : Visit → Type 0) (p : Pending) : Type 0 where
   pub task : Task
   pub is_task : IsTask s.tasks p.task task

@@ -4,6 +4,6 @@ pub mod Lines
 pub mod Scripts
 pub mod Laws
 pub mod SettingOut
--- handed on, for the crates above
+-- re-exported for the crates above
 pub use Rattle.wh_vehicles.specs.Plans
 pub use Rattle.wh_vehicles.specs.Visits

@@ -1,8 +1,8 @@
 -- what a script with vehicles gives, and what a beginning of it gives
 use Rattle.std.specs.Prelude.{◌≡◌, ◌⊎◌, ℕ, Bool, List, [], ◌∷◌, ◌++◌, length, Option}
 use Rattle.std.specs.Io.KnownBytes.{Appends, IsAtEnd}
-use Rattle.wh_text.specs.Lines.{lines_of}
-use Rattle.wh_lines.specs.Text.{EndsLine, IsPlain}
+use Rattle.wh_text.specs.Lines.{lines_of, IsLine}
+use Rattle.wh_lines.specs.Text.{EndsLine}
 use Rattle.wh_lines.specs.Input.{Input, left, Takes}
 use Rattle.wh_lines.specs.Output.{WritesFront}
 use Rattle.wh_lines.specs.declared.next.LineFault.{LineFault as NoLine}
@@ -30,7 +30,7 @@ use Rattle.wh_dispatch.specs.declared.visits.Pending.{Pending}
 use Rattle.wh_dispatch.specs.declared.script.DispatchFault.{DispatchFault}
 use Rattle.wh_dispatch.specs.declared.script.DispatchFault.TheVariants.{Broken, Endless, Unwritten, NoMemory}
 
--- A line that was begun is left for the writer, and then a front is written, or for want of memory, and then all that was found;
+-- A line that was begun is left for the writer, and then a front is written, or for lack of memory, and then all that was found;
 -- it is not left for the reader.
 abbrev pub WritesUntil : DispatchFault → Option (List ℕ) → Option (List ℕ) → List ℕ → Type 0
 WritesUntil Unwritten had has bytes = WritesFront had has bytes
@@ -48,7 +48,7 @@ pub record TellsAll (book : Seen) (pending left : List Pending) (d e : Drive) (h
   pub left_are : left ≡ left_after book.opening.clock book.state.tasks e.vehicles pending
   pub appends : Appends had has (text_of (visit_lines (due_visits book.opening.clock book.state.tasks e.vehicles pending) ++ go_lines (told_by d events)))
 
--- vehicles go on, and what is told of it was not written to the end, or not found for want of memory
+-- vehicles go on, and what is told of it was not written to the end, or not found for lack of memory
 pub record TellsSome (fault : DispatchFault) (book : Seen) (pending : List Pending) (d e : Drive) (had has : Option (List ℕ)) : Type 0 where
   pub events : List Event
   pub only : OnlySettle d events
@@ -112,7 +112,7 @@ pub record LeavesOff {X : Type 0} (fits : X → Floor → Bool) (count : X → �
   pub takes : TakesLine fits count text bound (heard line) mid new texts
   pub writes : WritesUntil fault between has (text_of texts)
 
--- A reader's fault comes between lines, want of memory within one, a writer's fault in either place.
+-- A reader's fault comes between lines, lack of memory within one, a writer's fault in either place.
 abbrev pub ServesUntil : {X : Type 0} → (X → Floor → Bool) → (X → ℕ) → (Answered → List ℕ) → ℕ → DispatchFault → List (List ℕ) → Depot X → Depot X → Option (List ℕ) → Option (List ℕ) → Type 0
 ServesUntil fits count text bound Broken lines old new had has = ServesThrough fits count text bound lines old new had has
 ServesUntil fits count text bound Endless lines old new had has = ServesThrough fits count text bound lines old new had has
@@ -120,7 +120,7 @@ ServesUntil fits count text bound NoMemory lines old new had has = LeavesOff fit
 ServesUntil fits count text bound Unwritten lines old new had has =
     ServesThrough fits count text bound lines old new had has ⊎ LeavesOff fits count text bound Unwritten lines old new had has
 
--- What a fault says of the script's bytes and of its cause is what it says without vehicles; for want of memory, too, a line is
+-- What a fault says of the script's bytes and of its cause is what it says without vehicles; for lack of memory, too, a line is
 -- left that may be the input's last.
 abbrev pub plain_fault : DispatchFault → ReplayFault
 plain_fault Broken = replay.Broken
@@ -135,7 +135,7 @@ pub record Stops {X : Type 0} (fits : X → Floor → Bool) (count : X → ℕ) 
   pub read : List ℕ
   pub begun : List ℕ
   pub takes : Takes before after (read ++ begun)
-  pub part : IsPlain begun
+  pub part : IsLine begun
   pub whole : IsWholeUntil (plain_fault fault) after read
   pub serves : ServesUntil fits count text bound fault (lines_of read) old new had has
   pub cause : HasCause (plain_fault fault) before after (length (lines_of read))
@@ -189,7 +189,7 @@ AnswersSome fault answer book pending mid e had has =
     ((fault ≡ Unwritten) × (e ≡ mid) × WritesFront had has (reply_line answer))
     ⊎ ((between : Option (List ℕ)) × Appends had between (reply_line answer) × TellsSome fault book pending mid e between has)
 
--- the same, not written to the end, or not to the end for want of memory
+-- the same, not written to the end, or not to the end for lack of memory
 pub record HearsSome (fault : DispatchFault) (report : Report) (book : Seen) (pending : List Pending) (d e : Drive) (had has : Option (List ℕ)) : Type 0 where
   pub notice : Notice
   pub mid : Drive

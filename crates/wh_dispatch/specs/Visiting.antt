@@ -29,7 +29,7 @@ clocks_of (Some task) = task.visits
 abbrev pub made_of : ℕ → List Task → List Vehicle → Pending → ℕ
 made_of opening tasks vehicles p = p.told + made_first opening (reached_of vehicles p.agent) (drop p.told (clocks_of (slice_get tasks p.task)))
 
--- visits of a task, so many of them from one on
+-- n visits of a task, from one on
 abbrev pub visits_from : ℕ → ℕ → ℕ → ℕ → List Visit
 visits_from agent task first count = map (λ number. record { agent = agent; task = task; number = number }) (range_with_len first count)
 
@@ -53,7 +53,7 @@ is_left p = nat_lt p.told p.stops
 abbrev pub left_after : ℕ → List Task → List Vehicle → List Pending → List Pending
 left_after opening tasks vehicles pending = filter is_left (map (told_of opening tasks vehicles) pending)
 
--- a task that is kept stands, its agent is one of so many, and no more visits of it were told than it has
+-- a task that is kept stands, its agent is a known one, and no more visits of it were told than it has
 pub record IsStanding (tasks : List Task) (agents : ℕ) (p : Pending) : Type 0 where
   pub task : Task
   pub is_task : IsTask tasks p.task task

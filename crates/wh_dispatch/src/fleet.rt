@@ -34,7 +34,7 @@ use wh_vehicles::{Notice, Report, answer_report, late};
 #[derive(Drop)]
 pub struct Vehicles {
     order: VisitOrder,
-    /// The clock waits while a vehicle is so many steps behind.
+    /// The clock waits while a vehicle is this many steps behind.
     bound: u64,
     /// A room for where the agents are.
     row: Vec<Cell>,
@@ -235,7 +235,7 @@ impl Vehicles {
         &self.order
     }
 
-    /// What a report is answered.
+    /// The reply to a report.
     pub(crate) fn hear(&mut self, report: Report) -> Notice
         ensures drive { (d : Drive) → Represents self.old.order d → (e : Drive) × AnswersReport d report result e × Represents self.new.order e }
         ensures others { self.new ≡ record self.old { order = self.new.order } }

@@ -1,4 +1,4 @@
-//! What one line of a script is answered, and what it lets vehicles do.
+//! The reply to one line of a script, and what it lets vehicles do.
 
 ghost use Rattle.std.specs.Prelude.{◌≡◌, ◌<◌, ◌++◌, ◌↔◌, Ok, Some, true, IsTrue, IfErr, OnErr, OnOk, MatchOption, Contains, length};
 ghost use Rattle.std.specs.Io.KnownBytes.{Appends};
@@ -21,6 +21,7 @@ use crate::script::DispatchFault;
 use crate::telling::{tell, tell_notice, tell_starved, tell_steps};
 use std::alloc::Global;
 use std::io::Write;
+use wh_core::LAST_CLOCK;
 use wh_event::{Command, LineFault};
 use wh_lines::CommandLine;
 use wh_log::Form;
@@ -28,7 +29,7 @@ use wh_planner::Planner;
 use wh_replay::{Warehouse, obey, read_kept};
 use wh_vehicles::{Report, read_report};
 
-/// The report that a line is, of which a front is kept.
+/// The report that a line is, of which only a front is kept.
 fn reported(line: &CommandLine) -> Option<Report>
     ensures { MatchOption result (heard_in (short_line line.now) ≡ Asked (said (short_line line.now))) (λ report. heard_in (short_line line.now) ≡ Reported report) }
 {
@@ -119,7 +120,7 @@ fn tick<W: Write, P: Planner>(
     go_on(writer, vehicles, warehouse)
 }
 
-/// Runs a tick, unless the clock waits for a vehicle, or memory is wanting.
+/// Runs a tick, unless the clock waits for a vehicle, or memory runs out.
 fn tick_in_time<W: Write, P: Planner>(
     command: &Command,
     alloc: Global,
@@ -173,7 +174,7 @@ fn run_roomy<W: Write, P: Planner>(
     }
 }
 
-/// Runs a command at which the clock stays, unless memory is wanting.
+/// Runs a command at which the clock stays, unless memory runs out.
 fn run_still<W: Write, P: Planner>(
     command: &Command,
     alloc: Global,
@@ -203,7 +204,7 @@ fn asks_to_go_on<P: Planner>(command: &Command, warehouse: &Warehouse<P>) -> boo
         Command::Tick => true,
         _ => false,
     };
-    is_tick && !warehouse.closed() && warehouse.clock() < 1_000_000_000
+    is_tick && !warehouse.closed() && warehouse.clock() < LAST_CLOCK
 }
 
 /// Runs a command.
@@ -247,7 +248,7 @@ fn hear<W: Write, P: Planner>(
     }
 }
 
-/// Answers a line that is no report, of which a front is kept.
+/// Answers a line that is no report, of which only a front is kept.
 fn serve_command<W: Write, P: Planner>(
     line: &CommandLine,
     command: &mut Command,
@@ -271,7 +272,7 @@ fn serve_command<W: Write, P: Planner>(
     }
 }
 
-/// Serves a line, of which a front is kept. The command is a room for what it asks. What the line is told is written at once,
+/// Serves a line, of which only a front is kept. The command is a room for what it asks. What the line is told is written at once,
 /// and nothing is flushed.
 pub fn serve<W: Write, P: Planner>(
     line: &CommandLine,

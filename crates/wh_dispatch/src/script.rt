@@ -24,7 +24,7 @@ pub enum DispatchFault {
     Endless,
     /// X3: the writer failed, took no byte, or could not be flushed.
     Unwritten,
-    /// E90: memory was wanting for what is told to vehicles.
+    /// E90: out of memory for what is told to vehicles.
     NoMemory,
 }
 
@@ -87,7 +87,7 @@ fn serve_all<R: Read, W: Write, P: Planner>(
 
 /// Serves the script that is left in the reader, to the reader's end. A line `at AGENT STEP` is a vehicle's report, each
 /// other line is what it is in a script without vehicles, and is answered so; but a tick is refused while a vehicle is the
-/// bound or more steps behind. Behind the reply to a line stand the steps that it lets vehicles make, one line for each
+/// bound or more steps behind. After the reply to a line come the steps that it lets vehicles make, one line for each
 /// that leads away. The writer is flushed before each read, and at the end.
 pub fn dispatch<R: Read, W: Write, P: Planner>(
     lines: &mut Lines<R>,

@@ -27,7 +27,7 @@ pub(crate) fn tell<W: Write>(writer: &mut W, line: &[u8]) -> Result<(), Dispatch
     }
 }
 
-/// Tells that memory is wanting.
+/// Tells that memory runs out.
 pub(crate) fn tell_starved<W: Write>(writer: &mut W) -> Result<(), DispatchFault>
     ensures ok { OnOk result (Appends (W.contents writer.old) (W.contents writer.new) (reply_line (codes "refused E90"))) }
     ensures err { OnErr result (WritesFront (W.contents writer.old) (W.contents writer.new) (reply_line (codes "refused E90"))) }

@@ -25,7 +25,7 @@ pub(crate) struct Pending {
     pub told: u32,
 }
 
-/// How many visits are made, of these clocks and so many before them: those one after another whose step was reached.
+/// How many visits are made, of these clocks and the given number before them: those one after another whose step was reached.
 fn made_from(clocks: &[u32], opening: u32, reached: u64, before: u32) -> u32
     requires few { before + length clocks.now ≤ 8 }
     ensures value { result ≡ before + made_first opening reached clocks.now }

@@ -47,7 +47,7 @@ grows_push p (x ∷ xs) q grows more less = (grows.0, grows.1, grows_push x xs q
 
 -- ---- looks
 
--- boards that were seen in turn were shown, and the last of them has so many entries
+-- boards that were seen in turn were shown, and the last of them has this many entries
 pub record Watching (before known : Past) (shown : ℕ) (had has : Option (List (List ℕ))) : Type 0 where
   pub sights : List Sight
   pub in_turn : InTurn before known sights

@@ -7,7 +7,7 @@ use Rattle.wh_log.specs.Spelling.{cell_word}
 use Rattle.wh_board.specs.declared.board.Board.{Board}
 use Rattle.wh_board.specs.declared.board.Shown.{Shown}
 
--- what an agent has to do: nothing, a task to fetch, or a task of which it has visited so many stops
+-- what an agent has to do: nothing, a task to fetch, or a task of which it has visited this many stops
 abbrev pub load_text : Load → List ℕ
 load_text load.None = codes "none"
 load_text (load.Fetching task) = codes "fetching " ++ decimal task

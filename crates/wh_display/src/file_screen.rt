@@ -12,8 +12,8 @@ use std::io::{Read, Write};
 /// How a board begins.
 const HEAD: &[u8; 7] = b"wboard ";
 
-/// A file that is replaced as a whole: whoever reads it sees one text or another, never a part of one. What stands there and is no
-/// board, a log by another name, say, or a pipe, is not replaced. It tells nothing of what was shown, since others may write there.
+/// A file that is replaced as a whole: a reader sees one text or another, never a part of one. Anything there that is not a
+/// board, such as a log by another name or a pipe, is not replaced. It tells nothing of what was shown, since others may write there.
 #[derive(Drop)]
 pub struct FileScreen<'a, T: Files<File = File>> {
     files: &'a T,
@@ -51,7 +51,7 @@ fn may_take<T: Files<File = File>>(files: &T, path: &str) -> bool {
     }
 }
 
-/// Writes a file anew.
+/// Rewrites a file.
 fn write_anew<T: Files<File = File>>(files: &T, path: &str, text: &[u8]) -> Result<(), ShowFault> {
     let Ok(mut file) = File::create(files, path) else {
         return Err(ShowFault::Unshown);

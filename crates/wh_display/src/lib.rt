@@ -1,4 +1,4 @@
-//! What a display is shown of a running warehouse: the text of a board, shown anew each time that the board has changed.
+//! What a display is shown of a running warehouse: the text of a board, shown again each time the board has changed.
 #![tactic(auto)]
 
 mod file_screen;

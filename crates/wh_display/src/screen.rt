@@ -27,7 +27,7 @@ pub trait Screen {
     // the texts that it has shown, one after another, where it tells
     ghost shown: { Self → Option (List (List ℕ)) } = { λ _. None };
 
-    /// Shows the text in place of the one before. Whoever looks sees the one or the other, whole.
+    /// Replaces the text shown before. A reader sees one or the other, whole.
     fn show(&mut self, text: &[u8]) -> Result<(), ShowFault>
         ensures ok { OnOk result (Shows (shown self.old) (shown self.new) (text.now ∷ [])) }
         ensures err { OnErr result (Shows (shown self.old) (shown self.new) []) };
@@ -44,7 +44,7 @@ fn show_board<S: Screen>(alloc: Global, screen: &mut S, board: &Board) -> Result
     }
 }
 
-/// Shows the board, if it has not as many entries as were seen before. On a fault nothing was shown.
+/// Shows the board, unless it has the number of entries seen before. On a fault nothing was shown.
 pub fn renew<S: Screen>(
     alloc: Global,
     screen: &mut S,
@@ -60,7 +60,7 @@ pub fn renew<S: Screen>(
     show_board(alloc, screen, board)
 }
 
-/// Looks at the board, and shows it if it has not as many entries as were seen before. How many it has. It waits for no
+/// Looks at the board, and shows it unless it has the number of entries seen before. Returns how many it has. It waits for no
 /// caller of the desk, and holds none up. On a fault nothing was shown.
 pub fn refresh<S: Screen>(
     alloc: Global,

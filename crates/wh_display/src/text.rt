@@ -13,7 +13,7 @@ use wh_event::put_number;
 use wh_grid::Cell;
 use wh_tasks::Load;
 
-/// Writes a few bytes at the end, and behind them a number.
+/// Writes a few bytes at the end, and then a number.
 fn push_number(out: &mut Vec<u8>, before: &[u8], number: u64) -> Result<(), AllocError>
     requires { length before.now ≤ 16 }
     ensures { OnOk result (out.new.items ≡ out.old.items ++ (before.now ++ decimal number)) }

@@ -1,4 +1,4 @@
-//! A watch over a running warehouse: its board is shown anew each time that it has changed.
+//! A watch over a running warehouse: its board is shown again each time it has changed.
 #![tactic(auto)]
 
 ghost use Rattle.std.specs.Prelude.{◌≡◌, length};
@@ -11,7 +11,7 @@ use std::sync::{Condvar, Mutex, Wait};
 use std::time::{Clock, Duration};
 use wh_board::Viewer;
 
-/// It ends a watch: who rests is woken by it, and who rests later finds it rung.
+/// It ends a watch: it wakes those that rest, and those that rest later find it rung.
 #[derive(Drop)]
 pub struct Bell {
     is_rung: Mutex<bool>,
@@ -52,8 +52,8 @@ pub struct Watched {
     pub last: Result<(), ShowFault>,
 }
 
-/// Rests so long and looks at the board, again and again, and shows it each time that it has more entries than the one shown
-/// last, which had so many before. Once the bell is rung it looks a last time. A screen that fails stops nothing: the next look
+/// Rests and looks at the board, again and again, and shows it each time that it has more entries than the one shown
+/// last, which had that many entries before. Once the bell is rung it looks a last time. A screen that fails stops nothing: the next look
 /// tries again. It waits for the bell alone, and holds no caller of the desk up.
 pub fn watch<S: Screen, R: Wait + Clock>(
     rt: &R,

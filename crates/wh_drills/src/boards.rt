@@ -160,7 +160,7 @@ fn viewer_of<N: DeskName, H: Wait + Drop, P: Planner, R: Wait>(
     }
 }
 
-/// A tick for which memory may be wanting, and one more.
+/// A tick for which memory may run out, and one more.
 pub fn lags<N: DeskName, H: Wait + Drop, P: Planner, R: Wait + Abort>(
     rt: &R,
     alloc: Global,

@@ -31,7 +31,7 @@ enum Chore {
     Client(&'static str),
     /// This agent takes the token so often.
     Agent(u32, u32),
-    /// So many ticks.
+    /// This many ticks.
     Clock(u32),
 }
 
@@ -159,7 +159,7 @@ fn run<
     }
 }
 
-/// A crew over a desk with a journal of so many positions, whose planners are made by `make`.
+/// A crew over a desk with a journal of the given number of positions, whose planners are made by `make`.
 fn run_made<P: Planner, F: Fn(Parts) -> Result<P, AllocError>, R: Threads + Wait + Sync, G: Gate>(
     rt: &R,
     alloc: Global,
@@ -303,7 +303,7 @@ fn journal_of_ten(rt: HostRuntime) -> Result<(), Fail> {
     Ok(())
 }
 
-/// The board of the first entries, so many, of two clients who submit and tick.
+/// The board of the first entries, up to a given number, of two clients who submit and tick.
 fn front(entries: &[Entry], count: u64) -> Glimpse {
     let mut board = Glimpse::default();
     for entry in entries {

@@ -52,7 +52,7 @@ impl Gate for Turns {
     }
 }
 
-/// Holds each worker's first call until so many workers have begun.
+/// Holds each worker's first call until the given number of workers have begun.
 #[derive(Drop)]
 pub struct Together {
     pub workers: u64,

@@ -21,7 +21,7 @@ use wh_log::entries_text;
 use wh_planners::Patient;
 use wh_serve::{CallFault, Form, Full, ServeFault, WorkerEnd};
 
-/// The log of a run without entries, but for its end line.
+/// The log of a run without entries, except for its end line.
 const HEAD: &[u8] = b"wlog 2\nstart 0 slots 4 4\n";
 
 /// Its board.
@@ -51,10 +51,10 @@ const PLAN: Plan = Plan {
     has_failed: false,
 };
 
-/// The worker and the looks at the board rest so many milliseconds.
+/// The worker and the looks at the board rest this many milliseconds.
 const PAUSE: u64 = 1;
 
-/// The pace of the worker, where there is one: each turn has an entry at least, so it may fill the journal and find it full.
+/// The pace of the worker, if there is one: each turn has an entry at least, so it may fill the journal and find it full.
 fn pace_of(plan: Plan) -> Option<Pacing> {
     match plan.worker {
         Some(entries) => Some(Pacing {
@@ -66,7 +66,7 @@ fn pace_of(plan: Plan) -> Option<Pacing> {
     }
 }
 
-/// The display, where there is one.
+/// The display, if there is one.
 fn display_of(alloc: Global, cues: &AtomicU64, plan: Plan) -> Option<Display<TextScreen<'_>>> {
     plan.has_screen.then_some(Display {
         screen: TextScreen::new(alloc, cues),
@@ -105,7 +105,7 @@ fn host<'a, X: Threads + Wait + Clock + Sync>(
     }
 }
 
-/// Whether the journal is the log of the history, but for its end line, and all of it was synced.
+/// Whether the journal is the log of the history, except for its end line, and all of it was synced.
 fn is_log(alloc: Global, ran: &Left) -> Result<bool, Fail> {
     let Ok(lines) = entries_text(alloc, ran.history.warehouse.history()) else {
         return Err("there is memory".into());

@@ -17,7 +17,7 @@ pub struct Notes {
     pub ended: Option<WorkerEnd>,
 }
 
-/// The doors of one client, with what it sends over its connections. So many of these come at once, and the next one behind a
+/// The doors of one client, with what it sends over its connections. This many of these come at once, and the next one behind a
 /// cue: that a worker has ended is one, and others may give more.
 #[derive(Drop)]
 pub struct House<'a, X: Wait> {

@@ -1,4 +1,4 @@
-//! A client that comes in behind a run of two entries, which a journal tells.
+//! A client that comes in after a run of two entries, which a journal tells.
 #![tactic(auto)]
 
 ghost use Rattle.std.specs.Prelude.{◌≡◌, IfOk, length};
@@ -24,7 +24,7 @@ use wh_serve::{
     Allowance, Client, Connection, Doors, Form, Full, Rights, ServeFault, Served, WorkerEnd,
 };
 
-/// The log of a run of two entries of one caller, but for its end line.
+/// The log of a run of two entries of one caller, except for its end line.
 const TWO: &[u8] =
     b"wlog 2\nstart 0 slots 4 4\n0 submit x A B = accepted 0\n0 token 0 = took 0 path 0,1 1,1 1,0 1,1 2,1 3,1 3,0\n";
 
@@ -46,7 +46,7 @@ struct Door<'a, X: Wait> {
     alloc: Global,
     opened: AtomicU64,
     over: AtomicU64,
-    /// How often the doors were told what is not to come here.
+    /// How often the doors were told what must not come here.
     odd: AtomicU64,
     told: Mutex<Vec<u8>>,
 }
@@ -125,7 +125,7 @@ pub fn resumed<L: LogFile>(alloc: Global, log: &mut L) -> Result<Warehouse<Patie
     }
 }
 
-/// A client with all rights, and with at most so many entries.
+/// A client with all rights, and with at most the given number of entries.
 pub fn one(alloc: Global, entries: u64) -> Result<Vec<Client<Patient>>, AllocError>
     ensures { IfOk result (λ clients. length clients.items ≡ 1) }
 {

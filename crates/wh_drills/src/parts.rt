@@ -32,7 +32,7 @@ pub fn floor(alloc: Global) -> Result<(Arc<Grid>, Points), Fail>
     Ok((Arc::new(alloc, grid)?, points))
 }
 
-/// So many slots, all those of a bank of their own.
+/// The given number of slots, all those of a bank of their own.
 fn claim(alloc: Global, slots: u32) -> Result<Claim, Fail>
     ensures { IfOk result (λ claim. claim_amount claim ≡ slots) }
 {
@@ -52,7 +52,7 @@ pub struct Parts {
     ghost at_most: { claim_amount claim ≤ 64 },
 }
 
-/// A planner with so many slots, made by `make`.
+/// A planner with the given number of slots, made by `make`.
 pub fn planner<P: Planner, F: Fn(Parts) -> Result<P, AllocError>>(
     alloc: Global,
     grid: &Arc<Grid>,

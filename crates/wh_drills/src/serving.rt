@@ -30,7 +30,7 @@ const FIRST: &[u8] = b"submit x A B\ntoken 1";
 /// What client 1 sends, when client 0 has left for the first time. It has no right to tokens.
 const OTHER: &[u8] = b"submit y D C\n# nothing\n\ntoken 0\nsubmit\n";
 
-/// What client 0 sends when client 1 comes no more. Behind the close nothing is served.
+/// What client 0 sends when client 1 comes no more. After the close nothing is served.
 const SECOND: &[u8] = b"token 0\nclose\ntick\n";
 
 /// A connection that was left.
@@ -51,7 +51,7 @@ struct Bytes<'a, X: Wait> {
     gone: AtomicU64,
     over: AtomicU64,
     limits: AtomicU64,
-    /// How often the doors were told what is not to come here.
+    /// How often the doors were told what must not come here.
     odd: AtomicU64,
     left: Mutex<Vec<Left>>,
 }

@@ -29,7 +29,7 @@ pub enum Drill {
     ManyViewers,
 }
 
-/// Opens a desk with so many callers, and has them do what the drill says.
+/// Opens a desk with the given number of callers, and has them do what the drill says.
 fn open<
     N: DeskName + Send + Sync,
     H: Wait + Send + Sync + Drop,
@@ -63,7 +63,7 @@ fn open<
     }
 }
 
-/// A desk with a journal of so many positions, and with so many callers, whose planners are made by `make`.
+/// A desk with a journal of the given number of positions, and with the given number of callers, whose planners are made by `make`.
 fn drill_made<P: Planner, F: Fn(Parts) -> Result<P, AllocError>, R: Threads + Wait + Sync + Abort>(
     rt: &R,
     alloc: Global,

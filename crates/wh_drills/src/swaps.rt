@@ -85,7 +85,7 @@ fn swap<N: DeskName, H: Wait + Drop, P: Planner, R: Wait>(
     })
 }
 
-/// Planners of 4 slots, and a spare one of 2, all made by `make`, at a desk with a journal of so many positions.
+/// Planners of 4 slots, and a spare one of 2, all made by `make`, at a desk with a journal of the given number of positions.
 fn swap_made<P: Planner, F: Fn(Parts) -> Result<P, AllocError>, R: Wait>(
     rt: &R,
     alloc: Global,

@@ -111,7 +111,7 @@ alike c e = elim (cases_eq c.x e.x) [
   ]
 ]
 
--- among the first so many, one that is at the time and whose cell the agent enters, or none
+-- among the first n, one that is at the time and whose cell the agent enters, or none
 record IsFollowed (d : Drive) (time agent other : ℕ) : Type 0 where
   at : reached d other ≡ time
   differ : other ≢ agent

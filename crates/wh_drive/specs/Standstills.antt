@@ -91,7 +91,7 @@ OnlyGo (Tick cells ∷ events) = ⊥
 abbrev pub remaining : Drive → ℕ
 remaining d = sum_by (λ (v : Vehicle). (clock d - v.told) + (clock d - v.reached)) d.vehicles
 
--- Runs are bounded: while the plan stays, each event takes one of what remains.
+-- Runs are bounded: while the plan stays, each event uses up one of what remains.
 abbrev pub RunsAreBounded : Type 0
 RunsAreBounded =
     (events : List Event) (old : Drive) (later : List Event) (new : Drive) → IsReached events old → OnlyGo later → Run old later new →

@@ -3,7 +3,6 @@
 
 ghost use Rattle.std.specs.Prelude.{◌≡◌, ◌≢◌, ◌<◌, ◌↔◌, IsTrue, IfOk, length};
 ghost use Rattle.std.specs.List.{AllPairs};
-ghost use Rattle.wh_grid.specs.Grids.{IsMove};
 ghost use Rattle.wh_path.specs.Paths.{cell_at};
 
 use std::alloc::{AllocError, Global};
@@ -60,11 +59,4 @@ pub fn all_differ(cells: &[Cell]) -> bool
         }
     }
     true
-}
-
-/// Whether it is one step, or none, from one cell to another.
-pub fn is_move(from: Cell, to: Cell) -> bool
-    ensures { IsTrue result ↔ IsMove from to }
-{
-    from.x.abs_diff(to.x) as u32 + from.y.abs_diff(to.y) as u32 <= 1
 }

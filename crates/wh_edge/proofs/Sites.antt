@@ -2,8 +2,9 @@
 use Rattle.std.proofs.Common.{◌≡◌, ◌<◌, ◌≤◌, ◌+◌, ◌^◌, ℕ, true, false, List, [], ◌∷◌, ◌++◌, length, codes, decimal, refl, sym, ap, ◌∙◌, append_assoc, arith, lit≤}
 use Rattle.std.proofs.lemmas.Fmt.{decimal_injective}
 use Rattle.std.proofs.lemmas.List.{append-nil, append_cancel_left}
+use Rattle.std.proofs.lemmas.Bool.{and_parts}
 use Rattle.wh_words.specs.Words.{is_plain, IsPlain}
-use Rattle.wh_words.proofs.NumeralLemmas.{and_both, plain-decimal}
+use Rattle.wh_words.proofs.NumeralLemmas.{plain-decimal}
 use Rattle.wh_edge.specs.Site.{OneSite}
 
 -- two words that end at the same mark
@@ -11,16 +12,16 @@ same_word : (a b x y : List ℕ) (mark : ℕ) → is_plain mark ≡ false → Is
 same_word [] [] x y mark m p q e = (refl, cc)
 same_word [] (c ∷ b) x y mark m p q e =
     let same : mark ≡ c = cc in
-    let plain : is_plain c ≡ true = (and_both (is_plain c) _ q).0 in
+    let plain : is_plain c ≡ true = (and_parts (is_plain c) _ q).0 in
     let no : true ≡ false = sym plain ∙ ap is_plain (sym same) ∙ m in absurd (grind arith)
 same_word (c ∷ a) [] x y mark m p q e =
     let same : c ≡ mark = cc in
-    let plain : is_plain c ≡ true = (and_both (is_plain c) _ p).0 in
+    let plain : is_plain c ≡ true = (and_parts (is_plain c) _ p).0 in
     let no : true ≡ false = sym plain ∙ ap is_plain same ∙ m in absurd (grind arith)
 same_word (c ∷ a) (d ∷ b) x y mark m p q e =
     let same : c ≡ d = cc in
     let rest : a ++ mark ∷ x ≡ b ++ mark ∷ y = cc in
-    let both = same_word a b x y mark m (and_both (is_plain c) _ p).1 (and_both (is_plain d) _ q).1 rest in
+    let both = same_word a b x y mark m (and_parts (is_plain c) _ p).1 (and_parts (is_plain d) _ q).1 rest in
     let words : a ≡ b = both.0 in
     (cc, both.1)
 

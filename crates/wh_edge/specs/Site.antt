@@ -97,7 +97,7 @@ pub record PointsBreak (old new : Input) : Type 0 where
   pub map : MapRead old between floor
   pub breaks : Breaks between new
 
--- why there is no site: of want of memory nothing more is said
+-- why there is no site; when out of memory, nothing more is said
 abbrev pub SiteFault : Trouble → Input → Input → Type 0
 SiteFault (trouble.Map place) old new = MapRefused old new place
 SiteFault (trouble.Points place) old new = PointsRefused old new place

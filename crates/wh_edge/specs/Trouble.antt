@@ -73,7 +73,7 @@ number_of_status status.CommandLine = 2
 number_of_status status.Failed = 3
 number_of_status status.NoMemory = 4
 
--- input or a log file that is refused is told by status 1, input that the words do not go with by 2, a device or a thread by 3, want
+-- input or a log file that is refused is told by status 1, input that the words do not go with by 2, a device or a thread by 3, lack
 -- of memory by 4
 abbrev pub status_of : Trouble → Status
 status_of (trouble.Map fault) = status.Refused

@@ -26,7 +26,7 @@ pub struct Site {
     pub points: Points,
 }
 
-/// What is told of a section that was not read.
+/// The error of a section that was not read.
 pub fn section_trouble(fault: SectionFault) -> Trouble
     ensures { result ≡ section_trouble fault }
 {
@@ -121,8 +121,8 @@ pub struct KeptSite {
     pub text: Vec<u8>,
 }
 
-/// Reads a site as `read_site` does, and gives the text that keeps it too: both sections as they came, behind a line that
-/// tells how long they are. It has as many bytes again as the two sections.
+/// Reads a site as `read_site` does, and gives the text that keeps it too: both sections as they came, after a line that
+/// tells how long they are. It takes as many bytes again as the two sections.
 pub fn read_kept_site<R: Read>(lines: &mut Lines<R>, alloc: Global) -> Result<KeptSite, Trouble>
     ensures ok { IfOk result (λ kept. SiteKept lines.old lines.new kept.site.grid kept.site.points kept.text.items) }
     ensures layout { IfOk result (λ kept. IsLayout kept.site.grid kept.site.points) }
@@ -142,7 +142,7 @@ pub fn read_kept_site<R: Read>(lines: &mut Lines<R>, alloc: Global) -> Result<Ke
     }
 }
 
-/// The text that keeps a site tells both sections: it is no beginning of the text of another.
+/// The text that keeps a site tells both sections: it is no prefix of another's text.
 pub fn site_texts_differ()
     ensures { OneSite }
 {}

@@ -22,7 +22,7 @@ pub enum Status {
     CommandLine,
     /// A device or a thread failed.
     Failed,
-    /// Memory was wanting.
+    /// Out of memory.
     NoMemory,
 }
 
@@ -76,11 +76,11 @@ pub enum Trouble {
     NoPipes { client: u32 },
     /// The file of the board cannot be written.
     Unshown,
-    /// Sections stand behind the site, where clients come in elsewhere.
+    /// Sections follow the site, where clients come in elsewhere.
     Scripted,
     /// The points let agents follow each other: vehicles that follow in a ring would stand still for ever.
     MayFollow,
-    /// Memory was wanting.
+    /// Out of memory.
     NoMemory,
 }
 

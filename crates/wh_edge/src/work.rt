@@ -1,4 +1,4 @@
-//! What each worker of a crew is to do.
+//! What each worker of a crew does.
 ghost use Rattle.std.specs.Prelude.{◌≡◌, [], IfErr, IfOk, replicate};
 ghost use Rattle.wh_text.specs.Lines.{lines_of};
 ghost use Rattle.wh_event.specs.declared.event.Command.TheVariants.{Tick, Token};
@@ -27,7 +27,7 @@ pub struct ScriptPlace {
 /// Why a client's script is refused.
 #[derive(Clone, Copy, Debug, PartialEq, Eq)]
 pub enum ScriptFault {
-    /// Memory was wanting.
+    /// Out of memory.
     NoMemory,
     /// This line is no command.
     At(ScriptPlace),

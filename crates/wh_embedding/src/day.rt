@@ -47,9 +47,9 @@ pub const CALLER: u32 = 7;
 /// What a planner is made of.
 #[derive(Drop)]
 pub struct Parts {
-    /// Whose planner it is to be.
+    /// Whose planner it will be.
     pub agent: usize,
-    /// The grid on which it is to plan.
+    /// The grid on which it will plan.
     pub grid: Arc<Grid>,
     /// Its slots, 2 to 64.
     pub claim: Claim,
@@ -57,7 +57,7 @@ pub struct Parts {
     ghost at_most: { claim_amount claim ≤ 64 },
 }
 
-/// Why a day was not gone through to its end.
+/// Why a day did not run to its end.
 #[derive(Clone, Copy, Debug, PartialEq, Eq)]
 pub enum Halt {
     /// Memory ran out.
@@ -171,7 +171,7 @@ fn obey<R: Print, P: Planner>(
 }
 
 /// The warehouse at the end of the day. Whatever the planners answered, its history is a run from its opening, and on a
-/// well-formed instance no request in it was refused for want of a path.
+/// well-formed instance no request in it was refused for lack of a path.
 fn warehouse_after<R: Print, P: Planner, F: Fn(Parts) -> Result<P, AllocError>>(
     rt: &R,
     alloc: Global,

@@ -11,7 +11,7 @@ use wh_shared::SharedFields;
 /// A planner of either kind. Unlike a box it may stand in a field, a local or a signature of any function.
 #[derive(Drop)]
 pub enum Mind {
-    /// Searches for least paths.
+    /// Searches for shortest paths.
     Sharing(Sharing),
     /// Waits until the others rest.
     Patient(Patient),

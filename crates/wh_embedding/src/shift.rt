@@ -110,7 +110,7 @@ fn opened(alloc: Global, grid: &Arc<Grid>) -> Result<Warehouse<Counting>, Halt>
     Ok(Warehouse::open(alloc, Arc::try_clone(grid)?, points, planners, 0)?)
 }
 
-/// Planners that stand by: two on the grid, and behind them one on the other map.
+/// Planners that stand by: two on the grid, and after them one on the other map.
 fn standby(alloc: Global, grid: &Arc<Grid>) -> Result<Vec<Counting>, Halt> {
     let other = Arc::new(alloc, Grid::read(alloc, OTHER_MAP)?)?;
     let make = |parts: Parts| -> Result<Counting, AllocError> { Ok(unasked(parts, false)) };
@@ -121,7 +121,7 @@ fn standby(alloc: Global, grid: &Arc<Grid>) -> Result<Vec<Counting>, Halt> {
     Ok(row)
 }
 
-/// Runs the commands in a new warehouse. Each adds an entry or is refused for want of memory, and the entries are a run.
+/// Runs the commands in a new warehouse. Each adds an entry or is refused for lack of memory, and the entries are a run.
 fn work<P: Planner>(
     alloc: Global,
     warehouse: &mut Warehouse<P>,

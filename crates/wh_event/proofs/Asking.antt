@@ -2,34 +2,26 @@
 use Rattle.std.proofs.Common.{◌≡◌, ℕ, ◌<◌, ◌≤◌, Bool, true, false, ◌&&◌, cond, List, [], ◌∷◌, ◌++◌, length, Option, Some, None, Result, Ok, Err, codes, eqb, refl, sym, ap, arith, ◌∙◌, subst}
 use Rattle.std.specs.Prelude.{◌↔◌}
 use Rattle.std.proofs.Math.Dec.{leb as nat_le, ltb as nat_lt}
-use Rattle.std.proofs.lemmas.Bool.{leb-true, le-leb, ltb-true, lt-ltb, ltb-false, le-ltb, eqb-true}
+use Rattle.std.proofs.lemmas.Bool.{leb-true, le-leb, ltb-true, lt-ltb, ltb-false, le-ltb, eqb-true, and_parts}
 use Rattle.std.proofs.lemmas.Slice.Eq.{bytes_eq-Decides}
 use Rattle.std.specs.List.{AllByRecursion, list_all}
 use Rattle.std.specs.Str.{bytes_eq}
-use Rattle.wh_text.specs.Words.{words_of}
+use Rattle.std.proofs.lemmas.Option.{cond_some}
 use Rattle.wh_text.specs.Names.{is_name, name_of}
 use Rattle.wh_text.specs.Lines.{HasNone}
-use Rattle.wh_text.specs.Words.{is_blank}
+use Rattle.wh_text.specs.Words.{begins_comment, is_blank, words_of}
 use Rattle.wh_text.proofs.CutLemmas.{words-word, words-last}
 use Rattle.wh_text.specs.Numbers.{is_digit, are_digits, decimal, small_number_of}
 use Rattle.wh_event.specs.declared.event.Command.{Command}
 use Rattle.wh_event.specs.declared.event.Command.TheVariants.{Submit, Token, Tick, Replace, Close}
 use Rattle.wh_event.specs.declared.fault.LineFault.{LineFault}
 use Rattle.wh_event.specs.declared.fault.LineFault.TheVariants.{Form, TooLong}
-use Rattle.wh_event.specs.CommandLines.{stops_of, submit_by, submit_of, token_by, token_of, tick_of, replace_by, replace_of, close_of, named, begins_comment, formed, command_by, command_of}
+use Rattle.wh_event.specs.CommandLines.{stops_of, submit_by, submit_of, token_by, token_of, tick_of, replace_by, replace_of, close_of, named, formed, command_by, command_of}
 use Rattle.wh_event.specs.Grammar.{IsName, Writes, AsksAgent, AsksTask, Asks, IsSkipped}
-
-and_both : (a b : Bool) → (a && b) ≡ true → (a ≡ true) × (b ≡ true)
-and_both true b h = (refl, h)
-and_both false b h = absurd cc
-
-guard_some : {A : Type 0} (b : Bool) (x y : A) → cond b (Some x) None ≡ Some y → (b ≡ true) × (x ≡ y)
-guard_some true x y e = (refl, cc)
-guard_some false x y e = absurd cc
 
 all_names : (names : List (List ℕ)) → list_all is_name names ≡ true → AllByRecursion IsName names
 all_names [] h = tt
-all_names (name ∷ names) h = let b = and_both (is_name name) (list_all is_name names) h in (b.0, all_names names b.1)
+all_names (name ∷ names) h = let b = and_parts (is_name name) (list_all is_name names) h in (b.0, all_names names b.1)
 
 names_all : (names : List (List ℕ)) → AllByRecursion IsName names → list_all is_name names ≡ true
 names_all [] h = refl
@@ -44,7 +36,7 @@ by_name P name text x other y e this on = go (bytes_eq name text) refl e
     go false is e = on e
 
 is_name_of : (word name : List ℕ) → name_of word ≡ Some name → (is_name word ≡ true) × (word ≡ name)
-is_name_of word name e = guard_some (is_name word) word name e
+is_name_of word name e = cond_some (is_name word) word name e
 
 submit_found : (rest : List (List ℕ)) (c : Command) → submit_of rest ≡ Some c → Asks c (codes "submit" ∷ rest)
 submit_found [] c e = absurd cc
@@ -55,9 +47,9 @@ submit_found (client ∷ stops) c e = go (name_of client) (stops_of stops) refl 
     go (Some name) None p q e = absurd cc
     go (Some name) (Some names) p q e =
         let n = is_name_of client name p in
-        let g = guard_some (list_all is_name stops && nat_le 2 (length stops) && nat_le (length stops) 8) stops names q in
-        let high = and_both (list_all is_name stops && nat_le 2 (length stops)) (nat_le (length stops) 8) g.0 in
-        let low = and_both (list_all is_name stops) (nat_le 2 (length stops)) high.0 in
+        let g = cond_some (list_all is_name stops && nat_le 2 (length stops) && nat_le (length stops) 8) stops names q in
+        let high = and_parts (list_all is_name stops && nat_le 2 (length stops)) (nat_le (length stops) 8) g.0 in
+        let low = and_parts (list_all is_name stops) (nat_le 2 (length stops)) high.0 in
         let asks : AsksTask client stops (codes "submit" ∷ client ∷ stops) = record {
           words_are = refl;
           client_is = n.0;
@@ -70,8 +62,8 @@ submit_found (client ∷ stops) c e = go (name_of client) (stops_of stops) refl 
 
 writes : (word : List ℕ) (n : ℕ) → small_number_of word ≡ Some n → Writes n word
 writes word n e =
-    let g = guard_some (are_digits word && nat_le (length word) 9) (decimal word) n e in
-    let b = and_both (are_digits word) (nat_le (length word) 9) g.0 in
+    let g = cond_some (are_digits word && nat_le (length word) 9) (decimal word) n e in
+    let b = and_parts (are_digits word) (nat_le (length word) 9) g.0 in
     record { digits = b.0; few = leb-true _ _ b.1; value = g.1 }
 
 written : (word : List ℕ) (n : ℕ) → Writes n word → small_number_of word ≡ Some n
@@ -222,13 +214,13 @@ digit-no-blank : (b : ℕ) → is_digit b ≡ true → is_blank b ≡ false
 digit-no-blank b e = go (eqb b 32) (eqb b 9) refl refl
   where
     go : (x y : Bool) → eqb b 32 ≡ x → eqb b 9 ≡ y → is_blank b ≡ false
-    go true y p q = absurd (let h = and_both (nat_le 48 b) (nat_le b 57) e in let low = leb-true 48 b h.0 in let is = eqb-true b 32 p in omega arith)
-    go false true p q = absurd (let h = and_both (nat_le 48 b) (nat_le b 57) e in let low = leb-true 48 b h.0 in let is = eqb-true b 9 q in omega arith)
+    go true y p q = absurd (let h = and_parts (nat_le 48 b) (nat_le b 57) e in let low = leb-true 48 b h.0 in let is = eqb-true b 32 p in omega arith)
+    go false true p q = absurd (let h = and_parts (nat_le 48 b) (nat_le b 57) e in let low = leb-true 48 b h.0 in let is = eqb-true b 9 q in omega arith)
     go false false p q = rw (p, q) refl
 
 digits-no-blank : (number : List ℕ) → list_all is_digit number ≡ true → HasNone is_blank number
 digits-no-blank [] e = tt
-digits-no-blank (b ∷ bs) e = let h = and_both (is_digit b) (list_all is_digit bs) e in (digit-no-blank b h.0, digits-no-blank bs h.1)
+digits-no-blank (b ∷ bs) e = let h = and_parts (is_digit b) (list_all is_digit bs) e in (digit-no-blank b h.0, digits-no-blank bs h.1)
 
 command_is : (line : List ℕ) (words : List (List ℕ)) → nat_lt 256 (length line) ≡ false → words_of line ≡ words → command_of line ≡ command_by words
 command_is line words short are = rw (short, are) refl
@@ -237,8 +229,8 @@ command_is line words short are = rw (short, are) refl
 pub plain_law : (number : List ℕ) (agent : ℕ) → small_number_of number ≡ Some agent → command_of (codes "token" ++ 32 ∷ number) ≡ Ok (Some (Token agent))
 plain_law [] agent e = absurd cc
 plain_law (b ∷ bs) agent e =
-    let g = guard_some (are_digits (b ∷ bs) && nat_le (length (b ∷ bs)) 9) (decimal (b ∷ bs)) agent e in
-    let both = and_both (are_digits (b ∷ bs)) (nat_le (length (b ∷ bs)) 9) g.0 in
+    let g = cond_some (are_digits (b ∷ bs) && nat_le (length (b ∷ bs)) 9) (decimal (b ∷ bs)) agent e in
+    let both = and_parts (are_digits (b ∷ bs)) (nat_le (length (b ∷ bs)) 9) g.0 in
     let few = leb-true (length (b ∷ bs)) 9 both.1 in
     let none = digits-no-blank (b ∷ bs) both.0 in
     let words : words_of (codes "token" ++ 32 ∷ (b ∷ bs)) ≡ codes "token" ∷ (b ∷ bs) ∷ [] =

@@ -1,6 +1,6 @@
 -- Replies of one text tell the same.
-use Rattle.std.proofs.Common.{◌≡◌, ℕ, ◌<◌, ◌+◌, ◌%◌, ◌^◌, ◌*◌, get_or, Bool, true, false, ◌&&◌, List, [], ◌∷◌, ◌++◌, codes, decimal, eqb, refl, sym, ap, ◌∙◌, subst, append_assoc, arith}
-use Rattle.std.proofs.lemmas.Bool.{ne_eqb, eq-eqb, eqb-true}
+use Rattle.std.proofs.Common.{◌≡◌, ℕ, ◌<◌, ◌+◌, ◌%◌, ◌^◌, ◌*◌, get_or, Bool, true, false, List, [], ◌∷◌, ◌++◌, codes, decimal, eqb, refl, sym, ap, ◌∙◌, subst, append_assoc, arith}
+use Rattle.std.proofs.lemmas.Bool.{ne_eqb, eq-eqb, eqb-true, and_parts}
 use Rattle.std.proofs.lemmas.Fmt.{decimal_by_steps, decimal_injective}
 use Rattle.std.proofs.lemmas.List.{append_cancel_left}
 use Rattle.std.specs.List.{AllByRecursion, list_all}
@@ -40,12 +40,8 @@ digit d = ne_eqb (48 + d) 32 (λ e. absurd (omega arith))
 number : (n : ℕ) → n < 2 ^ 64 → HasNoSpace (decimal n)
 number n h = decimal_by_steps (λ n ds. HasNoSpace ds) (λ n low. (digit n, tt)) (λ n ds high so_far. space_push ds (48 + n % 10) so_far (digit (n % 10))) n h
 
-and_both : (a b : Bool) → (a && b) ≡ true → (a ≡ true) × (b ≡ true)
-and_both true b h = (refl, h)
-and_both false b h = absurd cc
-
 name : (word : List ℕ) → is_name word ≡ true → HasNoSpace word
-name word h = bytes word ((and_both _ _ h).1)
+name word h = bytes word ((and_parts _ _ h).1)
   where
     byte : (b : ℕ) → is_name_byte b ≡ true → eqb b 32 ≡ false
     byte b h = go (eqb b 32) refl
@@ -56,7 +52,7 @@ name word h = bytes word ((and_both _ _ h).1)
 
     bytes : (word : List ℕ) → list_all is_name_byte word ≡ true → HasNoSpace word
     bytes [] h = tt
-    bytes (b ∷ word) h = let p = and_both (is_name_byte b) (list_all is_name_byte word) h in (byte b p.0, bytes word p.1)
+    bytes (b ∷ word) h = let p = and_parts (is_name_byte b) (list_all is_name_byte word) h in (byte b p.0, bytes word p.1)
 
 small : (n : ℕ) → n < 2 ^ 32 → n < 2 ^ 64
 small n h = omega arith

@@ -1,8 +1,8 @@
 -- what a command line says, by its words
-use Rattle.std.specs.Prelude.{ℕ, Bool, false, List, [], ◌∷◌, length, Option, Some, None, Result, Ok, Err, ◌&&◌, ◌==◌, nat_le, nat_lt, cond, codes}
+use Rattle.std.specs.Prelude.{ℕ, List, [], ◌∷◌, length, Option, Some, None, Result, Ok, Err, ◌&&◌, nat_le, nat_lt, cond, codes}
 use Rattle.std.specs.List.{list_all}
 use Rattle.std.specs.Str.{bytes_eq}
-use Rattle.wh_text.specs.Words.{words_of}
+use Rattle.wh_text.specs.Words.{begins_comment, words_of}
 use Rattle.wh_text.specs.Names.{is_name, name_of}
 use Rattle.wh_text.specs.Numbers.{small_number_of}
 use Rattle.wh_event.specs.declared.event.Command.{Command}
@@ -58,10 +58,6 @@ named name rest = cond (bytes_eq name (codes "submit")) (submit_of rest)
     (cond (bytes_eq name (codes "tick")) (tick_of rest)
     (cond (bytes_eq name (codes "replace")) (replace_of rest)
     (cond (bytes_eq name (codes "close")) (close_of rest) None))))
-
-abbrev pub begins_comment : List ℕ → Bool
-begins_comment [] = false
-begins_comment (b ∷ bs) = b == 35
 
 abbrev pub formed : Option Command → Result (Option Command) LineFault
 formed None = Err Form

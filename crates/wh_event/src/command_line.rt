@@ -14,7 +14,7 @@ use crate::event::Command;
 use crate::fault::LineFault;
 use crate::stops::Stops;
 use arrayvec::ArrayVec;
-use wh_text::{Name, Words, small_number};
+use wh_text::{Name, Words, begins_comment, small_number};
 
 /// The stops that all words which are left name.
 fn stops_of(mut words: Words) -> Option<Stops>
@@ -121,12 +121,6 @@ fn read_by_name(name: &[u8], rest: Words, command: &mut Command) -> Result<bool,
     } else {
         Err(LineFault::Form)
     }
-}
-
-fn begins_comment(word: &[u8]) -> bool
-    ensures { result ≡ lines.begins_comment word.now }
-{
-    matches!(word, [b'#', ..])
 }
 
 fn read_words(mut words: Words, command: &mut Command) -> Result<bool, LineFault>

@@ -19,7 +19,7 @@ pub struct Entry {
 const _: () = prove!(size_of::<Entry>() <= 112);
 
 impl Entry {
-    /// The same entry; the stops of a task and a path want memory.
+    /// The same entry; the stops of a task and a path need memory.
     pub fn copy(&self, alloc: Global) -> Result<Entry, AllocError>
         ensures { IfOk result (λ entry. entry ≡ self.now) }
     {

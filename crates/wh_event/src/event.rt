@@ -18,7 +18,7 @@ pub enum Command {
     Tick,
     /// An agent gets another planner.
     Replace { agent: u32 },
-    /// Nothing more is to change.
+    /// Nothing more may change.
     Close,
 }
 
@@ -62,12 +62,12 @@ pub enum Event {
     Tick,
     /// An agent gets another planner, of which this is told.
     Replace { agent: u32, spare: Spare },
-    /// Nothing more is to change.
+    /// Nothing more may change.
     Close,
 }
 
 impl Event {
-    /// The same event; the stops of a task want memory.
+    /// The same event; the stops of a task need memory.
     pub fn copy(&self, alloc: Global) -> Result<Event, AllocError>
         ensures { IfOk result (λ event. event ≡ self.now) }
     {

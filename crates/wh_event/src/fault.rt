@@ -1,8 +1,8 @@
-//! Why a line is no command.
+//! Why a line is not a command.
 
 use thiserror::Error;
 
-/// Why a line is no command.
+/// Why a line is not a command.
 #[derive(Clone, Copy, Debug, PartialEq, Eq, Error)]
 pub enum LineFault {
     /// C1: it has the form of no command.

@@ -1,4 +1,4 @@
-//! What is answered to an event.
+//! The reply to an event.
 #![tactic(auto)]
 
 ghost use Rattle.std.specs.Prelude.{◌≡◌, IfOk};
@@ -18,7 +18,7 @@ pub enum Refusal {
     TasksFull,
     /// E4: there is no agent of this number.
     UnknownAgent(u32),
-    /// E5: the agent has so many steps left.
+    /// E5: the agent has this many steps left.
     Moving(u64),
     /// E6: there is no path for what the agent has to do.
     NoPath,
@@ -52,7 +52,7 @@ impl Refusal {
     }
 }
 
-/// What is answered to an event.
+/// The reply to an event.
 #[derive(Drop)]
 pub enum Reply {
     /// The task stands, with this number.
@@ -65,7 +65,7 @@ pub enum Reply {
     Parked { point: Name, path: TimedPath },
     /// The clock, and how many tasks got their first and their last visit.
     Clock { now: u32, picked: u32, dropped: u32 },
-    /// The agent's planner is another one now, with so many slots.
+    /// The agent's planner is another one now, with the given number of slots.
     Replaced { slots: u32 },
     /// Nothing more changes.
     Closed,
@@ -74,7 +74,7 @@ pub enum Reply {
 }
 
 impl Reply {
-    /// The same reply; a path wants memory.
+    /// The same reply; a path needs memory.
     pub fn copy(&self, alloc: Global) -> Result<Reply, AllocError>
         ensures { IfOk result (λ reply. reply ≡ self.now) }
     {

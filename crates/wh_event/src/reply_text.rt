@@ -6,6 +6,7 @@ ghost use Rattle.wh_event.specs.ReplyTexts.{refusal_text, reply_text, ReplyHolds
 
 use crate::reply::{Refusal, Reply};
 use arrayvec::ArrayVec;
+use itoa::Buffer;
 
 /// Writes a text at the end.
 pub fn put(line: &mut ArrayVec<u8, 64>, text: &[u8])
@@ -23,13 +24,11 @@ fn put_digits(line: &mut ArrayVec<u8, 64>, number: u64)
     requires { length line.old.items + length (decimal number) ≤ 64 }
     ensures { line.new.items ≡ line.old.items ++ decimal number }
 {
-    if number >= 10 {
-        put_digits(line, number / 10);
-    }
-    line.push(b'0' + (number % 10) as u8);
+    let mut buffer = Buffer::new();
+    put(line, buffer.format(number).as_bytes());
 }
 
-/// Writes a text at the end, and behind it a number in decimal without leading zeros, of at most 20 digits.
+/// Writes a text at the end, and then a number in decimal without leading zeros, of at most 20 digits.
 pub fn put_number(line: &mut ArrayVec<u8, 64>, text: &[u8], number: u64)
     requires { length line.old.items + length text.now ≤ 44 }
     ensures text { line.new.items ≡ line.old.items ++ text.now ++ decimal number }
@@ -75,7 +74,7 @@ fn put_refusal(line: &mut ArrayVec<u8, 64>, refusal: &Refusal)
 }
 
 /// Writes a reply's text, without the line's end: words with one space between, numbers in decimal without leading zeros,
-/// and of a path its last index alone.
+/// and only the last index of a path.
 pub fn put_reply(line: &mut ArrayVec<u8, 64>, reply: &Reply)
     requires empty { line.old.items ≡ [] }
     ensures text { line.new.items ≡ reply_text reply.now }
@@ -122,7 +121,7 @@ pub fn write_reply(reply: &Reply) -> ArrayVec<u8, 64>
     line
 }
 
-/// Replies of one text tell the same. No function calls this.
+/// Replies with the same text mean the same. No function calls this.
 pub fn replies_tell()
     ensures { (a b : Reply) → ReplyHolds a → ReplyHolds b → reply_text a ≡ reply_text b → TellSame a b }
 {}

@@ -7,7 +7,8 @@ use Rattle.wh_field.specs.Tables.{value, blocked}
 use Rattle.wh_field.specs.Places.{place, IsAllowed, IsFalling, IsNearer, IsDescent}
 use Rattle.wh_path.specs.Paths.{last_index}
 use Rattle.wh_field.specs.Distances.{IsRoute, IsLeastRoute}
-use Rattle.wh_field.proofs.Places.{same_cell, place_one, next_row, row_least, row_most}
+use Rattle.wh_grid.proofs.Cells.{same_cell}
+use Rattle.wh_field.proofs.Places.{place_one, next_row, row_least, row_most}
 use Rattle.wh_field.proofs.Walks.{route_one, route_push, only_one}
 
 -- the four cells beside an allowed one, where the table has a distance there
@@ -135,7 +136,7 @@ descent_end g avoid t from to c k p s d =
     let w = d.allowed.passable.in_width in
     sym (only_one to z.cell z.source ∙ place_one g z.cell c (omega arith) (omega arith) z.here)
 
--- the walk down is a least route, if no route has fewer steps
+-- the walk down is a shortest route, if no route has fewer steps
 pub descent_route : (g : Floor) (avoid : List Cell) (t : List ℕ) (from to : Cell) (n : ℕ) (p : List Cell) → ((q : List Cell) → IsRoute g from to avoid q → n ≤ last_index q) →
     IsDescent g avoid t from to n 0 p → IsLeastRoute g from to avoid p
 descent_route g avoid t from to n p few d =

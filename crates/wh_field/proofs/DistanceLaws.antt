@@ -67,7 +67,7 @@ back_to g from to (Some n) h =
 pub distance_back : (g : Floor) (from to : Cell) → distance g from to ≡ distance g to from
 distance_back g from to = distance_one g to from (distance g from to) (back_to g from to (distance g from to) (distance_is g from to))
 
--- the cell before the last one of a least walk
+-- the cell before the last one of a shortest walk
 pub record IsStepBefore (g : Floor) (from c : Cell) (n : ℕ) : Type 0 where
   pub cell : Cell
   pub adjacent : IsAdjacent cell c

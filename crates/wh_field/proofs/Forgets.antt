@@ -5,7 +5,7 @@ use Rattle.std.proofs.lemmas.List.Elements.{All-nil, All-append, All-push, All-w
 use Rattle.std.proofs.lemmas.List.{length_push, get_or_past}
 use Rattle.wh_grid.specs.declared.cell.Cell.{Cell}
 use Rattle.wh_grid.specs.Grids.{Floor}
-use Rattle.wh_field.specs.Tables.{unseen, blocked, value, unseen_count, IsReady, IsListed, IsForgotten, IsMarking}
+use Rattle.wh_field.specs.Tables.{unseen, blocked, value, unseen_count, IsListed, IsForgotten, IsMarking}
 use Rattle.wh_field.specs.Places.{IsOpen, IsStarted, IsSurveying}
 use Rattle.wh_field.proofs.Tables.{marking_keeps}
 
@@ -15,16 +15,6 @@ numbered_inside t i low = elim (cases_lt i (length t)) [
   | inl h ↦ h
   | inr h ↦ absurd (let e = get_or_past t i 4294967294 h in omega arith)
 ]
-
-pub listed_ready : (s : ℕ) (t starts : List ℕ) → IsReady s t starts → IsListed t starts
-listed_ready s t starts r = record {
-  numbered = All-weaker (λ i. value t i ≡ 0) (λ i. value t i < blocked) (λ i e. omega arith) starts r.at_start;
-  all_numbered = λ i low. elim (r.fresh i) [
-    | inl a ↦ absurd (omega arith)
-    | inr (inl a) ↦ absurd (omega arith)
-    | inr (inr a) ↦ r.all_starts i a
-  ];
-}
 
 pub listed_started : (g : Floor) (avoid sources : List Cell) (t starts : List ℕ) → IsStarted g avoid sources t starts → IsListed t starts
 listed_started g avoid sources t starts s = record {

@@ -12,7 +12,7 @@ use Rattle.wh_field.proofs.Starts.{ground_walls}
 use Rattle.wh_field.proofs.Early.{met_early}
 use Rattle.wh_field.proofs.Walks.{route_allowed, first_of, path_least, walk_route, comes_in, only_one}
 
--- no route from the source to the cell at this place that is at most so long has fewer steps than the number there, and where there is one it has a number
+-- no route from the source to the cell at this place that is at most so long has fewer steps than the number there, and if there is one it has a number
 pub record IsLeastWithin (g : Floor) (avoid : List Cell) (source : Cell) (i limit : ℕ) (t : List ℕ) : Type 0 where
   pub least : (to : Cell) (q : List Cell) → place g to ≡ i → IsRoute g source to avoid q → last_index q ≤ limit → (value t i ≤ last_index q) × (value t i < blocked)
 

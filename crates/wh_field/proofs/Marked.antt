@@ -1,15 +1,8 @@
 -- the least number at the marked places
 use Rattle.std.proofs.Common.{◌≡◌, ℕ, ◌<◌, ◌≤◌, inl, inr, List, [], ◌∷◌, ◌++◌, length, take, drop, sym, subst, Contains, arith}
-use Rattle.std.proofs.lemmas.List.Elements.{All-nil, All-push, All-weaker, All-contains, Contains-append_cases}
+use Rattle.std.proofs.lemmas.List.Elements.{All-push, All-weaker, All-contains, Contains-append_cases}
 use Rattle.std.proofs.lemmas.List.{take-append-drop}
 use Rattle.wh_field.specs.Tables.{blocked, value, HasMark, IsLeastAmong, IsLeastMet, IsListed}
-
-pub least_none : (marks : List ℕ) (mark : ℕ) (t : List ℕ) → IsLeastAmong marks mark t [] blocked
-least_none marks mark t = record {
-  most = omega arith;
-  found = λ low. absurd (omega arith);
-  least = All-nil (λ i. HasMark marks mark i → blocked ≤ value t i);
-}
 
 -- one more place, which has no mark or no less number
 pub least_stays : (marks : List ℕ) (mark : ℕ) (t places : List ℕ) (i n : ℕ) → (HasMark marks mark i → n ≤ value t i) → IsLeastAmong marks mark t places n → IsLeastAmong marks mark t (places ++ i ∷ []) n
@@ -30,14 +23,6 @@ least_falls marks mark t places i n m has is less l =
           (All-weaker (λ i. HasMark marks mark i → n ≤ value t i) (λ i. HasMark marks mark i → m ≤ value t i) (λ k low h. let z = low h in omega arith) places l.least)
           (λ h. omega arith);
     }
-
--- of all places that are listed
-pub least_met : (marks : List ℕ) (mark : ℕ) (t queue : List ℕ) (n : ℕ) → IsListed t queue → IsLeastAmong marks mark t queue n → IsLeastMet marks mark t n
-least_met marks mark t queue n listed l = record {
-  most = l.most;
-  found = l.found;
-  least = λ i has low. All-contains (λ i. HasMark marks mark i → n ≤ value t i) queue i l.least (listed.all_numbered i low) has;
-}
 
 -- where no marked place was met before, those of the new layer decide
 pub least_on : (marks : List ℕ) (mark : ℕ) (t queue t' queue' : List ℕ) (old n : ℕ) → IsListed t queue → IsListed t' queue' → take (length queue) queue' ≡ queue → old ≡ blocked →

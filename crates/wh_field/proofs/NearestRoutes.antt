@@ -33,13 +33,6 @@ steps_outside g avoid t from to out = record {
   least = λ q r. absurd (let a = subst (IsPassable g) r.walk.ends (r.walk.walk.passable (last_index q)) in out (a.in_width, a.in_height));
 }
 
-pub near_start : (g : Floor) (avoid : List Cell) (t : List ℕ) (from : Cell) (targets : List Cell) → IsNearestBefore g avoid t from targets 0 0 blocked
-near_start g avoid t from targets = record {
-  most = omega arith;
-  found = λ low. absurd (omega arith);
-  nearest = λ j q lt r. absurd (omega arith);
-}
-
 -- the next cell is nearer than those before
 pub near_closer : (g : Floor) (avoid : List Cell) (t : List ℕ) (from : Cell) (targets : List Cell) (k index steps n : ℕ) →
     IsNearestBefore g avoid t from targets k index steps → IsSteps g avoid t from (cell_at targets k) n → n < steps → IsNearestBefore g avoid t from targets (k + 1) k n

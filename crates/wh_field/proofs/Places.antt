@@ -1,20 +1,17 @@
 -- the places of cells
-use Rattle.std.proofs.Common.{◌≡◌, ◌≢◌, ℕ, ◌+◌, ◌*◌, ◌<◌, ◌≤◌, ◌⊎◌, inl, inr, ◌∙◌, List, [], set, replicate, get_or-set_same, get_or-set_other, length, length-set, get_or, Bool, true, false, refl, sym, ap, subst, arith}
+use Rattle.std.proofs.Common.{◌≡◌, ◌≢◌, ℕ, ◌+◌, ◌*◌, ◌<◌, ◌≤◌, ◌⊎◌, inl, inr, ◌∙◌, List, [], set, get_or-set_same, get_or-set_other, length, length-set, get_or, Bool, true, false, sym, ap, subst, arith}
 use Rattle.std.proofs.lemmas.Bool.{cases_lt, cases_eq}
-use Rattle.std.proofs.lemmas.Nat.{mul-add-lt, same_from_place, mul-le}
-use Rattle.std.proofs.lemmas.List.{length-replicate, get_or-replicate, get_or_past}
+use Rattle.std.proofs.lemmas.Nat.{mul-add-lt, same_from_place}
+use Rattle.std.proofs.lemmas.List.{get_or_past}
 use Rattle.std.specs.Prelude.{Some, slice_get}
 use Rattle.std.proofs.lemmas.Option.{slice_get-get_or}
 use Rattle.std.proofs.Math.Nat.{mul_comm, mul-add, mul-one}
 use Rattle.wh_grid.specs.declared.cell.Cell.{Cell}
+use Rattle.wh_grid.proofs.Cells.{same_cell}
 use Rattle.wh_field.proofs.Tables.{Contains-none}
 use Rattle.wh_grid.specs.Grids.{Floor, IsPassable}
-use Rattle.wh_field.specs.Tables.{value, blocked, unseen, IsWalled}
-use Rattle.wh_field.specs.Places.{stride, place, IsAllowed, IsAllowedAt, IsOpenAt, IsOpenBelow, IsOpen}
-
--- cells with the same coordinates are one
-pub same_cell : (c d : Cell) → c.x ≡ d.x → c.y ≡ d.y → c ≡ d
-same_cell c d e f = ap (λ n. record { x = n; y = c.y }) e ∙ ap (λ n. record { x = d.x; y = n }) f
+use Rattle.wh_field.specs.Tables.{value, blocked, unseen}
+use Rattle.wh_field.specs.Places.{place, IsAllowedAt, IsOpenAt, IsOpenBelow, IsOpen}
 
 -- one place has one cell
 pub place_one : (g : Floor) (c d : Cell) → c.x ≤ g.width → d.x ≤ g.width → place g c ≡ place g d → c ≡ d
@@ -44,19 +41,6 @@ row_before_last g c w =
     let f = mul-add-lt (c.y + 1) (g.width + 1) c.x (g.height + 1) (let h = w.in_height in omega arith) (let h = w.in_width in omega arith) in
     omega (arith, mul_comm (g.width + 1) (g.height + 1))
 
--- at first all places are blocked, and the row above has no cell
-pub open_first : (g : Floor) (n : ℕ) → n ≡ (g.width + 1) * (g.height + 2) → IsOpenBelow g ((0 + 1) * (g.width + 1)) (replicate n blocked)
-open_first g n e =
-    let all : (i : ℕ) → value (replicate n blocked) i ≡ blocked = λ i. elim (cases_lt i n) [
-      | inl less ↦ get_or-replicate n i blocked 4294967294 less
-      | inr more ↦ get_or_past (replicate n blocked) i 4294967294 (omega (arith, length-replicate n blocked))
-    ] in
-    record {
-      size = length-replicate n blocked ∙ e;
-      each = λ i h. inl (all i, λ a. let here = a.here in let f = row_least a.cell.y (g.width + 1) in omega arith);
-      rest = λ i h. all i;
-    }
-
 -- one more entry
 pub open_set : (g : Floor) (n m : ℕ) (t : List ℕ) (v : ℕ) → IsOpenBelow g n t → m ≡ n + 1 → n < (g.width + 1) * (g.height + 2)
     → ((v ≡ blocked) × (IsAllowedAt g [] n → ⊥)) ⊎ ((v ≡ unseen) × IsAllowedAt g [] n) → IsOpenBelow g m (set t n v)
@@ -84,10 +68,7 @@ open_more g n m t o e none = record {
   rest = λ i h. o.rest i (omega arith);
 }
 
--- the row above, the place that closes a row, and the row below have no cell
-pub none_above : (g : Floor) (avoid : List Cell) (i : ℕ) → i < g.width + 1 → IsAllowedAt g avoid i → ⊥
-none_above g avoid i h a = let e = a.here in let f = row_least a.cell.y (g.width + 1) in omega arith
-
+-- the place that closes a row and the row below have no cell
 pub none_beside : (g : Floor) (avoid : List Cell) (y i : ℕ) → i ≡ (y + 1) * (g.width + 1) + g.width → IsAllowedAt g avoid i → ⊥
 none_beside g avoid y i e a =
     let here = a.here in
@@ -109,35 +90,6 @@ open_last g t o = record {
     | inr more ↦ inl (o.rest i more, none_below g [] i more)
   ];
 }
-
--- what is not blocked has an allowed cell
-pub open_at : (g : Floor) (avoid : List Cell) (t : List ℕ) (i : ℕ) → IsOpen g avoid t → value t i ≢ blocked → IsAllowedAt g avoid i
-open_at g avoid t i o ne =
-    let size = o.size in
-    elim (cases_lt i ((g.width + 1) * (g.height + 2))) [
-      | inl less ↦ elim (o.each i less) [ inl a ↦ absurd (ne a.0) | inr a ↦ a.1 ]
-      | inr more ↦ absurd (ne (get_or_past t i 4294967294 (omega arith)))
-    ]
-
--- an allowed cell is not blocked
-pub open_place : (g : Floor) (avoid : List Cell) (t : List ℕ) (c : Cell) → IsOpen g avoid t → IsAllowed g avoid c → value t (place g c) ≡ unseen
-open_place g avoid t c o a =
-    elim (o.each (place g c) (let f = row_most g c a.passable in omega arith)) [
-      | inl b ↦ absurd (b.1 (record { cell = c; here = refl; allowed = a }))
-      | inr b ↦ b.0
-    ]
-
--- an open table is walled
-pub open_walled : (g : Floor) (avoid : List Cell) (t : List ℕ) → g.width ≤ 4096 → g.height ≤ 4096 → IsOpen g avoid t → IsWalled (stride g) t
-open_walled g avoid t p q o =
-    let size = o.size in
-    let few : (g.width + 1) * (g.height + 2) ≤ 4097 * 4098 = mul-le (g.width + 1) (g.height + 2) 4097 4098 (omega arith) (omega arith) in
-    record {
-      positive = omega arith;
-      few = omega arith;
-      above = λ i ne. let a = open_at g avoid t i o ne in let e = a.here in let f = row_least a.cell.y (g.width + 1) in omega arith;
-      below = λ i ne. let a = open_at g avoid t i o ne in let e = a.here in let f = row_most g a.cell a.allowed.passable in omega arith;
-    }
 
 -- the entry of a cell
 pub entry_open : (g : Floor) (c : Cell) (n : ℕ) → n ≡ place g c → IsPassable g c → IsAllowedAt g [] n

@@ -167,12 +167,6 @@ outside_none g from to out p w =
     let a = subst (IsPassable g) w.ends (w.walk.passable (last_index p)) in
     out (a.in_width, a.in_height)
 
-beside_other : (s i j : ℕ) → IsBeside s i j → IsBeside s j i
-beside_other s i j (inl (inl e)) = inl (inr e)
-beside_other s i j (inl (inr e)) = inl (inl e)
-beside_other s i j (inr (inl e)) = inr (inr e)
-beside_other s i j (inr (inr e)) = inr (inl e)
-
 -- nor the steps that are left of a path to a source
 pub met_before : (g : Floor) (avoid sources : List Cell) (t : List ℕ) (from to : Cell) (p : List Cell) → IsSurveyed g avoid sources t → Contains sources to → IsRoute g from to avoid p → (m k : ℕ) → k + m ≡ last_index p → (value t (place g (at p k)) ≤ m) × (value t (place g (at p k)) < blocked)
 met_before g avoid sources t from to p s c h zero k e =

@@ -1,4 +1,4 @@
--- what a field is that is filled only as far as asked
+-- a field that is filled only as far as asked
 use Rattle.std.specs.Prelude.{◌≡◌, ℕ, ◌<◌, ◌≤◌, List, [], ◌∷◌, Bool, false, ◌&&◌, nat_lt, nat_eq, length, drop, map, replicate, slice_index_or, vec_capacity}
 use Rattle.wh_grid.specs.declared.cell.Cell.{Cell}
 use Rattle.wh_field.specs.Fields.{Seeking}

@@ -93,7 +93,7 @@ pub record IsFalling (g : Floor) (avoid sources : List Cell) (t : List ℕ) : Ty
   pub ground : IsGround g avoid sources t
   pub back : (i n : ℕ) → n + 1 < blocked → value t i ≡ n + 1 → (j : ℕ) × IsBeside (g.width + 1) j i × (value t j ≡ n)
 
--- no route from the source to the cell at this place has fewer steps than the number there, and where there is one it has a number
+-- no route from the source to the cell at this place has fewer steps than the number there, and if there is one it has a number
 pub record IsLeastAt (g : Floor) (avoid : List Cell) (source : Cell) (i : ℕ) (t : List ℕ) : Type 0 where
   pub least : (to : Cell) (q : List Cell) → place g to ≡ i → IsRoute g source to avoid q → (value t i ≤ last_index q) × (value t i < blocked)
 

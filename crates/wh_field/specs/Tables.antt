@@ -81,7 +81,7 @@ pub record IsMarking (stride place d : ℕ) (t queue t' queue' : List ℕ) : Typ
 abbrev pub AllMet : ℕ → ℕ → List ℕ → Type 0
 AllMet stride place t = (j : ℕ) → IsBeside stride place j → value t j ≢ unseen
 
--- while the places at distance d - 1 are gone through: those in `todo` are still to come, those at distance d are in `next`
+-- while the places at distance d - 1 are processed: those in `todo` are still to come, those at distance d are in `next`
 pub record IsSpreading (stride d : ℕ) (t todo next : List ℕ) : Type 0 where
   pub known : (i : ℕ) → (value t i ≡ blocked) ⊎ ((value t i ≡ unseen) ⊎ (value t i ≤ d))
   pub onward : (i j : ℕ) → value t i < d → IsBeside stride i j → value t j ≢ blocked → (value t j ≤ value t i + 1) ⊎ Contains todo i

@@ -48,8 +48,7 @@ pub struct Around {
 
 impl Field {
     /// The distances from a cell over a grid. From a cell that is blocked or outside no walk leads
-    /// anywhere. The error comes where memory is wanting: four bytes a cell, and while it fills as
-    /// many again.
+    /// anywhere. Needs four bytes per cell, and as many again while it fills; fails when out of memory.
     pub fn from(alloc: Global, grid: &Grid, source: Cell) -> Result<Self, AllocError>
         ensures { IfOk result (λ f. f ≡ record { grid = grid.now; cell = source }) }
     {
@@ -63,7 +62,7 @@ impl Field {
         })
     }
 
-    /// How many steps a least walk from the source to a cell has; none where there is no walk.
+    /// How many steps a shortest walk from the source to a cell has; none where there is no walk.
     pub fn dist(&self, cell: Cell) -> Option<u32>
         ensures value { result ≡ distance self.now.grid self.now.cell cell }
         ensures exact { IsDistance self.now.grid self.now.cell cell result }

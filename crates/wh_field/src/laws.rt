@@ -8,7 +8,7 @@ ghost use Rattle.wh_field.specs.Distances.{IsDistance, distance};
 
 use wh_grid::Grid;
 
-/// The distance of two cells is the last index of a least walk between them, none where there is
+/// The distance of two cells is the last index of a shortest walk between them, none where there is
 /// no walk, and nothing else is.
 #[tactic(auto, using(crate::proofs::DistanceLaws::distance_is, crate::proofs::DistanceLaws::distance_one))]
 pub fn distance_is_least(grid: &Grid)

@@ -42,8 +42,8 @@ impl Model for LazyField {
 }
 
 impl LazyField {
-    /// The distances from a cell over a grid; no cell is sought. The error comes where memory is
-    /// wanting: twelve bytes a cell. No other call takes memory.
+    /// The distances from a cell over a grid; no cell is sought. Needs twelve bytes per cell; fails when out of memory.
+    /// No other call takes memory.
     pub fn from(alloc: Global, grid: &Grid, source: Cell) -> Result<Self, AllocError>
         ensures { IfOk result (λ f. f ≡ record { grid = grid.now; cell = source; sought = nowhere grid.now }) }
     {
@@ -67,8 +67,7 @@ impl LazyField {
         })
     }
 
-    /// The same field from another cell. It clears only what was met: its time is that of the
-    /// distances that were asked for.
+    /// The same field from another cell. It clears only what was met, so its time is that of the distances asked for.
     pub fn again(&mut self, source: Cell)
         ensures { self.new ≡ record self.old { cell = source } }
     {
@@ -86,7 +85,7 @@ impl LazyField {
         };
     }
 
-    /// How many steps a least walk from the source to a cell has; none where there is no walk.
+    /// How many steps a shortest walk from the source to a cell has; none where there is no walk.
     pub fn dist(&mut self, cell: Cell) -> Option<u32>
         ensures same { self.new ≡ self.old }
         ensures value { result ≡ distance self.old.grid self.old.cell cell }
@@ -110,7 +109,7 @@ impl LazyField {
     }
 
     /// The distance of a cell where it is at most the limit; none where it is greater, or there is
-    /// no walk. The field is filled no further than to the limit.
+    /// no walk. The field is filled no further than the limit.
     pub fn within(&mut self, cell: Cell, limit: u32) -> Option<u32>
         ensures same { self.new ≡ self.old }
         ensures found { IfSome result (λ n. IsDistance self.old.grid self.old.cell cell (Some n) × (n ≤ limit)) }
@@ -152,8 +151,8 @@ impl LazyField {
         }
     }
 
-    /// How far the nearest of the cells that are sought is; none where there is no walk to any. The
-    /// field is filled no further than to it.
+    /// How far the nearest of the cells that are sought is; none where there is no walk to any. The field is filled no
+    /// further than that.
     pub fn first_sought(&mut self) -> Option<u32>
         ensures same { self.new ≡ self.old }
         ensures exact { IsDistanceToFirst self.old.grid self.old.cell (is_sought self.old) result }
@@ -176,7 +175,7 @@ impl LazyField {
     }
 }
 
-/// No marks, for so many places.
+/// No marks, for the given number of places.
 fn unmarked(alloc: Global, places: usize) -> Result<Vec<u32>, AllocError>
     ensures { IfOk result (λ marks. marks.items ≡ replicate places 0) }
 {

@@ -35,7 +35,7 @@ impl Model for NearestField {
 
 impl NearestField {
     /// The distances from several cells over a grid. Those that are blocked or outside count for
-    /// nothing. The error comes where memory is wanting.
+    /// nothing. Fails when out of memory.
     pub fn from(alloc: Global, grid: &Grid, sources: &[Cell]) -> Result<Self, AllocError>
         ensures { IfOk result (λ f. f ≡ record { grid = grid.now; cells = sources.now }) }
     {
@@ -49,7 +49,7 @@ impl NearestField {
         })
     }
 
-    /// How many steps a least walk from any of the sources to a cell has; none where there is no
+    /// How many steps a shortest walk from any of the sources to a cell has; none where there is no
     /// walk.
     pub fn dist(&self, cell: Cell) -> Option<u32>
         ensures { IsNearestDistance self.now.grid self.now.cells cell result }

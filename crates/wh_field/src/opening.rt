@@ -122,7 +122,7 @@ fn mark(table: &mut [u32], queue: &mut Vec<u32>, grid: &Grid, sources: &[Cell], 
     fill(table, queue, width as usize + 1);
 }
 
-/// How far each cell is from the nearest of some cells, by walks that meet none of some others.
+/// How far each cell is from the nearest of some cells, by walks that avoid some others.
 pub fn survey(
     alloc: Global,
     grid: &Grid,
@@ -163,7 +163,7 @@ fn mark_until(
     fill_until(table, queue, width as usize + 1, start, place);
 }
 
-/// How far each cell is from one cell, by walks that meet none of some others: no further than to
+/// How far each cell is from one cell, by walks that avoid some others: no further than to
 /// where a place has its distance.
 pub fn survey_until(
     alloc: Global,

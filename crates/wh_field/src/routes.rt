@@ -1,4 +1,4 @@
-//! Least walks that avoid some cells.
+//! Shortest walks that avoid some cells.
 #![tactic(auto)]
 
 ghost use Rattle.std.specs.Prelude.{◌≡◌, ℕ, ◌+◌, ◌*◌, ◌<◌, ◌≤◌, List, [], ◌∷◌, IfOk, IfSome, IfNone, length};
@@ -74,8 +74,8 @@ fn walk_down(
     Ok(TimedPath::over(cells))
 }
 
-/// A least walk from one cell to another that meets none of some cells, not at its ends either;
-/// none where there is none. The error comes where memory is wanting.
+/// A shortest walk from one cell to another that avoids some cells, not at its ends either;
+/// none where there is none. Fails when out of memory.
 pub fn route(
     alloc: Global,
     grid: &Grid,
@@ -137,9 +137,8 @@ fn nearest_of(grid: &Grid, from: Cell, avoid: &[Cell], table: &[u32], targets: &
     near
 }
 
-/// A least walk, which meets none of some cells, to the nearest of some others, and which of them
-/// it is: the first of those that are as near. None where no such walk leads to any of them. The
-/// error comes where memory is wanting.
+/// A shortest walk, which avoids some cells, to the nearest of some others, and which of them
+/// it is: the first of those that are as near. None where no such walk leads to any of them. Fails when out of memory.
 pub fn route_to_nearest(
     alloc: Global,
     grid: &Grid,

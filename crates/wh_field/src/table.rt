@@ -43,7 +43,7 @@ fn spread(table: &mut [u32], queue: &mut Vec<u32>, stride: usize, place: usize, 
     visit(table, queue, place - stride, distance);
 }
 
-/// Goes through the layer that the queue has from `head` on, and lists the next one behind it.
+/// Goes through the layer that the queue has from `head` on, and appends the next one to the list.
 fn next_layer(table: &mut [u32], queue: &mut Vec<u32>, head: usize, stride: usize, distance: u32)
     requires walled { IsWalled stride table.old }
     requires layer { head < length queue.old.items }

@@ -7,7 +7,7 @@ use Rattle.std.specs.Cmp.Lexicographic.{bytes_decides}
 use Rattle.std.proofs.Math.Dec.{ltb}
 use Rattle.std.proofs.lemmas.Bool.{ltb-true, ltb-false, eqb-true, eq-eqb}
 use Rattle.std.proofs.lemmas.List.Folds.{Any-from_list_any}
-use Rattle.wh_text.specs.Words.{words_of}
+use Rattle.wh_text.specs.Words.{begins_comment, words_of}
 use Rattle.wh_text.specs.Numbers.{small_number_of}
 use Rattle.wh_text.specs.Names.{is_name}
 use Rattle.wh_grid.specs.declared.cell.Cell.{Cell}
@@ -21,7 +21,7 @@ use Rattle.wh_points.specs.declared.fault.FaultKind.TheVariants.{Form, Name, Nam
 use Rattle.wh_points.specs.declared.fault.Fault.{Fault}
 use Rattle.wh_points.specs.Points.{Layout, IsPoint, IsPointCell}
 use Rattle.wh_points.specs.Layouts.{find_name}
-use Rattle.wh_points.specs.PointLines.{is_open, has_name, has_cell, with_point, with_agent, with_rule, placed, placed_at, point_by, starts_at, agent_by, rule_by, named, is_comment, line_by, line_of}
+use Rattle.wh_points.specs.PointLines.{is_open, has_name, has_cell, with_point, with_agent, with_rule, placed, placed_at, point_by, starts_at, agent_by, rule_by, named, line_by, line_of}
 use Rattle.wh_points.specs.PointFiles.{empty, located, whole, layout_from}
 use Rattle.wh_points.specs.PointGrammar.{IsSkipped, word_of, Says, Spells}
 use Rattle.wh_points.proofs.Additions.{list_any-false}
@@ -267,10 +267,10 @@ Faulty g layout k size words = (IsSkipped words → ⊥) × (((256 < size) × (k
 
 line_by_err : (g : Floor) (layout : Layout) (size : ℕ) (words : List (List ℕ)) (k : FaultKind) → line_by g layout (ltb 256 size) words ≡ Err k → Faulty g layout k size words
 line_by_err g layout size [] k e = absurd (ok_err layout k e)
-line_by_err g layout size (name ∷ rest) k e = elim (either_err (is_comment name) (Ok layout) _ k e) [
+line_by_err g layout size (name ∷ rest) k e = elim (either_err (begins_comment name) (Ok layout) _ k e) [
   | inl a ↦ absurd (ok_err layout k a.1)
   | inr a ↦ (
-    (λ skipped. (let yes : is_comment name ≡ true = skipped in let no : is_comment name ≡ false = a.0 in absurd cc)),
+    (λ skipped. (let yes : begins_comment name ≡ true = skipped in let no : begins_comment name ≡ false = a.0 in absurd cc)),
     elim (unless_err (ltb 256 size) (named g layout name rest) Form k a.1) [
       | inl b ↦ inl (ltb-true _ _ b.0, b.1)
       | inr b ↦ inr (ltb-false _ _ b.0, wrong_words g layout name rest k b.1)

@@ -68,7 +68,7 @@ IsWrong g layout StartTwice words = (name : List ℕ) × (number : ℕ) × Names
 IsWrong g layout RuleTwice words = TellsRule words × (layout.nofollow ≡ true)
 IsWrong g layout NoAgent words = ⊥
 
--- a line that says something: one of more than 256 bytes is of no form
+-- a line that says something: one of more than 256 bytes has no valid form
 abbrev pub IsFault : Floor → Layout → FaultKind → List ℕ → Type 0
 IsFault g layout kind line =
     (IsSkipped (words_of line) → ⊥) × (((256 < length line) × (kind ≡ Form)) ⊎ ((length line ≤ 256) × IsWrong g layout kind (words_of line)))

@@ -1,5 +1,5 @@
-//! Laws on the first faults of maps and points files. Each function does nothing, and its contract is the law. What a reader
-//! tells is what `map_at` and `layout_at` give, as the readers' contracts say.
+//! Laws on the first faults of maps and points files. Each function does nothing, and its contract is the law. A reader
+//! reports what `map_at` and `layout_at` give, as the readers' contracts say.
 
 ghost use Rattle.std.specs.Prelude.{◌≡◌, ℕ, List, Err};
 ghost use Rattle.wh_text.specs.Lines.{lines_of};
@@ -14,7 +14,7 @@ ghost use Rattle.wh_points.specs.PointGrammar.{IsPointsFile};
 ghost use Rattle.wh_first_fault.specs.MapFaults.{IsFirstFault};
 ghost use Rattle.wh_first_fault.specs.PointFaults.{IsFirstFault as IsFirstPointsFault};
 
-/// The fault that is told of a map is the first one, of its kind. No function calls this.
+/// The fault reported for a map is the first one, of its kind. No function calls this.
 pub fn map_faults_are()
     // What reading tells is the first fault.
     ensures first { (text : List ℕ) (fault : Fault) → map_at text ≡ Err fault → IsFirstFault (lines_of text) fault }
@@ -24,7 +24,7 @@ pub fn map_faults_are()
     ensures none { (lines : List (List ℕ)) (fault : Fault) (floor : Floor) → IsFirstFault lines fault → IsMap lines floor → ⊥ }
 {}
 
-/// The fault that is told of a points file is the first one, of its kind. No function calls this.
+/// The fault reported for a points file is the first one, of its kind. No function calls this.
 pub fn point_faults_are()
     // What reading tells is the first fault.
     ensures first { (g : Floor) (text : List ℕ) (fault : PointsFault) → layout_at g text ≡ Err fault → IsFirstPointsFault g (lines_of text) fault }

@@ -1,4 +1,4 @@
-//! The first fault of a map and of a points file: laws that what the readers tell is it. Nothing runs here.
+//! The first fault of a map and of a points file: laws that the readers report exactly that one. Nothing runs here.
 #![tactic(auto)]
 
 mod laws;

@@ -58,11 +58,6 @@ marks_then a b c s t =
           ];
     }
 
--- nothing had to be entered
-pub spreads_none : (g : Floor) (o : List Bool) (P : Cell → Type 0) (fill : Fill) → ((c : Cell) → P c → IsMarked g o c → IsMarked g (marks_of fill.marks) c) → Spreads g o P fill fill
-spreads_none g o P fill h =
-    record { kept = λ c m. m; waits = λ c k. k; entered = λ c m. inl m; queued = λ c k. inl k; complete = h; measure = refl; rounds = marks_none fill.marks }
-
 -- one cell was entered
 pub spreads_one : (g : Floor) (o : List Bool) (older newer : Fill) (cell : Cell) → IsMarked g o cell → place g cell < length older.marks.numbers → get_or (marks_of older.marks) (place g cell) false ≡ false
     → newer.marks ≡ record { numbers = set older.marks.numbers (place g cell) older.marks.current; current = older.marks.current } → newer.queue.items ≡ older.queue.items ++ cell ∷ [] → Spreads g o (λ c. c ≡ cell) older newer

@@ -1,15 +1,11 @@
 -- lists of marks that have a grid row by row
-use Rattle.std.proofs.Common.{◌≡◌, ℕ, ◌+◌, ◌-◌, ◌*◌, ◌/◌, ◌%◌, ◌<◌, inl, inr, ◌∙◌, List, [], ◌∷◌, ◌++◌, length, get_or, set, Bool, true, false, Some, sym, ap, subst, length-set, get_or-set_same, get_or-set_other, min, lit<, Contains, arith}
+use Rattle.std.proofs.Common.{◌≡◌, ℕ, ◌+◌, ◌-◌, ◌*◌, ◌/◌, ◌%◌, ◌<◌, inl, inr, ◌∙◌, List, [], ◌∷◌, ◌++◌, length, get_or, set, Bool, true, false, sym, ap, subst, length-set, get_or-set_same, get_or-set_other, min, lit<, Contains, arith}
 use Rattle.std.proofs.lemmas.List.Elements.{Contains-append_left, Contains-push, Contains-push_cases}
 use Rattle.std.proofs.lemmas.Nat.{mul-add-lt, div-mul-add, mod-mul-add}
-use Rattle.std.proofs.lemmas.Option.{get_or_from_slice_get, slice_get-get_or}
 use Rattle.wh_grid.specs.declared.cell.Cell.{Cell}
 use Rattle.wh_grid.specs.Grids.{Floor, IsAdjacent}
+use Rattle.wh_grid.proofs.Cells.{same_cell}
 use Rattle.wh_formed.specs.Fills.{IsMarked, IsOpenTable, place}
-
--- cells with the same coordinates are one
-pub same_cell : (c d : Cell) → c.x ≡ d.x → c.y ≡ d.y → c ≡ d
-same_cell c d e f = ap (λ n. record { x = n; y = c.y }) e ∙ ap (λ n. record { x = d.x; y = n }) f
 
 -- each neighbour is among the four
 pub neighbours_complete : (of r : Cell) (a b c d : ℕ) → a ≡ of.y - 1 → b ≡ min (of.y + 1) 65535 → c ≡ of.x - 1 → d ≡ min (of.x + 1) 65535 → r.x < 65536 → r.y < 65536 → IsAdjacent of r
@@ -52,31 +48,6 @@ module _ (g : Floor) (t : List Bool) (c : Cell) (in_width : c.x < g.width) where
 -- a cell that is written is as it was written
 pub written : (g : Floor) (t : List Bool) (c : Cell) (b : Bool) → place g c < length t → get_or (set t (place g c) b) (place g c) false ≡ b
 written g t c b h = get_or-set_same t (place g c) b false h
-
--- a grid's rows mark the passable cells
-pub rows_are_open : (g : Floor) → length g.walkable ≡ g.width * g.height → IsOpenTable g [] g.walkable
-rows_are_open g s =
-    record {
-      size = s;
-      exact = λ c. (
-        λ m. record {
-          passable =
-              record {
-                in_width = m.in_width;
-                in_height = m.in_height;
-                is_walkable =
-                    (let h = place_below g c m.in_width m.in_height in
-                    slice_get-get_or g.walkable (place g c) false (omega (arith, s)) ∙ ap Some m.marked);
-              };
-          no_point = λ k. absurd (let z : k.0 < 0 = k.1 in omega arith);
-        },
-        λ o. record {
-          in_width = o.passable.in_width;
-          in_height = o.passable.in_height;
-          marked = get_or_from_slice_get g.walkable (place g c) true false o.passable.is_walkable;
-        },
-      );
-    }
 
 module _ (g : Floor) (ps : List Cell) (p : Cell) (t : List Bool) (before : IsOpenTable g ps t) where
   -- one more point, outside the sides

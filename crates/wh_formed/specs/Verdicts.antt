@@ -1,4 +1,4 @@
--- what the check of an instance answers
+-- what the check of an instance returns
 use Rattle.std.specs.Prelude.{◌≡◌, ℕ, ◌<◌, ◌≤◌, ◌⊎◌, List, length}
 use Rattle.wh_grid.specs.declared.cell.Cell.{Cell}
 use Rattle.wh_points.specs.Points.{Layout, Site, parkings, point_at}
@@ -29,7 +29,7 @@ pub record IsFirstCut (site : Site) (a b : ℕ) : Type 0 where
   pub cut : ¬ AreJoined site a b
   pub first : (k l : ℕ) → k < l → l < length site.layout.points → ComesBefore k l a b → AreJoined site k l
 
--- the verdict on an instance: want of parkings comes before a cut
+-- the verdict on an instance: too few parkings comes before a cut
 abbrev pub IsVerdict : Site → Verdict → Type 0
 IsVerdict site (FewParkings have need) = (have ≡ parkings site.layout) × (need ≡ length site.layout.agents) × (have < need)
 IsVerdict site (Cut a b) = (length site.layout.agents ≤ parkings site.layout) × IsFirstCut site a b

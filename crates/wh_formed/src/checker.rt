@@ -81,8 +81,7 @@ fn cuts(
 /// joined by a walk that meets no third one (Ma, Li, Kumar and Koenig, AAMAS 2017).
 ///
 /// Parts of the grid without points are numbered in one pass, and then each pair of points is
-/// compared. `Err` comes only where memory ran out. The answer is the same for every number of
-/// threads.
+/// compared. `Err` only when out of memory. The result is the same for every number of threads.
 pub fn check(
     rt: &(impl Threads + Sync),
     alloc: Global,

@@ -7,7 +7,7 @@ ghost use Rattle.wh_formed.specs.Fills.{IsMarked};
 ghost use Rattle.wh_formed.specs.Labels.{AreLabels, AreLabelsBelow, AreLinked, HasNumber, IsBesideNumber, MarksPassable, ShareNumber};
 
 use crate::fill::Fill;
-use crate::table::{cell_of, is_inside, is_move, neighbours, place_of, places};
+use crate::table::{cell_of, is_inside, neighbours, place_of, places};
 use std::alloc::{AllocError, Global};
 use wh_grid::{Cell, Grid};
 
@@ -110,5 +110,5 @@ pub fn are_linked(grid: &Grid, numbers: &[u32], a: Cell, b: Cell) -> bool
     if !grid.passable(b) {
         return false;
     }
-    is_move(a, b) || share_number(grid, numbers, a, b)
+    Cell::is_move(a, b) || share_number(grid, numbers, a, b)
 }

@@ -51,13 +51,6 @@ pub fn cell_of(grid: &Grid, i: usize) -> Cell
     }
 }
 
-/// Whether it is one step, or none, from one cell to another.
-pub fn is_move(from: Cell, to: Cell) -> bool
-    ensures { IsTrue result ↔ IsMove from to }
-{
-    from.x.abs_diff(to.x) as u32 + from.y.abs_diff(to.y) as u32 <= 1
-}
-
 /// Whether a cell is marked. No cell outside is.
 pub fn is_marked(grid: &Grid, marks: &[bool], cell: Cell) -> bool
     requires { length marks.now ≡ grid.now.width * grid.now.height }

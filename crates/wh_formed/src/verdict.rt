@@ -1,4 +1,4 @@
-//! What the check answers.
+//! What the check returns.
 #![tactic(auto)]
 
 use std::alloc::AllocError;

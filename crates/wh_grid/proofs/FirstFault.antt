@@ -199,7 +199,7 @@ body_fault : (size : Size) (front rest more : List (List ℕ)) (count : ℕ) (f 
 unfolding body
 body_fault size = then_fault (rows_of size.height size.width) (λ cells u. last size cells u) (rows_are_local size.height size.width) (last_later size) (last_fault size)
 
--- nothing that stands after a fault's line changes it
+-- nothing after a fault's line changes it
 pub fault_is_first : (front rest more : List (List ℕ)) (f : Fault) → f.line ≤ length front → map_of (left front rest 0) ≡ Err f → map_of (left front more 0) ≡ Err f
 unfolding map_of body last made
 fault_is_first front rest more f le e = then_fault head_of (λ size u. body size u) head_is_local body_later body_fault front rest more 0 f (omega arith) e

@@ -1,3 +1,4 @@
+pub mod Cells
 pub mod Pigeons
 pub mod Removed
 pub mod OpenCells

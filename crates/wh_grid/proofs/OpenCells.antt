@@ -7,6 +7,7 @@ use Rattle.std.proofs.lemmas.List.Quantifiers.{all_pairs_push}
 use Rattle.wh_grid.specs.declared.cell.Cell.{Cell}
 use Rattle.wh_grid.specs.Grids.{Floor, IsPassable, IsAdjacent}
 use Rattle.wh_grid.specs.Candidates.{listed, AreOpen}
+use Rattle.wh_grid.proofs.Cells.{same_cell}
 
 nothing : (d : Cell) → Contains {X = Cell} [] d → ⊥
 nothing d has = let h = has.1 in absurd (omega arith)
@@ -67,9 +68,6 @@ is_listed (Some c) d P Q some none one not = subst (Contains (c ∷ [])) (one c 
 fresh_from : (o : Option Cell) (P : Cell → Type 0) (cells : List Cell) → IfSome o P → ((d : Cell) → P d → Contains cells d → ⊥) → IfSome o (λ d. Contains cells d → ⊥)
 fresh_from None P cells some none = tt
 fresh_from (Some c) P cells some none = none c some
-
-same_cell : (c d : Cell) → c.x ≡ d.x → c.y ≡ d.y → c ≡ d
-same_cell c d ex ey = λ i. record { x = ex i; y = ey i }
 
 module _ (g : Floor) (cell : Cell) (up down left right : Option Cell)
     (up_some : IfSome up (λ d. (d.x ≡ cell.x) × (d.y + 1 ≡ cell.y))) (up_none : IfNone up (cell.y ≡ 0))

@@ -28,7 +28,7 @@ marked-unset marks i is =
     let one : weigh (get_or marks i false) ≡ 1 = ap weigh (get_or_from_slice_get marks i true false is) in
     omega arith
 
--- so many places that differ, each of them marked
+-- this many different places, each of them marked
 pub marked-least : (n : ℕ) (marks : List Bool) (place : ℕ → ℕ) → ((k : ℕ) → k < n → slice_get marks (place k) ≡ Some true) →
     ((i j : ℕ) → i < j → j < n → place i ≢ place j) → n ≤ marked marks
 marked-least zero marks place is differ = omega arith

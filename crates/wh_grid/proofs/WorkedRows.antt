@@ -91,7 +91,7 @@ height_twice : map_at (text (head_lines (codes "height 3") (codes "height 0"))) 
 unfolding map_of head_of rows_of blanks_of text head_lines small at
 height_twice = refl
 
--- n, n + 1 .. , so many
+-- n, n + 1 .. , up to a given count
 from : ℕ → ℕ → List ℕ
 from n zero = []
 from n (suc k) = n ∷ from (n + 1) k

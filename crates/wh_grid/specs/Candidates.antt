@@ -4,7 +4,7 @@ use Rattle.std.specs.List.{AllPairs}
 use Rattle.wh_grid.specs.declared.cell.Cell.{Cell}
 use Rattle.wh_grid.specs.Grids.{Floor, IsPassable}
 
--- the cell, where there is one
+-- the cell, if there is one
 abbrev pub listed : Option Cell → List Cell
 listed None = []
 listed (Some cell) = cell ∷ []

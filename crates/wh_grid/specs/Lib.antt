@@ -1,4 +1,5 @@
 pub mod Grids
+pub mod Cells
 pub mod Candidates
 pub mod Faults
 pub mod MapLines

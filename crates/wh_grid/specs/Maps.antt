@@ -50,7 +50,7 @@ map_of u = do
 abbrev pub map_at : List ℕ → Result Floor Fault
 map_at text = map_of (record { lines = lines_of text; count = 0 })
 
--- nothing that stands after a fault's line changes it
+-- nothing after a fault's line changes it
 abbrev pub IsFirst : List (List ℕ) → MapFault → Type 0
 IsFirst lines NoMemory = Unit {0}
 IsFirst lines (At fault) = fault.line ≤ length lines → (more : List (List ℕ)) → map_of (record { lines = take fault.line lines ++ more; count = 0 }) ≡ Err fault

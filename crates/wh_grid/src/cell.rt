@@ -2,6 +2,7 @@
 #![tactic(auto)]
 
 ghost use Rattle.std.specs.Prelude.{◌≡◌, ◌↔◌, IsTrue};
+ghost use Rattle.wh_grid.specs.Grids.{IsMove};
 
 /// A place on the grid: x columns from the left and y rows from the top, both from 0.
 #[derive(Clone, Copy, Debug, Default, PartialEq, Eq, Hash)]
@@ -16,5 +17,12 @@ impl Cell {
         ensures { IsTrue result ↔ (self ≡ other) }
     {
         self.x == other.x && self.y == other.y
+    }
+
+    /// Whether it is one step, or none, from one cell to another.
+    pub fn is_move(from: Cell, to: Cell) -> bool
+        ensures { IsTrue result ↔ IsMove from to }
+    {
+        from.x.abs_diff(to.x) as u32 + from.y.abs_diff(to.y) as u32 <= 1
     }
 }

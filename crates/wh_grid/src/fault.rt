@@ -33,7 +33,7 @@ pub enum MapKind {
     TooLarge,
 }
 
-/// The first fault of a map, and the line at which it is met, from 1. It is shown as `M3 line 5`.
+/// The first fault of a map, and its line, from 1. It is shown as `M3 line 5`.
 #[derive(Clone, Copy, Debug, PartialEq, Eq, Error)]
 #[error("{kind} line {line}")]
 pub struct Fault {

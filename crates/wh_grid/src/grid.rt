@@ -16,7 +16,7 @@ use std::alloc::Global;
 use std::marker::Model;
 use wh_text::Lines;
 
-/// Which cells are passable, row by row from the top; at most 4096 columns and 4096 rows. It takes a byte a cell.
+/// Which cells are passable, row by row from the top; at most 4096 columns and 4096 rows. Needs one byte per cell.
 #[derive(Drop)]
 pub struct Grid {
     width: u16,
@@ -55,8 +55,8 @@ impl Grid {
     }
 
     /// The grid of a map's text: a profile of the MovingAI `.map` format.
-    /// An error is `NoMemory`, or the first fault from the first byte to the last, at its line; that of a line
-    /// that is missing is the number of lines plus 1.
+    /// An error is `NoMemory`, or the first fault from the first byte to the last, at its line; a missing line is the
+    /// number of lines plus 1.
     pub fn read(alloc: Global, text: &[u8]) -> Result<Grid, MapFault>
         // What is read is a map, and this floor is what it says.
         ensures found { IfOk result (λ grid. IsMap (lines_of text.now) grid) }

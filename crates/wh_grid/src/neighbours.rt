@@ -56,7 +56,7 @@ fn right(cell: Cell, width: u16) -> Option<Cell>
 }
 
 impl Grid {
-    /// Adds a cell, where there is one and it is passable.
+    /// Adds a cell, if there is one and it is passable.
     fn add_open(&self, found: &mut ArrayVec<Cell, 4>, cell: Option<Cell>)
         requires { array_vec_len found.old < 4 }
         ensures len { array_vec_len found.new ≤ array_vec_len found.old + 1 }

@@ -12,7 +12,7 @@ ghost use Rattle.wh_grid.specs.declared.fault.MapKind.TheVariants.{RowsMissing};
 use crate::fault::{Fault, MapFault, MapKind, located, next_line};
 use crate::head::Size;
 use std::alloc::{AllocError, Global};
-use wh_text::Lines;
+use wh_text::{Lines, is_blank};
 
 fn is_passable(b: u8) -> bool
     ensures { result ≡ lines_of_maps.is_passable b }
@@ -30,12 +30,6 @@ fn all_letters(bytes: &[u8]) -> bool
     ensures { result ≡ list_all lines_of_maps.is_letter bytes.now }
 {
     bytes.iter().all(|b| is_letter(*b))
-}
-
-fn is_blank(b: u8) -> bool
-    ensures { result ≡ words.is_blank b }
-{
-    b == b' ' || b == b'\t'
 }
 
 fn all_blank(line: &[u8]) -> bool

@@ -20,7 +20,7 @@ boards_from origin earlier history before whole last (Some had) (Some mid) (Some
 
 -- ---- facts of a value that may not be there
 
--- what is told of a value by four facts of it, where there is one
+-- what is told of a value by four facts of it, if there is one
 pub if_four : {A E : Type 0} {P Q S T R : A → Type 0} (r : Result A E) → IfOk r P → IfOk r Q → IfOk r S → IfOk r T → ((a : A) → P a → Q a → S a → T a → R a) → IfOk r R
 if_four (Ok a) p q s t f = f a p q s t
 if_four (Err e) p q s t f = tt

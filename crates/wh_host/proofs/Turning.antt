@@ -46,7 +46,7 @@ turn_more known later a b c turns commands taking more turn does =
 
 -- ---- no more entries than may be its own
 
--- it has no more entries than so many, if it has any more than it had
+-- it has no more than the given number of entries, if it has any more than it had
 abbrev pub KeepsShare : ℕ → (had has : Received) → Type 0
 KeepsShare entries had has = (has.list ≡ had.list) ⊎ (length has.list ≤ entries)
 

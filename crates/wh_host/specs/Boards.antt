@@ -15,13 +15,13 @@ pub record WatchedTo (before whole : Past) (last : Result Unit ShowFault) (had h
   pub watches : Watches before known watched had mid
   pub ends : ShowsLast whole watched.shown last mid has
 
--- so on a screen, where there is one
+-- so on a screen, if there is one
 abbrev pub WatchedOn : Past → Past → Result Unit ShowFault → (had has : Option (Option (List (List ℕ)))) → Type 0
 WatchedOn before whole last None has = (last ≡ Ok tt) × (has ≡ None)
 WatchedOn before whole last (Some had) None = ⊥
 WatchedOn before whole last (Some had) (Some has) = WatchedTo before whole last had has
 
--- the board of this past was shown on the screen, where there is one
+-- the board of this past was shown on the screen, if there is one
 abbrev pub FirstOn : Past → (had has : Option (Option (List (List ℕ)))) → Type 0
 FirstOn past None None = Unit {0}
 FirstOn past (Some had) (Some has) = FirstShown past had has

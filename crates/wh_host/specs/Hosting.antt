@@ -32,8 +32,8 @@ pub record AllServed {C : Type 0} (serves : C → Received → Received → ℕ 
       slice_get clients i ≡ Some client → slice_get passes i ≡ Some had → slice_get connections i ≡ Some times →
       ServedBy serves history i client had times
 
--- What clients, and the agents' worker behind them where there is one, leave of a desk with so many cells: one run from an opening, by
--- so many callers alone. On a well-formed instance no request in it is refused for want of a path. Each client was served by what
+-- What clients, and the agents' worker behind them if there is one, leave of a desk with n cells: one run from an opening, by
+-- a given number of callers alone. On a well-formed instance no request in it is refused for lack of a path. Each client was served by what
 -- is its caller's in the history, and told it by the texts that its receipts have there.
 pub record Leaves {R W X : Type 0} (fits : X → Floor → Bool) (count : X → ℕ) (text : List Entry → ℕ × Entry → List ℕ) (remaining : R → Option (List ℕ)) (contents : W → Option (List ℕ))
     (origin : Origin) (cells callers : ℕ) (clients : List (Client X)) (passes : List Received) (pace : Option Pacing)

@@ -14,19 +14,19 @@ use Rattle.wh_serve.specs.declared.doors.WorkerEnd.{WorkerEnd}
 use Rattle.wh_serve.specs.declared.doors.WorkerEnd.TheVariants.{ShareUsed, Untold}
 use Rattle.wh_host.specs.declared.pacing.Pacing.{Pacing}
 
--- how many callers a run has: its clients, and behind them the agents' worker where there is one
+-- how many callers a run has: its clients, and behind them the agents' worker if there is one
 abbrev pub callers_of : {C : Type 0} → List C → Option Pacing → ℕ
 callers_of clients None = length clients
 callers_of clients (Some pace) = length clients + 1
 
--- What a call that tells no receipt leaves, where there are so many cells: all as it was, but for what a refusal of the desk
+-- What a call that tells no receipt leaves, where there is a given number of cells: all as it was, but for what a refusal of the desk
 -- tells; where the journal failed at the call, its entry stands all the same.
 abbrev pub LeavesUntold : ℕ → Command → Received → CallFault → Received → Type 0
 LeavesUntold cells command had (Refused fault) has = Refuses cells had fault has
 LeavesUntold cells command had Failed has = has ≡ had
 LeavesUntold cells command had Unkept has = Does (command ∷ []) had has
 
--- What is left where the worker, which may have so many entries, ended at a command: all as it was, where it has so many; or what a
+-- What is left where the worker, which may have a given number of entries, ended at a command: all as it was, where it has that many; or what a
 -- call left that told no receipt.
 abbrev pub LeavesOff : (cells entries : ℕ) → Command → Received → WorkerEnd → Received → Type 0
 LeavesOff cells entries command had ShareUsed has = (has ≡ had) × (entries ≤ length had.list)
@@ -41,7 +41,7 @@ pub record PacesUntil (cells : ℕ) (pace : Pacing) (known : Past) (had has : Re
   pub does : MatchOption ended (Does (turns_of boards) had has) (λ end. DoesUntil (LeavesOff cells pace.entries) (turns_of boards) end had has)
   pub share : (has.list ≡ had.list) ⊎ (length has.list ≤ pace.entries)
 
--- What the agents' worker, which had this pass, has in the whole history: the answers to its turns, and nothing else. What it saw
+-- What the agents' worker, which had this pass, has in the whole history: the replies to its turns, and nothing else. What it saw
 -- are boards of beginnings of that history.
 pub record PacedIn (cells : ℕ) (pace : Pacing) (origin : Origin) (history : List Entry) (had : Received) (ended : Option WorkerEnd) : Type 0 where
   pub known : Past

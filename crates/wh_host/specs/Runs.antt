@@ -32,7 +32,7 @@ pub record KeepsTo (may : Allowance) (before entries : List (ℕ × Entry)) : Ty
   pub allowed : All (λ x. allows may.rights (command_of x.1.event) ≡ true) added
   pub few : added ≢ [] → length entries ≤ may.entries
 
--- A history goes on from an earlier one, by these clients, and the worker behind them where there is one: they leave a desk that has
+-- A history goes on from an earlier one, by these clients, and the worker behind them if there is one: they leave a desk that has
 -- as many cells as the journal may have entries. Each had before what is its number's in the earlier history. What each client has
 -- in the whole keeps to what the client may do behind that.
 pub record ServedFrom {R W X : Type 0} (fits : X → Floor → Bool) (count : X → ℕ) (text : List Entry → ℕ × Entry → List ℕ) (remaining : R → Option (List ℕ)) (contents : W → Option (List ℕ))
@@ -48,7 +48,7 @@ pub record ServedFrom {R W X : Type 0} (fits : X → Floor → Bool) (count : X 
 abbrev pub first_lines : Option (List ℕ) → Seen → Option (List ℕ)
 first_lines file book = option_map (λ _. lines_text (begun_lines Two (record { clock = book.opening.clock; slots = book.opening.slots; entries = [] }))) file
 
--- A journal holds now, behind what it held at its start, the lines of the first entries of the history, so many, and maybe, where it
+-- A journal holds now, behind what it held at its start, the lines of the first n entries of the history, and maybe, where it
 -- has failed, a front of the lines of the next ones. Where it is told to be whole, these are the lines of all its entries, and they outlive a kill.
 pub record IsJournalOf (start now synced : Option (List ℕ)) (history : List Entry) (is_whole : Bool) : Type 0 where
   pub written : ℕ

@@ -27,8 +27,8 @@ use wh_planner::Planner;
 use wh_scribe::{JournalName, Scribe};
 use wh_serve::{Client, Doors, Form};
 
-/// What watches a run: a viewer, a screen on which the board of what it knows is shown, and how long each look rests behind the
-/// one before.
+/// What watches a run: a viewer, a screen on which the board of what it knows is shown, and how long each look rests after
+/// the one before.
 #[derive(Drop)]
 pub(crate) struct Watch<V> {
     pub(crate) watcher: Watcher<V>,
@@ -161,7 +161,7 @@ fn host_watched<
     }
 }
 
-/// Hosts the clients, beside a screen where there is one.
+/// Hosts the clients, beside a screen if there is one.
 pub(crate) fn host_beside<
     N: DeskName + Send + Sync,
     S: JournalName + Send + Sync,

@@ -1,4 +1,4 @@
-//! Clients, and where it is wanted a worker for all agents and the clock, over one desk and its journal, to the desk's end.
+//! Clients, and if asked for a worker for all agents and the clock, over one desk and its journal, to the desk's end.
 
 ghost use Rattle.std.specs.Prelude.{◌≡◌, ◌≤◌, ◌+◌, ◌∷◌, ◌++◌, [], IfOk, None, Some, length, vec_capacity};
 ghost use Rattle.wh_desk.specs.Pasts.{origin_of, past_of};
@@ -126,7 +126,7 @@ struct Shift<N: DeskName> {
     paced: Paced<N>,
 }
 
-/// Clients, and the worker in a thread of its own, until all clients are through.
+/// Clients, and the worker in its own thread, until all clients are through.
 fn serve_beside<
     N: DeskName + Send + Sync,
     S: JournalName + Send + Sync,
@@ -243,9 +243,9 @@ fn host_paced<
     }
 }
 
-/// Serves client i with pass i in a thread of its own (`serve_clients`), and where a pace is given, with the last pass, a worker for
-/// all agents and the clock beside them: it takes a turn behind each pause, by a board of what was done by then, until it has
-/// taken so many, the clients are through, it has as many entries as may be its own, or a call of it tells no receipt. Each call goes through the journal. Then the desk is
+/// Serves client i with pass i in its own thread (`serve_clients`), and where a pace is given, with the last pass, a worker for
+/// all agents and the clock beside them: it takes a turn after each pause, by a board of what was done by then, until it has
+/// taken all its turns, the clients are through, its entries are used up, or a call of it returns no receipt. Each call goes through the journal. Then the desk is
 /// finished. The history is one run, and each entry is a client's or the worker's. For each client its entries are those
 /// that its pass held before, and then the receipts by which it was told its replies, in order, over its connections; what was
 /// written to it is the output of what it sent. There are no more entries than the desk has cells.

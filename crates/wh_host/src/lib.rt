@@ -1,4 +1,4 @@
-//! A run that hosts clients who run elsewhere: a warehouse behind a desk, a journal behind that, and, where they are wanted, a
+//! A run that hosts remote clients: a warehouse behind a desk, a journal behind that, and, if asked for, a
 //! worker for all agents and the clock, and boards on a screen.
 #![tactic(auto)]
 

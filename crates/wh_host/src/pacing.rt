@@ -21,11 +21,11 @@ use wh_serve::{Doors, WorkerEnd};
 /// How the worker for all agents and the clock goes on.
 #[derive(Clone, Copy, Debug, PartialEq, Eq)]
 pub struct Pacing {
-    /// It takes at most so many turns.
+    /// It takes at most this many turns.
     pub turns: u32,
-    /// It rests so long before each turn.
+    /// How long it rests before each turn.
     pub pause: Duration,
-    /// So many entries of the history may be its own.
+    /// At most this many entries of the history may be its own.
     pub entries: u64,
 }
 
@@ -57,8 +57,8 @@ fn take_turn<N: DeskName, S: JournalName, J: Journal + Drop, H: Wait + Drop, P: 
     Ok(())
 }
 
-/// Rests so long and takes a turn, again and again: the agents that are shown with no steps left ask for the token, or nobody where
-/// no task is open, and then the clock ticks. It ends after so many turns, once the bell is rung or the service is over, or early: where it has as many
+/// Rests and takes a turn, again and again: the agents that are shown with no steps left ask for the token, or nobody where
+/// no task is open, and then the clock ticks. It ends after its turns, once the bell is rung or the service is over, or early: where it has as many
 /// entries as may be its own, or at the first call that tells no receipt. It says why, and the doors are told.
 pub(crate) fn take_turns<
     N: DeskName,

@@ -1,5 +1,5 @@
 //! A run that serves clients: a warehouse behind a desk, a journal behind that, and the clients over both, beside a worker for
-//! agents and clock and boards on a screen where these are wanted.
+//! agents and clock and boards on a screen if asked for.
 
 ghost use Rattle.std.specs.Prelude.{◌≡◌, ◌≤◌, ◌+◌, IfErr, IfOk, IfSome, length, option_map, true, false};
 ghost use Rattle.std.specs.Io.KnownBytes.{Appends};
@@ -207,7 +207,7 @@ fn watch_from<H: Wait + Drop, P: Planner, V: Screen + Drop>(
     }
 }
 
-/// Makes an outfit, with a cell for each entry that the warehouse has, and so many more.
+/// Makes an outfit, with a cell for each entry that the warehouse has, and the given number more.
 fn furnish<H: Wait + Drop, P: Planner, V: Screen + Drop>(
     rt: H,
     alloc: Global,
@@ -235,13 +235,13 @@ fn furnish<H: Wait + Drop, P: Planner, V: Screen + Drop>(
     }
 }
 
-/// Goes on with a warehouse, whose log the journal is but for its end line, and serves each client by a thread of its own, over
-/// one desk that takes at most so many entries more, each of which goes into the journal before it is told. Where a pace is given,
-/// one more caller is a worker for all agents and the clock, which takes a turn behind each pause, at most so many, until the
+/// Goes on with a warehouse, whose log the journal is except for its end line, and serves each client in its own thread, over
+/// one desk that takes at most the given number of further entries, each of which goes into the journal before it is told. Where a pace is given,
+/// one more caller is a worker for all agents and the clock, which takes a turn after each pause, up to a given number, until the
 /// clients are through. Where there is a display, boards are shown on its screen meanwhile: the first before anybody is served,
 /// without which nobody is; each later one once the journal keeps all that it shows; a screen that fails later stops nothing.
 /// Where the journal fails, nobody is told anything more, and the service ends. Trouble: E90, E93 where a thread could not be
-/// started, E95 where a pass has not all that its caller did, or an entry is there of a caller that no client has the number of,
+/// started, E95 where a pass does not have all that its caller did, or an entry is there of a caller that no client has the number of,
 /// and X6 where the first board could not be shown; the journal is dropped then.
 pub fn run_clients<
     P: Planner,
@@ -271,7 +271,7 @@ pub fn run_clients<
     ensures origin { IfOk result (λ r. origin_of r.history.warehouse.book ≡ origin_of warehouse.book) }
     ensures journal { IfOk result (λ r. IsJournalOf (first_lines (J.contents journal) warehouse.book) (J.contents r.journal) (J.synced r.journal) r.history.warehouse.book.history r.is_whole) }
     ensures boards { IfOk result (λ r. BoardsFrom (origin_of warehouse.book) warehouse.book.history r.history.warehouse.book.history r.last (option_map (λ d. V.shown d.screen) display) (option_map V.shown r.screen)) }
-    // No thread could be started, no memory was left, a pass has not all that its caller did, or the first board was not shown.
+    // No thread could be started, no memory was left, a pass does not have all that its caller did, or the first board was not shown.
     ensures fault { IfErr result (IsWhyUnlived display) }
 {
     let outfit = match furnish(rt, alloc, &warehouse, more, display) {

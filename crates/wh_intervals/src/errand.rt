@@ -13,7 +13,7 @@ use wh_resv::Reservations;
 use wh_search::guide::Guide;
 use wh_search::noted::holds;
 
-/// What an agent is to do: beside whom, from where, through which stops in order, and to which ends;
+/// What an agent must do: beside whom, from where, through which stops in order, and to which ends;
 /// how many stops it has behind it at once, the last time that is looked at, and a time before which
 /// no path ends.
 #[derive(Clone, Copy)]
@@ -30,7 +30,7 @@ pub struct Errand<'a> {
 }
 
 impl<'a> Errand<'a> {
-    /// Whether a passable cell is one of the ends. There may be many, and they are gone through only
+    /// Whether a passable cell is one of the ends. There may be many, and they are searched only
     /// where the estimate is 0, as it is at each of them.
     fn ends_at(&self, cell: Cell) -> bool
         requires errand { IsProblem (problem self.now) }
@@ -43,7 +43,7 @@ impl<'a> Errand<'a> {
         holds(self.ends, cell)
     }
 
-    /// Whether an agent at a passable cell with so many stops behind it at k is at an end.
+    /// Whether an agent at a passable cell with the given number of stops behind it at k is at an end.
     pub fn is_end(&self, leg: usize, cell: Cell, k: u64) -> bool
         requires errand { IsProblem (problem self.now) }
         requires inside { IsPassable self.now.grid.now cell }

@@ -44,9 +44,8 @@ fn lent<'a>(grid: &Grid, stops: &[Cell], kept: &'a [Field]) -> [Option<&'a Field
     fields
 }
 
-/// A lawful path from loc through the stops, with the least last index of all; it makes the field
-/// of each stop. `NoPath` exactly where no path delivers, however long; else `NoMemory` where
-/// memory ran out.
+/// A lawful path from loc through the stops, with the least last index; it makes the field
+/// of each stop. `NoPath` exactly if no path delivers, however long; `NoMemory` if memory ran out.
 pub fn deliver<'x>(
     alloc: Global,
     grid: &'x Grid,

@@ -24,7 +24,7 @@ use wh_search::Fault;
 use wh_search::errand::arrive;
 use wh_search::guide::{Guide, onward_of};
 
-/// A least path, or none where there is no delivery; and what was expanded.
+/// A shortest path, or none where there is no delivery; and what was expanded.
 fn find<'x>(
     alloc: Global,
     grid: &'x Grid,
@@ -69,9 +69,8 @@ fn find<'x>(
     search(alloc, &errand, expanded)
 }
 
-/// A lawful path from loc through the stops, with the least last index of all. The fields that are
-/// there guide the search. `NoPath` exactly where no path delivers, however long; else `NoMemory`
-/// where memory ran out.
+/// A lawful path from loc through the stops, with the least last index. The fields that are
+/// there guide the search. `NoPath` exactly if no path delivers, however long; `NoMemory` if memory ran out.
 pub fn deliver_guided<'x>(
     alloc: Global,
     grid: &'x Grid,
@@ -98,9 +97,9 @@ pub fn deliver_guided<'x>(
 
 /// How many arrivals, each of a cell, a time, a number of stops behind and a time up to which it
 /// may wait, have their successors made by `deliver_guided` on these arguments; or its fault.
-/// They are those of a best-first search: each can be reached and may, by the fields, lead to a
-/// least path, and for all that may lead to a shorter one they stand. Of no state at any time do two
-/// stand. They are no fewer than the moves of some least path.
+/// They are those of a best-first search: each can be reached and may, by the fields, lead to a shortest path,
+/// and for all that may lead to a shorter one they stand. Of no state at any time do two
+/// stand. They are no fewer than the moves of some shortest path.
 pub fn guided_steps<'x>(
     alloc: Global,
     grid: &'x Grid,
@@ -125,7 +124,7 @@ pub fn guided_steps<'x>(
     }
 }
 
-/// A least path to one of the allowed cells, or none, by the field of them all; and what was expanded.
+/// A shortest path to one of the allowed cells, or none, by the field of them all; and what was expanded.
 fn find_by<'x>(
     alloc: Global,
     grid: &'x Grid,
@@ -157,7 +156,7 @@ fn find_by<'x>(
     search(alloc, &errand, expanded)
 }
 
-/// A least path to one of the allowed cells, or none; it makes the field of them all.
+/// A shortest path to one of the allowed cells, or none; it makes the field of them all.
 fn find_parking(
     alloc: Global,
     grid: &Grid,
@@ -176,9 +175,8 @@ fn find_parking(
     find_by(alloc, grid, others, loc, allowed, &field, &mut expanded)
 }
 
-/// A lawful path from loc to one of the allowed cells, with the least last index of all; it makes
-/// the field of them all. `NoPath` exactly where no path parks, however long; else `NoMemory` where
-/// memory ran out.
+/// A lawful path from loc to one of the allowed cells, with the least last index; it makes
+/// the field of them all. `NoPath` exactly if no path parks, however long; `NoMemory` if memory ran out.
 pub fn park<'x>(
     alloc: Global,
     grid: &'x Grid,

@@ -7,7 +7,7 @@ ghost use Rattle.wh_intervals.specs.Nodes.{interval_of};
 use crate::node::Node;
 use wh_grid::Cell;
 
-/// An agent with so many stops behind it may wait at a cell up to a time. All arrivals there between
+/// An agent with a number of stops behind it may wait at a cell up to a time. All arrivals there between
 /// two visits of others are in one interval, since somebody comes just after its end.
 #[derive(Clone, Copy, PartialEq, Eq, Hash)]
 pub struct Interval {
@@ -16,7 +16,7 @@ pub struct Interval {
     pub until: u32,
 }
 
-/// That of a node.
+/// The interval of a node.
 pub fn interval_of(node: Node) -> Interval
     ensures { result ≡ interval_of node }
 {

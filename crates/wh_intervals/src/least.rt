@@ -16,7 +16,7 @@ use wh_path::TimedPath;
 use wh_search::errand::Errand as Task;
 use wh_search::{SearchMemory, find_straight};
 
-/// A least tour, or none where there is no tour, by a search over intervals. Each tour has more steps than are estimated
+/// A shortest tour, or none where there is no tour, by a search over intervals. Each tour has more steps than are estimated
 /// at the start, as is known once the straight pass has found none.
 pub fn over_intervals(alloc: Global, errand: &Task) -> Result<Option<TimedPath>, AllocError>
     requires errand { IsErrand errand.now }
@@ -42,7 +42,7 @@ pub fn over_intervals(alloc: Global, errand: &Task) -> Result<Option<TimedPath>,
     search(alloc, &task, &mut expanded)
 }
 
-/// A least tour, or none where there is no tour. It looks first for one of no more steps than are estimated at the start.
+/// A shortest tour, or none where there is no tour. It looks first for one of no more steps than are estimated at the start.
 pub fn find_least(
     alloc: Global,
     memory: &mut SearchMemory,

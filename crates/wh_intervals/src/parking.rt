@@ -18,7 +18,7 @@ use wh_search::errand::Errand;
 use wh_search::guide::Guide;
 use wh_search::{Fault, SearchMemory};
 
-/// A least path to one of the allowed cells, or none.
+/// A shortest path to one of the allowed cells, or none.
 fn find_nearest<'x>(
     alloc: Global,
     memory: &mut SearchMemory,
@@ -52,9 +52,9 @@ fn find_nearest<'x>(
     find_least(alloc, memory, &errand)
 }
 
-/// A lawful path from loc to one of the allowed cells, with the least last index of all; it makes the field of them all,
-/// in memory that is kept from one search to the next. `NoPath` exactly where no path parks, however long; else
-/// `NoMemory` where memory ran out.
+/// A lawful path from loc to one of the allowed cells, with the least last index; it makes the field of them all,
+/// in memory that is kept from one search to the next. `NoPath` exactly if no path parks, however long; `NoMemory` if
+/// memory ran out.
 pub fn park_in<'x>(
     alloc: Global,
     memory: &mut SearchMemory,

@@ -41,7 +41,7 @@ impl Queue {
         }
     }
 
-    /// Adds a node that waits with a bound, where so many steps are left from a time on.
+    /// Adds a node that waits with a bound, with the given number of steps left from a time on.
     pub fn push(&mut self, bound: u64, left: u64, time: u32, node: usize) -> Result<(), AllocError>
         ensures { OnOk result (Pushes self.old self.new bound node) }
     {

@@ -1,4 +1,4 @@
-//! The search, guided by an estimate, for a least lawful path.
+//! The search, guided by an estimate, for a shortest lawful path.
 #![tactic(auto)]
 
 ghost use Rattle.std.specs.Prelude.{◌≡◌, ℕ, ◌+◌, ◌<◌, ◌≤◌, ◌^◌, List, OnOk, IfOk, IfSome, MatchOption, Option, Some, None, length, vec_len};
@@ -54,7 +54,7 @@ fn take(
     Ok(())
 }
 
-/// A least tour, or none where there is no tour; and what was expanded, whatever was there before.
+/// A shortest tour, or none where there is no tour; and what was expanded, whatever was there before.
 pub fn search(
     alloc: Global,
     errand: &Errand,

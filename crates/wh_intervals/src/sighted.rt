@@ -60,7 +60,7 @@ pub fn sighted_errand<'x>(
     }
 }
 
-/// A least path, or none where there is no delivery.
+/// A shortest path, or none where there is no delivery.
 fn find_sighted<'x>(
     alloc: Global,
     memory: &mut SearchMemory,
@@ -111,9 +111,9 @@ pub fn deliver_over<'x>(
     }
 }
 
-/// A lawful path from loc through the stops, with the least last index of all, guided by fields that are filled up to a
+/// A lawful path from loc through the stops, with the least last index, guided by fields that are filled up to a
 /// level; in memory that is kept from one search to the next. A level may make the search longer, never the path.
-/// `NoPath` exactly where no path delivers, however long; else `NoMemory` where memory ran out.
+/// `NoPath` exactly if no path delivers, however long; `NoMemory` if memory ran out.
 pub fn deliver_sighted<'x>(
     alloc: Global,
     memory: &mut SearchMemory,

@@ -115,7 +115,7 @@ module _ {X : Type 0} (fits : X → Floor → Bool) (count : X → ℕ) (text : 
     added_are = entries_more old.history mid.history new.history d e s.added_are t.added_are;
   }
 
-  -- one line, of which a front is kept
+  -- one line, of which only a front is kept
   pub serves_line : (before after : Input) (kept : List ℕ) (old : Seen) (spares : List X) (new : Seen) (rest : List X) (replies : List (List ℕ)) (g : Gathered Whole before after kept)
       (gives : Gives fits count (asked (said (short_line kept))) (answers text (said (short_line kept))) old spares new rest replies)
       → ServesLines fits count text old spares new rest (g.raw ++ 10 ∷ []) replies (entries_of gives.outcomes)

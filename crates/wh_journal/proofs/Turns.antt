@@ -3,8 +3,8 @@ use Rattle.std.proofs.Common.{◌≡◌, ◌≤◌, ◌+◌, inl, inr, arith, �
 use Rattle.std.specs.Option.{option_to_list}
 use Rattle.std.specs.Io.KnownBytes.{Keeps}
 use Rattle.std.proofs.KnownBytes.{Keeps-refl, Keeps-trans, Consumes-nil, Consumes-trans}
-use Rattle.wh_text.specs.Lines.{lines_of}
-use Rattle.wh_lines.specs.Text.{IsPlain, short_line}
+use Rattle.wh_text.specs.Lines.{lines_of, IsLine}
+use Rattle.wh_lines.specs.Text.{short_line}
 use Rattle.wh_lines.specs.Input.{Input, left, Takes, Gathered, Taken}
 use Rattle.wh_lines.specs.declared.lines.Next.TheVariants.{Whole, Last, End}
 use Rattle.wh_lines.specs.declared.next.LineFault.{LineFault}
@@ -166,7 +166,7 @@ module _ {X : Type 0} (fits : X → Floor → Bool) (count : X → ℕ) (text : 
       replies_are = st.replies_are;
     }
 
-    pub gathering_done : (more : ℕ) → turns ≡ more + 1 → IsPlain now.waiting → Gathers fits count text Served before now old spares new rest answers
+    pub gathering_done : (more : ℕ) → turns ≡ more + 1 → IsLine now.waiting → Gathers fits count text Served before now old spares new rest answers
     gathering_done more some plain = record {
       read = st.read;
       begun = [];

@@ -13,7 +13,7 @@ fault_of (Read reads.Broken) = Broken
 fault_of (Read reads.Endless) = Endless
 fault_of Flush = Unwritten
 
--- The journal is told to have failed only where a call of it did; and too many reads only where so many were made, or where
+-- The journal is told to have failed only where a call of it did; and too many reads only where that many were made, or where
 -- more lines were served than can be counted.
 abbrev pub HasCause : JournaledFault → Input → Bool → ℕ → Type 0
 HasCause Broken after failed lines = Unit {0}

@@ -1,8 +1,7 @@
 -- lines that were served, and what they were answered
 use Rattle.std.specs.Prelude.{◌≡◌, ℕ, ◌≤◌, Bool, false, List, [], ◌++◌, length}
 use Rattle.std.specs.Io.KnownBytes.{IsAtEnd}
-use Rattle.wh_text.specs.Lines.{lines_of}
-use Rattle.wh_lines.specs.Text.{IsPlain}
+use Rattle.wh_text.specs.Lines.{lines_of, IsLine}
 use Rattle.wh_lines.specs.Input.{Input, left, Takes}
 use Rattle.wh_grid.specs.Grids.{Floor}
 use Rattle.wh_token.specs.Drafts.{Seen}
@@ -19,8 +18,8 @@ use Rattle.wh_journal.specs.declared.gathering.Part.TheVariants.{Full, Served, E
 -- what ended it
 abbrev pub EndsBy : Part → Input → List ℕ → List ℕ → Type 0
 EndsBy Full after read begun = (begun ≡ []) × (1 ≤ length (lines_of read))
-EndsBy Served after read begun = (begun ≡ []) × (1 ≤ length (lines_of read)) × IsPlain after.waiting
-EndsBy Ended after read begun = IsPlain begun × IsAtEnd (left after)
+EndsBy Served after read begun = (begun ≡ []) × (1 ≤ length (lines_of read)) × IsLine after.waiting
+EndsBy Ended after read begun = IsLine begun × IsAtEnd (left after)
 
 -- lines were served, and what they were answered was gathered
 pub record Gathers {X : Type 0} (fits : X → Floor → Bool) (count : X → ℕ) (text : Answered → List ℕ) (part : Part) (before after : Input) (old : Seen) (spares : List X) (new : Seen) (rest : List X)

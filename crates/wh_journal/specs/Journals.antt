@@ -1,9 +1,9 @@
 -- what is served, what stands in the journal, and what is told
 use Rattle.std.specs.Prelude.{◌≡◌, ℕ, ◌+◌, ◌≤◌, Bool, true, List, ◌++◌, map, length, Option}
 use Rattle.std.specs.Io.KnownBytes.{Appends, Keeps, IsAtEnd}
-use Rattle.wh_text.specs.Lines.{lines_of}
+use Rattle.wh_text.specs.Lines.{lines_of, IsLine}
 use Rattle.wh_words.specs.Lines.{text_of as lines_text}
-use Rattle.wh_lines.specs.Text.{EndsLine, IsPlain}
+use Rattle.wh_lines.specs.Text.{EndsLine}
 use Rattle.wh_lines.specs.Input.{Input, left, Takes}
 use Rattle.wh_grid.specs.Grids.{Floor}
 use Rattle.wh_token.specs.Drafts.{Seen}
@@ -23,7 +23,7 @@ abbrev pub lines_for : List Entry → List ℕ
 lines_for entries = lines_text (map entry_line entries)
 
 -- These bytes are whole lines, and were served: these are the replies to them, and by these entries, theirs, the history
--- has grown. Fits and count say what a planner answers; text, here and below, what a reply is told as.
+-- has grown. Fits and count say what a planner returns; text, here and below, what a reply is told as.
 pub record ServesLines {X : Type 0} (fits : X → Floor → Bool) (count : X → ℕ) (text : Answered → List ℕ) (old : Seen) (spares : List X) (new : Seen) (rest : List X)
     (read : List ℕ) (replies : List (List ℕ)) (added : List Entry) : Type 0 where
   pub whole : EndsLine read
@@ -37,7 +37,7 @@ pub record ServesRound {X : Type 0} (fits : X → Floor → Bool) (count : X →
   pub read : List ℕ
   pub takes : Takes before after read
   pub some : 1 ≤ length (lines_of read)
-  pub none_waits : IsPlain after.waiting
+  pub none_waits : IsLine after.waiting
   pub replies : List (List ℕ)
   pub added : List Entry
   pub serves : ServesLines fits count text old spares new rest read replies added
@@ -52,7 +52,7 @@ pub record ReplaysJournaled {X : Type 0} (fits : X → Floor → Bool) (count : 
   pub read : List ℕ
   pub begun : List ℕ
   pub takes : Takes before after (read ++ begun)
-  pub plain : IsPlain begun
+  pub plain : IsLine begun
   pub ended : IsAtEnd (left after)
   pub replies : List (List ℕ)
   pub added : List Entry

@@ -1,4 +1,4 @@
-//! Answers a line. What is to be told of it stands in the history, but for one small value.
+//! Answers a line. Its reply is in the history, except for one small value.
 #![tactic(auto)]
 
 ghost use Rattle.std.specs.Prelude.{◌≡◌, ◌<◌, ◌≤◌, ◌++◌, ◌^◌, List, ℕ, Ok, Some, length};
@@ -13,15 +13,13 @@ use arrayvec::ArrayVec;
 use std::alloc::Global;
 use wh_event::{Command, LineFault};
 use wh_lines::CommandLine;
+use wh_log::MOST_ENTRIES;
 use wh_planner::Planner;
 use wh_replay::read_kept;
 use wh_token::Warehouse;
 
 /// The caller of each event of a script.
 const CALLER: u32 = 0;
-
-/// The numbers of a log have at most nine digits, so with one more entry a journal would be no log.
-const MOST_ENTRIES: usize = 999_999_999;
 
 /// One read gives no more lines that are answered: it gives at most 65,536 bytes, and of these a line that began before it has
 /// at least one, and each other line that is answered at least two.
@@ -32,7 +30,7 @@ pub(crate) const MOST_ANSWERS: usize = 32_768;
 pub(crate) enum Answer {
     /// What the next entry of the history says.
     Entry,
-    /// E90: its command has no entry, since memory was wanting, or the log has no number for one.
+    /// E90: its command has no entry, since memory ran out, or the log has no number for one.
     NoEntry,
     /// C1: it is no command.
     NoCommand,
@@ -83,7 +81,7 @@ fn run<P: Planner>(
     }
 }
 
-/// Answers a line, of which a front is kept; one that is skipped is answered nothing. The command is a room for what it asks.
+/// Answers a line, of which only a front is kept; one that is skipped gets no reply. The command is a room for what it asks.
 pub(crate) fn answer_line<P: Planner>(
     line: &CommandLine,
     command: &mut Command,

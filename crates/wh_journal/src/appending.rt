@@ -16,7 +16,7 @@ use wh_event::{Entry, Reply};
 use wh_log::{cell_piece, entry_head, path_of};
 use wh_path::TimedPath;
 
-/// So many bytes wait at most before the journal is called.
+/// At most this many bytes wait before the journal is called.
 const ROOM: usize = 4_096;
 
 /// Bytes that wait to be appended.
@@ -39,7 +39,7 @@ fn append_waiting<J: Journal>(journal: &mut J, waiting: &mut Waiting) -> Result<
     }
 }
 
-/// Sees to room for so many bytes.
+/// Makes room for the given number of bytes.
 fn make_room<J: Journal>(
     journal: &mut J,
     waiting: &mut Waiting,

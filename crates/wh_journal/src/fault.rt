@@ -6,7 +6,7 @@ ghost use Rattle.wh_journal.specs.Faults.{fault_of};
 
 use wh_lines::{LineFault, ReadFault};
 
-/// Why a script was not served to its end. Want of memory is none of these: it never ends a script, and a command that it
+/// Why a script was not served to its end. Lack of memory is none of these: it never ends a script, and a command that it
 /// refuses is answered.
 #[derive(Clone, Copy, Debug, PartialEq, Eq)]
 pub enum JournaledFault {

@@ -12,15 +12,15 @@ use std::fs::{File, Files, OpenOptions};
 use std::io;
 use std::io::{ErrorKind, Read, Seek, SeekFrom};
 use std::path::Path;
-use wh_log::{Source, SourceFault};
+use wh_log::{PIECE, Source, SourceFault};
 use wh_replay::write_all;
 
-/// A file that is open and locked. What is appended goes behind its last byte.
+/// A file that is open and locked. What is appended goes after its last byte.
 #[derive(Drop)]
 struct OpenLog {
     file: File,
     length: u64,
-    /// So many bytes of it were synced.
+    /// How many bytes of it were synced.
     safe: u64,
     /// Whether it was cut: before that nothing is appended.
     is_cut: bool,
@@ -34,7 +34,7 @@ enum Standing {
     Found(OpenLog),
 }
 
-/// A journal in the file at a path. Of a file's bytes no contract can say anything.
+/// A journal in the file at a path. No contract can say anything of a file's bytes.
 ///
 /// `text`, or the first piece that is read, opens what stands there, never empties it, and locks it before a byte is read; one that
 /// another has locked, or that is no regular file, is `Unread`, and is left as it is. Where nothing stands, nothing is made, and the
@@ -44,7 +44,7 @@ enum Standing {
 ///
 /// After a sync that failed, a later one may succeed although bytes were lost, so from the first fault on each call fails and
 /// no byte is written. On the first fault of `append` or `sync` the file is set back to its length at the last sync, where
-/// that can be done: it then holds what was synced, and nothing behind it. That may be less than a journal that tells its
+/// that can be done: it then holds what was synced, and nothing more. That may be less than a journal that tells its
 /// bytes says it holds then, and is no less than was synced.
 #[derive(Drop)]
 pub struct FileJournal<'a, R> {
@@ -72,11 +72,11 @@ fn open_standing<R: Files<File = File>>(files: &R, path: Path<'_>) -> io::Result
     }
 }
 
-/// Adds to a buffer a piece of what stands in a file behind the first so many bytes.
+/// Adds to a buffer a piece of a file's bytes after the first `place`.
 fn read_piece(file: &mut File, place: u64, buffer: &mut Vec<u8>) -> io::Result<()>
     ensures { OnOk result (AddsPiece None place buffer.old.items buffer.new.items) }
 {
-    let mut room = [0; 65_536];
+    let mut room = [0; PIECE];
     file.seek(SeekFrom::Start(place))?;
     let count = read_again(file, &mut room)?;
     buffer.extend_from_slice(&room[..count])?;
@@ -124,7 +124,7 @@ fn make<R: Files<File = File>>(files: &R, path: Path<'_>) -> io::Result<File> {
     }
 }
 
-/// Syncs the folder that a path names, so that the file's name outlives a cut of the power.
+/// Syncs the folder that a path names, so that the file's name survives a power cut.
 fn sync_folder<R: Files<File = File>>(files: &R, path: Path<'_>) -> io::Result<()> {
     let folder = match path.parent() {
         Some(folder) if !folder.as_os_str().is_empty() => folder,
@@ -168,7 +168,7 @@ impl OpenLog {
         Ok(())
     }
 
-    /// Writes bytes behind the first so many.
+    /// Writes bytes at a place, the number of bytes before them.
     fn write_at(&mut self, place: u64, bytes: &[u8]) -> io::Result<()> {
         self.file.seek(SeekFrom::Start(place))?;
         match write_all(&mut self.file, bytes) {
@@ -238,7 +238,7 @@ impl<'a, R> FileJournal<'a, R> {
 }
 
 impl<'a, R: Files<File = File>> FileJournal<'a, R> {
-    /// Reads what stands at the path, as it was opened before or anew.
+    /// Reads what stands at the path, whether it was opened before or not.
     fn read(&mut self, alloc: Global) -> io::Result<Vec<u8>>
         ensures { self.new.has_failed ≡ self.old.has_failed }
     {

@@ -1,9 +1,9 @@
-//! Serves the lines that wait, and gathers what they were answered.
+//! Serves the lines that wait, and gathers their replies.
 #![tactic(auto)]
 
 ghost use Rattle.std.specs.Prelude.{◌≡◌, ◌<◌, ◌^◌, ℕ, List, [], true, false, length, IfOk, IfErr};
 ghost use Rattle.std.specs.Io.KnownBytes.{Keeps};
-ghost use Rattle.wh_text.specs.Lines.{is_line_feed, HasNone};
+ghost use Rattle.wh_text.specs.Lines.{IsLine};
 ghost use Rattle.wh_log.specs.Told.{Answered};
 ghost use Rattle.wh_journal.specs.Gathering.{Gathers, GathersUntil};
 
@@ -30,12 +30,12 @@ pub(crate) enum Part {
 
 /// Whether a whole line stands in the bytes.
 fn has_line(bytes: &[u8]) -> bool
-    ensures { result ≡ false → HasNone is_line_feed bytes.now }
+    ensures { result ≡ false → IsLine bytes.now }
 {
     whole_line(bytes).is_some()
 }
 
-/// Serves the next line, for which it may wait, and then each whole line that waits behind it, while there is room for what
+/// Serves the next line, for which it may wait, and then each further whole line that waits, while there is room for what
 /// they are answered. That is gathered.
 pub(crate) fn gather<R: Read, W: Write, P: Planner>(
     lines: &mut Lines<R>,

@@ -17,13 +17,13 @@ use wh_log::Form;
 use wh_planner::Planner;
 use wh_token::Warehouse;
 
-/// Serves the script that is left in the reader, to the reader's end, as `wh_replay::replay` does, but that what follows the
-/// last line feed is no line: a command that was cut is not served. It has the journal keep each entry before its reply is
+/// Serves the script that is left in the reader, to the reader's end, as `wh_replay::replay` does, except that what follows
+/// the last line feed is not a line: a command that was cut is not served. It has the journal keep each entry before its reply is
 /// told: in rounds, before each read that may wait and at the end, the lines of all new entries are appended and synced, and
 /// then the replies are written, both from the history and without memory. A fault of the journal stops it, and then no reply
 /// is told whose entry does not stand in the journal.
 ///
-/// Want of memory stops nothing, and is no fault: a command that it refuses is answered `refused E90`, has no entry, and has
+/// Lack of memory stops nothing, and is no fault: a command that it refuses is answered `refused E90`, has no entry, and has
 /// changed nothing. So is one that would be entry number 1,000,000,000, for which a log has no number.
 pub fn replay_journaled<R: Read, W: Write, J: Journal, P: Planner>(
     lines: &mut Lines<R>,
@@ -35,7 +35,7 @@ pub fn replay_journaled<R: Read, W: Write, J: Journal, P: Planner>(
     spares: &mut Vec<P>,
 ) -> Result<(), JournaledFault>
     requires synced { J.synced journal.old ≡ J.contents journal.old }
-    // A journal that tells its bytes is the book's log, but for the end line.
+    // A journal that tells its bytes is the book's log, except for the end line.
     requires log { HoldsLog (J.contents journal.old) warehouse.old.book }
     ensures ok { OnOk result (ReplaysJournaled P.fits_map P.slot_count (told_text form) lines.old lines.new warehouse.old.book spares.old.items warehouse.new.book spares.new.items (W.contents writer.old) (W.contents writer.new) (J.contents journal.old) (J.synced journal.new) (J.contents journal.new)) }
     // It stays so.

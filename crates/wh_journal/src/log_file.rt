@@ -13,13 +13,13 @@ use wh_log::Source;
 pub enum LogFileFault {
     /// It cannot be read, is no file of bytes, or another has it.
     Unread,
-    /// Memory was wanting.
+    /// Out of memory.
     NoMemory,
 }
 
-/// A journal whose bytes were kept before, by another life of the program. A start takes these steps in their order: `text`, or
+/// A journal whose bytes were kept before, by an earlier process. A start takes these steps in their order: `text`, or
 /// the pieces of `Source`; others judge what was read, and where it is refused nothing has changed; `put`, where a byte of it is
-/// to be another; `cut`, also where nothing is cut off, since the life before may not have synced; and then the calls of `Journal`.
+/// to be another; `cut`, also where nothing is cut off, since the earlier process may not have synced; and then the calls of `Journal`.
 pub trait LogFile: Journal + Source {
     /// All bytes that it holds. Nothing changes. One that was not made yet holds none.
     fn text(&mut self, alloc: Global) -> Result<Vec<u8>, LogFileFault>
@@ -28,7 +28,7 @@ pub trait LogFile: Journal + Source {
         ensures synced { Self.synced self.new ≡ Self.synced self.old }
         ensures failed { Self.failed self.new ≡ Self.failed self.old };
 
-    /// From now on this byte stands at a place, in place of the one that stood there, and all that it holds outlives a kill. On
+    /// From now on this byte stands at a place, instead of the one there, and all that it holds survives a kill. On
     /// a fault it may stand there or not: with one byte there is nothing between.
     fn put(&mut self, place: usize, byte: u8) -> Result<(), JournalFault>
         ensures ok { OnOk result (Self.contents self.new ≡ with_byte place byte (Self.contents self.old)) }
@@ -39,7 +39,7 @@ pub trait LogFile: Journal + Source {
         ensures failed { OnErr result (Self.failed self.new ≡ true) }
         ensures again { Self.failed self.old ≡ true → IsErr result × (Self.contents self.new ≡ Self.contents self.old) };
 
-    /// From now on it holds the first so many bytes of what it held, which outlive a kill, and what is appended stands behind
+    /// From now on it holds the first `bytes` bytes of what it held, which survive a kill, and what is appended comes after
     /// them. On a fault it may be cut or not.
     fn cut(&mut self, bytes: usize) -> Result<(), JournalFault>
         ensures ok { OnOk result (Self.contents self.new ≡ front_of bytes (Self.contents self.old)) }

@@ -1,4 +1,4 @@
-//! Tells what lines were answered, from the history. It takes no memory.
+//! Writes the replies to lines, from the history. It takes no memory.
 #![tactic(auto)]
 
 ghost use Rattle.std.specs.Prelude.{◌≡◌, ◌≤◌, ◌∷◌, List, drop, length, IfOk, OnOk, OnErr};
@@ -18,7 +18,7 @@ use wh_lines::WriteFault;
 use wh_log::{Form, tell};
 use wh_replay::write_all;
 
-/// The clock behind an entry, by its reply and the clock before it.
+/// The clock after an entry, by its reply and the clock before it.
 fn clock_after(clock: u32, reply: &Reply) -> u32
     ensures { result ≡ replies.clock_after clock reply.now }
 {
@@ -49,7 +49,7 @@ fn tell_entry<W: Write>(
     }
 }
 
-/// How far the entries of a history were told, and the clock behind them.
+/// How far the entries of a history were told, and the clock after them.
 #[derive(Clone, Copy)]
 struct Told {
     next: usize,

@@ -92,9 +92,9 @@ fn serve_parts<R: Read, W: Write, J: Journal, P: Planner>(
     Err(JournaledFault::Endless)
 }
 
-/// Serves the next line of a script, for which it may wait, and each whole line that waits behind it, has the journal keep
-/// the entries, and then tells the replies. So all is settled when the next line may have to be waited for. Of what it does
-/// only a command can want memory, and is answered so; whatever was served is kept and told without any.
+/// Serves the next line of a script, for which it may wait, and each further whole line that waits, has the journal keep
+/// the entries, and then tells the replies. So all is settled when the next line may have to be waited for. Only a command
+/// can run out of memory, and is answered so; whatever was served is kept and told without any.
 pub fn serve_round<R: Read, W: Write, J: Journal, P: Planner>(
     lines: &mut Lines<R>,
     alloc: Global,

@@ -6,3 +6,8 @@ pub mod Reachable
 pub mod Reaching
 pub mod Quiet
 pub mod Steps
+pub mod Telling
+pub mod Paths
+pub mod Replies
+pub mod Histories
+pub mod Verdicts

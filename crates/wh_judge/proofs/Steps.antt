@@ -1,21 +1,12 @@
 -- a path is free of others exactly where each of its steps is clear of them and they stay away from its end
-use Rattle.std.proofs.Common.{◌≡◌, ◌≢◌, ℕ, ◌+◌, ◌-◌, ◌<◌, ◌≤◌, ◌∙◌, ◌⊎◌, inl, inr, Bool, true, List, All, get_or, sym, ap, arith}
-use Rattle.std.proofs.lemmas.Bool.{cases_lt, cases_eq}
+use Rattle.std.proofs.Common.{◌≡◌, ◌≢◌, ℕ, ◌+◌, ◌-◌, ◌<◌, ◌≤◌, ◌∙◌, inl, inr, Bool, List, All, get_or, sym, arith}
+use Rattle.std.proofs.lemmas.Bool.{cases_lt}
 use Rattle.wh_grid.specs.declared.cell.Cell.{Cell}
+use Rattle.wh_grid.proofs.Pigeons.{cell_cases}
 use Rattle.wh_path.specs.Paths.{at, end, last_index, IsFree}
 use Rattle.wh_path.proofs.AtLemmas.{at-rests}
 use Rattle.wh_resv.specs.Calls.{IsVacant}
 use Rattle.wh_resv.specs.Others.{Others, IsClearStep, StaysAway, MayStep, MayRest}
-
--- two cells are one or not
-same_or_not : (c d : Cell) → (c ≡ d) ⊎ (c ≢ d)
-same_or_not c d = elim (cases_eq c.x d.x) [
-  | inl e ↦ elim (cases_eq c.y d.y) [
-    | inl f ↦ inl (λ i. record { x = e i; y = f i })
-    | inr ne ↦ inr (λ same. ne (ap (λ (b : Cell). b.y) same))
-  ]
-  | inr ne ↦ inr (λ same. ne (ap (λ (b : Cell). b.x) same))
-]
 
 module _ (nofollow : Bool) (p q : List Cell) where
   pub free_step : IsFree nofollow p q → (k : ℕ) → IsClearStep nofollow q (at p k) (at p (k + 1)) k
@@ -42,7 +33,7 @@ module _ (nofollow : Bool) (p q : List Cell) where
           | inl b ↦ (steps k b).no_swap (sym swap.1) (sym swap.0)
           | inr late ↦ away.away (k + 1) (omega arith) (sym swap.0 ∙ rests k late)
         ];
-        no_follow = λ rule k follow. elim (same_or_not (at p k) (at p (k + 1))) [
+        no_follow = λ rule k follow. elim (cell_cases (at p k) (at p (k + 1))) [
           | inl same ↦ elim follow [ inl ahead ↦ apart k (same ∙ ahead) | inr behind ↦ apart (k + 1) (sym same ∙ sym behind) ]
           | inr ne ↦ elim (cases_lt k (last_index p)) [
             | inl b ↦ (let clear = (steps k b).no_follow rule ne in elim follow [ inl ahead ↦ clear.0 (sym ahead) | inr behind ↦ clear.1 behind ])

@@ -5,25 +5,25 @@ ghost use Rattle.std.specs.Prelude.{◌≡◌, ◌≢◌, ◌<◌, ◌≤◌, �
 ghost use Rattle.wh_path.specs.Paths.{place_of, steps_left};
 ghost use Rattle.wh_core.specs.Steps.{IsKnown, IsDue, IsDeliveryCell};
 
-use wh_book::Floor;
+use wh_book::FleetState;
 use wh_grid::Cell;
 
 /// Whether the warehouse is open and has an agent of this number.
-pub fn is_known(floor: &Floor, agent: u32) -> bool
+pub fn is_known(floor: &FleetState, agent: u32) -> bool
     ensures { IsTrue result ↔ IsKnown floor.now.state agent }
 {
     !floor.closed() && (agent as usize) < floor.paths().len()
 }
 
 /// Whether the warehouse is open and has no agent of this number.
-pub fn is_stranger(floor: &Floor, agent: u32) -> bool
+pub fn is_stranger(floor: &FleetState, agent: u32) -> bool
     ensures { IsTrue result ↔ ((floor.now.state.closed ≡ false) × (length floor.now.state.paths ≤ agent)) }
 {
     !floor.closed() && floor.paths().len() <= agent as usize
 }
 
 /// Whether the agent may be given something to do.
-pub fn is_due(floor: &Floor, agent: u32) -> bool
+pub fn is_due(floor: &FleetState, agent: u32) -> bool
     ensures { IsTrue result ↔ IsDue floor.now.state agent }
 {
     if !is_known(floor, agent) {
@@ -33,7 +33,7 @@ pub fn is_due(floor: &Floor, agent: u32) -> bool
 }
 
 /// Whether the agent has just `left` steps left, and not none.
-pub fn is_moving(floor: &Floor, agent: u32, left: u64) -> bool
+pub fn is_moving(floor: &FleetState, agent: u32, left: u64) -> bool
     ensures { IsTrue result ↔ (IsKnown floor.now.state agent × (left ≡ steps_left floor.now.state.paths agent) × (left ≢ 0)) }
 {
     if !is_known(floor, agent) {
@@ -43,7 +43,7 @@ pub fn is_moving(floor: &Floor, agent: u32, left: u64) -> bool
 }
 
 /// Where the agent is.
-pub fn place(floor: &Floor, agent: u32) -> Cell
+pub fn place(floor: &FleetState, agent: u32) -> Cell
     requires { agent < length floor.now.state.paths }
     ensures { result ≡ place_of floor.now.state.paths agent }
 {
@@ -51,7 +51,7 @@ pub fn place(floor: &Floor, agent: u32) -> Cell
 }
 
 /// Whether at the agent's cell an open task is to be delivered.
-pub fn is_in_the_way(floor: &Floor, agent: u32) -> bool
+pub fn is_in_the_way(floor: &FleetState, agent: u32) -> bool
     requires { agent < length floor.now.state.paths }
     ensures { IsTrue result ↔ IsDeliveryCell floor.now.state (place_of floor.now.state.paths agent) }
 {

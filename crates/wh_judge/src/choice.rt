@@ -7,11 +7,16 @@ ghost use Rattle.wh_core.specs.Steps.{IsNext, NoneIsNext};
 ghost use Rattle.wh_judge.specs.Judged.{IsChoice};
 
 use crate::instance::Instance;
-use wh_book::{Floor, nearest};
+use wh_book::{FleetState, nearest};
 use wh_field::LazyField;
 
 /// The task that the agent takes, if there is one. The field is filled no further than to the nearest task.
-pub fn next(instance: &Instance, floor: &Floor, near: &mut LazyField, agent: u32) -> Option<u32>
+pub fn next(
+    instance: &Instance,
+    floor: &FleetState,
+    near: &mut LazyField,
+    agent: u32,
+) -> Option<u32>
     requires known { agent < length floor.now.state.paths }
     requires grid { near.old.grid ≡ instance.now.grid }
     ensures choice { IsChoice instance.now floor.now.state agent result }
@@ -22,7 +27,13 @@ pub fn next(instance: &Instance, floor: &Floor, near: &mut LazyField, agent: u32
 }
 
 /// Whether it is the task of this number that the agent takes.
-pub fn is_next(instance: &Instance, floor: &Floor, near: &mut LazyField, agent: u32, n: u32) -> bool
+pub fn is_next(
+    instance: &Instance,
+    floor: &FleetState,
+    near: &mut LazyField,
+    agent: u32,
+    n: u32,
+) -> bool
     requires known { agent < length floor.now.state.paths }
     requires grid { near.old.grid ≡ instance.now.grid }
     ensures is { IsTrue result ↔ ((task : Job) × IsNext instance.now floor.now.state agent n task) }
@@ -35,7 +46,12 @@ pub fn is_next(instance: &Instance, floor: &Floor, near: &mut LazyField, agent: 
 }
 
 /// Whether there is no task for the agent.
-pub fn none_is_next(instance: &Instance, floor: &Floor, near: &mut LazyField, agent: u32) -> bool
+pub fn none_is_next(
+    instance: &Instance,
+    floor: &FleetState,
+    near: &mut LazyField,
+    agent: u32,
+) -> bool
     requires known { agent < length floor.now.state.paths }
     requires grid { near.old.grid ≡ instance.now.grid }
     ensures none { IsTrue result ↔ NoneIsNext floor.now.state agent }

@@ -2,14 +2,12 @@
 #![tactic(auto)]
 
 ghost use Rattle.std.specs.Prelude.{◌≡◌, ℕ, ◌+◌, ◌<◌, ◌≤◌, ◌^◌, ◌↔◌, ⊤, IsTrue, length, All};
-ghost use Rattle.wh_grid.specs.Grids.{IsMove};
 ghost use Rattle.wh_path.specs.Paths.{at, others, IsWalk, IsFree};
 ghost use Rattle.wh_planner.specs.Duties.{Delivers, IsLawful};
 ghost use Rattle.wh_judge.specs.Courses.{GoesPast};
 
 use wh_grid::{Cell, Grid};
-use wh_path::{TimedPath, conflict};
-use wh_planner::last_to_rest;
+use wh_path::{TimedPath, conflict, last_to_rest};
 use wh_resv::Reservations;
 use wh_timetable::Timetable;
 
@@ -38,21 +36,12 @@ fn goes_through(path: &TimedPath, stops: &[Cell]) -> bool
     visited == stops.len() && path.end().is(stops[stops.len() - 1])
 }
 
-/// Whether an agent may be at the one cell and at the next time at the other.
-fn is_move(from: Cell, to: Cell) -> bool
-    ensures { IsTrue result ↔ IsMove from to }
-{
-    from.is(to)
-        || from.y == to.y && (from.x as u32 + 1 == to.x as u32 || to.x as u32 + 1 == from.x as u32)
-        || from.x == to.x && (from.y as u32 + 1 == to.y as u32 || to.y as u32 + 1 == from.y as u32)
-}
-
 /// Whether the path is a walk on the grid.
 fn walks(grid: &Grid, path: &TimedPath) -> bool
     ensures { IsTrue result ↔ IsWalk grid.now path.now }
 {
     for k in 0..path.remaining() + 1 {
-        if !grid.passable(path.at(k)) || !is_move(path.at(k), path.at(k + 1)) {
+        if !grid.passable(path.at(k)) || !Cell::is_move(path.at(k), path.at(k + 1)) {
             return false;
         }
     }

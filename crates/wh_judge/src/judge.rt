@@ -15,7 +15,7 @@ use crate::rests::quiet_after;
 use crate::submitting::accept;
 use std::alloc::{AllocError, Global};
 use std::marker::Model;
-use wh_book::Floor;
+use wh_book::FleetState;
 use wh_event::{Entry, Event, Reply};
 use wh_field::LazyField;
 use wh_grid::Cell;
@@ -24,7 +24,7 @@ use wh_grid::Cell;
 fn answer(
     alloc: Global,
     instance: &Instance,
-    floor: &mut Floor,
+    floor: &mut FleetState,
     near: &mut LazyField,
     is_quiet: bool,
     event: Event,
@@ -74,7 +74,7 @@ fn answer(
 fn answer_and_note(
     alloc: Global,
     instance: &Instance,
-    floor: &mut Floor,
+    floor: &mut FleetState,
     near: &mut LazyField,
     is_quiet: &mut bool,
     event: Event,
@@ -104,7 +104,7 @@ fn opening(
     instance: &Instance,
     clock: u32,
     slots: Vec<u32>,
-) -> Result<Floor, AllocError>
+) -> Result<FleetState, AllocError>
     requires clock { clock ≤ last_clock }
     requires seats { length slots.items ≡ length instance.now.layout.agents }
     ensures state { IfOk result (λ floor. floor.state ≡ opened instance.now.layout clock slots.items) }
@@ -112,7 +112,7 @@ fn opening(
 {
     let _agents = instance.agents();
     let starts = instance.starts(alloc)?;
-    let floor = Floor::open(alloc, instance.grid(), clock, &starts, slots)?;
+    let floor = FleetState::open(alloc, instance.grid(), clock, &starts, slots)?;
     Ok(floor)
 }
 
@@ -121,7 +121,7 @@ fn opening(
 #[derive(Drop)]
 pub struct Judge<'a> {
     instance: Instance<'a>,
-    floor: Floor,
+    floor: FleetState,
     near: LazyField,
     /// No open task is clear of all ends, as the last rest showed. What may change that takes it back.
     is_quiet: bool,
@@ -140,8 +140,8 @@ impl<'a> Model for Judge<'a> {
 
 impl<'a> Judge<'a> {
     /// The warehouse as it opens, before any entry, at a clock of at most 1,000,000,000, with the slots of each agent's
-    /// planner. The error is out of memory: it takes memory for the state, with two bytes a cell for the paths' ends, and
-    /// twelve bytes a cell for the field.
+    /// planner. Fails when out of memory: it needs memory for the state, with two bytes per cell for the paths' ends, and
+    /// twelve bytes per cell for the field.
     pub fn open(
         alloc: Global,
         instance: Instance<'a>,
@@ -186,7 +186,7 @@ impl<'a> Judge<'a> {
     }
 
     /// The state.
-    pub fn into_floor(self) -> Floor
+    pub fn into_state(self) -> FleetState
         ensures { result.state ≡ self.entry.state }
     {
         let Judge {
@@ -200,7 +200,7 @@ impl<'a> Judge<'a> {
         floor
     }
 
-    /// Whether the entry is a step from the state; if so, it is made. The error is out of memory, where a task or a path is
+    /// Whether the entry is a step from the state; if so, it is made. Fails when out of memory, where a task or a path is
     /// new or it is to be seen that there is no clear way; then the state stays.
     pub fn step(&mut self, alloc: Global, entry: Entry) -> Result<bool, AllocError>
         ensures step { IfOk result (IsStep self.old.site self.old.state entry self.new.state) }

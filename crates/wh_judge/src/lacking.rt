@@ -11,12 +11,12 @@ use crate::choice::{next, none_is_next};
 use crate::instance::Instance;
 use crate::routes::{has_route_to_any, has_routes};
 use std::alloc::{AllocError, Global};
-use wh_book::{Floor, free_points};
+use wh_book::{FleetState, free_points};
 use wh_field::LazyField;
 use wh_planner::other_ends;
 
 /// Whether the agent has nothing to do, and is in nobody's way.
-pub fn may_rest(instance: &Instance, floor: &Floor, near: &mut LazyField, agent: u32) -> bool
+pub fn may_rest(instance: &Instance, floor: &FleetState, near: &mut LazyField, agent: u32) -> bool
     requires known { agent < length floor.now.state.paths }
     requires grid { near.old.grid ≡ instance.now.grid }
     ensures rests { IsTrue result ↔ (NoneIsNext floor.now.state agent × (¬ IsDeliveryCell floor.now.state (place_of floor.now.state.paths agent))) }
@@ -29,7 +29,7 @@ pub fn may_rest(instance: &Instance, floor: &Floor, near: &mut LazyField, agent:
 }
 
 /// Whether the agent has to make way.
-pub fn makes_way(instance: &Instance, floor: &Floor, near: &mut LazyField, agent: u32) -> bool
+pub fn makes_way(instance: &Instance, floor: &FleetState, near: &mut LazyField, agent: u32) -> bool
     requires known { agent < length floor.now.state.paths }
     requires grid { near.old.grid ≡ instance.now.grid }
     ensures way { IsTrue result ↔ MakesWay floor.now.state agent }
@@ -45,7 +45,7 @@ pub fn makes_way(instance: &Instance, floor: &Floor, near: &mut LazyField, agent
 fn lacks_delivery(
     alloc: Global,
     instance: &Instance,
-    floor: &Floor,
+    floor: &FleetState,
     near: &mut LazyField,
     agent: u32,
 ) -> Result<bool, AllocError>
@@ -68,7 +68,7 @@ fn lacks_delivery(
 fn can_park(
     alloc: Global,
     instance: &Instance,
-    floor: &Floor,
+    floor: &FleetState,
     agent: u32,
 ) -> Result<bool, AllocError>
     requires known { agent < length floor.now.state.paths }
@@ -90,7 +90,7 @@ fn can_park(
 fn lacks_parking(
     alloc: Global,
     instance: &Instance,
-    floor: &Floor,
+    floor: &FleetState,
     near: &mut LazyField,
     agent: u32,
 ) -> Result<bool, AllocError>
@@ -109,7 +109,7 @@ fn lacks_parking(
 pub fn lacks_way(
     alloc: Global,
     instance: &Instance,
-    floor: &Floor,
+    floor: &FleetState,
     near: &mut LazyField,
     agent: u32,
 ) -> Result<bool, AllocError>

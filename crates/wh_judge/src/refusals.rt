@@ -10,16 +10,17 @@ use crate::instance::Instance;
 use crate::requests::has_no_path;
 use crate::submitting::{has_parking, has_unknown, is_full};
 use std::alloc::{AllocError, Global};
-use wh_book::Floor;
+use wh_book::FleetState;
+use wh_core::LAST_CLOCK;
 use wh_event::{Event, Refusal, Spare};
 use wh_field::LazyField;
 
-/// Whether the refusal may be given to the event: each arm is a line of the definition. Only a refusal for want of a path
+/// Whether the refusal may be given to the event: each arm is a line of the definition. Only a refusal for lack of a path
 /// takes memory.
 pub fn refuses(
     alloc: Global,
     instance: &Instance,
-    floor: &Floor,
+    floor: &FleetState,
     near: &mut LazyField,
     refusal: &Refusal,
     event: &Event,
@@ -47,9 +48,7 @@ pub fn refuses(
         (Refusal::NoPath, Event::Request { agent }) => {
             has_no_path(alloc, instance, floor, near, *agent)
         }
-        (Refusal::ClockFull, Event::Tick) => {
-            Ok(!floor.closed() && floor.clock() == 1_000_000_000)
-        }
+        (Refusal::ClockFull, Event::Tick) => { Ok(!floor.closed() && floor.clock() == LAST_CLOCK) }
         (Refusal::UnknownAgent(told), Event::Replace { agent, .. }) => {
             Ok(is_stranger(floor, *agent) && *told == *agent)
         }

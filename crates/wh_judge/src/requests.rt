@@ -19,7 +19,7 @@ use crate::instance::Instance;
 use crate::lacking::{lacks_way, makes_way, may_rest};
 use crate::rests::rests_by_note;
 use std::alloc::{AllocError, Global};
-use wh_book::{Floor, may_end};
+use wh_book::{FleetState, may_end};
 use wh_field::LazyField;
 use wh_path::TimedPath;
 use wh_text::Name;
@@ -27,7 +27,7 @@ use wh_text::Name;
 /// Whether the agent may take the task of this number by this path.
 fn may_take(
     instance: &Instance,
-    floor: &Floor,
+    floor: &FleetState,
     near: &mut LazyField,
     agent: u32,
     n: u32,
@@ -53,7 +53,7 @@ fn may_take(
 }
 
 /// Whether the agent may adopt the path to park at its end, where a point is.
-fn may_park(instance: &Instance, floor: &Floor, agent: u32, path: &TimedPath) -> bool
+fn may_park(instance: &Instance, floor: &FleetState, agent: u32, path: &TimedPath) -> bool
     requires known { agent < length floor.now.state.paths }
     requires point { IsPointCell instance.now.layout (end path.now) }
     ensures { IsTrue result ↔ IsLawful instance.now.grid instance.now.layout.nofollow floor.now.state.paths agent 2 (ParksAt (IsAllowed instance.now floor.now.state agent)) path.now }
@@ -71,10 +71,10 @@ fn may_park(instance: &Instance, floor: &Floor, agent: u32, path: &TimedPath) ->
     )
 }
 
-/// Whether the agent may take the task by the path; if so, it does. The error is out of memory; then the state stays.
+/// Whether the agent may take the task by the path; if so, it does. Fails when out of memory; then the state stays.
 pub fn take(
     instance: &Instance,
-    floor: &mut Floor,
+    floor: &mut FleetState,
     near: &mut LazyField,
     agent: u32,
     n: u32,
@@ -101,7 +101,7 @@ pub fn take(
 /// Whether the agent may be told to rest. It takes constant time where the note tells it.
 pub fn rest(
     instance: &Instance,
-    floor: &Floor,
+    floor: &FleetState,
     near: &mut LazyField,
     is_quiet: bool,
     agent: u32,
@@ -124,11 +124,11 @@ pub fn rest(
     true
 }
 
-/// Whether the agent may make way by the path to the point of this name; if so, it does. The error is out of memory; then
-/// the state stays.
+/// Whether the agent may make way by the path to the point of this name; if so, it does. Fails when out of memory; then the
+/// state stays.
 pub fn park(
     instance: &Instance,
-    floor: &mut Floor,
+    floor: &mut FleetState,
     near: &mut LazyField,
     agent: u32,
     point: &Name,
@@ -162,7 +162,7 @@ pub fn park(
 pub fn has_no_path(
     alloc: Global,
     instance: &Instance,
-    floor: &Floor,
+    floor: &FleetState,
     near: &mut LazyField,
     agent: u32,
 ) -> Result<bool, AllocError>

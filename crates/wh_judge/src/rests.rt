@@ -8,12 +8,12 @@ ghost use Rattle.wh_judge.specs.Judged as judged;
 ghost use Rattle.wh_judge.specs.Judged.{IsQuiet};
 
 use crate::agents::place;
-use wh_book::Floor;
+use wh_book::FleetState;
 use wh_event::Reply;
 
 /// Whether it is known without a look at the tasks that the agent has nothing to do and is in nobody's way: no task is
 /// open, or none is clear of all ends and none has a stop where the agent stands.
-pub fn rests_by_note(floor: &Floor, is_quiet: bool, agent: u32) -> bool
+pub fn rests_by_note(floor: &FleetState, is_quiet: bool, agent: u32) -> bool
     requires due { IsDue floor.now.state agent }
     requires quiet { is_quiet ≡ true → IsQuiet floor.now.state }
     ensures none { IsTrue result → NoneIsNext floor.now.state agent }

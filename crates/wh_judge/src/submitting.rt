@@ -9,12 +9,13 @@ ghost use Rattle.wh_judge.specs.Judged.{Decides};
 
 use crate::instance::Instance;
 use std::alloc::{AllocError, Global};
-use wh_book::{Fault, Floor, places_of};
+use wh_book::{Fault, FleetState, places_of};
+use wh_core::MOST_TASKS;
 use wh_event::Stops;
 use wh_text::Name;
 
 /// Whether the first stop that is no station has this name, which no point has.
-pub fn has_unknown(instance: &Instance, floor: &Floor, stops: &Stops, name: &Name) -> bool
+pub fn has_unknown(instance: &Instance, floor: &FleetState, stops: &Stops, name: &Name) -> bool
     ensures { IsTrue result ↔ ((floor.now.state.closed ≡ false) × IsFirstFault instance.now.layout stops.now name.now × IsUnknownName instance.now.layout name.now) }
 {
     let points = instance.points();
@@ -29,7 +30,7 @@ pub fn has_unknown(instance: &Instance, floor: &Floor, stops: &Stops, name: &Nam
 }
 
 /// Whether the first stop that is no station has this name, which is a parking's.
-pub fn has_parking(instance: &Instance, floor: &Floor, stops: &Stops, name: &Name) -> bool
+pub fn has_parking(instance: &Instance, floor: &FleetState, stops: &Stops, name: &Name) -> bool
     ensures { IsTrue result ↔ ((floor.now.state.closed ≡ false) × IsFirstFault instance.now.layout stops.now name.now × IsParkingName instance.now.layout name.now) }
 {
     let points = instance.points();
@@ -44,14 +45,14 @@ pub fn has_parking(instance: &Instance, floor: &Floor, stops: &Stops, name: &Nam
 }
 
 /// Whether the stops are stations and there is no room for one more task.
-pub fn is_full(instance: &Instance, floor: &Floor, stops: &Stops) -> bool
+pub fn is_full(instance: &Instance, floor: &FleetState, stops: &Stops) -> bool
     ensures { IsTrue result ↔ ((floor.now.state.closed ≡ false) × All (IsStationName instance.now.layout) stops.now × (length floor.now.state.tasks ≡ most_tasks)) }
 {
     let points = instance.points();
     if floor.closed() {
         return false;
     }
-    if floor.tasks().len() != 1_000_000 {
+    if floor.tasks().len() != MOST_TASKS {
         return false;
     }
     match places_of(points, stops) {
@@ -64,7 +65,7 @@ pub fn is_full(instance: &Instance, floor: &Floor, stops: &Stops) -> bool
 pub fn accept(
     alloc: Global,
     instance: &Instance,
-    floor: &mut Floor,
+    floor: &mut FleetState,
     client: Name,
     stops: &Stops,
     task: u32,
@@ -76,7 +77,7 @@ pub fn accept(
     let points = instance.points();
     let _names = stops.as_slice();
     let count = floor.tasks().len();
-    if floor.closed() || task != count || count >= 1_000_000 {
+    if floor.closed() || task != count || count >= MOST_TASKS {
         return Ok(false);
     }
     match places_of(points, stops) {

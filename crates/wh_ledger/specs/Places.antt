@@ -7,7 +7,7 @@ use Rattle.wh_tasks.specs.declared.task.Task.{Task}
 use Rattle.wh_ledger.specs.declared.row.Row.{Row}
 use Rattle.wh_ledger.specs.Ledgers.{row_of, clients_of}
 
--- no count of the row is above n, and so many tasks can have taken its time
+-- no count of the row is above n, and that many tasks can have taken its time
 pub record IsWithin (n : ℕ) (row : Row) : Type 0 where
   pub submitted : row.submitted ≤ n
   pub open_tasks : row.open_tasks ≤ n

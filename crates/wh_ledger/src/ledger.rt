@@ -45,8 +45,8 @@ fn row_place(
 }
 
 impl DeliveryLedger {
-    /// The ledger of the tasks, in one pass over them, with one look-up for each. It takes memory for the clients alone; the
-    /// error is want of memory.
+    /// The ledger of the tasks, in one pass over them, with one look-up for each. It takes memory for the clients alone; fails
+    /// when out of memory.
     pub fn of(alloc: Global, tasks: &TaskSet) -> Result<DeliveryLedger, AllocError>
         ensures { IfOk result (λ ledger. ledger ≡ rows_of tasks.now.tasks) }
     {

@@ -33,8 +33,7 @@ fn push_row(out: &mut Vec<u8>, row: &Row) -> Result<(), AllocError>
 }
 
 /// The rows as a text: a line for each, `CLIENT submitted N open N assigned N carried N done N time N`, with one space
-/// between, numbers in decimal without leading zeros, and a line feed at the end of each line. The error is want of
-/// memory.
+/// between, numbers in decimal without leading zeros, and a line feed at the end of each line. Fails when out of memory.
 pub fn ledger_text(alloc: Global, rows: &[Row]) -> Result<Vec<u8>, AllocError>
     ensures { IfOk result (λ text. text.items ≡ spec.ledger_text rows.now) }
 {

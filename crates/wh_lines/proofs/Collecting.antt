@@ -4,9 +4,9 @@ use Rattle.std.specs.List.{position_or_len, before_first, after_first, AllByRecu
 use Rattle.std.proofs.lemmas.List.{take_all, drop_all, take-append-le, drop-append-le, take-append-drop, length-append, length-take, length-drop}
 use Rattle.std.proofs.KnownBytes.{Consumes-trans, Consumes-kept}
 use Rattle.std.specs.Io.KnownBytes.{Keeps, IsAtEnd}
-use Rattle.wh_text.specs.Lines.{is_line_feed, lines_of, without_cr}
+use Rattle.wh_text.specs.Lines.{is_line_feed, lines_of, without_cr, IsLine}
 use Rattle.wh_text.proofs.CutLemmas.{lines-feed, lines-last}
-use Rattle.wh_lines.specs.Text.{IsPlain, is_separator, EndsLine}
+use Rattle.wh_lines.specs.Text.{is_separator, EndsLine}
 use Rattle.wh_lines.specs.Input.{Input, left, with_waiting, Takes, part_len}
 use Rattle.wh_lines.specs.Section.{HasNoMark, Closed, Overflows}
 use Rattle.wh_lines.proofs.Parts.{before_plain, plain_append, around_first, none_before, part_taken}
@@ -16,7 +16,7 @@ use Rattle.wh_lines.proofs.Cuts.{whole_next, long_unmarked}
 pub record Collects (old new : Input) (text : List ℕ) (start : ℕ) : Type 0 where
   pub takes : Takes old new text
   pub ends : EndsLine (take start text)
-  pub plain : IsPlain (drop start text)
+  pub plain : IsLine (drop start text)
   pub unmarked : HasNoMark (take start text)
 
 abbrev NoMarks : List (List ℕ) → Type 0
@@ -30,12 +30,12 @@ marks_append : (xs ys : List (List ℕ)) → NoMarks xs → NoMarks ys → NoMar
 marks_append [] ys p q = q
 marks_append (x ∷ xs) ys p q = (p.0, marks_append xs ys p.1 q)
 
-unmarked_last : (front line : List ℕ) → EndsLine front → HasNoMark front → IsPlain line → is_mark line ≡ false → HasNoMark (front ++ line)
+unmarked_last : (front line : List ℕ) → EndsLine front → HasNoMark front → IsLine line → is_mark line ≡ false → HasNoMark (front ++ line)
 unmarked_last front [] ends none p m = subst NoMarks (ap lines_of (sym (append-nil front))) none
 unmarked_last front (b ∷ line) ends none p m =
     subst NoMarks (sym (ends (b ∷ line))) (marks_append (lines_of front) (lines_of (b ∷ line)) none (subst NoMarks (sym (lines-last (b ∷ line) p (omega arith))) (m, tt)))
 
-unmarked_whole : (front line : List ℕ) → EndsLine front → HasNoMark front → IsPlain line → is_mark line ≡ false → HasNoMark (front ++ (line ++ 10 ∷ []))
+unmarked_whole : (front line : List ℕ) → EndsLine front → HasNoMark front → IsLine line → is_mark line ≡ false → HasNoMark (front ++ (line ++ 10 ∷ []))
 unmarked_whole front line ends none p m =
     let text = line ++ 10 ∷ [] in
     subst NoMarks (sym (ends text)) (marks_append (lines_of front) (lines_of text) none (subst NoMarks (sym (lines-feed line [] p)) (m, tt)))
@@ -101,7 +101,7 @@ module _ (i j k : Input) (text : List ℕ) (start : ℕ) (f : Collects i j text 
     begun_next : drop start has ≡ begun ++ part
     begun_next = ap (drop start) has_is ∙ drop-append-le start text part within
 
-    line_plain : IsPlain line
+    line_plain : IsLine line
     line_plain = plain_append begun (before_first is_line_feed k.waiting) f.plain (before_plain k.waiting)
 
     has_whole : whole ≡ true → has ≡ front ++ (line ++ 10 ∷ [])
@@ -142,18 +142,18 @@ module _ (i j k : Input) (text : List ℕ) (start : ℕ) (f : Collects i j text 
         record {
           takes = taken_next;
           ends = subst EndsLine (sym (all ∙ has_whole e)) (whole_next front line f.ends line_plain);
-          plain = subst IsPlain (sym (drop_all (length has) has (omega arith))) tt;
+          plain = subst IsLine (sym (drop_all (length has) has (omega arith))) tt;
           unmarked = subst HasNoMark (sym all) (unmarked_has e plain_line);
         }
 
-    begun_plain : whole ≡ false → IsPlain (begun ++ part)
-    begun_plain e = plain_append begun part f.plain (subst IsPlain (none_before k.waiting (sym whole_is ∙ e) ∙ sym (part_begun k.waiting (sym whole_is ∙ e))) (before_plain k.waiting))
+    begun_plain : whole ≡ false → IsLine (begun ++ part)
+    begun_plain e = plain_append begun part f.plain (subst IsLine (none_before k.waiting (sym whole_is ∙ e) ∙ sym (part_begun k.waiting (sym whole_is ∙ e))) (before_plain k.waiting))
 
     pub collects_begun : whole ≡ false → Collects i m has start
     collects_begun e = record {
       takes = taken_next;
       ends = subst EndsLine (sym front_next) f.ends;
-      plain = subst IsPlain (sym begun_next) (begun_plain e);
+      plain = subst IsLine (sym begun_next) (begun_plain e);
       unmarked = subst HasNoMark (sym front_next) f.unmarked;
     }
 
@@ -165,7 +165,7 @@ module _ (i j k : Input) (text : List ℕ) (start : ℕ) (f : Collects i j text 
           bytes = has;
           takes = taken_next;
           unmarked = subst HasNoMark split (unmarked_last front (begun ++ part) f.ends f.unmarked (begun_plain e) (long_unmarked (begun ++ part) long));
-          settled = inr (inr (start, subst IsPlain (sym begun_next) (begun_plain e), omega (arith, long, ap length begun_next)));
+          settled = inr (inr (start, subst IsLine (sym begun_next) (begun_plain e), omega (arith, long, ap length begun_next)));
           over = omega (arith, over);
         }
 

@@ -2,12 +2,12 @@
 use Rattle.std.proofs.Common.{◌≡◌, ◌≤◌, ◌<◌, ◌+◌, ◌-◌, ℕ, List, [], ◌∷◌, ◌++◌, length, take, refl, sym, ap, ◌∙◌, arith, append_assoc, Bool, true, false, cond, ◌==◌}
 use Rattle.std.specs.Prelude.{◌&&◌, slice_index}
 use Rattle.std.proofs.lemmas.List.{length-take}
-use Rattle.wh_text.specs.Lines.{lines_of, without_cr}
+use Rattle.wh_text.specs.Lines.{lines_of, without_cr, IsLine}
 use Rattle.wh_text.proofs.CutLemmas.{lines-feed}
-use Rattle.wh_lines.specs.Text.{IsPlain, EndsLine, is_separator}
+use Rattle.wh_lines.specs.Text.{EndsLine, is_separator}
 
 -- one more whole line
-pub whole_next : (read raw : List ℕ) → EndsLine read → IsPlain raw → EndsLine (read ++ (raw ++ 10 ∷ []))
+pub whole_next : (read raw : List ℕ) → EndsLine read → IsLine raw → EndsLine (read ++ (raw ++ 10 ∷ []))
 whole_next read raw whole p more =
     let text = raw ++ 10 ∷ [] in
     let all : lines_of ((read ++ text) ++ more) ≡ lines_of read ++ (without_cr raw ∷ lines_of more) =

@@ -7,8 +7,9 @@ use Rattle.std.proofs.lemmas.List.{take_all, drop_all, take-append-le, take-take
 use Rattle.std.proofs.lemmas.Bool.{cases_lt}
 use Rattle.std.proofs.KnownBytes.{Consumes-trans, Consumes-kept}
 use Rattle.std.specs.Io.KnownBytes.{Keeps, Consumes, IsAtEnd, prepend_known}
-use Rattle.wh_text.specs.Lines.{is_line_feed, without_cr}
-use Rattle.wh_lines.specs.Text.{IsPlain, short_line}
+use Rattle.std.proofs.lemmas.Option.{cond_some}
+use Rattle.wh_text.specs.Lines.{is_line_feed, without_cr, IsLine}
+use Rattle.wh_lines.specs.Text.{short_line}
 use Rattle.wh_lines.proofs.Cuts.{without_cr_length}
 use Rattle.wh_lines.specs.Input.{Input, left, with_waiting, Takes, Gathered}
 use Rattle.wh_lines.specs.declared.lines.Next.TheVariants.{Whole, Last}
@@ -16,13 +17,9 @@ use Rattle.wh_lines.specs.declared.lines.Next.TheVariants.{Whole, Last}
 -- part of a line was taken, and its first 258 bytes are kept
 pub record Begun (old new : Input) (kept : List ℕ) : Type 0 where
   pub raw : List ℕ
-  pub plain : IsPlain raw
+  pub plain : IsLine raw
   pub kept_is : kept ≡ take 258 raw
   pub takes : Takes old new raw
-
-found_at : (b : Bool) (n i : ℕ) → cond b (Some n) None ≡ Some i → (b ≡ true) × (n ≡ i)
-found_at true n i e = (refl, cc)
-found_at false n i e = cc
 
 not_found : (b : Bool) (n : ℕ) → cond b (Some n) None ≡ None → b ≡ false
 not_found true n e = cc
@@ -30,7 +27,7 @@ not_found false n e = refl
 
 -- where the first line feed is
 pub found : (xs : List ℕ) (i : ℕ) → position is_line_feed xs ≡ Some i → (nat_lt (position_or_len is_line_feed xs) (length xs) ≡ true) × (position_or_len is_line_feed xs ≡ i)
-found xs i e = found_at (nat_lt (position_or_len is_line_feed xs) (length xs)) (position_or_len is_line_feed xs) i e
+found xs i e = cond_some (nat_lt (position_or_len is_line_feed xs) (length xs)) (position_or_len is_line_feed xs) i e
 
 pub none : (xs : List ℕ) → position is_line_feed xs ≡ None → nat_lt (position_or_len is_line_feed xs) (length xs) ≡ false
 none xs e = not_found (nat_lt (position_or_len is_line_feed xs) (length xs)) (position_or_len is_line_feed xs) e
@@ -41,16 +38,16 @@ none_before xs e = take_all _ xs (omega (arith, ltb-false (position_or_len is_li
 pub none_after : (xs : List ℕ) → nat_lt (position_or_len is_line_feed xs) (length xs) ≡ false → after_first is_line_feed xs ≡ []
 none_after xs e = drop_all _ xs (omega (arith, ltb-false (position_or_len is_line_feed xs) (length xs) e))
 
-pub plain_append : (xs ys : List ℕ) → IsPlain xs → IsPlain ys → IsPlain (xs ++ ys)
+pub plain_append : (xs ys : List ℕ) → IsLine xs → IsLine ys → IsLine (xs ++ ys)
 plain_append [] ys p q = q
 plain_append (x ∷ xs) ys p q = (p.0, plain_append xs ys p.1 q)
 
 feed_is : (b : ℕ) → is_line_feed b ≡ true → b ≡ 10
 feed_is b e = eqb-true b 10 e
 
-plain_take : (x : ℕ) (xs : List ℕ) (n : ℕ) (b : Bool) → is_line_feed x ≡ b → IsPlain (take n xs) → IsPlain (take (cond (not b) (1 + n) 0) (x ∷ xs))
+plain_take : (x : ℕ) (xs : List ℕ) (n : ℕ) (b : Bool) → is_line_feed x ≡ b → IsLine (take n xs) → IsLine (take (cond (not b) (1 + n) 0) (x ∷ xs))
 plain_take x xs n true e p = tt
-plain_take x xs n false e p = (let one : suc n ≡ 1 + n = omega arith in subst (λ k. IsPlain (take k (x ∷ xs))) one (e, p))
+plain_take x xs n false e p = (let one : suc n ≡ 1 + n = omega arith in subst (λ k. IsLine (take k (x ∷ xs))) one (e, p))
 
 split_take : (x : ℕ) (xs : List ℕ) (n : ℕ) (b : Bool) → is_line_feed x ≡ b → nat_lt (cond (not b) (1 + n) 0) (length (x ∷ xs)) ≡ true
     → (nat_lt n (length xs) ≡ true → xs ≡ take n xs ++ 10 ∷ drop (n + 1) xs) → x ∷ xs ≡ take (cond (not b) (1 + n) 0) (x ∷ xs) ++ 10 ∷ drop (cond (not b) (1 + n) 0 + 1) (x ∷ xs)
@@ -63,7 +60,7 @@ split_take x xs n false e within rest =
     here ∙ ap (λ k. take k (x ∷ xs) ++ 10 ∷ drop (n + 1) xs) one ∙ ap (λ k. take (1 + n) (x ∷ xs) ++ 10 ∷ drop k (x ∷ xs)) two
 
 -- the front up to the first line feed has none
-pub before_plain : (xs : List ℕ) → IsPlain (before_first is_line_feed xs)
+pub before_plain : (xs : List ℕ) → IsLine (before_first is_line_feed xs)
 before_plain [] = tt
 before_plain (x ∷ xs) = plain_take x xs (position_or_len is_line_feed xs) (is_line_feed x) refl (before_plain xs)
 

@@ -2,8 +2,8 @@
 use Rattle.std.specs.Prelude.{◌≡◌, ℕ, ◌+◌, ◌<◌, ◌≤◌, ◌⊎◌, Bool, List, [], ◌∷◌, ◌++◌, length, take, Option}
 use Rattle.std.specs.List.{position_or_len}
 use Rattle.std.specs.Io.KnownBytes.{prepend_known, Consumes, IsAtEnd}
-use Rattle.wh_text.specs.Lines.{is_line_feed}
-use Rattle.wh_lines.specs.Text.{IsPlain, short_line}
+use Rattle.wh_text.specs.Lines.{is_line_feed, IsLine}
+use Rattle.wh_lines.specs.Text.{short_line}
 use Rattle.wh_lines.specs.declared.lines.Next.{Next}
 use Rattle.wh_lines.specs.declared.lines.Next.TheVariants.{Whole, Last, End}
 
@@ -54,7 +54,7 @@ Ends End old new raw = Takes old new raw × (raw ≡ []) × IsAtEnd (left new)
 -- the next line was taken, and its first 258 bytes are kept, which say what the whole line says
 pub record Gathered (next : Next) (old new : Input) (kept : List ℕ) : Type 0 where
   pub raw : List ℕ
-  pub plain : IsPlain raw
+  pub plain : IsLine raw
   pub kept_is : kept ≡ take 258 raw
   pub says : short_line kept ≡ short_line raw
   pub ends : Ends next old new raw
@@ -62,7 +62,7 @@ pub record Gathered (next : Next) (old new : Input) (kept : List ℕ) : Type 0 w
 -- part of a line was taken
 pub record Taken (old new : Input) : Type 0 where
   pub bytes : List ℕ
-  pub plain : IsPlain bytes
+  pub plain : IsLine bytes
   pub takes : Takes old new bytes
 
 -- the length of the first line with its line feed, and past the end where there is none

@@ -2,8 +2,8 @@
 use Rattle.std.specs.Prelude.{◌≡◌, ℕ, ◌<◌, Bool, true, false, ◌⊎◌, List, [], ◌∷◌, ◌++◌, length, drop}
 use Rattle.std.specs.List.{AllByRecursion}
 use Rattle.std.specs.Io.KnownBytes.{IsAtEnd}
-use Rattle.wh_text.specs.Lines.{lines_of, without_cr}
-use Rattle.wh_lines.specs.Text.{IsPlain, EndsLine, is_separator}
+use Rattle.wh_text.specs.Lines.{lines_of, without_cr, IsLine}
+use Rattle.wh_lines.specs.Text.{EndsLine, is_separator}
 use Rattle.wh_lines.specs.Input.{Input, left, Takes}
 
 -- no line of the text stands between two sections
@@ -30,7 +30,7 @@ Sectioned old new text = Closed new.ended old new text
 -- No byte that follows can make a line `%%` of the last line: the bytes are whole lines, or nothing follows, or the
 -- begun line is longer than two percent signs and a carriage return.
 abbrev pub IsSettled : Input → List ℕ → Type 0
-IsSettled new bytes = EndsLine bytes ⊎ IsAtEnd (left new) ⊎ ((start : ℕ) × IsPlain (drop start bytes) × (3 < length (drop start bytes)))
+IsSettled new bytes = EndsLine bytes ⊎ IsAtEnd (left new) ⊎ ((start : ℕ) × IsLine (drop start bytes) × (3 < length (drop start bytes)))
 
 -- more bytes than the limit were taken, and all of them belong to the section
 pub record Overflows (old new : Input) (limit : ℕ) : Type 0 where

@@ -1,10 +1,6 @@
 -- Bytes as lines, in the words of texts: a line's one carriage return at its end is dropped.
 use Rattle.std.specs.Prelude.{◌≡◌, ℕ, Bool, bytes_eq, codes, cond, nat_le, List, ◌++◌, length, Option, Some, None}
-use Rattle.wh_text.specs.Lines.{lines_of, without_cr, is_line_feed, HasNone}
-
--- no byte of it is a line feed
-abbrev pub IsPlain : List ℕ → Type 0
-IsPlain bytes = HasNone is_line_feed bytes
+use Rattle.wh_text.specs.Lines.{lines_of, without_cr}
 
 -- the bytes end with a line feed, or there are none: what follows them begins a line
 abbrev pub EndsLine : List ℕ → Type 0

@@ -2,8 +2,8 @@
 ghost use Rattle.std.specs.Prelude.{◌≡◌, ◌≤◌, [], ◌++◌, length, take, MatchOption, Some, None};
 ghost use Rattle.wh_lines.specs.Text.{short_line};
 
-use crate::ends::trimmed;
 use std::marker::Model;
+use wh_text::trimmed;
 
 /// The first 258 bytes of a line: 256, a carriage return, and one more by which a longer line is known.
 #[derive(Drop)]

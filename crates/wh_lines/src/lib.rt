@@ -7,7 +7,6 @@
 #![tactic(auto)]
 
 mod command_line;
-mod ends;
 mod lines;
 mod next;
 mod output;

@@ -100,7 +100,7 @@ impl<R: Read> Lines<R> {
         }
     }
 
-    /// Whether a fault has come. From then on each call answers `Broken`.
+    /// Whether a fault has come. From then on each call returns `Broken`.
     pub fn has_failed(&self) -> bool
         ensures { result ≡ self.now.failed }
     {

@@ -6,9 +6,9 @@ ghost use Rattle.wh_text.specs.Lines.{is_line_feed};
 ghost use Rattle.wh_lines.specs.Input.{left, with_waiting, Gathered, GoesOn, Taken};
 
 use crate::command_line::CommandLine;
-use crate::ends::line_end;
 use crate::lines::{Lines, Next, ReadFault};
 use std::io::{Read, Write};
+use wh_text::first_line_feed;
 
 /// Why there is no next line.
 #[derive(Clone, Copy, Debug, PartialEq, Eq)]
@@ -27,7 +27,7 @@ fn take_part<R: Read>(lines: &mut Lines<R>, line: &mut CommandLine) -> bool
 {
     let waiting = lines.waiting();
     let count = waiting.len();
-    match line_end(waiting) {
+    match first_line_feed(waiting) {
         Some(end) => {
             line.add(&waiting[..end]);
             lines.take(end + 1);
@@ -96,8 +96,8 @@ fn gather<R: Read, W: Write>(
 }
 
 impl<R: Read> Lines<R> {
-    /// Gathers the next line. The writer is flushed before each read, so that whoever feeds the reader has seen every
-    /// reply. After a fault, also one of the writer, what the line keeps has no meaning, and each later call answers
+    /// Gathers the next line. The writer is flushed before each read, so that the sender has seen every
+    /// reply. After a fault, also one of the writer, what the line keeps has no meaning, and each later call returns
     /// `Broken`.
     pub fn next_line<W: Write>(
         &mut self,

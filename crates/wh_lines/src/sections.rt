@@ -7,10 +7,10 @@ ghost use Rattle.wh_lines.specs.Text.{is_separator};
 ghost use Rattle.wh_lines.specs.Input.{left, with_waiting, part_len, GoesOn};
 ghost use Rattle.wh_lines.specs.Section.{Closed, Sectioned, Overflows};
 
-use crate::ends::{line_end, trimmed};
 use crate::lines::{Lines, ReadFault};
 use std::alloc::{AllocError, Global};
 use std::io::Read;
+use wh_text::{first_line_feed, trimmed};
 
 /// Why a section was not read.
 #[derive(Clone, Copy, Debug, PartialEq, Eq)]
@@ -61,7 +61,7 @@ fn part(waiting: &[u8]) -> (usize, bool)
     ensures within { result.0 ≤ length waiting.now }
     ensures whole { result.1 ≡ nat_lt (position_or_len is_line_feed waiting.now) (length waiting.now) }
 {
-    match line_end(waiting) {
+    match first_line_feed(waiting) {
         Some(end) => (end + 1, true),
         None => (waiting.len(), false),
     }
@@ -145,7 +145,7 @@ fn collect<R: Read>(
 
 impl<R: Read> Lines<R> {
     /// The bytes of the next section as they came: up to a line `%%`, which is taken too, or up to the end. At most
-    /// `limit` bytes. A missing section is empty. After a fault each later call answers `Broken`.
+    /// `limit` bytes. A missing section is empty. After a fault each later call returns `Broken`.
     pub fn section(&mut self, alloc: Global, limit: usize) -> Result<Vec<u8>, SectionFault>
         ensures ok { IfOk result (λ text. Sectioned self.old self.new text.items) }
         ensures within { IfOk result (λ text. length text.items ≤ limit) }

@@ -72,7 +72,7 @@ pub dead_unlived : {D : Type 0} (display : Option D) (told : Trouble) → IsWhyD
 dead_unlived None told why = why
 dead_unlived (Some display) told why = dead_unshown told why
 
--- for want of memory there is no log, in any case
+-- for lack of memory there is no log, in any case
 pub memory_unlived : {D : Type 0} (display : Option D) → IsWhyUnlived display trouble.NoMemory
 memory_unlived display = dead_unlived display trouble.NoMemory tt
 

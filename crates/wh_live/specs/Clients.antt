@@ -24,7 +24,7 @@ pub record ScriptRefused (old new : Input) (place : ScriptPlace) : Type 0 where
   pub within : length script ≤ 268435456
   pub says : IsFirstFault (lines_of script) place
 
--- why a client was not read: of want of memory nothing more is said
+-- why a client was not read; when out of memory, nothing more is said
 abbrev pub ClientFault : Trouble → Input → Input → Type 0
 ClientFault (trouble.Script place) old new = ScriptRefused old new place
 ClientFault trouble.SectionTooLong old new = Overflows old new 268435456
@@ -49,7 +49,7 @@ pub record ClientsRead (agents : ℕ) (old new : Input) (clients : List (List Co
 abbrev pub IsCrowded : ℕ → ℕ → Input → Type 0
 IsCrowded agents clients at = 64 < clients + cond at.ended 0 1 + agents + 1
 
--- what stops the reading after so many clients: too many workers, or what is wrong with the next client
+-- what stops the reading after a number of clients: too many workers, or what is wrong with the next client
 abbrev pub NextFault : Trouble → ℕ → ℕ → Input → Input → Type 0
 NextFault told agents clients old new =
     ((told ≡ trouble.TooManyWorkers) × (new ≡ old) × IsCrowded agents clients old)

@@ -17,7 +17,7 @@ pub record FirstShown (past : Past) (had has : Option (List (List ℕ))) : Type 
   pub is_board : IsBoardOf past board
   pub texts : Shows had has (board_text board ∷ [])
 
--- The board of all that was done was shown, if it has not as many entries as the one shown last. On a fault nothing was shown.
+-- The board of all that was done was shown, unless it has as many entries as the one shown last. On a fault nothing was shown.
 pub record ShowsLast (whole : Past) (shown : ℕ) (last : Result Unit ShowFault) (had has : Option (List (List ℕ))) : Type 0 where
   pub board : Board
   pub is_board : IsBoardOf whole board

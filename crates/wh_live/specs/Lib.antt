@@ -2,7 +2,7 @@ pub mod Clients
 pub mod Works
 pub mod Displays
 pub mod Lives
--- handed on, for the crates above
+-- re-exported for the crates above
 pub use Rattle.wh_crew.specs.Calls
 pub use Rattle.wh_crew.specs.Lists
 pub use Rattle.wh_crew.specs.Pasts

@@ -25,10 +25,10 @@ use Rattle.wh_live.specs.Displays.{BoardsShown}
 use Rattle.wh_edge.specs.declared.trouble.Trouble.{Trouble}
 use Rattle.wh_edge.specs.declared.trouble.Trouble.TheVariants as trouble
 
--- The history is one run from there, an opening state, by so many callers alone, of whom the first are these workers. Each had
+-- The history is one run from there, an opening state, by its callers alone, the first of whom are these workers. Each had
 -- nothing before, and what a worker did are its commands, in order, without as many as it missed: where one was missed since
--- the journal was full, the history has just as many entries as positions, and else one was missed for want of memory alone. On
--- a well-formed site no request is refused for want of a path.
+-- the journal was full, the history has exactly as many entries as positions, and else one was missed for lack of memory alone. On
+-- a well-formed site no request is refused for lack of a path.
 pub record WorkedFrom {X : Type 0} (fits : X → Floor → Bool) (count : X → ℕ) (origin : Origin) (works : List (Work X)) (callers journal : ℕ)
     (history : List Entry) (state : State) : Type 0 where
   pub is_opening : IsOpening origin.site origin.opening
@@ -43,8 +43,8 @@ pub record WorkedFrom {X : Type 0} (fits : X → Floor → Bool) (count : X → 
   pub worked : AllWorked fits count origin.site.grid journal works passes history missed
   pub with_cause : MissedWithCause journal history missed
 
--- Behind these workers comes one for all agents and the clock: what it has in the history are the answers to its turns. Where
--- the desk refused one of its calls, the journal was full, or memory was wanting.
+-- Behind these workers comes one for all agents and the clock: what it has in the history are the replies to its turns. Where
+-- the desk refused one of its calls, the journal was full, or memory ran out.
 pub record PacedFrom {X : Type 0} (fits : X → Floor → Bool) (count : X → ℕ) (origin : Origin) (works : List (Work X)) (turns journal : ℕ)
     (history : List Entry) (state : State) : Type 0 where
   pub worked : WorkedFrom fits count origin works (length works + 1) journal history state
@@ -60,7 +60,7 @@ WorkedBy fits count works turns journal origin history state = MatchOption turns
     (WorkedFrom fits count origin works (length works) journal history state)
     (λ n. PacedFrom fits count origin works n journal history state)
 
--- The warehouse was opened at clock 0 with these planners, the workers did their works over a journal of so many positions,
+-- The warehouse was opened at clock 0 with these planners, the workers did their works over a journal of the given number of positions,
 -- and the text is the log of it.
 pub record Lives {X : Type 0} (fits : X → Floor → Bool) (count : X → ℕ) (site : Site) (planners : List X) (works : List (Work X))
     (turns : Option ℕ) (journal : ℕ) (text : List ℕ) : Type 0 where
@@ -83,7 +83,7 @@ trouble_of crew.NoThread = trouble.NoThread
 trouble_of crew.NoMemory = trouble.NoMemory
 trouble_of crew.Stale = trouble.Differs
 
--- why there is no log: a thread could not be started, or a pass differs from its row, or memory was wanting
+-- why there is no log: a thread could not be started, or a pass differs from its row, or memory ran out
 abbrev pub IsWhyDead : Trouble → Type 0
 IsWhyDead trouble.NoThread = Unit {0}
 IsWhyDead trouble.Differs = Unit {0}

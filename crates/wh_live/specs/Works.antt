@@ -4,7 +4,7 @@ use Rattle.wh_event.specs.declared.event.Command.{Command}
 use Rattle.wh_event.specs.declared.event.Command.TheVariants.{Tick, Token}
 use Rattle.wh_edge.specs.declared.work.Work.{Work}
 
--- each of so many agents asks for the token so often
+-- each of the given number of agents asks for the token the given number of times
 abbrev pub requests : ℕ → ℕ → List (List Command)
 requests turns zero = []
 requests turns (suc agent) = requests turns agent ++ replicate turns (Token agent) ∷ []

@@ -33,9 +33,9 @@ fn read_client<R: Read, P: Planner>(lines: &mut Lines<R>, alloc: Global) -> Resu
     }
 }
 
-/// Each client's work, without spares: one section for each, until one was closed by the end of the input. What is wrong
-/// first is told, in this order for each client in turn: that there are more than 64 workers with it, its section of at
-/// most 256 MB, its lines. Too many agents are told also where no client follows.
+/// Each client's work, without spares: one section for each, until one was closed by the end of the input. The first error
+/// is reported, in this order for each client in turn: more than 64 workers with it, its section of at
+/// most 256 MB, its lines. Too many agents are reported even if no client follows.
 pub fn read_clients<R: Read, P: Planner>(
     lines: &mut Lines<R>,
     alloc: Global,

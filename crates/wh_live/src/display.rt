@@ -23,7 +23,7 @@ use wh_planner::Planner;
 pub struct Display<S> {
     /// The screen.
     pub screen: S,
-    /// How long each look at the board rests behind the one before.
+    /// How long each look at the board rests after the one before.
     pub pause: Duration,
 }
 
@@ -35,7 +35,7 @@ pub struct Shown<S> {
     pub last: Result<(), ShowFault>,
 }
 
-/// What is told of a board that is not shown.
+/// The error of a board that is not shown.
 pub fn trouble_of_show(fault: ShowFault) -> Trouble
     ensures value { result ≡ trouble_of_show fault }
     ensures why { IsWhyUnshown result }
@@ -87,8 +87,8 @@ pub struct Seen<S> {
     pub watched: Watched,
 }
 
-/// Watches a run, in a thread of its own, until the bell is rung, and looks a last time then (`watch`). The viewer knows of so many
-/// entries, and their board is on the screen. It rests so long behind each look, waits for the bell alone, and holds no caller of the
+/// Watches a run, in its own thread, until the bell is rung, and looks a last time then (`watch`). The viewer knows of this many
+/// entries, and their board is on the screen. It rests this long after each look, waits for the bell alone, and holds no caller of the
 /// desk up.
 pub fn watch_run<S: Screen, T: Wait + Clock>(
     rt: &T,
@@ -114,9 +114,9 @@ pub fn watch_run<S: Screen, T: Wait + Clock>(
     }
 }
 
-/// Shows the board of the whole history, once the watch is over and the desk has given that back, if it has not as many entries as
-/// the one shown last. The viewer is of the same desk. Where the screen fails, the answer says so; the history stands. E95: the viewer
-/// knows of what was not done.
+/// Shows the board of the whole history, once the watch is over and the desk has given that back, unless it has as many
+/// entries as the one shown last. The viewer is of the same desk. If the screen fails, the result says so; the history stands. E95: the
+/// viewer knows of something that was not done.
 pub fn show_whole<S: Screen + Drop, P: Planner>(
     alloc: Global,
     history: &History<P>,

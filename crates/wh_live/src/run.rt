@@ -34,7 +34,7 @@ impl Gate for Open {
     fn after(&self, _worker: u32, _call: u32) {}
 }
 
-/// What is told of a crew that came to no history.
+/// The error of a crew that came to no history.
 pub fn trouble_of(fault: CrewFault) -> Trouble
     ensures value { result ≡ trouble_of fault }
     ensures why { IsWhyDead result }
@@ -228,9 +228,9 @@ pub struct Ran<S> {
     pub last: Result<(), ShowFault>,
 }
 
-/// Opens the warehouse at clock 0 with one planner for each agent, and has each work done by a thread of its own, over one
-/// desk whose journal has this many positions, beside a worker for all agents and the clock where a pace is given. The text is
-/// the log of all that they did. Where there is a display, boards are shown on its screen meanwhile: the first before any thread
+/// Opens the warehouse at clock 0 with one planner for each agent, and has each work done in its own thread, over one
+/// desk whose journal has this many positions, beside a worker for all agents and the clock where a pace is given. The text
+/// is the log of all that they did. Where there is a display, boards are shown on its screen meanwhile: the first before any thread
 /// is started, without which nothing is done; a screen that fails later stops nothing. Trouble: E90, E93 where a thread could not
 /// be started, and X6 where the first board could not be shown.
 pub fn run_crew<P: Planner, S: Screen + Send + Drop, T: Threads + Wait + Clock + Sync>(

@@ -1,20 +1,21 @@
 -- Cells and paths: what is read is so written, and what is so written is read.
 use Rattle.std.proofs.Common.{◌≡◌, ℕ, ◌⊎◌, inl, inr, suc, ◌<◌, ◌≤◌, ◌^◌, ◌+◌, Bool, true, cond, List, [], ◌∷◌, ◌++◌, map, length, take, drop, Some, None, decimal, refl, ap, ◌∙◌, subst, arith, lit<, lit≤, length-append}
 use Rattle.std.proofs.Math.Dec.{ltb as nat_lt, leb as nat_le}
-use Rattle.std.proofs.lemmas.Bool.{cases_order, leb-true, le-leb, lt-ltb, ne_eqb}
+use Rattle.std.proofs.lemmas.Bool.{cases_order, leb-true, le-leb, lt-ltb, ne_eqb, and_parts, and_from}
 use Rattle.std.proofs.lemmas.List.{take_at}
 use Rattle.std.specs.List.{AllByRecursion, list_all, position, position_or_len}
+use Rattle.wh_text.specs.Lines.{HasNone}
 use Rattle.wh_words.specs.Words.{is_plain, IsPlain}
 use Rattle.wh_text.specs.Numbers.{is_digit}
 use Rattle.wh_words.specs.Numerals.{numeral_of}
-use Rattle.wh_words.proofs.NumeralLemmas.{numeral_found, numeral_again, decimal_digits, and_both, and_true, plain-decimal}
+use Rattle.wh_words.proofs.NumeralLemmas.{numeral_found, numeral_again, decimal_digits, plain-decimal}
 use Rattle.wh_grid.specs.declared.cell.Cell.{Cell}
 use Rattle.wh_grid.specs.Grids.{IsMove}
 use Rattle.wh_log.specs.Spelling.{cell_word}
 use Rattle.wh_log.specs.Ranges.{IsInside, Follow, IsPath}
 use Rattle.wh_log.specs.Reading.{◌>>=◌, apart, is_comma, coordinate_of, cell_of, next_cell_of, cells_of, path_of}
 use Rattle.wh_log.proofs.Steps.{bind_some, guard_some, some_is}
-use Rattle.wh_words.proofs.Cutting.{Lacks, split_around}
+use Rattle.wh_words.proofs.Cutting.{split_around}
 
 coordinate_found : (word : List ℕ) (n : ℕ) → coordinate_of word ≡ Some n → (word ≡ decimal n) × (n ≤ 4095)
 coordinate_found word n e =
@@ -43,18 +44,18 @@ cell_found word cell e =
     subst (λ (d : Cell). (word ≡ cell_word d) × IsInside d) (some_is made cell c.2) (whole, (x.1, y.1))
 
 -- digits are no commas
-no_commas : (ds : List ℕ) → list_all is_digit ds ≡ true → Lacks is_comma ds
+no_commas : (ds : List ℕ) → list_all is_digit ds ≡ true → HasNone is_comma ds
 no_commas [] h = tt
 no_commas (d ∷ ds) h =
-    let b = and_both (is_digit d) (list_all is_digit ds) h in
-    let low : 48 ≤ d = leb-true _ _ ((and_both (nat_le 48 d) (nat_le d 57) b.0).0) in
+    let b = and_parts (is_digit d) (list_all is_digit ds) h in
+    let low : 48 ≤ d = leb-true _ _ ((and_parts (nat_le 48 d) (nat_le d 57) b.0).0) in
     (ne_eqb d 44 (λ e. absurd (omega arith)), no_commas ds b.1)
 
-position_past : (p : ℕ → Bool) (xs ys : List ℕ) (b : ℕ) → Lacks p xs → p b ≡ true → position_or_len p (xs ++ b ∷ ys) ≡ length xs
+position_past : (p : ℕ → Bool) (xs ys : List ℕ) (b : ℕ) → HasNone p xs → p b ≡ true → position_or_len p (xs ++ b ∷ ys) ≡ length xs
 position_past p [] ys b none is = rw is refl
 position_past p (x ∷ xs) ys b none is = rw (none.0, position_past p xs ys b none.1 is) (omega arith)
 
-position_is : (p : ℕ → Bool) (xs ys : List ℕ) (b : ℕ) → Lacks p xs → p b ≡ true → position p (xs ++ b ∷ ys) ≡ Some (length xs)
+position_is : (p : ℕ → Bool) (xs ys : List ℕ) (b : ℕ) → HasNone p xs → p b ≡ true → position p (xs ++ b ∷ ys) ≡ Some (length xs)
 position_is p xs ys b none is =
     let at = position_past p xs ys b none is in
     let inside : nat_lt (length xs) (length (xs ++ b ∷ ys)) ≡ true = lt-ltb _ _ (simp length-append (omega arith)) in
@@ -143,7 +144,7 @@ path_again (cell ∷ cells) h = rw (cell_again cell h.0.0, cells_again cell cell
 -- a cell's word is plain
 plain-append : (xs ys : List ℕ) → IsPlain xs → IsPlain ys → IsPlain (xs ++ ys)
 plain-append [] ys p q = q
-plain-append (x ∷ xs) ys p q = let b = and_both (is_plain x) (list_all is_plain xs) p in and_true (is_plain x) (list_all is_plain (xs ++ ys)) b.0 (plain-append xs ys b.1 q)
+plain-append (x ∷ xs) ys p q = let b = and_parts (is_plain x) (list_all is_plain xs) p in and_from (is_plain x) (list_all is_plain (xs ++ ys)) b.0 (plain-append xs ys b.1 q)
 
 pub cell_plain : (cell : Cell) → IsInside cell → IsPlain (cell_word cell)
 cell_plain cell h =

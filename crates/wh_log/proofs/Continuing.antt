@@ -1,7 +1,8 @@
 -- What a log is that begins with the lines that were read and goes on.
 use Rattle.std.proofs.Common.{◌≡◌, ℕ, ◌<◌, ◌+◌, ◌^◌, inl, inr, List, [], ◌∷◌, ◌++◌, map, length, sym, ap, ◌∙◌, subst, arith, append_assoc, length-append}
 use Rattle.std.specs.List.{AllByRecursion}
-use Rattle.wh_words.specs.Lines.{IsLine, text_of}
+use Rattle.wh_words.specs.Lines.{text_of}
+use Rattle.wh_text.specs.Lines.{IsLine}
 use Rattle.wh_event.specs.declared.entry.Entry.{Entry}
 use Rattle.wh_log.specs.Spelling.{entry_line}
 use Rattle.wh_log.specs.Ranges.{Keeps}

@@ -4,7 +4,7 @@ use Rattle.std.specs.Prelude.{IfOk}
 use Rattle.std.proofs.Math.Dec.{ltb as nat_lt}
 use Rattle.std.proofs.lemmas.Bool.{ltb-true, lt-ltb}
 use Rattle.std.specs.List.{AllByRecursion}
-use Rattle.wh_words.specs.Lines.{IsLine}
+use Rattle.wh_text.specs.Lines.{IsLine}
 use Rattle.wh_words.specs.Words.{IsPlain, words_of, line_of}
 use Rattle.wh_words.proofs.Cutting.{joined, split, line_is_line}
 use Rattle.wh_event.specs.declared.entry.Entry.{Entry}

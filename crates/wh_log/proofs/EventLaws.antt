@@ -1,14 +1,14 @@
 -- Events: what is read is so written, and what is so written is read.
 use Rattle.std.proofs.Common.{◌≡◌, ℕ, ◌≤◌, Bool, true, false, cond, ◌&&◌, List, [], ◌∷◌, ◌++◌, length, Some, codes, decimal, eqb, ◌⊎◌, inl, inr, ◌||◌, ◌^◌, refl, ap, ◌∙◌, subst, arith, lit≤}
 use Rattle.std.proofs.Math.Dec.{leb as nat_le}
-use Rattle.std.proofs.lemmas.Bool.{leb-true, le-leb, lt-ltb, eqb-true}
+use Rattle.std.proofs.lemmas.Bool.{leb-true, le-leb, lt-ltb, eqb-true, and_parts, and_from}
 use Rattle.std.specs.Str.{bytes_eq}
 use Rattle.std.specs.List.{AllByRecursion, list_all}
 use Rattle.wh_text.specs.Names.{is_name_byte, is_letter, name_of}
 use Rattle.wh_text.specs.Words.{has_bytes}
 use Rattle.wh_words.specs.Words.{is_plain, IsPlain}
 use Rattle.wh_text.specs.Numbers.{is_digit}
-use Rattle.wh_words.proofs.NumeralLemmas.{and_both, and_true, plain-decimal}
+use Rattle.wh_words.proofs.NumeralLemmas.{plain-decimal}
 use Rattle.wh_event.specs.declared.event.Event.{Event}
 use Rattle.wh_event.specs.declared.event.Event.TheVariants.{Submit, Request, Tick, Close, Replace}
 use Rattle.wh_event.specs.declared.event.Spare.{Spare}
@@ -48,8 +48,8 @@ names_found (word ∷ words) y e = go (bytes_eq word (codes "=")) refl e (names_
 name_differs : (name : List ℕ) → IsName name → bytes_eq name (codes "=") ≡ false
 name_differs [] h = refl
 name_differs (b ∷ []) h =
-    let both = and_both (has_bytes (b ∷ []) && nat_le (length (b ∷ [])) 16) (list_all is_name_byte (b ∷ [])) h in
-    go (eqb b 61) refl ((and_both (is_name_byte b) true both.1).0)
+    let both = and_parts (has_bytes (b ∷ []) && nat_le (length (b ∷ [])) 16) (list_all is_name_byte (b ∷ [])) h in
+    go (eqb b 61) refl ((and_parts (is_name_byte b) true both.1).0)
   where
     go : (v : Bool) → eqb b 61 ≡ v → is_name_byte b ≡ true → (v && true) ≡ false
     go true is h = let same : b ≡ 61 = eqb-true _ _ is in let no : false ≡ true = subst (λ (c : ℕ). is_name_byte c ≡ true) same h in cc
@@ -72,7 +72,7 @@ stops_found most words y e =
     let a = bind_some (names_at words) (λ names. counted_of most names.0 >>= λ stops. Some (stops, names.1)) y e in
     let b = bind_some (counted_of most a.0.0) (λ stops. Some (stops, a.0.1)) y a.2 in
     let g = guard_some (nat_le 2 (length a.0.0) && nat_le (length a.0.0) most) a.0.0 b.0 b.1 in
-    let few = and_both (nat_le 2 (length a.0.0)) (nat_le (length a.0.0) most) g.0 in
+    let few = and_parts (nat_le 2 (length a.0.0)) (nat_le (length a.0.0) most) g.0 in
     let f = names_found words a.0 a.1 in
     let same : (a.0.0, a.0.1) ≡ y = ap (λ (names : List (List ℕ)). (names, a.0.1)) g.1 ∙ some_is (b.0, a.0.1) y b.2 in
     subst (λ (z : List (List ℕ) × List (List ℕ)). (words ≡ z.0 ++ codes "=" ∷ z.1) × AllByRecursion IsName z.0 × (2 ≤ length z.0) × (length z.0 ≤ most)) same (f.0, f.1, leb-true _ _ few.0, leb-true _ _ few.1)
@@ -185,14 +185,14 @@ event_again most (Replace agent spare) rest h = rw (small_again agent h.0, spare
 
 -- ---- the words are plain
 pub name_plain : (name : List ℕ) → IsName name → IsPlain name
-name_plain name h = all_plain name ((and_both (has_bytes name && nat_le (length name) 16) (list_all is_name_byte name) h).1)
+name_plain name h = all_plain name ((and_parts (has_bytes name && nat_le (length name) 16) (list_all is_name_byte name) h).1)
   where
     letter : (b : ℕ) → is_letter b ≡ true → is_plain b ≡ true
     letter b h = go (nat_le 65 b && nat_le b 90) refl h
       where
         go : (v : Bool) → (nat_le 65 b && nat_le b 90) ≡ v → (v || (nat_le 97 b && nat_le b 122)) ≡ true → is_plain b ≡ true
-        go true is h = let low : 65 ≤ b = leb-true _ _ ((and_both (nat_le 65 b) (nat_le b 90) is).0) in lt-ltb _ _ (omega arith)
-        go false is h = let low : 97 ≤ b = leb-true _ _ ((and_both (nat_le 97 b) (nat_le b 122) h).0) in lt-ltb _ _ (omega arith)
+        go true is h = let low : 65 ≤ b = leb-true _ _ ((and_parts (nat_le 65 b) (nat_le b 90) is).0) in lt-ltb _ _ (omega arith)
+        go false is h = let low : 97 ≤ b = leb-true _ _ ((and_parts (nat_le 97 b) (nat_le b 122) h).0) in lt-ltb _ _ (omega arith)
 
     either : (a b : Bool) → (a || b) ≡ true → (a ≡ true) ⊎ (b ≡ true)
     either true b h = inl refl
@@ -206,14 +206,14 @@ name_plain name h = all_plain name ((and_both (has_bytes name && nat_le (length 
             | inr e ↦ let same : b ≡ 95 = eqb-true _ _ e in lt-ltb _ _ (omega arith)
             | inl h ↦ elim (either (is_letter b) (is_digit b) h) [
               | inl l ↦ letter b l
-              | inr d ↦ let low : 48 ≤ b = leb-true _ _ ((and_both (nat_le 48 b) (nat_le b 57) d).0) in lt-ltb _ _ (omega arith)
+              | inr d ↦ let low : 48 ≤ b = leb-true _ _ ((and_parts (nat_le 48 b) (nat_le b 57) d).0) in lt-ltb _ _ (omega arith)
             ]
           ]
         ]
 
     all_plain : (bs : List ℕ) → list_all is_name_byte bs ≡ true → IsPlain bs
     all_plain [] h = refl
-    all_plain (b ∷ bs) h = let both = and_both (is_name_byte b) (list_all is_name_byte bs) h in and_true (is_plain b) (list_all is_plain bs) (byte b both.0) (all_plain bs both.1)
+    all_plain (b ∷ bs) h = let both = and_parts (is_name_byte b) (list_all is_name_byte bs) h in and_from (is_plain b) (list_all is_plain bs) (byte b both.0) (all_plain bs both.1)
 
 pub names_plain : (names : List (List ℕ)) → AllByRecursion IsName names → AllByRecursion IsPlain names
 names_plain [] h = tt

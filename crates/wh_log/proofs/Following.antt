@@ -1,7 +1,8 @@
 -- Following a log: what was read so far, and each exit.
 use Rattle.std.proofs.Common.{◌≡◌, ℕ, suc, ◌<◌, ◌+◌, ◌^◌, inl, inr, List, [], ◌∷◌, ◌++◌, map, length, refl, sym, ap, ◌∙◌, subst, arith, append_assoc, length-append, lit<}
 use Rattle.std.proofs.lemmas.List.{append-nil, map-append}
-use Rattle.wh_words.specs.Lines.{IsLine, text_of}
+use Rattle.wh_words.specs.Lines.{text_of}
+use Rattle.wh_text.specs.Lines.{IsLine}
 use Rattle.wh_event.specs.declared.entry.Entry.{Entry}
 use Rattle.wh_log.specs.Spelling.{entry_line}
 use Rattle.wh_log.specs.Ranges.{Keeps}

@@ -3,7 +3,8 @@ use Rattle.std.proofs.Common.{◌≡◌, ℕ, ◌<◌, ◌+◌, ◌-◌, ◌^◌
 use Rattle.std.specs.Global.{Vec}
 use Rattle.std.proofs.lemmas.List.{append-nil}
 use Rattle.std.specs.List.{AllByRecursion}
-use Rattle.wh_words.specs.Lines.{IsLine, text_of}
+use Rattle.wh_words.specs.Lines.{text_of}
+use Rattle.wh_text.specs.Lines.{IsLine}
 use Rattle.wh_event.specs.declared.entry.Entry.{Entry}
 use Rattle.wh_log.specs.Spelling.{entry_line}
 use Rattle.wh_log.specs.Ranges.{Keeps}
@@ -27,7 +28,7 @@ use Rattle.wh_log.proofs.Following.{one_more, behind_next}
 use Rattle.wh_log.proofs.Sources.{grown, all_seen, sees_on}
 use Rattle.wh_log.proofs.Tearing.{one_stands, second_stands, lacks_on, stand_on, behind_on, cut_at, recovers_no_head, recovers_no_start, recovers_unopened, recovers_ended, recovers_cut, recovers_wrong, recovers_refused, recovers_after}
 
--- a line and what stands behind it, of which more is read
+-- a line and what follows it, of which more is read
 line_on : (rest line behind more : List ℕ) → rest ≡ line ++ 10 ∷ behind → rest ++ more ≡ line ++ 10 ∷ (behind ++ more)
 line_on rest line behind more e = ap (λ (t : List ℕ). t ++ more) e ∙ append_assoc line (10 ∷ behind) more
 

@@ -3,14 +3,14 @@ use Rattle.std.proofs.Common.{◌≡◌, ℕ, ◌<◌, ◌≤◌, ◌^◌, true,
 use Rattle.std.specs.Prelude.{IfOk, IfSome, IfNone}
 use Rattle.std.specs.Global.{Vec}
 use Rattle.std.proofs.Math.Dec.{leb as nat_le}
-use Rattle.std.proofs.lemmas.Bool.{leb-true, le-leb}
+use Rattle.std.proofs.lemmas.Bool.{leb-true, le-leb, and_parts}
 use Rattle.std.proofs.lemmas.Option.{none-some}
 use Rattle.std.specs.List.{AllByRecursion}
-use Rattle.wh_words.specs.Lines.{IsLine}
+use Rattle.wh_text.specs.Lines.{IsLine}
 use Rattle.wh_words.specs.Words.{IsPlain, words_of, line_of}
 use Rattle.wh_words.specs.Numerals.{numeral_of}
 use Rattle.wh_words.proofs.Cutting.{joined, split, line_is_line}
-use Rattle.wh_words.proofs.NumeralLemmas.{numeral_found, numeral_again, and_both, plain-decimal}
+use Rattle.wh_words.proofs.NumeralLemmas.{numeral_found, numeral_again, plain-decimal}
 use Rattle.wh_log.specs.declared.entry_fault.EntryFault.{EntryFault}
 use Rattle.wh_log.specs.declared.entry_fault.EntryFault.TheVariants as faults
 use Rattle.wh_event.specs.declared.entry.Entry.{Entry}
@@ -51,7 +51,7 @@ slot_found : (word : List ℕ) (slot : ℕ) → slot_of word ≡ Some slot → (
 slot_found word slot e =
     let b = bind_some (numeral_of 9 word) (λ n. cond (nat_le 2 n && nat_le n 64) (Some n) None) slot e in
     let g = guard_some (nat_le 2 b.0 && nat_le b.0 64) b.0 slot b.2 in
-    let both = and_both (nat_le 2 b.0) (nat_le b.0 64) g.0 in
+    let both = and_parts (nat_le 2 b.0) (nat_le b.0 64) g.0 in
     let f = numeral_found 9 word b.0 (lit≤ tt) b.1 in
     subst (λ (m : ℕ). (word ≡ decimal m) × IsSlots m) g.1 (f.0, (leb-true _ _ both.0, leb-true _ _ both.1))
 
@@ -100,7 +100,7 @@ start_found words y e =
     let clock = clock_at_found a.0 b.0 b.1 in
     let slots = slots_found d.0 f.0 f.1 in
     let few = guard_some (nat_le 1 (length f.0) && nat_le (length f.0) 256) f.0 g.0 g.1 in
-    let sizes = and_both (nat_le 1 (length f.0)) (nat_le (length f.0) 256) few.0 in
+    let sizes = and_parts (nat_le 1 (length f.0)) (nat_le (length f.0) 256) few.0 in
     let whole : words ≡ start_words b.0.0 f.0 =
     literal_found (codes "start") words a.0 a.1 ∙ ap (λ (ws : List (List ℕ)). codes "start" ∷ ws) (clock.0 ∙ ap (λ (ws : List (List ℕ)). decimal b.0.0 ∷ ws) (literal_found (codes "slots") b.0.1 d.0 d.1 ∙ ap (λ (ws : List (List ℕ)). codes "slots" ∷ ws) slots.0)) in
     let first : IsStart words (b.0.0, f.0) = record { words_are = whole; opens = record { clock_fits = clock.1; some = leb-true _ _ sizes.0; few = leb-true _ _ sizes.1; each = slots.1 } } in

@@ -2,8 +2,8 @@
 use Rattle.std.proofs.Common.{◌≡◌, ℕ, Bool, true, false, ◌⊎◌, inl, inr, List, [], ◌∷◌, ◌++◌, refl, sym, ap, ◌∙◌, subst, append_assoc}
 use Rattle.std.proofs.lemmas.Bool.{eqb-true}
 use Rattle.std.specs.List.{AllByRecursion}
-use Rattle.wh_text.specs.Lines.{is_line_feed}
-use Rattle.wh_words.specs.Lines.{IsLine, text_of}
+use Rattle.wh_text.specs.Lines.{is_line_feed, IsLine}
+use Rattle.wh_words.specs.Lines.{text_of}
 
 no_feed : (xs : List ℕ) → IsLine (10 ∷ xs) → ⊥
 no_feed xs h = let e : true ≡ false = h.0 in cc

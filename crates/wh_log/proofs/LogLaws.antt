@@ -3,7 +3,8 @@ use Rattle.std.proofs.Common.{◌≡◌, ℕ, ◌<◌, inl, inr, List, [], ◌�
 use Rattle.std.proofs.lemmas.Bool.{cases_lt}
 use Rattle.std.proofs.lemmas.List.{append-nil}
 use Rattle.std.specs.List.{AllByRecursion}
-use Rattle.wh_words.specs.Lines.{IsLine, text_of}
+use Rattle.wh_words.specs.Lines.{text_of}
+use Rattle.wh_text.specs.Lines.{IsLine}
 use Rattle.wh_event.specs.declared.entry.Entry.{Entry}
 use Rattle.wh_log.specs.Ranges.{Keeps}
 use Rattle.wh_log.specs.Logs.{Content, most_stops, end_line, log_lines, IsLogText}

@@ -1,7 +1,8 @@
 -- Following a log that may have been cut.
 use Rattle.std.proofs.Common.{◌≡◌, ℕ, ◌<◌, ◌+◌, ◌-◌, ◌^◌, inl, inr, Bool, true, false, List, [], ◌∷◌, ◌++◌, map, length, refl, sym, ap, ◌∙◌, subst, arith, append_assoc, length-append}
 use Rattle.std.specs.List.{AllByRecursion}
-use Rattle.wh_words.specs.Lines.{IsLine, text_of}
+use Rattle.wh_words.specs.Lines.{text_of}
+use Rattle.wh_text.specs.Lines.{IsLine}
 use Rattle.wh_event.specs.declared.entry.Entry.{Entry}
 use Rattle.wh_log.specs.Spelling.{entry_line}
 use Rattle.wh_log.specs.Ranges.{Keeps}
@@ -97,7 +98,7 @@ module _ {S : Type 0} (opens : S → ℕ → List ℕ → S → Type 0) (steps :
       let bad : IsFirstBad (IsAccepted opens steps old) text 1 = ends_no_head opens steps old text new can lacks in
       (bad, whole_bad (IsAccepted opens steps old) text 1 bad has, record { before = []; rest = text; lines = tt; parts = refl; place = refl; bytes_are = refl })
 
-  -- the second line is bad behind so many bytes
+  -- the second line is bad, after this many bytes
   before_second : (version : Version) (rest : List ℕ) → text ≡ head_line version ++ 10 ∷ rest → EndsBefore text 2 (length (text_of (head_line version ∷ [])))
   before_second version rest is = record { before = head_line version ∷ []; rest = rest; lines = (head_is_line version, tt); parts = is ∙ sym (one_text (head_line version) [] rest); place = refl; bytes_are = refl }
 

@@ -5,7 +5,7 @@ use Rattle.std.proofs.lemmas.Grind.{flat_map-append}
 use Rattle.std.proofs.lemmas.Fmt.{decimal_injective}
 use Rattle.std.specs.List.{AllByRecursion}
 use Rattle.std.specs.Io.KnownBytes.{Appends}
-use Rattle.wh_words.specs.Lines.{IsLine}
+use Rattle.wh_text.specs.Lines.{IsLine}
 use Rattle.wh_words.specs.Words.{IsPlain, words_of, line_of}
 use Rattle.wh_words.proofs.NumeralLemmas.{plain-decimal}
 use Rattle.wh_words.proofs.Cutting.{split, line_is_line}

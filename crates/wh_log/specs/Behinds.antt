@@ -2,7 +2,8 @@
 use Rattle.std.specs.Prelude.{◌≡◌, ◌<◌, ◌+◌, ◌-◌, ◌^◌, ℕ, Bool, true, false, List, [], ◌∷◌, ◌++◌, map, length, Option, IfSome}
 use Rattle.std.specs.List.{AllByRecursion}
 use Rattle.std.specs.Global.{Vec}
-use Rattle.wh_words.specs.Lines.{IsLine, text_of}
+use Rattle.wh_words.specs.Lines.{text_of}
+use Rattle.wh_text.specs.Lines.{IsLine}
 use Rattle.wh_event.specs.declared.entry.Entry.{Entry}
 use Rattle.wh_log.specs.Spelling.{entry_line}
 use Rattle.wh_log.specs.Ranges.{Keeps}
@@ -18,7 +19,7 @@ use Rattle.wh_log.specs.Places.{IsNeither}
 use Rattle.wh_log.specs.Judges.{Refuses, RunOf}
 use Rattle.wh_log.specs.Torn.{Recovers}
 
--- Of the text the first two lines were told to a judge that was old, and so many entries; the rest was not, and the judge is
+-- Of the text the first two lines were told to a judge that was old, and a number of entries; the rest was not, and the judge is
 -- now so.
 pub record Behind {S : Type 0} (opens : S → ℕ → List ℕ → S → Type 0) (steps : S → Entry → S → Type 0) (old : S) (text : List ℕ) (version : Version) (count : ℕ) (now : S) (rest : List ℕ) : Type 0 where
   pub clock : ℕ
@@ -54,7 +55,7 @@ is_bad_stop stop.TextAfter = true
 is_bad_stop stop.WrongLine = true
 is_bad_stop stop.Refused = true
 
--- its line, and how many bytes the lines before it are, where so many were read in all
+-- its line, and how many bytes the lines before it are, of the bytes read in all
 abbrev pub IsBadAt : Stop → (entries : ℕ) → List ℕ → (place : ℕ) → Front → Type 0
 IsBadAt stop.TextAfter entries rest place front = (line more : List ℕ) → IsLine line → rest ≡ line ++ 10 ∷ more → front ≡ Bad (entries + 4) (place - length more)
 IsBadAt stop.WrongLine entries rest place front = front ≡ Bad (entries + 3) (place - length rest)
@@ -62,11 +63,11 @@ IsBadAt stop.Refused entries rest place front = front ≡ Bad (entries + 3) (pla
 IsBadAt stop.NoLine entries rest place front = Unit {0}
 IsBadAt stop.End entries rest place front = Unit {0}
 
--- the second line is bad, behind so many bytes
+-- the second line is bad, after this many bytes
 abbrev pub IsBadStart : List ℕ → Front → Type 0
 IsBadStart text front = (line more : List ℕ) → IsLine line → text ≡ line ++ 10 ∷ more → front ≡ Bad 2 (length text - length more)
 
--- what a text is with so many whole lines, of which the first is none of a log, or the second
+-- what a text with a given number of whole lines is, of which the first is none of a log, or the second
 abbrev pub LacksHead : Standing → Vec ℕ → Front → Type 0
 LacksHead standing.None text front = front ≡ Unopened text
 LacksHead standing.One text front = front ≡ Bad 1 0
@@ -81,7 +82,7 @@ LacksStart standing.Two text front = IsBadStart text.items front
 abbrev pub RecoversFrom : {S : Type 0} → (S → ℕ → List ℕ → S → Type 0) → (S → Entry → S → Type 0) → Option (List ℕ) → S → S → Front → Type 0
 RecoversFrom opens steps held old new front = (text : List ℕ) × IfSome held (λ bytes. text ≡ bytes) × Recovers opens steps text old new front
 
--- so many bytes were read of it, and these are they
+-- that many bytes were read of it, and these are they
 pub record Sees (held : Option (List ℕ)) (place : ℕ) (seen : List ℕ) : Type 0 where
   pub front : IfSome held (λ bytes. (more : List ℕ) × (bytes ≡ seen ++ more))
   pub place_is : place ≡ length seen

@@ -1,6 +1,6 @@
 -- What stands behind the entries read so far.
 use Rattle.std.specs.Prelude.{◌≡◌, ℕ, ◌+◌, ◌<◌, ◌^◌, ◌⊎◌, List, [], ◌∷◌, ◌++◌, length}
-use Rattle.wh_words.specs.Lines.{IsLine}
+use Rattle.wh_text.specs.Lines.{IsLine}
 use Rattle.wh_event.specs.declared.entry.Entry.{Entry}
 use Rattle.wh_log.specs.Spelling.{entry_line}
 use Rattle.wh_log.specs.Ranges.{Keeps}
@@ -16,7 +16,7 @@ pub record IsNeither (version : Version) (count : ℕ) (line : List ℕ) : Type 
   pub entry : (entry : Entry) → Keeps (most_stops version) entry → count + 1 < 10 ^ 9 → line ≡ entry_line entry → ⊥
   pub end : line ≡ end_line count → ⊥
 
--- what each place means, behind so many entries
+-- what each place means, after a given number of entries
 abbrev pub Stands : Version → ℕ → List ℕ → Place → Type 0
 Stands version count text (places.Next entry rest) = (text ≡ entry_line entry ++ 10 ∷ rest.now) × Keeps (most_stops version) entry × (count + 1 < 10 ^ 9)
 Stands version count text places.End = text ≡ end_line count ++ 10 ∷ []

@@ -74,7 +74,7 @@ ReplyKeeps (Replaced slots) = IsSmall slots
 ReplyKeeps Closed = Unit {0}
 ReplyKeeps (Refused refusal) = RefusalKeeps refusal
 
--- what a line of a log can tell, where a task has at most so many stops
+-- what a line of a log can tell, where a task has at most the given number of stops
 pub record Keeps (most : ℕ) (entry : Entry) : Type 0 where
   pub caller : entry.caller < 64
   pub event : EventKeeps most entry.event

@@ -1,4 +1,4 @@
--- Reading an event and the equals sign behind it.
+-- Reading an event and the equals sign after it.
 use Rattle.std.specs.Prelude.{ℕ, ◌&&◌, List, [], ◌∷◌, length, Option, Some, None, nat_le, cond, codes}
 use Rattle.std.specs.Str.{bytes_eq}
 use Rattle.wh_text.specs.Names.{name_of}

@@ -1,11 +1,11 @@
 -- Bytes that are read from their front, piece by piece.
 use Rattle.std.specs.Prelude.{◌≡◌, ◌+◌, ℕ, Bool, true, List, [], ◌∷◌, ◌++◌, length, drop, Option, IfSome}
-use Rattle.wh_words.specs.Lines.{IsLine}
+use Rattle.wh_text.specs.Lines.{IsLine}
 use Rattle.wh_log.specs.Torn.{HasLines}
 use Rattle.wh_log.specs.declared.window.Standing.{Standing}
 use Rattle.wh_log.specs.declared.window.Standing.TheVariants as standing
 
--- these bytes stand next behind the first so many, where they are told
+-- these bytes come next after the first n, where they are told
 abbrev pub IsNext : Option (List ℕ) → (place : ℕ) → List ℕ → Type 0
 IsNext held place piece = IfSome held (λ bytes. (more : List ℕ) × (drop place bytes ≡ piece ++ more))
 
@@ -40,7 +40,7 @@ Shows text standing.None = IsLine text
 Shows text standing.One = (line : List ℕ) × (rest : List ℕ) × IsLine line × IsLine rest × (text ≡ line ++ 10 ∷ rest)
 Shows text standing.Two = HasLines text 2
 
--- two do, or no more stand behind the first so many bytes
+-- two do, or no more come after the first n bytes
 abbrev pub IsEnough : Option (List ℕ) → (place : ℕ) → Standing → Type 0
 IsEnough held place standing.Two = Unit {0}
 IsEnough held place standing.One = IsAtEnd held place

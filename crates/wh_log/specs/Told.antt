@@ -10,7 +10,7 @@ use Rattle.wh_log.specs.Ranges.{ReplyKeeps}
 use Rattle.wh_log.specs.declared.form.Form.{Form}
 use Rattle.wh_log.specs.declared.form.Form.TheVariants.{Short, Full, Placed}
 
--- what an entry answers: its place in the history, from 0, the clock before it, and its reply
+-- the reply of an entry: its place in the history, from 0, the clock before it, and its reply
 pub record Answered : Type 0 where
   pub place : ℕ
   pub clock : ℕ

@@ -1,7 +1,7 @@
 //! Reads an entry's line.
 
 ghost use Rattle.std.specs.Prelude.{◌≡◌, ◌≤◌, ℕ, IfOk, Some};
-ghost use Rattle.wh_words.specs.Lines.{IsLine};
+ghost use Rattle.wh_text.specs.Lines.{IsLine};
 ghost use Rattle.wh_log.specs.Spelling.{entry_line};
 ghost use Rattle.wh_log.specs.Ranges.{Keeps};
 ghost use Rattle.wh_event.specs.declared.entry.Entry.{Entry};
@@ -40,7 +40,7 @@ fn entry(alloc: Global, most: usize, mut words: Words) -> Result<Entry, EntryFau
     })
 }
 
-/// The entry that a line tells, where a task has at most so many stops.
+/// The entry that a line tells, where a task has at most the given number of stops.
 pub fn read_entry(alloc: Global, most: usize, line: &[u8]) -> Result<Entry, EntryFault>
     requires { most ≤ 8 }
     // What is read is written so, each byte of it.

@@ -13,13 +13,13 @@ use std::alloc::Global;
 /// What came of a log that a judge was told.
 #[derive(Clone, Copy, Debug, PartialEq, Eq)]
 pub enum Followed {
-    /// It is a log, and so many entries are steps.
+    /// It is a log, and this many entries are steps.
     Whole { entries: u32 },
     /// The first line, from 1, with which no log begins whose entries are steps.
     Bad { line: u64 },
 }
 
-/// The fault of the line so far behind the entries.
+/// The fault of the line at this distance after the entries.
 fn bad(entries: u32, further: u32) -> Followed
     ensures { result ≡ Followed.Bad (entries + further) }
 {
@@ -29,10 +29,10 @@ fn bad(entries: u32, further: u32) -> Followed
 }
 
 /// Tells a log to a judge, entry by entry, and stops at the first line that is not in the format or whose entry the judge
-/// refuses. Lines are counted from 1; a line that is missing is the one behind the last. The judge must accept some
+/// refuses. Lines are counted from 1; a line that is missing is the one after the last. The judge must accept some
 /// opening: else line 1 would be the first bad one.
 ///
-/// Error: `NoMemory` where the judge or a path wants memory and gets none.
+/// Error: `NoMemory` where the judge or a path runs out of memory.
 pub fn follow<J: Judge>(alloc: Global, judge: &mut J, text: &[u8]) -> Result<Followed, NoMemory>
     requires { CanOpen J.opens judge.old }
     ensures { IfOk result (Concludes J.opens J.steps text.now judge.old judge.new) }

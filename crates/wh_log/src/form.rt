@@ -61,7 +61,7 @@ pub fn tell_full<W: Write>(writer: &mut W, reply: &Reply) -> Result<(), WriteFau
     }
 }
 
-/// Writes the place of an entry in its history and the clock before it, a space behind each.
+/// Writes the place of an entry in its history and the clock before it, each followed by a space.
 fn write_place<W: Write>(writer: &mut W, place: u64, clock: u32) -> Result<(), WriteFault>
     ensures ok { OnOk result (Appends (W.contents writer.old) (W.contents writer.new) (decimal place ++ 32 ∷ (decimal clock ++ 32 ∷ []))) }
     ensures err { OnErr result (WritesFront (W.contents writer.old) (W.contents writer.new) (decimal place ++ 32 ∷ (decimal clock ++ 32 ∷ []))) }
@@ -73,7 +73,7 @@ fn write_place<W: Write>(writer: &mut W, place: u64, clock: u32) -> Result<(), W
     write_all(writer, head.as_slice())
 }
 
-/// Writes a reply as the log has it, behind its entry's place in the history and the clock before that.
+/// Writes a reply as the log has it, after its entry's place in the history and the clock before that.
 fn write_placed<W: Write>(
     writer: &mut W,
     place: u64,

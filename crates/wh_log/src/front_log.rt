@@ -1,7 +1,7 @@
 //! Tells a judge a log that is read piece by piece and may have been cut anywhere.
 
 ghost use Rattle.std.specs.Prelude.{◌≡◌, ◌<◌, ◌^◌, ◌++◌, ◌∷◌, ℕ, List, IfOk, length};
-ghost use Rattle.wh_words.specs.Lines.{IsLine};
+ghost use Rattle.wh_text.specs.Lines.{IsLine};
 ghost use Rattle.wh_log.specs.Judges.{CanOpen};
 ghost use Rattle.wh_log.specs.Behinds.{IsBadAt, IsBadStart, LacksHead, LacksStart, RecoversFrom, RecoversOn, is_bad_stop};
 
@@ -19,7 +19,7 @@ use wh_words::whole_line;
 /// What came of the front of a log that a judge was told.
 #[derive(Drop)]
 pub enum Front {
-    /// The first two lines stand whole, and so many entries, in so many bytes. Behind them stands a part of a line, or
+    /// The first two lines stand whole, and this many entries, in this many bytes. After them comes a part of a line, or
     /// the end line and nothing else.
     Whole {
         version: Version,
@@ -32,14 +32,14 @@ pub enum Front {
         text: Vec<u8>,
     },
     /// The first line, from 1, that stands whole and with which no log begins whose entries are steps. The lines before it
-    /// are so many bytes.
+    /// are this many bytes.
     Bad {
         line: u64,
         bytes: usize,
     },
 }
 
-/// How many bytes stand behind the first line.
+/// How many bytes follow the first line.
 fn behind_line(text: &[u8]) -> usize
     ensures { (line more : List ℕ) → IsLine line → text.now ≡ line ++ 10 ∷ more → result ≡ length more }
 {
@@ -79,7 +79,7 @@ fn no_start(standing: Standing, text: Vec<u8>) -> Front
     }
 }
 
-/// The fault where telling stopped behind so many entries, over a rest of what was read up to a place.
+/// The fault where telling stopped after a number of entries, over a rest of what was read up to a place.
 fn bad_front(entries: u32, stop: Stop, rest: &[u8], place: usize) -> Front
     requires { entries < 10 ^ 9 }
     ensures { IsBadAt stop entries rest.now place result }
@@ -104,7 +104,7 @@ fn is_bad(stop: Stop) -> bool
     matches!(stop, Stop::TextAfter | Stop::WrongLine | Stop::Refused)
 }
 
-/// Tells a judge that has opened the entries behind the first two lines, which were read up to the window.
+/// Tells a judge that has opened the entries after the first two lines, which were read up to the window.
 fn follow_entries<J: Judge, S: Source>(
     alloc: Global,
     judge: &mut J,
@@ -142,12 +142,12 @@ fn follow_entries<J: Judge, S: Source>(
     Err(SourceFault::Unread)
 }
 
-/// Tells a log to a judge, entry by entry, as far as its lines stand whole. It is read piece by piece, and of what was told
-/// nothing is kept. A log may have been cut anywhere: what stands behind the last line feed is a part of a line, and is not
+/// Tells a log to a judge, entry by entry, as far as its lines stand whole. It is read piece by piece, and nothing of what
+/// was told is kept. A log may have been cut anywhere: what follows the last line feed is a part of a line, and is not
 /// told. The first line that stands whole and is not in the format, or whose entry the judge refuses, is a fault. The judge
 /// must accept some opening.
 ///
-/// Errors: `Unread` where no more can be read; `NoMemory` where the judge, a path or a line wants memory and gets none.
+/// Errors: `Unread` where no more can be read; `NoMemory` where the judge, a path or a line runs out of memory.
 pub fn follow_front<J: Judge, S: Source>(
     alloc: Global,
     judge: &mut J,

@@ -1,7 +1,7 @@
 //! Laws on logs and their first bad lines.
 
 ghost use Rattle.std.specs.Prelude.{◌≡◌, ℕ, List};
-ghost use Rattle.wh_words.specs.Lines.{IsLine};
+ghost use Rattle.wh_text.specs.Lines.{IsLine};
 ghost use Rattle.wh_event.specs.declared.reply.Reply.{Reply};
 ghost use Rattle.wh_log.specs.Logs.{Content, IsLogText};
 ghost use Rattle.wh_log.specs.Ranges.{ReplyKeeps};

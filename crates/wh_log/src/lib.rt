@@ -2,6 +2,7 @@
 //! a reply is told, in the log's own words too.
 #![tactic(auto)]
 
+mod bounds;
 mod entry_fault;
 mod entry_lines;
 mod fault;
@@ -28,6 +29,7 @@ mod window;
 mod write_entry;
 mod writer;
 
+pub use bounds::{MOST_ENTRIES, PIECE};
 pub use entry_lines::entries_are;
 pub use fault::NoMemory;
 pub use follow_log::{Followed, follow};

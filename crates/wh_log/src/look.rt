@@ -1,10 +1,10 @@
 //! Reads the next line of a log.
 
 ghost use Rattle.std.specs.Prelude.{◌≡◌, ◌<◌, ◌^◌, IfOk};
-ghost use Rattle.wh_words.specs.Lines.{IsLine};
 ghost use Rattle.wh_log.specs.Logs.{end_line};
 ghost use Rattle.wh_log.specs.Places.{Stands, Heads};
 
+use crate::bounds::MOST_ENTRIES;
 use crate::entry_fault::EntryFault;
 use crate::entry_lines::read_entry;
 use crate::fault::NoMemory;
@@ -41,7 +41,7 @@ pub fn read_head(alloc: Global, text: &[u8]) -> Result<Head, NoMemory>
     }
 }
 
-/// What stands behind so many entries.
+/// What follows after a number of entries.
 pub fn next<'a>(
     alloc: Global,
     version: Version,
@@ -66,7 +66,7 @@ pub fn next<'a>(
     }
     match read_entry(alloc, most_stops(version), line) {
         Ok(entry) => {
-            if count < 999_999_999 {
+            if (count as usize) < MOST_ENTRIES {
                 Ok(Place::Next { entry, rest })
             } else {
                 Ok(Place::WrongLine)

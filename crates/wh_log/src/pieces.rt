@@ -1,4 +1,4 @@
-//! An entry's line in pieces that take no memory: its head, and behind it the cells of the reply's path, each for itself.
+//! An entry's line in pieces that take no memory: its head, and then the cells of the reply's path, each for itself.
 
 ghost use Rattle.std.specs.Prelude.{◌≡◌, ◌+◌, ◌≤◌, ◌++◌, ◌∷◌, [], length, map, decimal, MatchOption};
 ghost use Rattle.wh_log.specs.Spaced.{spaced};
@@ -22,7 +22,7 @@ fn put_text(head: &mut ArrayVec<u8, 256>, text: &[u8])
     }
 }
 
-/// Writes a text of few bytes, and behind it a number.
+/// Writes a text of few bytes, and then a number.
 fn put_numeral(head: &mut ArrayVec<u8, 256>, text: &[u8], number: u64)
     requires few { length text.now ≤ 16 }
     requires room { length head.old.items ≤ 200 }

@@ -4,14 +4,14 @@ ghost use Rattle.std.specs.Prelude.{◌≡◌};
 
 use wh_event::Entry;
 
-/// What stands behind the entries that were read so far.
+/// What follows the entries that were read so far.
 #[derive(Drop)]
 pub enum Place<'a> {
     /// A further entry, and what follows its line.
     Next { entry: Entry, rest: &'a [u8] },
     /// The end line, and nothing else.
     End,
-    /// The end line, and text behind it.
+    /// The end line, and text after it.
     TextAfter,
     /// No line that a line feed ends.
     NoLine,

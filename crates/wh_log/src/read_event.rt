@@ -1,4 +1,4 @@
-//! Reads an event and the equals sign behind it.
+//! Reads an event and the equals sign after it.
 
 ghost use Rattle.std.specs.Prelude.{◌≡◌, ◌≤◌};
 ghost use Rattle.wh_log.specs.Reading.{Reads, Gives, Fails};
@@ -115,7 +115,7 @@ fn replace(words: &mut Words) -> Result<Event, EntryFault>
     Ok(Event::Replace { agent, spare })
 }
 
-/// An event and the equals sign behind it.
+/// An event and the equals sign after it.
 #[tactic(auto, unfolding(crate::specs::ReadEvents::event_at))]
 pub fn event(alloc: Global, most: usize, words: &mut Words) -> Result<Event, EntryFault>
     requires { most ≤ 8 }

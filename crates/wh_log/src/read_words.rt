@@ -4,6 +4,7 @@ ghost use Rattle.std.specs.Prelude.{◌≡◌, MatchResult};
 ghost use Rattle.wh_log.specs.Reading.{Reads, Gives, Fails};
 ghost use Rattle.wh_log.specs.Reading as reading;
 
+use crate::bounds::LAST_CLOCK;
 use crate::entry_fault::EntryFault;
 use wh_text::Name;
 use wh_words::{Words, long_numeral, numeral, wide_numeral};
@@ -57,7 +58,7 @@ pub fn clock_number(words: &mut Words) -> Result<u32, EntryFault>
     ensures { Reads (λ x. x) result words.new (reading.clock_at words.old) }
 {
     let number = long(words)?;
-    if number <= 1_000_000_000 {
+    if number <= LAST_CLOCK {
         Ok(number as u32)
     } else {
         Err(EntryFault::Form)

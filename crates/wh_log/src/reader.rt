@@ -109,8 +109,8 @@ impl Judge for Collector {
 /// The log that a text is, in version 1 or 2. In the text one space stands between words, each line ends in one line
 /// feed, and numbers are decimal without leading zeros, so a content has one text in each version.
 ///
-/// Errors: `At` (L1) with the first line, from 1, that is not in the format: a line that is missing is the one behind the
-/// last, a text behind the `end` line is the line behind it, a wrong count is a fault of the `end` line, and a last line
+/// Errors: `At` (L1) with the first line, from 1, that is not in the format: a line that is missing is the one after the
+/// last, a text after the `end` line is the line after it, a wrong count is a fault of the `end` line, and a last line
 /// without its line feed is a fault of that line. `NoMemory` (E90).
 pub fn read_log(alloc: Global, text: &[u8]) -> Result<Log, LogFault>
     // What is read is a log of this content.

@@ -3,6 +3,7 @@
 ghost use Rattle.std.specs.Prelude.{◌≡◌, ◌<◌, ℕ, List, Option, None, Some, OnOk};
 ghost use Rattle.wh_log.specs.Sources.{AddsPiece, IsPiece};
 
+use crate::bounds::PIECE;
 use crate::fault::NoMemory;
 use std::alloc::{AllocError, AllocFailed};
 
@@ -11,7 +12,7 @@ use std::alloc::{AllocError, AllocFailed};
 pub enum SourceFault {
     /// They cannot be read.
     Unread,
-    /// Memory was wanting.
+    /// Out of memory.
     NoMemory,
 }
 
@@ -38,13 +39,13 @@ pub trait Source {
     // all of them, where they are told
     ghost held: { Self → Option (List ℕ) } = { λ _. None };
 
-    /// Adds to a buffer a piece of the bytes behind the first so many, and nothing only where none stand there.
+    /// Adds to a buffer a piece of the bytes after the first n, and nothing only where none stand there.
     fn add_piece(&mut self, place: usize, buffer: &mut Vec<u8>) -> Result<(), SourceFault>
         ensures ok { OnOk result (AddsPiece (held self.old) place buffer.old.items buffer.new.items) }
         ensures same { held self.new ≡ held self.old };
 }
 
-/// A piece of a text behind the first so many bytes, of no more than so many.
+/// A piece of a text after the first n bytes, of limited length.
 fn piece_at(text: &[u8], place: usize, most: usize) -> &[u8]
     requires { 0 < most }
     ensures { IsPiece (Some text.now) place result.now }
@@ -64,7 +65,7 @@ impl<'a> Source for &'a [u8] {
     ghost held = { λ s. Some s.now };
 
     fn add_piece(&mut self, place: usize, buffer: &mut Vec<u8>) -> Result<(), SourceFault> {
-        buffer.extend_from_slice(piece_at(self, place, 65_536))?;
+        buffer.extend_from_slice(piece_at(self, place, PIECE))?;
         Ok(())
     }
 }

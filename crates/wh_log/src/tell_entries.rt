@@ -17,7 +17,7 @@ pub(crate) enum Stop {
     NoLine,
     /// The end line, and nothing else.
     End,
-    /// The end line, and more behind it.
+    /// The end line, and more after it.
     TextAfter,
     /// A line that is neither.
     WrongLine,
@@ -33,7 +33,7 @@ pub(crate) struct Told<'a> {
     pub stop: Stop,
 }
 
-/// Tells a judge the entries that stand whole at the front of a text, behind so many others.
+/// Tells a judge the entries that stand whole at the front of a text, after a number of others.
 pub(crate) fn tell_lines<'a, J: Judge>(
     alloc: Global,
     judge: &mut J,

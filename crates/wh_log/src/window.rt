@@ -83,7 +83,7 @@ pub(crate) fn read_on<S: Source>(source: &mut S, window: &mut Window) -> Result<
     Err(SourceFault::Unread)
 }
 
-/// Reads on until two lines stand whole, or to the end, and answers how many do.
+/// Reads on until two lines stand whole, or to the end, and returns how many do.
 pub(crate) fn read_two_lines<S: Source>(
     source: &mut S,
     window: &mut Window,

@@ -72,7 +72,7 @@ pub fn entries_text(alloc: Global, entries: &[Entry]) -> Result<Vec<u8>, NoMemor
     Ok(out)
 }
 
-/// The last line of a log of so many entries. Error: `NoMemory` (E90).
+/// The last line of a log of the given number of entries. Error: `NoMemory` (E90).
 pub fn end_text(alloc: Global, count: u64) -> Result<Vec<u8>, NoMemory>
     ensures { IfOk result (λ text. text.items ≡ text_of (logs.end_line count ∷ [])) }
 {

@@ -153,7 +153,7 @@ fn a_step_later(alloc: Global, path: &TimedPath) -> Result<TimedPath, AllocError
     Ok(late)
 }
 
-/// One more agent stays where a path ends, and then goes by the path, a step later.
+/// One more agent stays where a path ends, and then follows the path, a step later.
 fn join(alloc: Global, all: &mut Timetable, path: &TimedPath) -> Result<(), AllocError> {
     let agent = all.paths().len();
     all.add(TimedPath::one(alloc, path.end())?)?;

@@ -1,5 +1,6 @@
 //! What the files about searches share: floors, paths, and each search in one form, so that what they find can be compared.
 
+use crate::layers;
 use std::alloc::{AllocError, Global};
 use wh_detours::deliver_round;
 use wh_field::{Field, GrowingField, MOST_LEVEL, Sight};
@@ -7,16 +8,16 @@ use wh_grid::{Cell, Grid};
 use wh_intervals::{deliver, deliver_guided, deliver_sighted, guided_steps, park, park_in};
 use wh_path::TimedPath;
 use wh_resv::Reservations;
-use wh_search::{Fault, SearchMemory, layers};
+use wh_search::{Fault, SearchMemory};
 
 /// What comes of an errand.
 #[derive(Clone, Copy, PartialEq, Eq)]
 pub(crate) enum Found {
-    /// A path with so many steps.
+    /// A path with this many steps.
     Ends(u64),
     /// There is no path.
     NoPath,
-    /// It cannot be asked, or memory is wanting.
+    /// It cannot be asked, or memory runs out.
     NoAnswer,
 }
 

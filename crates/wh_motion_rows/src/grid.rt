@@ -6,7 +6,7 @@ use wh_grid::{Cell, Grid, MapFault};
 
 const MAP_A: &[u8] = b"type octile\nheight 3\nwidth 5\nmap\n@.@.@\n.....\n@.@.@\n";
 
-/// Whether the text is a map, where no fault is wanted, or else has the wanted fault; want of memory ends the test.
+/// Whether the text is a map, where no fault is wanted, or else has the wanted fault; lack of memory ends the test.
 fn has_fault(alloc: Global, text: &[u8], wanted: &str) -> Result<bool, Fail> {
     match Grid::read(alloc, text) {
         Ok(_) => Ok(wanted.is_empty()),
@@ -84,7 +84,7 @@ fn map_letters(rt: HostRuntime) -> Result<(), Fail> {
     Ok(())
 }
 
-/// The fault of the first so many bytes of the map.
+/// The fault of the map's first `n` bytes.
 fn fault_when_cut(n: usize) -> &'static str {
     match n {
         0..=5 => "M1 line 1",

@@ -1,5 +1,6 @@
 //! Worked rows of the libraries of grids, points, paths, fields and searches, from outside, a file for each.
-//! There is nothing here but tests: a crate that has tests is proved twice, so those crates have none.
+//! A crate that has tests is proved twice, so those crates have none. Beside the tests there is `layers`, a plain search that
+//! is proved as well: what the searches of the program find is held beside what it finds.
 #![tactic(auto)]
 
 #[cfg(test)]
@@ -18,6 +19,7 @@ mod formed;
 mod grid;
 #[cfg(test)]
 mod intervals;
+pub mod layers;
 #[cfg(test)]
 mod path;
 #[cfg(test)]
@@ -26,3 +28,4 @@ mod points;
 mod search;
 #[cfg(test)]
 mod timetable;
+mod trail;

@@ -84,7 +84,7 @@ fn walk(alloc: Global) -> Result<TimedPath, AllocError> {
     Ok(walk)
 }
 
-/// Whether a path has so many steps, from one cell to another.
+/// Whether a path has the given number of steps, from one cell to another.
 fn leads(path: &TimedPath, steps: u64, from: Cell, to: Cell) -> bool {
     path.remaining() == steps && path.start() == from && path.end() == to
 }

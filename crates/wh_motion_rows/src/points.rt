@@ -11,7 +11,7 @@ const MAP_A: &[u8] = b"type octile\nheight 3\nwidth 5\nmap\n@.@.@\n.....\n@.@.@\
 const POINTS_A: &str =
     "parking P0 0 1\nparking P1 4 1\nstation A 1 0\nstation B 3 0\nstation C 1 2\nstation D 3 2\nagent P0\nagent P1\n";
 
-/// Whether the text has points of map A, where no fault is wanted, or else has the wanted fault; want of memory ends the test.
+/// Whether the text has points of map A, where no fault is wanted, or else has the wanted fault; lack of memory ends the test.
 fn has_fault(alloc: Global, text: &[u8], wanted: &str) -> Result<bool, Fail> {
     let grid = Grid::read(alloc, MAP_A)?;
     match Points::read(alloc, &grid, text) {
@@ -111,7 +111,7 @@ const LONG_LINES: [(&[u8], u32, &str); 4] = [
     (b"", 256, "P8 line 2"),
 ];
 
-/// A line with so many blanks at its end, and a line that names an agent.
+/// A line with the given number of blanks at its end, and a line that names an agent.
 fn with_blanks(alloc: Global, first: &[u8], count: u32) -> Result<Vec<u8>, Fail> {
     let mut text = Vec::new(alloc);
     text.extend_from_slice(first)?;

@@ -182,7 +182,7 @@ fn compare_beside(alloc: Global, paths: &[TimedPath; 2]) -> Result<Option<Compar
     Ok(compare_all(alloc, &mut memory, &grid, &others))
 }
 
-/// Whether the searches agree beside another path, over so many errands, and for so many there is no path.
+/// Whether the searches agree beside another path, over the given number of errands, and the given number have no path.
 fn agree(alloc: Global, other: &[(u16, u16)], all: u32, none: u32) -> Result<bool, AllocError> {
     let paths = [path(alloc, &[(0, 0)])?, path(alloc, other)?];
     Ok(compare_beside(alloc, &paths)? == Some(Compared { all, none }))

@@ -44,7 +44,7 @@ replies_of None = Short
 replies_of (Some text) = if bytes_eq text (codes "full") then Full
     else (if bytes_eq text (codes "placed") then Placed else Short)
 
--- the number that the text writes, where there is one and it writes one of 32 bits
+-- the number that the text writes, if there is one and it writes one of 32 bits
 abbrev pub MayRead : Option Text → Option ℕ → Type 0
 MayRead None read = read ≡ None
 MayRead (Some text) read = (n : ℕ) × (read ≡ Some n) × ReadsNumber (Some text) 0 n

@@ -35,6 +35,6 @@ pub record AsksBy (flags : List Text) (words : List Text) : Type 0 where
   pub is_front : IsFront front
   pub is_flag : list_any (bytes_eq flag) flags ≡ true
 
--- the error is of this kind, but for want of memory
+-- the error is of this kind, but for lack of memory
 abbrev pub IsKind : ErrorKind → Error → Type 0
 IsKind kind e = (kind_of e ≡ kind) ⊎ (kind_of e ≡ OutOfMemory)

@@ -28,7 +28,7 @@ pub enum Replies {
     Short,
     /// In the log's own words, each cell of a path.
     Full,
-    /// Behind the place of the entry and the clock before it, in the log's own words.
+    /// After the place of the entry and the clock before it, in the log's own words.
     Placed,
 }
 
@@ -48,7 +48,7 @@ pub struct Fleet {
 /// How late vehicles may be, and how far ahead they are told.
 #[derive(Clone, Copy, Debug, PartialEq, Eq)]
 pub struct VehicleOptions {
-    /// The clock waits while a vehicle is so many steps behind, 1 to 1000.
+    /// The clock waits while a vehicle is this many steps behind, 1 to 1000.
     pub behind: u32,
     /// How many cells ahead a vehicle may be told, 1 to 1000.
     pub ahead: u32,
@@ -81,8 +81,8 @@ pub struct LiveOptions<'a> {
     pub turns: u32,
     /// How many entries the journal may hold, 1 to 1000000.
     pub journal: u32,
-    /// How many milliseconds the worker of all agents and the clock rests behind each turn, 1 to 60000, if there is one in
-    /// place of a thread for each.
+    /// How many milliseconds the worker of all agents and the clock rests after each turn, 1 to 60000, if there is one
+    /// instead of a thread for each.
     pub every: Option<u32>,
     /// The name of the file that shows the board while the run lasts, if one is to; never empty.
     pub board: Option<&'a str>,
@@ -90,24 +90,24 @@ pub struct LiveOptions<'a> {
     pub board_every: u32,
 }
 
-/// The options of `live` with running clients, who come in over named pipes. They keep a text of the words that gave them.
+/// The options of `live` with running clients, over named pipes. They keep a text of the words that gave them.
 #[derive(Debug, PartialEq, Eq, Drop)]
 pub struct AttendOptions<'a> {
     /// The planners of the run; each client has its own `spares`.
     pub fleet: Fleet,
-    /// How many entries more the history may have, 1 to 1000000.
+    /// How many more entries the history may have, 1 to 1000000.
     pub journal: u32,
-    /// How many entries more each client may have, 1 to 1000000; if none is named, the clients, and the worker where there is one,
+    /// How many more entries each client may have, 1 to 1000000; if none is named, the clients, and the worker if there is one,
     /// share those of `journal` equally.
     pub share: Option<u32>,
     /// How the replies are told.
     pub replies: Replies,
     /// The name of the file that keeps the run's log; never empty.
     pub log: &'a str,
-    /// How many milliseconds the worker of all agents and the clock rests behind each turn, 1 to 60000, if there is one beside
+    /// How many milliseconds the worker of all agents and the clock rests after each turn, 1 to 60000, if there is one beside
     /// the clients.
     pub every: Option<u32>,
-    /// At most how many turns that worker takes, 1 to 100000; without it, of no account.
+    /// At most how many turns that worker takes, 1 to 100000; ignored without it.
     pub turns: u32,
     /// The name of the file that shows the board while the run lasts, if one is to; never empty, and none of the log's.
     pub board: Option<&'a str>,

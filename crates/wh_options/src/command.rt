@@ -7,6 +7,12 @@ use clap::builder::ValueParser;
 use clap::{Arg, ArgAction, Command};
 use std::alloc::{AllocError, Global};
 
+/// The number of the last entry that a log can have; a greater one is a mistake.
+const LAST_ENTRY: u64 = 999_999_999;
+
+/// The most entries that `live` makes room for; more are a mistake.
+const MOST_ROOM: u64 = 1_000_000;
+
 static VERSION: &str = "0.1.0";
 
 static PLANNERS: [&str; 2] = ["near", "patient"];
@@ -87,7 +93,7 @@ fn plain_command<'a>(alloc: Global, name: &'a str, about: &'a str) -> Command<'a
 }
 
 // The command with one option more, as of number_arg. Each option is made where it is added, so that nothing else is owned where
-// memory may be wanting: that keeps the proof of a command with many options short.
+// memory may run out: that keeps the proof of a command with many options short.
 fn with_number<'a>(
     alloc: Global,
     command: Command<'a>,
@@ -199,7 +205,7 @@ fn with_log<'a>(alloc: Global, command: Command<'a>) -> Result<Command<'a>, Allo
     let help = "Keeps the log of the run in FILE, and goes on from the log that FILE has";
     let command = with_file(alloc, command, "log", help)?;
     let help = "With --log: tells the entries of FILE again, from this one on, before the script";
-    with_number(alloc, command, "told", 0, 999_999_999, help)
+    with_number(alloc, command, "told", 0, LAST_ENTRY, help)
 }
 
 /// The subcommand `replay`.
@@ -241,7 +247,7 @@ fn with_attending<'a>(
     let command = with_choice(alloc, command, "replies", replies, help)?;
     let help =
         "With --client: entries more that each client may have, 1 to 1000000 [default: an equal part of --journal]";
-    let command = with_number(alloc, command, "share", 1, 1_000_000, help)?;
+    let command = with_number(alloc, command, "share", 1, MOST_ROOM, help)?;
     let help =
         "A running client: N=FOLDER or N=FOLDER:RIGHTS, with two named pipes in FOLDER, `in` and `out`; N is 0 to 61; RIGHTS are words of submit,token,tick,replace,close by commas, or all [default: submit]; many times";
     with_many(alloc, command, "client", "CLIENT", help)
@@ -258,7 +264,7 @@ pub(crate) fn live_command<'a>(alloc: Global) -> Result<Command<'a>, AllocError>
     let command = with_number(alloc, command, "turns", 1, 100_000, help)?;
     let help =
         "Entries that the log may have, with --client entries more, 1 to 1000000 [default: 10000]";
-    let command = with_number(alloc, command, "journal", 1, 1_000_000, help)?;
+    let command = with_number(alloc, command, "journal", 1, MOST_ROOM, help)?;
     let help =
         "One worker for all agents and the clock, in place of a thread for each, with --client beside the clients: rests N milliseconds behind each turn, 1 to 60000; without --client it ends where no task is open or under way";
     let command = with_number(alloc, command, "every", 1, 60_000, help)?;

@@ -1,6 +1,6 @@
-//! The command line of `warehouse`: which words give which options, and what any other words come to.
+//! The command line of `warehouse`: which words give which options, and how any other words are refused.
 //!
-//! `options` reads the words, and `refusal_of` tells what became of words that give none. The
+//! `options` reads the words, and `refusal_of` tells why words give none. The
 //! grammar of the words stands in `specs/Setting.antt` and `specs/Options.antt`.
 #![tactic(auto)]
 

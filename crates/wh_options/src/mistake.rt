@@ -15,7 +15,7 @@ use std::alloc::{AllocError, Global};
 pub(crate) enum Mistake {
     /// Entries are to be told again, of no log.
     ToldWithoutLog,
-    /// How far vehicles may be behind, and there are none.
+    /// How far vehicles may be behind, without vehicles.
     BehindWithoutVehicles,
     /// How far ahead vehicles are told, and there are none.
     AheadWithoutVehicles,
@@ -150,7 +150,7 @@ pub(crate) fn mistake_of_live(live: &ArgMatches<'_>) -> Option<Mistake>
     None
 }
 
-/// Whether a name is another with this end behind it.
+/// Whether a name is another followed by this end.
 fn is_beside(name: &str, other: &str, end: &str) -> bool
     ensures { result ≡ bytes_eq name.now (other.now ++ end.now) }
 {

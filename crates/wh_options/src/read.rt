@@ -248,14 +248,14 @@ fn read_options<'a>(
 ///
 /// # Errors
 ///
-/// A mistake in the words, a request for help or the version, or want of memory: `refusal_of` tells
+/// A mistake in the words, a request for help or the version, or lack of memory: `refusal_of` tells
 /// which, and the error's `Display` is the text for the user.
 pub fn options<'a, W: AsStr>(alloc: Global, words: &'a [W]) -> Result<Options<'a>, Error>
     // The words give the options that are answered.
     ensures ok { IfOk result (WordsGive (map W.text words.now)) }
     // They give no others.
     ensures only { IfOk result (λ o. (p : Options) → WordsGive (map W.text words.now) p → AreSame p o) }
-    // Where the words give any options, only want of memory is an error.
+    // Where the words give any options, only lack of memory is an error.
     ensures refused { IfErr result (λ e. (o : Options) → WordsGive (map W.text words.now) o
         → kind_of e ≡ ErrorKind.OutOfMemory) }
     // Where an option is given without the one that it belongs to, that is told.

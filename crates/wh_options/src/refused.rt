@@ -1,4 +1,4 @@
-//! What a command line that gives no options comes to.
+//! The outcome of a command line that gives no options.
 ghost use Rattle.std.specs.Prelude.{◌≡◌, ◌≢◌, ◌⊎◌};
 ghost use Rattle.clap.specs.Words.{kind_of};
 
@@ -17,12 +17,12 @@ pub enum Refusal {
     NoMemory,
 }
 
-/// Why a command line is not run, by the error that `options` answered.
+/// Why a command line is not run, by the error that `options` returned.
 pub fn refusal_of(error: &Error) -> Refusal
     // Help and the version are what was asked for.
     ensures asked { (kind_of error.now ≡ ErrorKind.DisplayHelp)
         ⊎ (kind_of error.now ≡ ErrorKind.DisplayVersion) → result ≡ Refusal.Asked }
-    // Want of memory is told as such.
+    // Lack of memory is told as such.
     ensures memory { kind_of error.now ≡ ErrorKind.OutOfMemory → result ≡ Refusal.NoMemory }
     // Every other kind is a mistake in the words.
     ensures mistake { kind_of error.now ≢ ErrorKind.DisplayHelp

@@ -4,7 +4,6 @@ use Prim.Native.Nat.{suc}
 use Rattle.std.specs.List.{flat_map, list_any, sum_by, IsDistinct}
 use Rattle.std.specs.Map.{keys_of}
 use Rattle.std.specs.Option.{unwrap_or, is_some}
-use Rattle.std.specs.Cmp.{IsEquivalence}
 use Rattle.std.specs.Set.{is_member}
 use Rattle.std.proofs.Math.ListN.{set}
 use Rattle.std.proofs.lemmas.Bool.{cases_eq, cases_Bool, ltb-false, lt-ltb, le-ltb, ne_eqb, and_from, and_left, and_right, cond-true, cond-false}
@@ -22,8 +21,10 @@ use Rattle.wh_drive.proofs.Vehicles.{idle}
 use Rattle.wh_drive.proofs.Opening.{all-idle}
 use Rattle.wh_order.specs.declared.visit.Visit.{Visit}
 use Rattle.wh_order.specs.declared.visit.Pending.{Pending}
-use Rattle.wh_order.specs.Orders.{Order, is_cell, latest_at, line_of, step_of, vehicle_in, reached_of, told_of, IsKept, IsInLine, AreInLine, unless_over, Forgets, without, not_over, first_step, step_to, started_order, HasLeft, IsArrived, IsTicked, AreVisited, AreSteps, IsPlaced}
-use Rattle.wh_order.proofs.Latest.{same-cell, one-cell, sought}
+use Rattle.wh_grid.specs.Cells.{is_cell}
+use Rattle.wh_order.specs.Orders.{Order, latest_at, line_of, step_of, vehicle_in, reached_of, told_of, IsKept, IsInLine, AreInLine, unless_over, Forgets, without, not_over, first_step, step_to, started_order, HasLeft, IsArrived, IsTicked, AreVisited, AreSteps, IsPlaced}
+use Rattle.wh_grid.proofs.Cells.{is_cell-one, is_cell_equiv}
+use Rattle.wh_order.proofs.Latest.{sought}
 use Rattle.wh_order.proofs.Asking.{come-in}
 
 -- what is left of a visit once what is over is forgotten
@@ -79,7 +80,7 @@ left-visit o agent cell v in_line known e =
                 ap (λ k. (step_of (line_of o.lines agent) k).cell) (sym first) ∙ ap (λ i. (step_of (line_of o.lines i) (v.time - reached_of o.vehicles v.agent)).cell) (sym own) ∙ line.there in
                 let gone : without agent (reached_of o.vehicles agent) (Some v) ≡ None =
                 ap (λ b. cond b None (Some v)) (and_from (v.agent == agent) (v.time == reached_of o.vehicles agent) (eq-eqb v.agent agent own) (eq-eqb v.time (reached_of o.vehicles agent) then)) in
-                ap (λ b. cond b (without agent (reached_of o.vehicles agent) (Some v)) (Some v)) (one-cell (step_of (line_of o.lines agent) 0).cell cell there)
+                ap (λ b. cond b (without agent (reached_of o.vehicles agent) (Some v)) (Some v)) (is_cell-one (step_of (line_of o.lines agent) 0).cell cell there)
                 ∙ gone ∙ sym (over (after o agent) v (omega arith))
             | inr later ↦
                 kept (ap (λ b. cond b None (Some v)) (and_right (v.agent == agent) (v.time == reached_of o.vehicles agent) (ne_eqb v.time (reached_of o.vehicles agent) later))) (omega arith)
@@ -267,20 +268,7 @@ in-line-placed o new vehicles in_line steps is cell v e =
           ∙ ap (λ k. (step_of (line_of o.lines v.agent) k).cell) place ∙ was.there;
     }
 
--- So no more is kept than there are visits in lines. Cells are told apart by column and row.
-pub cells-are : IsEquivalence is_cell
-cells-are = record {
-  refl = λ a. one-cell a a refl;
-  symm = λ a b. elim (cases_Bool (is_cell a b)) [
-    | inl alike ↦ alike ∙ sym (one-cell b a (sym (same-cell a b alike)))
-    | inr apart ↦ apart ∙ elim (cases_Bool (is_cell b a)) [
-      | inl alike ↦ absurd (let other = one-cell a b (sym (same-cell b a alike)) in cc)
-      | inr apart' ↦ sym apart'
-    ]
-  ];
-  congr = λ a b c e. ap (λ d. is_cell d c) (same-cell a b e);
-}
-
+-- So no more is kept than there are visits in lines.
 abbrev nowhere : Pending
 nowhere = record { cell = record { x = 0; y = 0 }; after = None }
 
@@ -295,7 +283,7 @@ among lines i k cell known within there =
     let all : before + length (f (get_or lines i [])) ≤ length (flat_map f lines) = length-flat_map-take f lines i [] known in
     let at : get_or (flat_map f lines) (before + k) origin ≡ get_or (f line) k origin = get_or-flat_map f lines i k [] origin known (omega arith) in
     let is : get_or (f line) k origin ≡ (step_of line k).cell = get_or-map (λ (p : Pending). p.cell) line k nowhere origin within in
-    list_any_at (is_cell cell) (flat_map f lines) (before + k) origin (omega arith) (one-cell cell (get_or (flat_map f lines) (before + k) origin) (sym (at ∙ is ∙ there)))
+    list_any_at (is_cell cell) (flat_map f lines) (before + k) origin (omega arith) (is_cell-one cell (get_or (flat_map f lines) (before + k) origin) (sym (at ∙ is ∙ there)))
 
 sums : (n : ℕ) (lines : List (List Pending)) (vehicles : List Vehicle) → length lines ≡ length vehicles →
     ((i : ℕ) → i < length vehicles → reached_of vehicles i + length (line_of lines i) ≡ n) →
@@ -330,7 +318,7 @@ few-kept o kept in_line distinct =
     let late = line.planned in
     let left = kept.left v.agent known in
     among o.lines v.agent (v.time - reached_of o.vehicles v.agent) cell (omega arith) (omega arith) line.there in
-    let fewer = length-le_from_is_member cells-are keys (flat_map f o.lines) distinct member in
+    let fewer = length-le_from_is_member is_cell_equiv keys (flat_map f o.lines) distinct member in
     let same = length-keys_of o.latest in
     let total = length-flat_map f o.lines in
     let sum = sums (o.clock + 1) o.lines o.vehicles sizes kept.left in

@@ -13,9 +13,10 @@ use Rattle.wh_drive.specs.Refusals.{RefusesStart}
 use Rattle.wh_drive.proofs.Vehicles.{idle}
 use Rattle.wh_order.specs.declared.visit.Told.{Told}
 use Rattle.wh_order.specs.declared.visit.Go.{Go}
-use Rattle.wh_order.specs.Orders.{Order, is_cell, Represents, Tells, line_of, step_of, reached_of, told_of, HasLeft, IsArrived, started_order}
+use Rattle.wh_grid.specs.Cells.{is_cell}
+use Rattle.wh_order.specs.Orders.{Order, Represents, Tells, line_of, step_of, reached_of, told_of, HasLeft, IsArrived, started_order}
 use Rattle.wh_order.specs.Settling.{Passes, OnlySettle, telling, told_by, Settles, to_go}
-use Rattle.wh_order.proofs.Latest.{same-cell, one-cell}
+use Rattle.wh_grid.proofs.Cells.{is_cell-same, is_cell-one}
 use Rattle.wh_order.proofs.Asking.{vehicles-size, reached-same, told-same, step-at, comes}
 
 -- who is refused may not be told
@@ -134,11 +135,11 @@ settles-start o new agent go before after may on tells stays leads d r =
       represents = on d r;
       told_are = elim (cases_Bool go.stays) [
         | inl same ↦
-            let none : telling d agent ≡ [] = ap (λ b. cond b [] one) (one-cell (next d agent) goes (is.stays.0 same)) in
+            let none : telling d agent ≡ [] = ap (λ b. cond b [] one) (is_cell-one (next d agent) goes (is.stays.0 same)) in
             stays same ∙ sym (append-nil before) ∙ ap (λ (ts : List Told). before ++ ts) (sym (append-nil (telling d agent) ∙ none))
         | inr away ↦
             let some : telling d agent ≡ one = elim (cases_Bool (is_cell (next d agent) goes)) [
-              | inl alike ↦ absurd (let e = is.stays.1 (same-cell (next d agent) goes alike) in cc)
+              | inl alike ↦ absurd (let e = is.stays.1 (is_cell-same (next d agent) goes alike) in cc)
               | inr apart ↦ ap (λ b. cond b [] one) apart
             ] in
             let told-is : record { agent = agent; step = go.step; cell = go.cell } ∷ [] ≡ one =

@@ -4,7 +4,8 @@ use Rattle.wh_drive.specs.declared.vehicle.Vehicle.{Vehicle}
 use Rattle.wh_drive.specs.Drives.{Drive, planned, reached, told, place, next, IsUnderWay, MayStart, started, arrived}
 use Rattle.wh_drive.specs.Runs.{Event, Start, Arrive, Tick, Run}
 use Rattle.wh_order.specs.declared.visit.Told.{Told}
-use Rattle.wh_order.specs.Orders.{Order, is_cell, Represents}
+use Rattle.wh_grid.specs.Cells.{is_cell}
+use Rattle.wh_order.specs.Orders.{Order, Represents}
 
 -- the agent's vehicle is under way to the cell where it stands
 pub record Passes (d : Drive) (agent : ℕ) : Type 0 where

@@ -72,7 +72,7 @@ impl VisitOrder {
     }
 }
 
-/// Where an agent is named, no run of vehicles has them at the steps. It does nothing: its contract is the law.
+/// If an agent is named, no run of vehicles has them at the steps. It does nothing: its contract is the law.
 pub fn none_is_too_early()
     ensures { NoneIsTooEarly }
 {}

@@ -75,8 +75,8 @@ impl VisitOrder {
     }
 
     /// All vehicles that may be told to go on are told, and those pass a step that stay where they are, until there is none.
-    /// What is told is written behind, in order: for each step that leads away its number and its cell. It goes over all
-    /// agents once more than one of them has gone on. Where memory is wanting some may have been told that are not written.
+    /// What is told is appended, in order: for each step that leads away its number and its cell. It looks at all agents
+    /// once more than one of them has gone on. When out of memory, some may have been told that are not written.
     pub fn settle(&mut self, told: &mut Vec<Told>) -> Result<(), AllocError>
         ensures drive { OnOk result ((d : Drive) → Represents self.old d → Settles d self.new told.old.items told.new.items) }
         ensures quiet { OnOk result ((d : Drive) → Represents self.new d → IsQuiet d) }

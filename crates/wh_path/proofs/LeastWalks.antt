@@ -1,16 +1,15 @@
--- between any two cells there is a least walk, or none: a walk that comes twice to one cell can be cut, so that only few lengths have to be tried
+-- between any two cells there is a shortest walk, or none: a walk that comes twice to one cell can be cut, so that only few lengths have to be tried
 use Rattle.std.proofs.Common.{◌≡◌, ◌≢◌, ℕ, ◌+◌, ◌-◌, ◌*◌, ◌<◌, ◌≤◌, ◌⊎◌, inl, inr, ◌∙◌, List, [], ◌∷◌, ◌++◌, refl, sym, ap, subst, suc, zero, arith, Bool, true, false, Option, Some, None, slice_get}
 use Rattle.std.proofs.lemmas.Bool.{cases_lt, cases_eq}
 use Rattle.std.proofs.lemmas.Nat.{mul-add-lt, same_from_place}
 use Rattle.std.proofs.lemmas.List.{length_push}
 use Rattle.wh_grid.specs.declared.cell.Cell.{Cell}
 use Rattle.wh_grid.specs.Grids.{Floor, IsPassable, IsMove}
+use Rattle.wh_grid.proofs.Cells.{same_cell}
+use Rattle.wh_grid.proofs.Pigeons.{cell_cases}
 use Rattle.wh_path.specs.Paths.{at, last_index}
 use Rattle.wh_path.specs.Walks.{IsWalkBetween, IsLeastWalk}
 use Rattle.wh_path.proofs.WalkLemmas.{walk_one, walk_push}
-
-same_cell : (c d : Cell) → c.x ≡ d.x → c.y ≡ d.y → c ≡ d
-same_cell c d e f = ap (λ n. record { x = n; y = c.y }) e ∙ ap (λ n. record { x = d.x; y = n }) f
 
 -- among n + 1 numbers below n two are the same
 pub record Twice (f : ℕ → ℕ) (n : ℕ) : Type 0 where
@@ -156,16 +155,6 @@ passable_or g c =
       ]
     ]
 
-same_or : (c d : Cell) → (c ≡ d) ⊎ (c ≢ d)
-same_or c d =
-    elim (cases_eq c.x d.x) [
-      | inr ne ↦ inr (λ e. ne (ap (λ (q : Cell). q.x) e))
-      | inl ex ↦ elim (cases_eq c.y d.y) [
-        | inr ne ↦ inr (λ e. ne (ap (λ (q : Cell). q.y) e))
-        | inl ey ↦ inl (same_cell c d ex ey)
-      ]
-    ]
-
 right : Cell → Cell
 right c = record { x = c.x + 1; y = c.y }
 
@@ -207,7 +196,7 @@ comes_or : (g : Floor) (from : Cell) (n : ℕ) (c : Cell) → Comes g from n c �
 comes_or g from zero c =
     elim (passable_or g c) [
       | inr ne ↦ inr (λ h. ne h.0)
-      | inl p ↦ elim (same_or from c) [ inl e ↦ inl (p, e) | inr ne ↦ inr (λ h. ne h.1) ]
+      | inl p ↦ elim (cell_cases from c) [ inl e ↦ inl (p, e) | inr ne ↦ inr (λ h. ne h.1) ]
     ]
 comes_or g from (suc n) c =
     elim (passable_or g c) [
@@ -247,7 +236,7 @@ first_from g from to (suc k) n none =
 walk_comes : (g : Floor) (from to : Cell) (q : List Cell) → IsWalkBetween g from to q → Comes g from (last_index q) to
 walk_comes g from to q w = subst (Comes g from (last_index q)) w.ends (path_comes g from to q w (last_index q))
 
--- between each two cells there is a least walk, or none
+-- between each two cells there is a shortest walk, or none
 pub least_walk : (g : Floor) (from to : Cell) → ((p : List Cell) × IsLeastWalk g from to p) ⊎ ((p : List Cell) → IsWalkBetween g from to p → ⊥)
 least_walk g from to =
     elim (first_from g from to (g.width * g.height + 1) 0 (λ m h. absurd (omega arith))) [

@@ -11,7 +11,7 @@ pub record IsFreeBefore (nofollow : Bool) (p q : List Cell) (n : ℕ) : Type 0 w
   pub no_swap : (k : ℕ) → k < n → ¬ SwapAt p q k
   pub no_follow : nofollow ≡ true → (k : ℕ) → k < n → ¬ FollowAt p q k
 
--- it is the first conflict; at one time to meet comes before to exchange, and that before to follow
+-- it is the first conflict; at the same time, meeting comes before exchanging, and that before following
 abbrev pub IsFirstConflict : Bool → List Cell → List Cell → Conflict → Type 0
 IsFirstConflict nofollow p q (Vertex k) = IsFreeBefore nofollow p q k × MeetAt p q k
 IsFirstConflict nofollow p q (Swap k) = IsFreeBefore nofollow p q k × (¬ MeetAt p q k) × SwapAt p q k

@@ -2,7 +2,7 @@ use Rattle.std.specs.Prelude.{◌≡◌, ◌≢◌, ℕ, ◌+◌, ◌-◌, ◌<�
 use Rattle.wh_grid.specs.declared.cell.Cell.{Cell}
 use Rattle.wh_grid.specs.Grids.{Floor, IsPassable, IsMove}
 
--- the cell of a list at a place; past the list's end it is a cell of no meaning
+-- the cell of a list at a place; past the list's end it is a meaningless cell
 abbrev pub cell_at : List Cell → ℕ → Cell
 cell_at cells i = slice_index_or cells i (record { x = 0; y = 0 })
 
@@ -70,13 +70,13 @@ horizon (p ∷ ps) = max (last_index p) (horizon ps)
 pub record AllFree (nofollow : Bool) (paths : List (List Cell)) : Type 0 where
   pub pair : (i j : ℕ) → i < length paths → j < length paths → i ≢ j → IsFree nofollow (path_of paths i) (path_of paths j)
 
--- the path is at the stops in their order: at times of which none is less than the one before
+-- the path is at the stops in their order: at non-decreasing times
 pub record VisitsInOrder (p stops : List Cell) : Type 0 where
   pub when : ℕ → ℕ
   pub in_order : (i j : ℕ) → i ≤ j → when i ≤ when j
   pub there : (i : ℕ) → i < length stops → at p (when i) ≡ cell_at stops i
 
--- the path one step later: the first cell is lost where a second follows
+-- the path one step later: the first cell is dropped if a second follows
 abbrev pub advanced : List Cell → List Cell
 advanced [] = []
 advanced (only ∷ []) = only ∷ []

@@ -10,7 +10,7 @@ pub record IsWalkBetween (g : Floor) (from to : Cell) (p : List Cell) : Type 0 w
   pub starts : at p 0 ≡ from
   pub ends : end p ≡ to
 
--- a walk from one cell to another, and none between them has a smaller last index
+-- a walk from one cell to another, and none between them is shorter
 pub record IsLeastWalk (g : Floor) (from to : Cell) (p : List Cell) : Type 0 where
   pub walk : IsWalkBetween g from to p
   pub least : (q : List Cell) → IsWalkBetween g from to q → last_index p ≤ last_index q

@@ -28,7 +28,7 @@ impl Model for TimedPath {
 }
 
 impl TimedPath {
-    /// The path that stays at a cell. The error comes where memory is wanting, here and below.
+    /// The path that stays at a cell. Fails when out of memory, here and below.
     pub fn one(alloc: Global, cell: Cell) -> Result<Self, AllocError>
         ensures { IfOk result (λ p. p ≡ cell ∷ []) }
     {
@@ -53,8 +53,8 @@ impl TimedPath {
         Ok(TimedPath { cells, passed: 0 })
     }
 
-    /// Adds a cell at the end, whichever it is: what follows one another is a walk's matter. Where memory is wanting
-    /// nothing changes.
+    /// Adds a cell at the end, any cell: whether cells are adjacent is a walk's concern. When out of memory, nothing
+    /// changes.
     pub fn push(&mut self, cell: Cell) -> Result<(), AllocError>
         ensures ok { OnOk result (self.new ≡ self.old ++ cell ∷ []) }
         ensures err { OnErr result (self.new ≡ self.old) }
@@ -110,7 +110,7 @@ impl TimedPath {
         self.cells[self.passed..].reverse();
     }
 
-    /// Goes on along another path: its first cell is left out. Where memory is wanting nothing changes.
+    /// Appends another path without its first cell. When out of memory, nothing changes.
     pub fn follow(&mut self, next: &TimedPath) -> Result<(), AllocError>
         ensures ok { OnOk result (self.new ≡ self.old ++ drop 1 next.now) }
         ensures err { OnErr result (self.new ≡ self.old) }
@@ -120,7 +120,7 @@ impl TimedPath {
         Ok(())
     }
 
-    /// One step later: the first cell is lost where a second follows. It takes constant time.
+    /// One step later: the first cell is dropped if a second follows. It takes constant time.
     pub fn advance(&mut self)
         ensures { self.new ≡ advanced self.old }
     {

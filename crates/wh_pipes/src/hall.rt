@@ -1,4 +1,4 @@
-//! How threads that stand in their clients' pipes are let go.
+//! How threads blocked in their clients' pipes are released.
 #![tactic(auto)]
 
 ghost use Rattle.std.specs.Prelude.{◌≡◌, Bool, IfNone, IfOk, true};
@@ -14,7 +14,7 @@ use std::sync::atomic::Ordering::SeqCst;
 use std::time::{Clock, Duration};
 use std::{io, thread};
 
-/// Where all clients of a service come in.
+/// Where all clients of a service connect.
 pub trait Hall {
     // whether each client was found to have a way in, where that can be told
     ghost all_have: { Self → Bool } = { λ _. true };
@@ -30,8 +30,11 @@ pub trait Hall {
 /// How many milliseconds whoever lets threads go rests between two rounds.
 const ROUND: u64 = 20;
 
-/// A client that has not read for so many rounds does not read.
+/// A client that has not read for this many rounds counts as not reading.
 const STILL: u64 = 50;
+
+/// So many bytes at most are taken out of a full pipe at once.
+const TAKEN: usize = 65_536;
 
 /// Opens a pipe for both ways, which waits for nobody: whoever waits for the other end to be opened waits no longer.
 fn open_both_ways<T: Files<File = File>>(files: &T, path: &str) -> io::Result<File> {
@@ -55,7 +58,7 @@ fn end_write<T: Files<File = File>>(files: &T, path: &str) -> io::Result<()> {
     let both = open_both_ways(files, path)?;
     let mut pipe = open_pipe(files, OpenOptions::new().read(true), path)?;
     drop(both);
-    let mut room = [0; 65_536];
+    let mut room = [0; TAKEN];
     pipe.read(&mut room)?;
     Ok(())
 }

@@ -1,5 +1,5 @@
-//! Clients over named pipes: each has a folder with two of them, `in` for its commands and `out` for its replies. Of what a file
-//! gives or takes no contract can say anything, so neither do those here.
+//! Clients over named pipes: each has a folder with two of them, `in` for its commands and `out` for its replies. No
+//! contract can say anything of what a file gives or takes, so neither do those here.
 #![tactic(auto)]
 
 mod connection;

@@ -19,7 +19,7 @@ use wh_serve::{CallFault, Connection, Doors, End, Full, ServeFault, Served, Work
 /// How many bytes of replies wait at most before they are written.
 const REPLIES_ROOM: usize = 4_096;
 
-/// The doors of a service: each client's next connection is its two pipes, opened anew.
+/// The doors of a service: each client's next connection is its two pipes, opened again.
 #[derive(Drop)]
 pub struct Pipes<'a, T: Files<File = File> + Clock> {
     pub(crate) rt: &'a T,

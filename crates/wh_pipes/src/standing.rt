@@ -1,4 +1,4 @@
-//! Where a client's thread stands in its pipes, for whoever has to let it go.
+//! Where a client's thread is blocked in its pipes, for the thread that releases it.
 #![tactic(auto)]
 
 use std::sync::atomic::AtomicU64;

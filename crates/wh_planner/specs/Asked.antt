@@ -10,7 +10,7 @@ abbrev pub Serves : Duty → (List Cell → Type 0)
 Serves (Deliver stops) = Delivers stops.now
 Serves (Park allowed) = ParksAt (Contains allowed.now)
 
--- how many times the path may go over the map: once for each stop, and twice to park
+-- how many times the path may cover the map: once for each stop, and twice to park
 abbrev pub legs : Duty → ℕ
 legs (Deliver stops) = length stops.now
 legs (Park allowed) = 2

@@ -15,7 +15,7 @@ abbrev pub ParksAt : (Cell → Type 0) → List Cell → Type 0
 ParksAt Allowed path = Allowed (end path)
 
 -- A path that the agent may adopt for a duty, which Serves tells: it is a walk from where the agent is, free of each
--- other's path for ever. It takes no longer than the others may still move, and then once over the map for each leg.
+-- other's path for ever. It takes no longer than the others may still move, and then one pass over the map for each leg.
 pub record IsLawful (g : Floor) (nofollow : Bool) (paths : List (List Cell)) (agent legs : ℕ) (Serves : List Cell → Type 0) (path : List Cell) : Type 0 where
   pub walk : IsWalk g path
   pub starts_here : at path 0 ≡ place_of paths agent
@@ -23,7 +23,7 @@ pub record IsLawful (g : Floor) (nofollow : Bool) (paths : List (List Cell)) (ag
   pub bounded : last_index path ≤ horizon (others paths agent) + legs * passable_cells g
   pub serves : Serves path
 
--- A walk from where the agent is, for a duty, that meets no cell where another's path ends. Time plays no part.
+-- A walk from where the agent is, for a duty, that avoids the cells where other paths end. Time plays no part.
 pub record IsClearWay (g : Floor) (paths : List (List Cell)) (agent : ℕ) (Serves : List Cell → Type 0) (way : List Cell) : Type 0 where
   pub walk : IsWalk g way
   pub starts_here : at way 0 ≡ place_of paths agent
@@ -33,7 +33,7 @@ pub record IsClearWay (g : Floor) (paths : List (List Cell)) (agent : ℕ) (Serv
 abbrev pub HasNoClearWay : Floor → List (List Cell) → ℕ → (List Cell → Type 0) → Type 0
 HasNoClearWay g paths agent Serves = (way : List Cell) → ¬ IsClearWay g paths agent Serves way
 
--- some walk leads from one cell to another and meets none of these
+-- some walk leads from one cell to another and avoids these
 abbrev pub HasRoute : Floor → List Cell → Cell → Cell → Type 0
 HasRoute g avoid from to = (walk : List Cell) × IsRoute g from to avoid walk
 

@@ -19,13 +19,13 @@ ClearWaysGoFromStopToStop =
     ((way : List Cell) × IsClearWay g paths agent (Delivers stops) way)
     ↔ HasRoutes g (ends (others paths agent)) (place_of paths agent) stops
 
--- A least route has fewer steps than the grid has passable cells.
+-- A shortest route has fewer steps than the grid has passable cells.
 abbrev pub LeastRoutesAreShort : Type 0
 LeastRoutesAreShort =
     (g : Floor) (from to : Cell) (avoid walk : List Cell) → IsLeastRoute g from to avoid walk → last_index walk < passable_cells g
 
 -- Where an agent at rest has a clear way for a delivery, it has a lawful path: it waits until the others rest, and then
--- goes the clear way, of which each leg is cut short.
+-- goes the clear way, with each leg cut short.
 abbrev pub ClearDeliveriesGivePaths : Type 0
 ClearDeliveriesGivePaths =
     (g : Floor) (nofollow : Bool) (paths : List (List Cell)) (agent : ℕ) (stops way : List Cell) → IsAtRest nofollow paths agent →

@@ -8,7 +8,7 @@ pub fn clear_ways_go_from_stop_to_stop()
     ensures { ClearWaysGoFromStopToStop }
 {}
 
-/// A least route has fewer steps than the grid has passable cells.
+/// A shortest route has fewer steps than the grid has passable cells.
 pub fn least_routes_are_short()
     ensures { LeastRoutesAreShort }
 {}

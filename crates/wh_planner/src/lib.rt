@@ -7,5 +7,5 @@ mod others;
 mod planner;
 
 pub use duty::Duty;
-pub use others::{last_to_rest, other_ends};
+pub use others::other_ends;
 pub use planner::{PlanFault, Planner, Scene};

@@ -1,8 +1,8 @@
 //! What is asked of the other agents' paths.
 #![tactic(auto)]
 
-ghost use Rattle.std.specs.Prelude.{◌≡◌, ℕ, ◌+◌, ◌<◌, ◌^◌, ◌++◌, IfOk, OnOk, length, map};
-ghost use Rattle.wh_path.specs.Paths.{end, ends, others, horizon};
+ghost use Rattle.std.specs.Prelude.{◌≡◌, ℕ, ◌+◌, ◌<◌, ◌++◌, IfOk, OnOk, length, map};
+ghost use Rattle.wh_path.specs.Paths.{end, ends, others};
 
 use std::alloc::{AllocError, Global};
 use wh_grid::Cell;
@@ -26,24 +26,4 @@ pub fn other_ends(alloc: Global, paths: &[TimedPath], agent: usize) -> Result<Ve
     push_ends(&mut cells, &paths[..agent])?;
     push_ends(&mut cells, &paths[agent + 1..])?;
     Ok(cells)
-}
-
-fn greatest_end(paths: &[TimedPath]) -> u64
-    ensures value { result ≡ horizon paths.now }
-    ensures bound { result < 2 ^ 61 }
-{
-    let mut most: u64 = 0;
-    for q in paths {
-        most = most.max(q.remaining());
-    }
-    most
-}
-
-/// The time from which all agents but one rest.
-pub fn last_to_rest(paths: &[TimedPath], agent: usize) -> u64
-    requires { agent < length paths.now }
-    ensures value { result ≡ horizon (others paths.now agent) }
-    ensures bound { result < 2 ^ 61 }
-{
-    greatest_end(&paths[..agent]).max(greatest_end(&paths[agent + 1..]))
 }

@@ -33,7 +33,7 @@ pub struct Scene<'a> {
 pub enum PlanFault {
     /// No clear way leads there: each way meets a cell where another's path ends.
     NoPath,
-    /// Memory was wanting.
+    /// Out of memory.
     NoMemory,
 }
 
@@ -55,7 +55,7 @@ pub trait Planner: Send + Drop {
         ensures { result ≡ slot_count self.now };
 
     /// A lawful path for the duty of an agent that has no steps left. `NoPath` comes only where there is no clear way, and
-    /// `NoMemory` where memory is wanting: the planner then fits the same grids and has the same slots. The fields are
+    /// `NoMemory` when out of memory: the planner then fits the same grids and has the same slots. The fields are
     /// over the same grid as before, and there is room for as many.
     fn plan(
         &mut self,

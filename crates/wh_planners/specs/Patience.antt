@@ -9,7 +9,7 @@ use Rattle.wh_claims.specs.declared.claim.Claim.{Claim}
 use Rattle.wh_planner.specs.declared.duty.Duty.{Duty}
 use Rattle.wh_planner.specs.declared.duty.Duty.TheVariants.{Deliver, Park}
 
--- From one time to another the path goes along a least route from one cell to another that meets none of these cells.
+-- From one time to another the path goes along a shortest route from one cell to another that meets none of these cells.
 pub record IsLeg (g : Floor) (avoid : List Cell) (from to : Cell) (start finish : ℕ) (path : List Cell) : Type 0 where
   pub walk : List Cell
   pub least : IsLeastRoute g from to avoid walk
@@ -43,7 +43,7 @@ pub record ParksPatiently (g : Floor) (paths : List (List Cell)) (agent : ℕ) (
   pub nearest : IsNearestRoute g (place_of paths agent) allowed (ends (others paths agent)) index walk
   pub goes : GoesPatiently g paths agent (cell_at allowed index ∷ []) path
 
--- What the patient planner answers: to deliver, through the stops; to park, to the nearest of the allowed cells.
+-- What the patient planner returns: to deliver, through the stops; to park, to the nearest of the allowed cells.
 abbrev pub IsPatientPath : Floor → List (List Cell) → ℕ → Duty → List Cell → Type 0
 IsPatientPath g paths agent (Deliver stops) path = GoesPatiently g paths agent stops.now path
 IsPatientPath g paths agent (Park allowed) path = ParksPatiently g paths agent allowed.now path

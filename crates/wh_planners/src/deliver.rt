@@ -24,7 +24,7 @@ use wh_shared::{Share, SharedFields};
 /// delayed by more than twice as many steps.
 const FARTHER: u32 = 16;
 
-/// Fills the fields of the stops, each beyond the stop before it, and answers how far; none where the store has no room
+/// Fills the fields of the stops, each beyond the stop before it, and returns how far; none where the store has no room
 /// for it. The first stops are the last used ones; the planner counts as many of them as kept as it has slots.
 fn ask_fields(
     alloc: Global,
@@ -82,7 +82,7 @@ fn sights_of<'a>(
     sights
 }
 
-/// A least path through the stops, guided by the shared fields of all of them, or of as many first ones as the store has
+/// A shortest path through the stops, guided by the shared fields of all of them, or of as many first ones as the store has
 /// room for; and, where others that stay bar a way by them, by fields of its own, as far as they stand in these paths.
 /// What other planners have filled changes nothing in it.
 pub fn deliver_shared(

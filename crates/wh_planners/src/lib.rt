@@ -1,5 +1,5 @@
 //! The planners. The patient one waits until all others rest, and then goes around them; the sharing one searches for a
-//! least path, by distance fields that the warehouse lends to all of them.
+//! shortest path, by distance fields that the warehouse lends to all of them.
 #![tactic(auto)]
 
 mod deliver;

@@ -18,8 +18,8 @@ use std::sync::Arc;
 use wh_claims::Claim;
 use wh_field::{route, route_to_nearest};
 use wh_grid::{Cell, Grid};
-use wh_path::TimedPath;
-use wh_planner::{Duty, PlanFault, Planner, Scene, last_to_rest, other_ends};
+use wh_path::{TimedPath, last_to_rest};
+use wh_planner::{Duty, PlanFault, Planner, Scene, other_ends};
 use wh_shared::SharedFields;
 
 /// The path that stays at a cell until a time.
@@ -36,7 +36,7 @@ fn waiting(alloc: Global, here: Cell, wait: u64) -> Result<TimedPath, AllocError
     Ok(TimedPath::over(cells))
 }
 
-/// Waits, and goes from stop to stop by least routes that meet none of some cells.
+/// Waits, and goes from stop to stop by shortest routes that avoid some cells.
 fn tour(
     alloc: Global,
     grid: &Grid,
@@ -101,7 +101,7 @@ fn park(alloc: Global, scene: &Scene, allowed: &[Cell]) -> Result<Option<TimedPa
 }
 
 /// The path of the patient planner: until the others rest it stays, and then it goes around their
-/// ends, from stop to stop by least routes, or to the nearest of the allowed cells.
+/// ends, from stop to stop by shortest routes, or to the nearest of the allowed cells.
 pub fn patient_path(
     alloc: Global,
     scene: &Scene,
@@ -122,8 +122,8 @@ pub fn patient_path(
     }
 }
 
-/// Waits until all others rest, and then goes around them. It keeps no fields, so its slots stay empty; where it is
-/// dropped, its claim gives them back.
+/// Waits until all others rest, and then goes around them. It keeps no fields, so its slots stay empty; when it is dropped,
+/// its claim gives them back.
 #[derive(Drop)]
 pub struct Patient {
     grid: Arc<Grid>,

@@ -19,7 +19,7 @@ use wh_resv::Reservations;
 use wh_search::{Fault, SearchMemory};
 use wh_shared::{Share, SharedFields};
 
-/// The paths of all agents but the one that asks. The error comes where memory is wanting, or the agent's number has
+/// The paths of all agents but the one that asks. Fails when out of memory, or the agent's number has
 /// more than 32 bits.
 fn reserve<'a>(alloc: Global, scene: &Scene<'a>) -> Result<Reservations<'a>, AllocError>
     requires agent { scene.now.agent < length scene.now.paths.now }
@@ -31,7 +31,7 @@ fn reserve<'a>(alloc: Global, scene: &Scene<'a>) -> Result<Reservations<'a>, All
     Reservations::beside(alloc, scene.paths, agent, scene.nofollow)
 }
 
-/// A least lawful path through the stops.
+/// A shortest lawful path through the stops.
 pub fn plan_delivery(
     alloc: Global,
     fields: &mut SharedFields,
@@ -69,7 +69,7 @@ pub fn plan_delivery(
     }
 }
 
-/// A least lawful path to one of the allowed cells.
+/// A shortest lawful path to one of the allowed cells.
 pub fn plan_parking(
     alloc: Global,
     memory: &mut SearchMemory,

@@ -1,4 +1,4 @@
-//! The planner that searches for a least path, guided by distance fields that all planners share.
+//! The planner that searches for a shortest path, guided by distance fields that all planners share.
 #![tactic(auto)]
 
 ghost use Rattle.std.specs.Prelude.{◌≡◌, ◌<◌, ◌≤◌, IfOk, IfErr, [], length};
@@ -22,7 +22,7 @@ use wh_planner::{Duty, PlanFault, Planner, Scene};
 use wh_search::SearchMemory;
 use wh_shared::{Share, SharedFields};
 
-/// Searches for a least path by fields that are lent to it, and counts one as kept for each slot of its claim. Where it
+/// Searches for a shortest path by fields that are lent to it, and counts one as kept for each slot of its claim. When it
 /// is dropped, its claim gives the slots back.
 #[derive(Drop)]
 pub struct Sharing {
@@ -44,8 +44,8 @@ impl Model for Sharing {
 }
 
 impl Sharing {
-    /// A searching planner on a grid, with the slots of a claim: 2 to 64 of them, that counts no field as kept yet. The
-    /// error comes where memory is wanting, and the claim is dropped.
+    /// A searching planner on a grid, with the slots of a claim: 2 to 64 of them, that counts no field as kept yet. Fails
+    /// when out of memory, and the claim is dropped.
     pub fn new(alloc: Global, grid: Arc<Grid, Global>, claim: Claim) -> Result<Sharing, AllocError>
         requires at_least { 2 ≤ claim_amount claim }
         requires at_most { claim_amount claim ≤ 64 }

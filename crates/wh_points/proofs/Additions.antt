@@ -1,10 +1,10 @@
 -- A layout with one thing more.
-use Rattle.std.proofs.Common.{◌≡◌, ◌≢◌, ℕ, suc, zero, ◌<◌, ◌+◌, ◌⊎◌, inl, inr, Bool, true, false, cond, ◌&&◌, ◌||◌, if◌then◌else◌, eqb, List, [], ◌∷◌, ◌++◌, length, get_or, map, refl, ap, sym, ◌∙◌, arith, length-append}
+use Rattle.std.proofs.Common.{◌≡◌, ◌≢◌, ℕ, suc, zero, ◌<◌, ◌+◌, ◌⊎◌, inl, inr, Bool, true, false, cond, ◌&&◌, if◌then◌else◌, eqb, List, [], ◌∷◌, ◌++◌, length, get_or, map, refl, ap, sym, ◌∙◌, arith, length-append}
 use Rattle.std.specs.List.{list_any}
 use Rattle.std.specs.Prelude.{count_by}
 use Rattle.std.specs.Str.{bytes_eq}
 use Rattle.std.specs.Cmp.Lexicographic.{bytes_decides}
-use Rattle.std.proofs.lemmas.Bool.{eq-eqb}
+use Rattle.std.proofs.lemmas.Bool.{eq-eqb, or_parts}
 use Rattle.std.proofs.lemmas.List.{map-append}
 use Rattle.std.proofs.lemmas.List.Elements.{All-push}
 use Rattle.std.proofs.lemmas.List.Sums.{sum_by-append}
@@ -15,15 +15,11 @@ use Rattle.wh_points.specs.Layouts.{AreApart}
 use Rattle.wh_points.specs.PointLines.{has_name, has_cell, with_point, with_agent}
 use Rattle.wh_points.proofs.Lookups.{list_any-map}
 
-cond_or : (a b : Bool) → (a || b) ≡ false → (a ≡ false) × (b ≡ false)
-cond_or true b h = absurd cc
-cond_or false b h = (refl, h)
-
 -- where none passes, each fails
 pub list_any-false : {X : Type 0} (p : X → Bool) (xs : List X) → list_any p xs ≡ false → (i : ℕ) (d : X) → i < length xs → p (get_or xs i d) ≡ false
 list_any-false p [] h i d below = absurd (omega arith)
-list_any-false p (x ∷ xs) h zero d below = (cond_or (p x) (list_any p xs) h).0
-list_any-false p (x ∷ xs) h (suc i) d below = list_any-false p xs (cond_or (p x) (list_any p xs) h).1 i d (omega arith)
+list_any-false p (x ∷ xs) h zero d below = (or_parts (p x) (list_any p xs) h).0
+list_any-false p (x ∷ xs) h (suc i) d below = list_any-false p xs (or_parts (p x) (list_any p xs) h).1 i d (omega arith)
 
 last_at : {X : Type 0} (xs : List X) (x d : X) (i : ℕ) → i < length (xs ++ x ∷ []) → ((i < length xs) × (get_or (xs ++ x ∷ []) i d ≡ get_or xs i d)) ⊎ ((i ≡ length xs) × (get_or (xs ++ x ∷ []) i d ≡ x))
 last_at [] x d zero below = inr (refl, refl)

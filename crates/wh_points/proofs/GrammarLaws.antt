@@ -5,9 +5,9 @@ use Rattle.std.specs.List.{list_any}
 use Rattle.std.specs.Str.{bytes_eq}
 use Rattle.std.specs.Cmp.Lexicographic.{bytes_decides}
 use Rattle.std.proofs.Math.Dec.{ltb}
-use Rattle.std.proofs.lemmas.Bool.{lt-ltb, ltb-true, ltb-false, le-ltb, eq-eqb, eqb-true, ne_eqb}
+use Rattle.std.proofs.lemmas.Bool.{lt-ltb, ltb-true, ltb-false, le-ltb, eq-eqb, eqb-true, ne_eqb, false_from_ne_true, and_parts}
 use Rattle.std.proofs.lemmas.List.Folds.{list_any_none}
-use Rattle.wh_text.specs.Words.{words_of}
+use Rattle.wh_text.specs.Words.{begins_comment, words_of}
 use Rattle.wh_text.specs.Numbers.{small_number_of}
 use Rattle.wh_text.specs.Names.{is_name}
 use Rattle.wh_grid.specs.declared.cell.Cell.{Cell}
@@ -22,11 +22,11 @@ use Rattle.wh_points.specs.declared.fault.Fault.{Fault}
 use Rattle.wh_points.specs.declared.fault.PointFault.{PointFault}
 use Rattle.wh_points.specs.Points.{Layout}
 use Rattle.wh_points.specs.Layouts.{find_name}
-use Rattle.wh_points.specs.PointLines.{is_open, has_name, has_cell, with_point, with_agent, with_rule, placed_at, point_by, starts_at, agent_by, rule_by, named, is_comment, line_by, line_of}
+use Rattle.wh_points.specs.PointLines.{is_open, has_name, has_cell, with_point, with_agent, with_rule, placed_at, point_by, starts_at, agent_by, rule_by, named, line_by, line_of}
 use Rattle.wh_points.specs.PointFiles.{empty, located, whole, layout_from, Gives}
 use Rattle.wh_points.specs.PointGrammar.{IsSkipped, word_of, AddsPoint, AddsAgent, AddsRule, Says, Spells, IsPointsFile}
 use Rattle.wh_points.proofs.Additions.{list_any-false}
-use Rattle.wh_points.proofs.LineSteps.{open_passable, passable_open, cases_Bool}
+use Rattle.wh_points.proofs.LineSteps.{open_passable, passable_open}
 use Rattle.wh_points.proofs.LayoutLaws.{located_ok}
 
 -- tests and what they decide
@@ -61,12 +61,7 @@ names_apart name points h = λ i d below e.
     absurd cc
 
 apart_names : (name : List ℕ) (points : List Point) → All (λ other. other.name ≢ name) points → has_name name points ≡ false
-apart_names name points all = list_any_none (λ p. bytes_eq name p.name) points (λ i d below. cases_Bool (bytes_eq name (get_or points i d).name) (λ h. all i d below (sym (same_bytes name (get_or points i d).name h))))
-
-both_true : (a b : Bool) → (a && b) ≡ true → (a ≡ true) × (b ≡ true)
-both_true true true h = (refl, refl)
-both_true true false h = absurd cc
-both_true false b h = absurd cc
+apart_names name points all = list_any_none (λ p. bytes_eq name p.name) points (λ i d below. false_from_ne_true (bytes_eq name (get_or points i d).name) (λ h. all i d below (sym (same_bytes name (get_or points i d).name h))))
 
 cell_is : (c d : Cell) → c.x ≡ d.x → c.y ≡ d.y → c ≡ d
 cell_is c d ex ey = λ i. record { x = ex i; y = ey i }
@@ -81,8 +76,8 @@ cells_apart cell points h = λ i d below e.
 
 apart_cells : (cell : Cell) (points : List Point) → All (λ other. other.cell ≢ cell) points → has_cell cell.x cell.y points ≡ false
 apart_cells cell points all = list_any_none (λ p. eqb cell.x p.cell.x && eqb cell.y p.cell.y) points (λ i d below.
-    cases_Bool (eqb cell.x (get_or points i d).cell.x && eqb cell.y (get_or points i d).cell.y) (λ h.
-    let b = both_true (eqb cell.x (get_or points i d).cell.x) (eqb cell.y (get_or points i d).cell.y) h in
+    false_from_ne_true (eqb cell.x (get_or points i d).cell.x && eqb cell.y (get_or points i d).cell.y) (λ h.
+    let b = and_parts (eqb cell.x (get_or points i d).cell.x) (eqb cell.y (get_or points i d).cell.y) h in
     all i d below (cell_is (get_or points i d).cell cell (sym (eqb-true _ _ b.0)) (sym (eqb-true _ _ b.1)))))
 
 starts_apart : (n : ℕ) (agents : List ℕ) → list_any (λ m. eqb m n) agents ≡ false → All (λ other. other ≢ n) agents
@@ -172,7 +167,7 @@ named_says g before after name rest e = elim (either_ok (bytes_eq name (codes "s
 line_by_says : (g : Floor) (before after : Layout) (size : ℕ) (words : List (List ℕ)) → line_by g before (ltb 256 size) words ≡ Ok after
     → (IsSkipped words × (after ≡ before)) ⊎ ((size ≤ 256) × Adds g before words after)
 line_by_says g before after size [] e = inl (tt, ok_is before after e)
-line_by_says g before after size (name ∷ rest) e = elim (either_ok (is_comment name) (Ok before) _ after e) [
+line_by_says g before after size (name ∷ rest) e = elim (either_ok (begins_comment name) (Ok before) _ after e) [
   | inl a ↦ inl (a.0, ok_is before after a.1)
   | inr a ↦ (let b = unless_ok (ltb 256 size) (named g before name rest) Form after a.1 in inr (ltb-false _ _ b.0, named_says g before after name rest b.1))
 ]
@@ -212,10 +207,10 @@ point_named : (g : Floor) (before : Layout) (kind : Kind) (rest : List (List ℕ
 point_named g before Station rest = refl
 point_named g before Parking rest = refl
 
-line_by_again : (g : Floor) (before after : Layout) (name : List ℕ) (rest : List (List ℕ)) → is_comment name ≡ false → named g before name rest ≡ Ok after → line_by g before false (name ∷ rest) ≡ Ok after
+line_by_again : (g : Floor) (before after : Layout) (name : List ℕ) (rest : List (List ℕ)) → begins_comment name ≡ false → named g before name rest ≡ Ok after → line_by g before false (name ∷ rest) ≡ Ok after
 line_by_again g before after name rest c e = rw c e
 
-no_comment : (kind : Kind) → is_comment (word_of kind) ≡ false
+no_comment : (kind : Kind) → begins_comment (word_of kind) ≡ false
 no_comment Station = refl
 no_comment Parking = refl
 

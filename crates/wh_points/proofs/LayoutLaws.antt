@@ -6,7 +6,7 @@ use Rattle.std.specs.Str.{bytes_eq}
 use Rattle.std.proofs.Math.Dec.{ltb}
 use Rattle.std.proofs.lemmas.List.Elements.{All-push}
 use Rattle.std.proofs.lemmas.List.Quantifiers.{position-Some}
-use Rattle.wh_text.specs.Words.{words_of}
+use Rattle.wh_text.specs.Words.{begins_comment, words_of}
 use Rattle.wh_text.specs.Numbers.{small_number_of}
 use Rattle.wh_text.specs.Names.{is_name}
 use Rattle.wh_grid.specs.Grids.{Floor, IsPassable}
@@ -19,7 +19,7 @@ use Rattle.wh_points.specs.declared.fault.FaultKind.TheVariants.{Form, Name, Nam
 use Rattle.wh_points.specs.declared.fault.PointFault.{PointFault}
 use Rattle.wh_points.specs.Points.{Layout, IsLayout, point_at}
 use Rattle.wh_points.specs.Layouts.{AreApart, find_name}
-use Rattle.wh_points.specs.PointLines.{is_open, has_name, has_cell, with_point, with_agent, with_rule, placed, placed_at, point_by, starts_at, agent_by, rule_by, named, is_comment, line_by, line_of}
+use Rattle.wh_points.specs.PointLines.{is_open, has_name, has_cell, with_point, with_agent, with_rule, placed, placed_at, point_by, starts_at, agent_by, rule_by, named, line_by, line_of}
 use Rattle.wh_points.specs.PointFiles.{empty, located, whole, layout_from, layout_at, Gives}
 use Rattle.wh_points.proofs.Additions.{apart_point, apart_agent}
 use Rattle.wh_points.proofs.LineSteps.{open_passable}
@@ -101,7 +101,7 @@ named_keeps g layout name rest =
 line_by_keeps : (g : Floor) (layout : Layout) (long : Bool) (words : List (List ℕ)) → Keeps g layout (line_by g layout long words)
 line_by_keeps g layout long [] = λ is. is
 line_by_keeps g layout long (name ∷ rest) =
-    keeps_either g layout (is_comment name) (Ok layout) _ (λ is. is) (keeps_unless g layout long (named g layout name rest) Form (λ short. named_keeps g layout name rest))
+    keeps_either g layout (begins_comment name) (Ok layout) _ (λ is. is) (keeps_unless g layout long (named g layout name rest) Form (λ short. named_keeps g layout name rest))
 
 line_keeps : (g : Floor) (layout new : Layout) (line : List ℕ) → line_of g layout line ≡ Ok new → IsLayout g layout → IsLayout g new
 line_keeps g layout new line e = subst (λ (r : Result Layout FaultKind). Keeps g layout r) e (line_by_keeps g layout (ltb 256 (length line)) (words_of line))

@@ -1,8 +1,8 @@
 -- What the parts of a line's code find is what the line says.
-use Rattle.std.proofs.Common.{◌≡◌, ℕ, suc, zero, ◌<◌, ◌+◌, ◌*◌, Bool, true, false, cond, ◌&&◌, if◌then◌else◌, eqb, Some, None, Ok, List, [], ◌∷◌, ◌++◌, length, get_or, map, refl, ap, sym, ◌∙◌, arith}
+use Rattle.std.proofs.Common.{◌≡◌, ℕ, suc, zero, ◌<◌, ◌+◌, ◌*◌, Bool, true, false, ◌&&◌, if◌then◌else◌, eqb, Some, Ok, List, [], ◌∷◌, ◌++◌, length, get_or, map, refl, ap, sym, ◌∙◌, arith}
 use Rattle.std.specs.List.{list_any}
 use Rattle.std.proofs.Math.Dec.{ltb}
-use Rattle.std.proofs.lemmas.Bool.{lt-ltb, ltb-true}
+use Rattle.std.proofs.lemmas.Bool.{lt-ltb, ltb-true, false_from_ne_true}
 use Rattle.std.proofs.lemmas.List.{map-append}
 use Rattle.std.proofs.lemmas.Option.{slice_get-get_or, get_or_from_slice_get}
 use Rattle.wh_grid.specs.declared.cell.Cell.{Cell}
@@ -17,10 +17,6 @@ and_three true true true h = (refl, refl, refl)
 and_three true true false h = absurd cc
 and_three true false c h = absurd cc
 and_three false b c h = absurd cc
-
-pub cases_Bool : (b : Bool) → (b ≡ true → ⊥) → b ≡ false
-cases_Bool true h = absurd (h refl)
-cases_Bool false h = refl
 
 in_range : (xs : List Bool) (k : ℕ) → get_or xs k false ≡ true → k < length xs
 in_range [] k h = absurd cc
@@ -45,11 +41,7 @@ passable_open g x y p =
     rw (a, b, c) refl
 
 pub not_open : (g : Floor) (x y : ℕ) → (IsPassable g (record { x = x; y = y }) → ⊥) → is_open g x y ≡ false
-not_open g x y none = cases_Bool (is_open g x y) (λ h. none (open_passable g x y h))
-
-pub some_if : {A : Type 0} (b : Bool) (x y : A) → cond b (Some x) None ≡ Some y → (b ≡ true) × (x ≡ y)
-some_if true x y h = (refl, cc)
-some_if false x y h = absurd cc
+not_open g x y none = false_from_ne_true (is_open g x y) (λ h. none (open_passable g x y h))
 
 pub agent_started : (layout new : Layout) (n : ℕ) → list_any (λ m. eqb m n) layout.agents ≡ false → length layout.agents < 256 → new ≡ with_agent layout n → starts_at layout (Some n) ≡ Ok new
 agent_started layout new n fresh room e = rw (fresh, lt-ltb (length layout.agents) 256 room) (ap (λ (l : Layout). Ok l) (sym e))

@@ -21,7 +21,7 @@ abbrev pub located : ℕ → Result Layout FaultKind → Result Layout Fault
 located number (Ok layout) = Ok layout
 located number (Err kind) = Err (record { kind = kind; line = number })
 
--- there has to be an agent
+-- there must be an agent
 abbrev pub whole : ℕ → Layout → List ℕ → Result Layout Fault
 whole last layout [] = Err (record { kind = NoAgent; line = last + 1 })
 whole last layout (n ∷ agents) = Ok layout
@@ -58,7 +58,7 @@ abbrev pub IsWithin : ℕ → PointFault → Type 0
 IsWithin last NoMemory = Unit {0}
 IsWithin last (At fault) = (1 ≤ fault.line) × (fault.line ≤ last)
 
--- nothing that stands after a fault's line changes it
+-- nothing after a fault's line changes it
 abbrev pub IsFirst : Floor → List (List ℕ) → PointFault → Type 0
 IsFirst g lines NoMemory = Unit {0}
 IsFirst g lines (At fault) = fault.line ≤ length lines → (more : List (List ℕ)) → layout_from g empty 0 (take fault.line lines ++ more) ≡ Err fault

@@ -1,6 +1,6 @@
 -- The grammar of points files: what each line may add, said without an order of tests.
 use Rattle.std.specs.Prelude.{◌≡◌, ◌≢◌, ℕ, ◌<◌, ◌≤◌, ◌⊎◌, true, false, List, [], ◌∷◌, length, Some, All, codes}
-use Rattle.wh_text.specs.Words.{words_of}
+use Rattle.wh_text.specs.Words.{begins_comment, words_of}
 use Rattle.wh_text.specs.Numbers.{small_number_of}
 use Rattle.wh_text.specs.Names.{is_name}
 use Rattle.wh_grid.specs.Grids.{Floor, IsPassable}
@@ -9,13 +9,13 @@ use Rattle.wh_points.specs.declared.points.Kind.TheVariants.{Station, Parking}
 use Rattle.wh_points.specs.declared.points.Point.{Point}
 use Rattle.wh_points.specs.Points.{Layout}
 use Rattle.wh_points.specs.Layouts.{find_name}
-use Rattle.wh_points.specs.PointLines.{is_comment, with_point, with_agent, with_rule}
+use Rattle.wh_points.specs.PointLines.{with_point, with_agent, with_rule}
 use Rattle.wh_points.specs.PointFiles.{empty}
 
 -- no words, or a first word that begins with '#'
 abbrev pub IsSkipped : List (List ℕ) → Type 0
 IsSkipped [] = Unit {0}
-IsSkipped (name ∷ rest) = is_comment name ≡ true
+IsSkipped (name ∷ rest) = begins_comment name ≡ true
 
 abbrev pub word_of : Kind → List ℕ
 word_of Station = codes "station"

@@ -2,7 +2,7 @@
 use Rattle.std.specs.Prelude.{ℕ, ◌+◌, ◌*◌, Bool, true, false, List, [], ◌∷◌, ◌++◌, length, Option, Some, None, Result, Ok, Err, ◌&&◌, ◌==◌, nat_lt, cond, codes, slice_index_or}
 use Rattle.std.specs.List.{list_any}
 use Rattle.std.specs.Str.{bytes_eq}
-use Rattle.wh_text.specs.Words.{words_of}
+use Rattle.wh_text.specs.Words.{begins_comment, words_of}
 use Rattle.wh_text.specs.Numbers.{small_number_of}
 use Rattle.wh_text.specs.Names.{is_name}
 use Rattle.wh_grid.specs.Grids.{Floor}
@@ -24,7 +24,7 @@ has_name name points = list_any (λ point. bytes_eq name point.name) points
 abbrev pub has_cell : ℕ → ℕ → List Point → Bool
 has_cell x y points = list_any (λ point. (x == point.cell.x) && (y == point.cell.y)) points
 
--- one point more, one agent more, or the rule
+-- one more point, one more agent, or the rule
 abbrev pub with_point : Layout → Point → Layout
 with_point layout point = record { points = layout.points ++ point ∷ []; agents = layout.agents; nofollow = layout.nofollow }
 
@@ -70,15 +70,10 @@ named g layout name rest =
     cond (bytes_eq name (codes "station")) (point_by g layout Station rest) (cond (bytes_eq name (codes "parking")) (point_by g layout Parking rest)
     (cond (bytes_eq name (codes "agent")) (agent_by layout rest) (cond (bytes_eq name (codes "rule")) (rule_by layout rest) (Err Form))))
 
--- '#' at the front
-abbrev pub is_comment : List ℕ → Bool
-is_comment [] = false
-is_comment (b ∷ bs) = b == 35
-
 -- empty lines, blanks and comments are skipped, however long; any other line of more than 256 bytes is of no form
 abbrev pub line_by : Floor → Layout → Bool → List (List ℕ) → Result Layout FaultKind
 line_by g layout long [] = Ok layout
-line_by g layout long (name ∷ rest) = cond (is_comment name) (Ok layout) (cond long (Err Form) (named g layout name rest))
+line_by g layout long (name ∷ rest) = cond (begins_comment name) (Ok layout) (cond long (Err Form) (named g layout name rest))
 
 abbrev pub line_of : Floor → Layout → List ℕ → Result Layout FaultKind
 line_of g layout line = line_by g layout (nat_lt 256 (length line)) (words_of line)

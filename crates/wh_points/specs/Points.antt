@@ -33,7 +33,7 @@ IsPoint layout name cell = (kind : Kind) × Contains layout.points (record { nam
 abbrev pub IsPointCell : Layout → Cell → Type 0
 IsPointCell layout cell = (name : List ℕ) × IsPoint layout name cell
 
--- the point of a number, from 0; past the last one it is a point of no meaning
+-- the point of a number, from 0; past the last one it is a meaningless point
 abbrev pub point_at : List Point → ℕ → Point
 point_at points n = slice_index_or points n (record { name = []; cell = record { x = 0; y = 0 }; kind = Kind.Parking })
 
@@ -49,7 +49,7 @@ parkings layout = count_by (λ point. is_parking point.kind) layout.points
 abbrev pub starts : Layout → List Cell
 starts layout = map (λ n. (point_at layout.points n).cell) layout.agents
 
--- what every points file that is read gives: passable cells, no name or cell twice, and the agents start at points that differ
+-- what every points file that is read gives: passable cells, no name or cell twice, and the agents start at different points
 pub record IsLayout (g : Floor) (layout : Layout) : Type 0 where
   pub passable : All (λ point. IsPassable g point.cell) layout.points
   pub names : (i j : ℕ) → i < length layout.points → j < length layout.points → i ≢ j → (point_at layout.points i).name ≢ (point_at layout.points j).name

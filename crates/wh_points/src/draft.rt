@@ -15,7 +15,7 @@ use indexmap::IndexSet;
 use std::alloc::{AllocError, Global};
 use std::marker::Model;
 use wh_grid::{Cell, Grid};
-use wh_text::{Name, Words, small_number};
+use wh_text::{Name, Words, begins_comment, small_number};
 
 /// The points that were read, and their cells.
 #[derive(Drop)]
@@ -58,12 +58,6 @@ fn open_cell(grid: &Grid, x: u32, y: u32) -> Option<Cell>
     } else {
         None
     }
-}
-
-fn is_comment(word: &[u8]) -> bool
-    ensures { result ≡ says.is_comment word.now }
-{
-    matches!(word, [b'#', ..])
 }
 
 impl Draft {
@@ -229,7 +223,7 @@ impl Draft {
         let Some(name) = words.next_word() else {
             return Ok(self);
         };
-        if is_comment(name) {
+        if begins_comment(name) {
             return Ok(self);
         }
         if line.len() > LONGEST {

@@ -10,7 +10,7 @@ use thiserror::Error;
 /// What is wrong with a line. It is shown by its code.
 #[derive(Clone, Copy, Debug, PartialEq, Eq, Error)]
 pub enum FaultKind {
-    /// The line has none of the forms, or is longer than 256 bytes.
+    /// The line has no valid form, or is longer than 256 bytes.
     #[error("P1")]
     Form,
     /// The name of the point is no name.
@@ -42,7 +42,7 @@ pub enum FaultKind {
     RuleTwice,
 }
 
-/// The first fault of a points file, and the line at which it is met, from 1. It is shown as `P4 line 2`.
+/// The first fault of a points file, and its line, from 1. It is shown as `P4 line 2`.
 #[derive(Clone, Copy, Debug, PartialEq, Eq, Error)]
 #[error("{kind} line {line}")]
 pub struct Fault {

@@ -1,4 +1,4 @@
--- Memory was wanting for the name of the file beside a log: nothing was read or written.
+-- Out of memory for the name of the file beside a log: nothing was read or written.
 use Rattle.std.proofs.Common.{◌≡◌, ℕ, Bool, false, List, Option, Some, None, Result, Err, inl, refl}
 use Rattle.std.proofs.KnownBytes.{Keeps-refl}
 use Rattle.std.specs.Prelude.{is_some}
@@ -36,7 +36,7 @@ module _ {X : Type 0} (fits : X → Floor → Bool) (count : X → ℕ) (gives :
   starved remaining contents (Attend o) = (None, refl, inl (refl, refl, Keeps-refl had))
   starved remaining contents (Replay o) = over o o.log
 
-  -- memory was wanting for the name of the file beside the board
+  -- memory ran out for the name of the file beside the board
   pub starved_live : (o : LiveOptions) → Lived fits count gives o (Err trouble.NoMemory) input input had had
   starved_live o = (silent o.board, inl (tt, Keeps-refl had))
 

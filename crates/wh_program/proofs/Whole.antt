@@ -94,7 +94,7 @@ in_range words (Attend o) gives = (
   },
 )
 
--- Where help or the version was asked for, and where memory was wanting, nothing is told of a mistake. The three kinds of a
+-- Where help or the version was asked for, and where memory ran out, nothing is told of a mistake. The three kinds of a
 -- refusal of words that are told apart are named by whoever knows them.
 asked : (shown : Bool) (ended : Status) (had has : Option (List ℕ)) → Ends (ended_by refusal.Asked shown) ended had has → ended ≢ status.CommandLine
 asked true ended had has ends bad = let e : status.Done ≡ status.CommandLine = sym ends.0 ∙ bad in absurd (grind arith)

@@ -28,8 +28,8 @@ pub record AreFolders (clients : List ClientOptions) (folders : List (Option Tex
   pub places : length folders ≡ 62
   pub each : AllAt (IsFolderAt clients) folders
 
--- It was so over a log file that told this, the file beside it, and a screen, or none. Here and below fits and count say what a planner
--- answers, gives what makes it, remaining and contents what a client's reader and writer tell; showed is what the screen told before, if
+-- It was so over a log file that told this, the file beside it, and a screen, or none. Here and below fits and count say
+-- what a planner returns, gives what makes it, remaining and contents what a client's reader and writer tell; showed is what the screen told before, if
 -- there is one, and shows what it tells then.
 abbrev pub AttendsOver : {R W X : Type 0} → (X → Floor → Bool) → (X → ℕ) → (PlannerParts → Result X AllocError → Type 0) → (R → Option (List ℕ)) → (W → Option (List ℕ)) → AttendOptions → (file : Option (List ℕ)) → Siding
     → (showed shows : Option (Option (List (List ℕ)))) → Result Status Trouble → (old new : Input) → (had has : Option (List ℕ)) → Type 0
@@ -38,7 +38,7 @@ AttendsOver fits count gives remaining contents o file beside showed shows (Ok s
 AttendsOver fits count gives remaining contents o file beside showed shows (Err told) old new had has =
     IsWhyUnattended fits count remaining contents gives o told old new had has file beside showed shows
 
--- `live` with running clients came to this: memory was wanting for names or for the doors, and nothing was read or written; or it was so,
+-- `live` with running clients came to this: memory ran out for names or for the doors, and nothing was read or written; or it was so,
 -- over a log file and the one beside it, and over the file of the board, if one is named.
 abbrev pub Attended : {R W X : Type 0} → (X → Floor → Bool) → (X → ℕ) → (PlannerParts → Result X AllocError → Type 0) → (R → Option (List ℕ)) → (W → Option (List ℕ))
     → AttendOptions → Result Status Trouble → (old new : Input) → (had has : Option (List ℕ)) → Type 0

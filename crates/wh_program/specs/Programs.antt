@@ -56,7 +56,7 @@ abbrev pub Verified : Result Status Trouble → Input → Input → Option (List
 Verified (Ok status) old new had has = Verifies old new had has status
 Verified (Err told) old new had has = IsWhyUnverified told old new had has
 
--- `live` over this screen, or over none, came to this. Here and below fits and count say what a planner answers, and gives what
+-- `live` over this screen, or over none, came to this. Here and below fits and count say what a planner returns, and gives what
 -- makes it; showed is what the screen told before, if there is one, and shows what it tells then.
 abbrev pub LivedOver : {X : Type 0} → (X → Floor → Bool) → (X → ℕ) → (PlannerParts → Result X AllocError → Type 0) → LiveOptions → (showed shows : Option (Option (List (List ℕ))))
     → Result Status Trouble → Input → Input → Option (List ℕ) → Option (List ℕ) → Type 0
@@ -85,7 +85,7 @@ pub record Files : Type 0 where
   pub log : Option (List ℕ)
   pub site : Option (List ℕ)
 
--- `replay` over files that told these bytes came to this; then they tell others, and so many of them outlive a kill.
+-- `replay` over files that told these bytes came to this; then they tell others, and this many of them outlive a kill.
 abbrev pub Kept : {X : Type 0} → (X → Floor → Bool) → (X → ℕ) → (PlannerParts → Result X AllocError → Type 0) → ReplayOptions → Result Status Trouble
     → Input → Input → (had has : Option (List ℕ)) → Files → Type 0
 Kept fits count gives o (Ok status) old new had has files =
@@ -115,7 +115,7 @@ abbrev pub names_file : Options → Bool
 names_file (Replay o) = is_some o.log
 names_file _ = false
 
--- Its status tells what it came to, and a line on standard error tells a trouble, as far as that takes it.
+-- Its status tells what it came to, and a line on standard error tells a trouble, as far as that can be written.
 abbrev pub Ends : Result Status Trouble → Status → Option (List ℕ) → Option (List ℕ) → Type 0
 Ends (Ok status) ended had has = (ended ≡ status) × Keeps had has
 Ends (Err told) ended had has = (ended ≡ status_of told) × WritesFront had has (trouble_text told)
@@ -139,8 +139,8 @@ pub record LateFiles : Type 0 where
   pub site : Option (List ℕ)
   pub arrivals : Option (List ℕ)
 
--- `replay --vehicles` over these files, or over none, came to this: to so many vehicles that are on their way at the end, or to a trouble.
--- Then the files tell others, and so many of their bytes outlive a kill.
+-- `replay --vehicles` over these files, or over none, came to this: to the number of vehicles that are on their way at the end, or to a trouble.
+-- Then the files tell others, and this many of their bytes outlive a kill.
 abbrev pub Drove : {X : Type 0} → (X → Floor → Bool) → (X → ℕ) → (PlannerParts → Result X AllocError → Type 0) → ReplayOptions → VehicleOptions → Option LateFiles → Result ℕ DriveTrouble
     → Input → Input → Option (List ℕ) → Option (List ℕ) → Type 0
 Drove fits count gives o pace None (Ok left) old new had has = ServesLate fits count (text_by o.replies) gives o.fleet o.tail pace old new had has left
@@ -153,7 +153,7 @@ Drove fits count gives o pace (Some files) (Err told) old new had has =
     (holds : Held) × (synced : Held) × (log_failed : Bool) × (arrivals_failed : Bool) × (beside : Siding) × (beside.before ≡ files.site)
     × IsWhyUnconvoyed fits count (text_by o.replies) gives o.fleet o.tail o.told pace told old new had has (record { log = files.log; arrivals = files.arrivals }) holds synced log_failed arrivals_failed beside
 
--- A line on standard error tells how many vehicles are on their way, or a trouble, as far as that takes it.
+-- A line on standard error tells how many vehicles are on their way, or a trouble, as far as that can be written.
 abbrev pub EndsDrive : Result ℕ DriveTrouble → Status → Option (List ℕ) → Option (List ℕ) → Type 0
 EndsDrive (Ok left) ended had has = (ended ≡ Done) × WritesFront had has (way_text left)
 EndsDrive (Err told) ended had has = (ended ≡ drive_status told) × WritesFront had has (drive_text told)
@@ -171,7 +171,7 @@ pub record ObeysLate {X : Type 0} (fits : X → Floor → Bool) (count : X → �
   pub did : Drove fits count gives options pace files came old new had has
   pub ends : EndsDrive came ended blamed blames
 
--- The words give no options, or memory was wanting to read them; no input was read. Who asks for help or the version by a flag
+-- The words give no options, or memory ran out to read them; no input was read. Who asks for help or the version by a flag
 -- is told of no mistake.
 pub record Declines (words : List Text) (ended : Status) (old new : Input) : Type 0 where
   pub none : (options : Options) → WordsGive words options → ended ≡ NoMemory

@@ -21,7 +21,7 @@ use wh_pipes::{Inlet, Outlet, Pipes};
 use wh_planner::Planner;
 use wh_service::PlannerParts;
 
-/// So many numbers clients may have: 0 to 61.
+/// How many numbers clients may have: 0 to 61.
 const NUMBERS: u32 = 62;
 
 /// The folder of the client that was named by this number, if one was.

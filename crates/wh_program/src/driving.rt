@@ -90,7 +90,7 @@ pub(crate) fn drive_over<
 }
 
 /// The status that tells what a replay with vehicles came to. How many vehicles are on their way at the end, if some are, or a
-/// trouble, is told by a line on standard error, as far as that takes it.
+/// trouble, is told by a line on standard error, as far as that can be written.
 pub(crate) fn end_drive<E: Write>(errors: &mut E, came: Result<u32, DriveTrouble>) -> Status
     ensures { EndsDrive came result (E.contents errors.old) (E.contents errors.new) }
 {

@@ -26,10 +26,7 @@ use wh_options::{
 };
 use wh_pipes::{Inlet, Outlet};
 use wh_planner::Planner;
-use wh_service::{
-    DriveTrouble, FileJournal, LogFile, PlannerParts, ended, host, judge, judge_log, serve,
-    serve_kept, write_text,
-};
+use wh_service::{DriveTrouble, FileJournal, LogFile, PlannerParts, ended, serve_kept, write_text};
 
 /// The files that keep a run: its log, the file beside it that holds the site, and the file of arrivals.
 #[derive(Drop)]
@@ -96,7 +93,7 @@ fn replay<R: Read, W: Write, L: LogFile, P: Planner, F: Fn(PlannerParts) -> Resu
     ensures { ReplayedOver P.fits_map P.slot_count (F.post make) options.now (option_map (λ f. record { log = L.contents f.log; site = L.contents f.site }) files.old) result lines.old lines.new (W.contents output.old) (W.contents output.new) }
 {
     match files {
-        None => match serve(alloc, lines, output, options, make) {
+        None => match wh_service::replay(alloc, lines, output, options, make) {
             Ok(_replayed) => Ok(Status::Done),
             Err(trouble) => Err(trouble),
         },
@@ -132,7 +129,7 @@ fn live_over<
     requires makes { MakesPlanners P.fits_map P.slot_count (F.post make) }
     ensures { LivedOver P.fits_map P.slot_count (F.post make) options.now (option_map S.shown screen.old) (option_map S.shown screen.new) result lines.old lines.new (W.contents output.old) (W.contents output.new) }
 {
-    match host(rt, alloc, lines, output, options, screen, make) {
+    match wh_service::live(rt, alloc, lines, output, options, screen, make) {
         Ok(()) => Ok(Status::Done),
         Err(trouble) => Err(trouble),
     }
@@ -209,8 +206,8 @@ fn obey<
     ensures { Did P.fits_map P.slot_count (F.post make) (Attended P.fits_map P.slot_count (F.post make) ⟦<Inlet<'a, HostRuntime> as Read>⟧.remaining ⟦<BufWriter<Outlet> as Write>⟧.contents) options.now (option_map (λ f. record { log = L.contents f.log; site = L.contents f.site }) kept.old) result lines.old lines.new (W.contents output.old) (W.contents output.new) }
 {
     match options {
-        Options::Check => judge(rt, alloc, lines, output),
-        Options::Verify => judge_log(alloc, lines, output),
+        Options::Check => wh_service::check(rt, alloc, lines, output),
+        Options::Verify => wh_service::verify(alloc, lines, output),
         Options::Replay(options) => replay(alloc, lines, output, options, kept, make),
         Options::Live(options) => live_by_name(rt, files, alloc, lines, output, options, make),
         Options::Attend(options) => {
@@ -314,7 +311,7 @@ fn decline<W: Write, E: Write, X: Display>(
     ended(refusal, is_shown)
 }
 
-/// The status that tells what the program came to. A trouble is told by a line on standard error, as far as that takes it.
+/// The status that tells the outcome. A trouble is told by a line on standard error, as far as that can be written.
 pub fn end<E: Write>(errors: &mut E, came: Result<Status, Trouble>) -> Status
     ensures { Ends came result (E.contents errors.old) (E.contents errors.new) }
 {
@@ -328,8 +325,8 @@ pub fn end<E: Write>(errors: &mut E, came: Result<Status, Trouble>) -> Status
 }
 
 /// Does what the words ask for, over this input: the first word is the program's name. `make` makes one planner of its parts, and
-/// its error tells that memory is wanting. The answer is the status with which the program ends; one line on standard error
-/// tells what stopped it. All files and pipes lie where `files` finds them: it is the process's own, since of what is handed to threads
+/// fails only when out of memory. Returns the exit status; one line on standard error says what stopped it.
+/// All files and pipes lie where `files` finds them: it is the process's own, since of what is handed to threads
 /// nothing may rest on a bound that is assumed of the caller's thread alone.
 #[tactic(auto, using(crate::proofs::Whole::in_range))]
 pub fn run<

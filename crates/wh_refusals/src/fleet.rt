@@ -17,7 +17,7 @@ use wh_planner::Planner;
 use wh_points::Points;
 use wh_service::{OpenFault, PlannerParts, Warehouse, claim};
 
-/// A bank of so many slots, and its seat.
+/// A bank of the given number of slots, and its seat.
 pub fn bank<R: Print>(rt: &R, alloc: Global, slots: u32) -> Result<(Arc<Bank>, BankSeat), Halt>
     ensures { IfOk result (λ r. Belongs r.1 (arc_value r.0)) }
 {
@@ -55,7 +55,7 @@ pub fn room<R: Print, P: Drop>(rt: &R, alloc: Global) -> Result<Vec<P>, Halt>
     again!(rt, Vec::with_capacity(alloc, 2))
 }
 
-/// A planner with so many slots of the bank. A planner that could not be made has given its slots back.
+/// A planner with the given number of slots of the bank. A planner that could not be made has given its slots back.
 pub fn planner<R: Print, P: Planner, F: Fn(PlannerParts) -> Result<P, AllocError>>(
     rt: &R,
     grid: &Arc<Grid>,

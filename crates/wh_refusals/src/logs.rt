@@ -9,10 +9,12 @@ use crate::sites::{MAP_AND_POINTS, read};
 use std::alloc::{AllocError, Global};
 use std::io;
 use wh_edge::Site;
+use wh_judge::{Verified, verify};
 use wh_lines::Lines;
 use wh_log::log_text;
 use wh_planner::Planner;
-use wh_service::{Form, PlannerParts, Verified, Warehouse, replay, verify};
+use wh_replay::replay;
+use wh_service::{Form, PlannerParts, Warehouse};
 
 const SCRIPT: &[u8] = b"submit x A B\ntoken 0\ntick\n";
 
@@ -79,7 +81,7 @@ fn serve<R: Print, P: Planner>(
     }
 }
 
-/// Replays the script, and tells the log of the run behind a line `%%`.
+/// Replays the script, and tells the log of the run after a line `%%`.
 fn tell_run<R: Print, P: Planner>(
     rt: &R,
     alloc: Global,

@@ -1,5 +1,5 @@
-//! Worked rows, call by call: where a call is refused for want of memory, what the value tells is looked at, and the same
-//! call is made again before the next one. With no argument all rows are gone through, and with the name of a row that one
+//! Worked rows, call by call: where a call is refused for lack of memory, what the value tells is looked at, and the same
+//! call is made again before the next one. With no argument all rows are run, and with the name of a row that one
 //! alone. `tests/calls_made_again.py` runs it with each request for memory refused in turn.
 #![tactic(auto)]
 
@@ -25,7 +25,7 @@ use wh_planner::Planner;
 use wh_planners::Sharing;
 use wh_service::PlannerParts;
 
-/// The rows, in the order in which they are gone through.
+/// The rows, in the order in which they are run.
 #[derive(Clone, Copy)]
 enum Row {
     LineEnds,
@@ -68,7 +68,7 @@ fn run<
     }
 }
 
-/// Goes through the row of the name, or through all of them, each behind a line with its name.
+/// Goes through the row of the name, or through all of them, each after a line with its name.
 fn run_named<
     R: AllocGlobal + Print + Threads + Wait + Sync,
     P: Planner,

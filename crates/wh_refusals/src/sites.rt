@@ -18,7 +18,7 @@ const MAP: &[u8] = b"type octile\nheight 3\nwidth 5\nmap\n@.@.@\n.....\n@.@.@\n"
 /// The same map with carriage returns, and without the last line's end.
 const MAP_RETURNS: &[u8] = b"type octile\r\nheight 3\r\nwidth 5\r\nmap\r\n@.@.@\r\n.....\r\n@.@.@";
 
-/// The same map with two empty lines behind it.
+/// The same map with two empty lines after it.
 const MAP_EMPTY_LINES: &[u8] = b"type octile\nheight 3\nwidth 5\nmap\n@.@.@\n.....\n@.@.@\n\n\n";
 
 /// The map with its points: two parkings, where the agents start, and four stations.
@@ -29,7 +29,7 @@ pub const MAP_AND_POINTS: &[u8] =
 const SITE_RETURNS: &[u8] =
     b"type octile\r\nheight 3\r\nwidth 5\r\nmap\r\n@.@.@\r\n.....\r\n@.@.@\r\n%%\r\nparking P0 0 1\r\nparking P1 4 1\r\nstation A 1 0\r\nstation B 3 0\r\nstation C 1 2\r\nstation D 3 2\r\nagent P0\r\nagent P1";
 
-/// The same with two empty lines behind the map.
+/// The same with two empty lines after the map.
 const SITE_EMPTY_LINES: &[u8] =
     b"type octile\nheight 3\nwidth 5\nmap\n@.@.@\n.....\n@.@.@\n\n\n%%\nparking P0 0 1\nparking P1 4 1\nstation A 1 0\nstation B 3 0\nstation C 1 2\nstation D 3 2\nagent P0\nagent P1\n";
 

@@ -3,5 +3,5 @@ pub mod Placing
 pub mod Giving
 pub mod Serving
 pub mod Until
--- handed on, for the crates above
+-- re-exported for the crates above
 pub use Rattle.wh_lines.proofs.Written

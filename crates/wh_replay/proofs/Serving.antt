@@ -4,9 +4,9 @@ use Rattle.std.proofs.lemmas.List.{length-append}
 use Rattle.std.specs.Prelude.{IfSome, IfOk, OnErr}
 use Rattle.std.specs.Io.KnownBytes.{Appends, Keeps}
 use Rattle.std.proofs.KnownBytes.{Consumes-whole, Keeps-refl, Consumes-nil, Consumes-trans, Appends-nil, Appends-trans, Appends-kept}
-use Rattle.wh_text.specs.Lines.{lines_of, without_cr}
+use Rattle.wh_text.specs.Lines.{lines_of, without_cr, IsLine}
 use Rattle.wh_text.proofs.CutLemmas.{lines-feed, lines-last}
-use Rattle.wh_lines.specs.Text.{IsPlain, short_line}
+use Rattle.wh_lines.specs.Text.{short_line}
 use Rattle.wh_lines.proofs.Cuts.{whole_next}
 use Rattle.wh_lines.specs.Input.{Input, left, Takes, Gathered, Taken, with_failed}
 use Rattle.wh_lines.specs.declared.lines.Next.{Next}
@@ -34,7 +34,7 @@ text_append (x ∷ xs) ys = ap (λ l. reply_line x ++ l) (text_append xs ys) ∙
 texts_more : (a b c d : Option (List ℕ)) (xs ys : List (List ℕ)) → Appends a b (text_of xs) → Keeps b c → Appends c d (text_of ys) → Appends a d (text_of (xs ++ ys))
 texts_more a b c d xs ys p k q = subst (Appends a d) (sym (text_append xs ys)) (Appends-trans a c d (text_of xs) (text_of ys) (Appends-kept a b c (text_of xs) p k) q)
 
--- Whole lines were read and served, no fewer than so many.
+-- Whole lines were read and served, no fewer than the given number.
 pub record Following {X : Type 0} (fits : X → Floor → Bool) (count : X → ℕ) (text : Answered → List ℕ) (before after : Input) (old : Seen) (spares : List X) (new : Seen) (rest : List X)
     (had has : Option (List ℕ)) (written turns : ℕ) : Type 0 where
   pub follows : Follows fits count text before after old spares new rest had has written
@@ -56,7 +56,7 @@ module _ {X : Type 0} (fits : X → Floor → Bool) (count : X → ℕ) (text : 
   pub following_start : (i : Input) (old : Seen) (spares : List X) (had : Option (List ℕ)) → Following fits count text i i old spares old spares had had 0 0
   following_start i old spares had = record { follows = follows_start i old spares had; many = omega arith; reads = omega arith }
 
-  -- what a line gives of which a front is kept
+  -- what a line gives of which only a front is kept
   gives_front : (raw kept : List ℕ) (old : Seen) (spares : List X) (new : Seen) (rest : List X) (replies : List (List ℕ)) → short_line kept ≡ short_line raw
       → Gives fits count (asked (said (short_line kept))) (answers text (said (short_line kept))) old spares new rest replies
       → Gives fits count (asked (command_of (without_cr raw))) (answers text (command_of (without_cr raw))) old spares new rest replies
@@ -73,7 +73,7 @@ module _ {X : Type 0} (fits : X → Floor → Bool) (count : X → ℕ) (text : 
         subst (λ ls. IsOutputOf fits count text ls old spares new rest (f.replies ++ replies)) (sym (f.whole bytes ∙ ap (λ l. lines_of f.read ++ l) one))
         (output_push fits count text (lines_of f.read) (without_cr raw) old spares mid held new rest f.replies replies f.output (gives_front raw kept mid held new rest replies says gives))
 
-    lines_more : (raw : List ℕ) → IsPlain raw → length (lines_of (f.read ++ (raw ++ 10 ∷ []))) ≡ length (lines_of f.read) + 1
+    lines_more : (raw : List ℕ) → IsLine raw → length (lines_of (f.read ++ (raw ++ 10 ∷ []))) ≡ length (lines_of f.read) + 1
     lines_more raw plain =
         ap (λ (ls : List (List ℕ)). length ls) (f.whole (raw ++ 10 ∷ []) ∙ ap (λ l. lines_of f.read ++ l) (lines-feed raw [] plain))
         ∙ length-append (lines_of f.read) (without_cr raw ∷ [])

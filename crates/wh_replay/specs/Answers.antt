@@ -37,7 +37,7 @@ answered_from place clock (None ∷ outcomes) = None ∷ answered_from place clo
 answered_from place clock (Some entry ∷ outcomes) =
     Some (record { place = place; clock = clock; reply = entry.reply }) ∷ answered_from (place + 1) (clock_after clock entry.reply) outcomes
 
--- What a command is answered: one that added no entry was refused for want of memory. Text says what a reply is told as.
+-- What a command is answered: one that added no entry was refused for lack of memory. Text says what a reply is told as.
 abbrev pub outcome_text : (Answered → List ℕ) → Option Answered → List ℕ
 outcome_text text None = codes "refused E90"
 outcome_text text (Some answered) = text answered

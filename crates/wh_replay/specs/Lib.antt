@@ -1,7 +1,7 @@
 pub mod Answers
 pub mod Scripts
 pub mod Clocks
--- handed on, for the crates above
+-- re-exported for the crates above
 pub use Rattle.wh_book.specs.Drafts
 pub use Rattle.wh_token.specs.Commands
 pub use Rattle.wh_token.specs.Fleet

@@ -1,8 +1,8 @@
 -- what a script gives, and what a beginning of it gives
 use Rattle.std.specs.Prelude.{◌≡◌, ◌⊎◌, ◌<◌, ◌≤◌, ◌^◌, ◌-◌, ℕ, Bool, true, List, ◌++◌, length, Option, Result, Ok, Err}
 use Rattle.std.specs.Io.KnownBytes.{Appends, IsAtEnd}
-use Rattle.wh_text.specs.Lines.{lines_of}
-use Rattle.wh_lines.specs.Text.{EndsLine, IsPlain}
+use Rattle.wh_text.specs.Lines.{lines_of, IsLine}
+use Rattle.wh_lines.specs.Text.{EndsLine}
 use Rattle.wh_lines.specs.Input.{Input, left, Takes}
 use Rattle.wh_lines.specs.declared.output.WriteFault.{WriteFault}
 use Rattle.wh_grid.specs.Grids.{Floor}
@@ -20,12 +20,12 @@ use Rattle.wh_lines.specs.declared.lines.ReadFault.TheVariants as reads
 use Rattle.wh_replay.specs.declared.script.ReplayFault.{ReplayFault}
 use Rattle.wh_replay.specs.declared.script.ReplayFault.TheVariants.{Broken, Endless, Unwritten}
 use Rattle.wh_replay.specs.Answers.{answered_from, asked, commands_of, answers, replies_to, text_of}
--- handed on, for the crates above
+-- re-exported for the crates above
 pub use Rattle.wh_lines.specs.Output.{WritesFront}
 
 -- The commands, all of caller 0, have run one after another and had these outcomes, which tell the replies, each by its
 -- entry's place in the history and the clock before that too. The history has grown by the entries, and by nothing else. Fits
--- and count say what a planner answers; text, here and below, what a reply is told as.
+-- and count say what a planner returns; text, here and below, what a reply is told as.
 pub record Gives {X : Type 0} (fits : X → Floor → Bool) (count : X → ℕ) (commands : List Command) (told : List (Option Answered) → List (List ℕ))
     (old : Seen) (spares : List X) (new : Seen) (rest : List X) (replies : List (List ℕ)) : Type 0 where
   pub outcomes : List (Option Entry)
@@ -33,7 +33,7 @@ pub record Gives {X : Type 0} (fits : X → Floor → Bool) (count : X → ℕ) 
   pub ran : Ran fits count old.site 0 commands outcomes old.state spares new.state rest
   pub history : new.history ≡ old.history ++ entries_of outcomes
   pub run : Run old.site old.state (entries_of outcomes) new.state
-  -- where the instance is well-formed, no request is refused for want of a path
+  -- where the instance is well-formed, no request is refused for lack of a path
   pub served : IsFormed old.site → AllServed (entries_of outcomes)
   pub site : new.site ≡ old.site
   pub opening : new.opening ≡ old.opening
@@ -75,7 +75,7 @@ pub record Follows {X : Type 0} (fits : X → Floor → Bool) (count : X → ℕ
   pub appends : Appends had has (text_of replies)
   pub written_is : written ≡ length replies
 
--- All was read to the end, and what was written is the output of what was read, in so many lines.
+-- All was read to the end, and what was written is the output of what was read, in this many lines.
 pub record Replays {X : Type 0} (fits : X → Floor → Bool) (count : X → ℕ) (text : Answered → List ℕ) (before after : Input) (old : Seen) (spares : List X) (new : Seen) (rest : List X)
     (had has : Option (List ℕ)) (written : ℕ) : Type 0 where
   pub read : List ℕ
@@ -130,7 +130,7 @@ pub record Stops {X : Type 0} (fits : X → Floor → Bool) (count : X → ℕ) 
   pub read : List ℕ
   pub begun : List ℕ
   pub takes : Takes before after (read ++ begun)
-  pub part : IsPlain begun
+  pub part : IsLine begun
   pub whole : IsWholeUntil fault after read
   pub replies : List (List ℕ)
   pub output : IsOutputOf fits count text (lines_of read) old spares new rest replies

@@ -1,4 +1,4 @@
-//! What one line of a script is answered.
+//! The reply to one line of a script.
 
 ghost use Rattle.std.specs.Prelude.{◌≡◌, ◌<◌, ◌≤◌, ℕ, List, [], ◌∷◌, ◌++◌, length, codes, true, false, Ok, Some, IfOk, OnErr};
 ghost use Rattle.wh_lines.specs.Text.{short_line};
@@ -73,7 +73,7 @@ fn tell_reply<W: Write>(
     }
 }
 
-/// Tells what the last entry of a history answers, as a line.
+/// Writes the reply of a history's last entry, as a line.
 fn tell_last<W: Write>(
     form: Form,
     writer: &mut W,
@@ -90,7 +90,7 @@ fn tell_last<W: Write>(
 }
 
 /// Tells what a command is answered, as a line: the reply of the entry that it added, which has this place and found the clock
-/// so; with none it was refused for want of memory.
+/// so; with none it was refused for lack of memory.
 fn tell_outcome<W: Write>(
     form: Form,
     writer: &mut W,
@@ -129,7 +129,7 @@ pub fn obey<W: Write, P: Planner>(
     tell_outcome(form, writer, place, clock, added, warehouse.history())
 }
 
-/// Reads a line, of which a front is kept, into a room: whether it asks for a command, which then stands there.
+/// Reads a line, of which only a front is kept, into a room: whether it asks for a command, which then stands there.
 pub fn read_kept(line: &CommandLine, command: &mut Command) -> Result<bool, LineFault>
     ensures { Reads result command.old command.new (said (short_line line.now)) }
 {
@@ -139,7 +139,7 @@ pub fn read_kept(line: &CommandLine, command: &mut Command) -> Result<bool, Line
     }
 }
 
-/// Answers a line, of which a front is kept. How many replies it got: one, or none where it is skipped. The command is a
+/// Answers a line, of which only a front is kept. How many replies it got: one, or none where it is skipped. The command is a
 /// room for what the line asks.
 pub(crate) fn answer<W: Write, P: Planner>(
     line: &CommandLine,

@@ -44,7 +44,7 @@ fn fault_of(fault: LineFault) -> ReplayFault
     }
 }
 
-/// Serves a line, of which a front is kept. How many replies it got: one or none. The command is a room for what it asks.
+/// Serves a line, of which only a front is kept. How many replies it got: one or none. The command is a room for what it asks.
 pub fn serve<W: Write, P: Planner>(
     line: &CommandLine,
     command: &mut Command,
@@ -103,8 +103,8 @@ fn serve_all<R: Read, W: Write, P: Planner>(
 }
 
 /// Serves the script that is left in the reader, to the reader's end. Each line that is a command is an event of caller
-/// 0, and its reply is written in this form with a line feed; a line that is none is answered `refused C1` or `refused C2`, and a
-/// command that is refused for want of memory `refused E90`; an empty line and a comment are answered nothing. A Replace
+/// 0, and its reply is written in this form with a line feed; any other line is answered `refused C1` or `refused C2`, and a
+/// command that is refused for lack of memory `refused E90`; an empty line and a comment get no reply. A Replace
 /// of a known agent takes the last spare. The writer is flushed before each read, and at the end.
 ///
 /// A line takes no memory of its own. An event whose reply could not be written stands.

@@ -19,22 +19,22 @@ pub struct Resumed {
     pub version: Version,
     /// The book: its history is the log's entries.
     pub book: Book,
-    /// So many bytes of the text are the lines that stand whole, without an end line. A longer file is cut there.
+    /// How many bytes of the text are the lines that stand whole, without an end line. A longer file is cut there.
     pub bytes: usize,
-    /// Whether the end line stands behind them.
+    /// Whether the end line follows them.
     pub is_ended: bool,
 }
 
 /// What a text is to a warehouse that is to go on.
 #[derive(Drop)]
 pub enum Recovery {
-    /// The beginning of a log whose entries are a run, and the book that goes on from there. Any bytes behind its last line
+    /// The beginning of a log whose entries are a run, and the book that goes on from there. Any bytes after its last line
     /// feed are taken for a line that was cut.
     Resumed(Resumed),
     /// Fewer than two lines stand whole, and the text is a front of the two that were to be written: no run was begun.
     Unopened(Setting),
     /// No beginning of such a log: the first line, from 1, that is not in the format or whose entry is no step, or that is
-    /// not whole and is not as it was to be written. The lines before it are good, and are so many bytes.
+    /// not whole and is not as it was to be written. The lines before it are good, and are this many bytes.
     Bad { line: u64, bytes: usize },
 }
 
@@ -53,7 +53,7 @@ fn begun_otherwise(text: &[u8]) -> Recovery
 
 /// Recovers the book of the run that a log tells, as far as its lines stand whole. The log may have been cut anywhere. A text
 /// in which not even the first two lines stand whole is taken for a run that was not begun only where it is a front of the
-/// two lines that would begin it: no other file is. Of what is read no more is kept than the book, a piece and a line.
+/// two lines that would begin it: no other file is. Only the book, a piece and a line of what is read are kept.
 ///
 /// Errors: `Unread` where the log cannot be read to its end, or to its first bad line; `NoMemory`.
 pub fn recover<S: Source>(

@@ -12,8 +12,8 @@ use Rattle.wh_timetable.specs.Places.{stays_for}
 use Rattle.wh_timetable.specs.Timetables.{Noted, IsAt, IsTold, time}
 use Rattle.wh_resv.specs.Calls.{IsVacant, NoneExchanges}
 use Rattle.wh_resv.specs.Others.{StaysAway}
-use Rattle.wh_resv.specs.Questions.{IsLastFree}
-use Rattle.wh_resv.specs.Looks.{IsOthers, IsDuring, IsFreeFor, IsKeptFrom, IsNextStart, IsLastEnd, Bars}
+use Rattle.wh_resv.specs.Questions.{IsLastFree, IsTakenUntil, IsNeverFree}
+use Rattle.wh_resv.specs.Looks.{IsOthers, IsDuring, IsFreeFor, IsEndAt, IsKeptFrom, IsNextStart, IsLastEnd, Bars}
 
 -- none of the others is there
 pub vacant_from : (paths : List (List Cell)) (except : ℕ) (c : Cell) (k : ℕ) → ((i : ℕ) → i ≢ except → IsAt paths i c k → ⊥) → IsVacant (remove paths except) c k
@@ -89,6 +89,28 @@ module _ (noted : Noted) (paths : List (List Cell)) (told : IsTold noted paths) 
         since = (let since = kept.since in let grows = time_grows clock k j late in omega arith);
         still = subst (λ n. time clock j < n) (sym kept.always) (omega arith);
       })
+
+  -- up to a stay's end somebody is there
+  pub taken_to : (k end : ℕ) → IsEndAt stays except c (time clock k) end → end < endless → IsTakenUntil (remove paths except) c k (end - clock)
+  taken_to k end at finite =
+      let since = at.during.since in
+      let still = at.during.still in
+      let over = at.over in
+      let early = told.early in
+      record {
+        from = omega arith;
+        taken = λ j late soon v. vacant_free j v at.place at.within at.others (record { since = (let grows = time_grows clock k j late in omega arith); still = omega arith });
+        vacant = λ e. absurd (omega arith);
+      }
+
+  pub taken_always : (k : ℕ) → IsEndAt stays except c (time clock k) endless → IsNeverFree (remove paths except) c k
+  taken_always k at j late v = vacant_free j v at.place at.within at.others (record {
+    since = (let since = at.during.since in let grows = time_grows clock k j late in omega arith);
+    still = subst (λ n. time clock j < n) (sym at.over) (omega arith);
+  })
+
+  pub taken_not : (k : ℕ) → IsFreeFor stays except c (time clock k) → IsTakenUntil (remove paths except) c k k
+  taken_not k free = record { from = omega arith; taken = λ j late soon v. absurd (omega arith); vacant = λ e. free_vacant k free }
 
   -- none of the others is there from time k on
   all_away : (k : ℕ) → ((j : ℕ) → k ≤ j → IsVacant (remove paths except) c j) → All (λ q. StaysAway q c k) (remove paths except)

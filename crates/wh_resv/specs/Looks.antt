@@ -20,6 +20,14 @@ pub record IsDuring (stay : Stay) (t : ℕ) : Type 0 where
 abbrev pub IsFreeFor : List Stay → ℕ → Cell → ℕ → Type 0
 IsFreeFor stays except c t = (j : ℕ) → j < length stays → IsOthers (stay_at stays j) except c → IsDuring (stay_at stays j) t → ⊥
 
+-- one of the stays, of another at the cell, takes in the time, and is over at the end
+pub record IsEndAt (stays : List Stay) (except : ℕ) (c : Cell) (t end : ℕ) : Type 0 where
+  pub place : ℕ
+  pub within : place < length stays
+  pub others : IsOthers (stay_at stays place) except c
+  pub during : IsDuring (stay_at stays place) t
+  pub over : (stay_at stays place).until ≡ end
+
 -- by one of the stays another is at the cell from a time on that is no later, for ever
 pub record IsKeptFrom (stays : List Stay) (except : ℕ) (c : Cell) (t : ℕ) : Type 0 where
   pub place : ℕ

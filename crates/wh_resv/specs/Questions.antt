@@ -1,5 +1,5 @@
 -- until when a cell stays vacant, and when it is so again
-use Rattle.std.specs.Prelude.{ℕ, ◌+◌, ◌<◌, ◌≤◌, List}
+use Rattle.std.specs.Prelude.{◌≡◌, ℕ, ◌+◌, ◌<◌, ◌≤◌, List}
 use Rattle.wh_grid.specs.declared.cell.Cell.{Cell}
 use Rattle.wh_resv.specs.Calls.{IsVacant}
 
@@ -18,6 +18,12 @@ pub record IsNextFree (paths : List (List Cell)) (c : Cell) (k f : ℕ) : Type 0
   pub from : k ≤ f
   pub vacant : IsVacant paths c f
   pub taken : (j : ℕ) → k ≤ j → j < f → IsVacant paths c j → ⊥
+
+-- the cell is taken at each time from k up to before f, and where that is at none it is vacant at k
+pub record IsTakenUntil (paths : List (List Cell)) (c : Cell) (k f : ℕ) : Type 0 where
+  pub from : k ≤ f
+  pub taken : (j : ℕ) → k ≤ j → j < f → IsVacant paths c j → ⊥
+  pub vacant : f ≡ k → IsVacant paths c k
 
 -- the cell is vacant at no time from k on
 abbrev pub IsNeverFree : List (List Cell) → Cell → ℕ → Type 0

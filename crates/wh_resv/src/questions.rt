@@ -1,4 +1,4 @@
-//! What is asked of the others' stays. Each question goes over those at one place.
+//! What is asked of the others' stays. Each question scans those at one place.
 #![tactic(auto)]
 
 ghost use Rattle.std.specs.Prelude.{◌≡◌, ◌≢◌, ℕ, ◌+◌, ◌-◌, ◌<◌, ◌≤◌, ◌^◌, ◌↔◌, ◌⊎◌, IsTrue, IfSome, IfNone, List, length, remove, All};
@@ -8,9 +8,9 @@ ghost use Rattle.wh_timetable.specs.Timetables.{IsTold};
 ghost use Rattle.wh_resv.specs.Calls.{IsVacant, NoneExchanges};
 ghost use Rattle.wh_resv.specs.Looks.{IsOthers, IsDuring, Bars};
 ghost use Rattle.wh_resv.specs.Others.{StaysAway};
-ghost use Rattle.wh_resv.specs.Questions.{IsLastFree};
+ghost use Rattle.wh_resv.specs.Questions.{IsLastFree, IsTakenUntil, IsNeverFree};
 
-use crate::looks::{is_during, is_free, is_kept_from, is_others, last_end, next_start};
+use crate::looks::{end_at, is_during, is_free, is_kept_from, is_others, last_end, next_start};
 use wh_grid::Cell;
 use wh_path::TimedPath;
 use wh_timetable::{Stay, Stays};
@@ -32,8 +32,8 @@ fn bars(
     from: Cell,
     to: Cell,
     k: u64,
-    time: u64,
-    next: u64,
+    time: u32,
+    next: u32,
 ) -> bool
     requires time { k + 1 < 2 ^ 64 }
     requires within { IsOthers stay except to → IsDuring stay time → stay.agent < length paths.now }
@@ -96,10 +96,33 @@ pub fn free_until(
 {
     let _ = paths;
     let start = next_start(stays.list(cell), except, cell, stays.time(k));
-    if start == u64::MAX {
+    if start == u32::MAX {
         None
     } else {
-        Some((start - 1).saturating_sub(stays.clock()))
+        Some((start - 1).saturating_sub(stays.clock()) as u64)
+    }
+}
+
+/// Up to when one of the others is at a cell from time k on, as far as one stay tells: k where none is; none where for ever.
+pub fn taken_until(
+    stays: &Stays,
+    paths: &[TimedPath],
+    except: usize,
+    cell: Cell,
+    k: u64,
+) -> Option<u64>
+    requires { IsTold stays.now paths.now }
+    ensures some { IfSome result (λ f. IsTakenUntil (remove paths.now except) cell k f) }
+    ensures none { IfNone result (IsNeverFree (remove paths.now except) cell k) }
+{
+    let _ = paths;
+    let Some(over) = end_at(stays.list(cell), except, cell, stays.time(k)) else {
+        return Some(k);
+    };
+    if over < u32::MAX {
+        Some(over.saturating_sub(stays.clock()) as u64)
+    } else {
+        None
     }
 }
 
@@ -111,9 +134,9 @@ pub fn not_before(stays: &Stays, paths: &[TimedPath], except: usize, cell: Cell)
 {
     let _ = paths;
     let end = last_end(stays.list(cell), except, cell);
-    if end == u64::MAX {
+    if end == u32::MAX {
         None
     } else {
-        Some(end.saturating_sub(stays.clock()))
+        Some(end.saturating_sub(stays.clock()) as u64)
     }
 }

@@ -9,14 +9,13 @@ ghost use Rattle.wh_resv.specs.Calls.{IsVacant, NoneExchanges};
 ghost use Rattle.wh_resv.specs.Questions.{IsLastFree, IsNextFree, IsNeverFree};
 ghost use Rattle.wh_resv.specs.Telling.{noted_of};
 
-use crate::ends::greatest_end;
 use crate::questions::{free_until, is_kept, is_open, none_there, not_before};
 use crate::times::next_free;
 use crate::told::Told;
 use std::alloc::{AllocError, Global};
 use std::marker::Model;
 use wh_grid::Cell;
-use wh_path::TimedPath;
+use wh_path::{TimedPath, last_to_rest};
 use wh_timetable::{Stays, Timetable};
 
 /// The paths of all agents but one, and whether nobody may follow another. A question looks at the stays at one cell's
@@ -45,15 +44,6 @@ impl<'a> Model for Reservations<'a> {
         × (r.latest ≡ horizon (remove r.paths.now r.except)) × (r.latest < 2 ^ 61) };
 }
 
-/// The time from which all of the paths but one rest.
-fn latest_of(paths: &[TimedPath], except: usize) -> u64
-    requires { except < length paths.now }
-    ensures value { result ≡ horizon (remove paths.now except) }
-    ensures bound { result < 2 ^ 61 }
-{
-    greatest_end(&paths[..except]).max(greatest_end(&paths[except + 1..]))
-}
-
 impl<'a> Reservations<'a> {
     /// The paths of all agents but the one of this number. It notes each step of each path; `AllocError` where memory ran
     /// out, or a number of an agent has more than 32 bits.
@@ -73,11 +63,11 @@ impl<'a> Reservations<'a> {
             except,
             nofollow,
             told: Told::Own(stays),
-            latest: latest_of(paths, except),
+            latest: last_to_rest(paths, except),
         })
     }
 
-    /// The paths of all agents of a timetable but the one of this number, where it has stays to tell. It takes no memory,
+    /// The paths of all agents of a timetable but the one of this number, if it has stays to give. It takes no memory,
     /// and time by the number of agents alone.
     pub fn kept(all: &'a Timetable, except: usize, nofollow: bool) -> Option<Self>
         requires { except < length all.now }
@@ -90,12 +80,12 @@ impl<'a> Reservations<'a> {
             except,
             nofollow,
             told: Told::Kept(stays),
-            latest: latest_of(paths, except),
+            latest: last_to_rest(paths, except),
         })
     }
 
-    /// The paths of all agents of a timetable but the one of this number. Where it has no stays to tell, it is as with
-    /// `build`.
+    /// The paths of all agents of a timetable but the one of this number. If it has no stays to give, it does what `build`
+    /// does.
     pub fn beside(
         alloc: Global,
         all: &'a Timetable,
@@ -202,6 +192,7 @@ impl<'a> Reservations<'a> {
         ensures some { IfSome result (λ f. IsNextFree self.now.paths cell k f) }
         ensures none { IfNone result (IsNeverFree self.now.paths cell k) }
     {
-        next_free(self, cell, k)
+        let stays = self.told.stays();
+        next_free(stays, self.paths, self.except, cell, k, self.latest)
     }
 }

@@ -1,30 +1,46 @@
 //! When nobody is at a cell again.
 #![tactic(auto)]
 
-ghost use Rattle.std.specs.Prelude.{◌≡◌, ℕ, ◌+◌, ◌-◌, ◌<◌, ◌≤◌, ◌^◌, IfSome, IfNone};
-ghost use Rattle.wh_grid.specs.declared.cell.Cell.{Cell};
+ghost use Rattle.std.specs.Prelude.{◌≡◌, ℕ, ◌+◌, ◌-◌, ◌<◌, ◌≤◌, ◌^◌, IfSome, IfNone, remove};
+ghost use Rattle.wh_grid.specs.declared.cell.Cell.{Cell as Spot};
+ghost use Rattle.wh_path.specs.Paths.{horizon};
+ghost use Rattle.wh_timetable.specs.Timetables.{IsTold};
 ghost use Rattle.wh_resv.specs.Calls.{IsVacant};
 ghost use Rattle.wh_resv.specs.Questions.{IsNextFree, IsNeverFree};
 
-use crate::reservations::Reservations;
+use crate::questions::{none_there, taken_until};
 use wh_grid::Cell;
+use wh_path::TimedPath;
+use wh_timetable::Stays;
 
-/// The first time from k on at which nobody is at a cell; none where somebody always is. Who stays for ever is found at
-/// once, else each time is asked for, since mostly few pass.
-pub fn next_free(others: &Reservations, cell: Cell, k: u64) -> Option<u64>
-    ensures some { IfSome result (λ f. IsNextFree others.now.paths cell k f) }
-    ensures none { IfNone result (IsNeverFree others.now.paths cell k) }
+/// The first time from k on at which none of the others is at a cell; none where one always is. Of the times that a stay
+/// takes only the first is asked for, and none beyond the latest, from which on all rest.
+pub fn next_free(
+    stays: &Stays,
+    paths: &[TimedPath],
+    except: usize,
+    cell: Cell,
+    k: u64,
+    latest: u64,
+) -> Option<u64>
+    requires told { IsTold stays.now paths.now }
+    requires rest { horizon (remove paths.now except) ≤ latest }
+    ensures some { IfSome result (λ f. IsNextFree (remove paths.now except) cell k f) }
+    ensures none { IfNone result (IsNeverFree (remove paths.now except) cell k) }
 {
-    if others.vacant(cell, k) {
-        return Some(k);
-    }
-    if others.is_kept(cell, k) {
-        return None;
-    }
-    for time in k..others.horizon() {
-        if others.vacant(cell, time + 1) {
-            return Some(time + 1);
+    let mut time = k;
+    while time < latest {
+        let Some(next) = taken_until(stays, paths, except, cell, time) else {
+            return None;
+        };
+        if next == time {
+            return Some(time);
         }
+        time = next;
     }
-    None
+    if none_there(stays, paths, except, cell, time) {
+        Some(time)
+    } else {
+        None
+    }
 }

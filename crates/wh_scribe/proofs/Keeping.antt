@@ -277,7 +277,7 @@ module _ {X : Type 0} (contents synced : X → Option (List ℕ)) (book : Book) 
     safe = Appends-kept start (synced journal) (synced then) (lines_for (take safe known.past.history)) k.safe same;
   }
 
--- the first entries of a history that somebody knows are kept where so many are synced
+-- the first entries of a history that somebody knows are kept where that many are synced
 pub mark_kept : {X : Type 0} (synced : X → Option (List ℕ)) (book : Book) (start : Option (List ℕ)) (known other : Known) (many count : ℕ) → MarkKeeps synced book start known many
     → Extends known.past other.past ⊎ Extends other.past known.past → count ≤ many → KeepsFirst synced start other.past.history count
 mark_kept synced book start known other many count k meets le =

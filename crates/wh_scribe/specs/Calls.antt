@@ -19,7 +19,7 @@ pub record Receives {X : Type 0} (fits : X → Floor → Bool) (count : X → �
   pub known : IsPrefix had.known has.known
   pub takes : Takes fits count grid receipt.1.event spares left
 
--- What a call that tells no receipt leaves, where there are so many cells. Where the desk refused, the pass has what it had, but
+-- What a call that tells no receipt leaves, where there is a given number of cells. Where the desk refused, the pass has what it had, but
 -- for what the refusal tells; where the journal had failed, nothing has changed; where it failed at the entry, the pass has a
 -- receipt for it all the same.
 abbrev pub Leaves : {X : Type 0} → (X → Floor → Bool) → (X → ℕ) → Floor → ℕ → Command → Received → List X → CallFault → Received → List X → Type 0

@@ -18,25 +18,25 @@ pub record IsKept {X : Type 0} (synced : X → Option (List ℕ)) (start : Optio
   pub safe : Appends start (synced journal) (lines_for (take (position + 1) history ++ more))
 
 -- In some state of the journal what it had synced was what it held at the start, and then the lines of the first entries of this
--- history, so many, and maybe of more entries.
+-- history, up to some number, and maybe of more entries.
 pub record KeepsFirst {X : Type 0} (synced : X → Option (List ℕ)) (start : Option (List ℕ)) (history : List Entry) (count : ℕ) : Type 0 where
   pub journal : X
   pub more : List Entry
   pub safe : Appends start (synced journal) (lines_for (take count history ++ more))
 
--- the lines of the first entries of the history, so many, and then maybe a front of the lines of the next ones
+-- the lines of the first n entries of the history, and then maybe a front of the lines of the next ones
 pub record HoldsFront (start now : Option (List ℕ)) (history : List Entry) (written : ℕ) : Type 0 where
   pub whole : Option (List ℕ)
   pub lines : Appends start whole (lines_for (take written history))
   pub front : WritesFront whole now (lines_for (drop written history))
 
--- A journal that held this at the start holds this now: behind it the lines of the first entries of the history, so many; once
+-- A journal that held this at the start holds this now: behind it the lines of the first n entries of the history; once
 -- it has failed, a front of the lines of the next ones may follow.
 abbrev pub Holds : Bool → (start now : Option (List ℕ)) → List Entry → ℕ → Type 0
 Holds false start now history written = Appends start now (lines_for (take written history))
 Holds true start now history written = HoldsFront start now history written
 
--- The journal with what is known of the history: so many of its entries are written, and of these so many are synced.
+-- The journal with what is known of the history: this many of its entries are written, and this many of these are synced.
 pub record Standing (X : Type 0) : Type 0 where
   pub journal : X
   pub known : Known
@@ -45,7 +45,7 @@ pub record Standing (X : Type 0) : Type 0 where
   pub failed : Bool
 
 -- No more is written than the history of this book has, and no more is synced than is written. What is written stands behind
--- what the journal held at the start, and so does what is synced, of what outlives a kill.
+-- what the journal held at the start, and so does what is synced, of what survives a kill.
 pub record PageKeeps {X : Type 0} (contents synced : X → Option (List ℕ)) (book : Book) (start : Option (List ℕ)) (page : Standing X) : Type 0 where
   pub book_is : page.known.book ≡ book
   pub within : page.written ≤ length page.known.past.history
@@ -56,7 +56,7 @@ pub record PageKeeps {X : Type 0} (contents synced : X → Option (List ℕ)) (b
 abbrev pub standing : {X : Type 0} → X → Known → ℕ → ℕ → Bool → Standing X
 standing journal known written synced failed = record { journal = journal; known = known; written = written; synced = synced; failed = failed }
 
--- What is kept: of what is known of the history the first entries, so many; whether the journal has failed, and whether somebody
+-- What is kept: how many of the first entries of what is known of the history; whether the journal has failed, and whether somebody
 -- is at it.
 pub record Marked : Type 0 where
   pub known : Known
@@ -64,7 +64,7 @@ pub record Marked : Type 0 where
   pub failed : Bool
   pub is_busy : Bool
 
--- The first entries of this book's history, so many, are known, and were synced in some state of the journal.
+-- The first n entries of this book's history are known, and were synced in some state of the journal.
 pub record MarkKeeps {X : Type 0} (synced : X → Option (List ℕ)) (book : Book) (start : Option (List ℕ)) (known : Known) (count : ℕ) : Type 0 where
   pub book_is : known.book ≡ book
   pub within : count ≤ length known.past.history
@@ -73,8 +73,8 @@ pub record MarkKeeps {X : Type 0} (synced : X → Option (List ℕ)) (book : Boo
 abbrev pub marked : Known → ℕ → Bool → Bool → Marked
 marked known synced failed is_busy = record { known = known; synced = synced; failed = failed; is_busy = is_busy }
 
--- The lines that wait: what is known of the history, so many of whose entries are entered, and of these the lines of so many
--- were taken.
+-- The lines that wait: what is known of the history, how many of its entries are entered, and the lines of how many
+-- of these were taken.
 pub record Stretch : Type 0 where
   pub known : Known
   pub taken : ℕ

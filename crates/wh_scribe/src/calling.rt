@@ -20,7 +20,7 @@ pub enum CallFault {
     /// The journal had failed before: no call was made.
     Failed,
     /// The entry stands in the history, and not for certain in the journal, which failed at it, or before it was synced, or
-    /// memory was wanting for its line. It is told to nobody.
+    /// memory ran out for its line. It is told to nobody.
     Unkept,
 }
 

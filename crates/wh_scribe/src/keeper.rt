@@ -1,4 +1,4 @@
-//! What lies under the lock under which the journal is written and synced.
+//! What is under the lock for writing and syncing the journal.
 #![tactic(auto)]
 
 ghost use Rattle.std.specs.Prelude.{◌≡◌, ◌⊎◌, true, length};
@@ -21,7 +21,7 @@ pub(crate) struct Keeper<N: DeskName, S: JournalName, J: Journal + Drop> {
 }
 
 impl<N: DeskName, S: JournalName, J: Journal + Drop> Keeper<N, S, J> {
-    /// Over the journal as it stands, with the lines of so many entries, all that are known.
+    /// Over the journal as it stands, with the lines of all entries that are known.
     pub(crate) fn new(alloc: Global, journal: J, front: &Front, written: u64) -> Keeper<N, S, J>
         requires book { front.now.book ≡ N.book }
         requires written { written ≡ length front.now.past.history }

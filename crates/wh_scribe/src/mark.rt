@@ -9,7 +9,7 @@ use std::marker::{Model, PhantomData};
 use wh_desk::{DeskName, Front};
 use wh_journal::Journal;
 
-/// What is kept by now: of a history of the desk's book the first entries, so many, are synced; whether the journal has failed; and
+/// What is kept by now: how many of the first entries of a history of the desk's book are synced; whether the journal has failed; and
 /// whether somebody is at it. Whoever finds nobody there may go, and says so here; it comes back with another mark, in whose
 /// place nobody is. Contracts see it as a record of these.
 #[derive(Drop)]
@@ -32,7 +32,7 @@ impl<N: DeskName, S: JournalName, J: Journal + Drop> Model for Mark<N, S, J> {
 }
 
 impl<N: DeskName, S: JournalName, J: Journal + Drop> Mark<N, S, J> {
-    /// Of a history of the desk's book the first entries, so many, are synced. Nobody is at the journal.
+    /// The given number of first entries of a history of the desk's book are synced. Nobody is at the journal.
     pub(crate) fn new(front: &Front, synced: u64, failed: bool) -> Mark<N, S, J>
         requires { MarkKeeps (λ x. J.synced x) N.book S.start front.now synced }
         ensures known { result.known ≡ front.now }
@@ -49,7 +49,7 @@ impl<N: DeskName, S: JournalName, J: Journal + Drop> Mark<N, S, J> {
         }
     }
 
-    /// Whether the first entries, so many, are not all synced, and may still come to be.
+    /// Whether the given number of first entries are not all synced, and may still come to be.
     pub(crate) fn lacks(&self, count: u64) -> bool
         ensures { result ≡ true → self.now.failed ≡ false }
     {
@@ -70,7 +70,7 @@ impl<N: DeskName, S: JournalName, J: Journal + Drop> Mark<N, S, J> {
         self.is_busy = true;
     }
 
-    /// Whether the first entries of a history that somebody knows, so many, are synced.
+    /// Whether the given number of first entries of a history that somebody knows are synced.
     pub(crate) fn has_kept(&self, known: &Front, count: u64) -> bool
         requires { known.now.book ≡ N.book }
         ensures { result ≡ true → KeepsFirst (λ x. J.synced x) S.start known.now.past.history count }

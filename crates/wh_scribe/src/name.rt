@@ -3,8 +3,8 @@
 
 use std::marker::Brand;
 
-/// Which journal it is: what it told that it held at its start. It has no calls: whoever puts a journal behind a desk picks the
-/// name, with `Brand`, and what uses it is generic over it.
+/// Which journal it is: what it told that it held at its start. It has no calls: the code that puts a journal behind a desk
+/// picks the name, with `Brand`, and code that uses it is generic over it.
 pub trait JournalName {
     ghost use Rattle.std.specs.Prelude.{ℕ, List, Option};
 

@@ -1,4 +1,4 @@
-//! What lies under the lock under which calls are made.
+//! What is under the lock for calls.
 #![tactic(auto)]
 
 ghost use Rattle.std.specs.Prelude.{◌≡◌, ◌≢◌, ◌+◌, ◌<◌, ◌^◌, true, false, Err, IfOk, IfErr, Some, length, slice_get};
@@ -24,7 +24,7 @@ pub(crate) struct Order<N: DeskName> {
 }
 
 impl<N: DeskName> Order<N> {
-    /// No line waits. So many entries are known.
+    /// No line waits. This many entries are known.
     pub(crate) fn new(alloc: Global, front: &Front, entered: u64) -> Order<N>
         requires book { front.now.book ≡ N.book }
         requires entered { entered ≡ length front.now.past.history }

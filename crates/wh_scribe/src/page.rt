@@ -35,7 +35,7 @@ impl<N: DeskName, S: JournalName, J: Journal + Drop> Model for Page<N, S, J> {
 }
 
 impl<N: DeskName, S: JournalName, J: Journal + Drop> Page<N, S, J> {
-    /// A page over the journal as it stands, with the lines of so many entries, all that are known.
+    /// A page over the journal as it stands, with the lines of all entries that are known.
     pub(crate) fn new(journal: J, front: &Front, written: u64) -> Page<N, S, J>
         requires book { front.now.book ≡ N.book }
         requires written { written ≡ length front.now.past.history }

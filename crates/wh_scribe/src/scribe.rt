@@ -37,7 +37,7 @@ pub struct Scribe<N: DeskName, S: JournalName, J: Journal + Drop> {
 
 /// What a scribe leaves: the journal, what was known of the history when lines were last appended, how many of its first
 /// entries were written, how many of these were synced, and whether the journal failed, an entry came that was not the next, or
-/// memory was wanting for an entry's line.
+/// memory ran out for an entry's line.
 #[derive(Drop)]
 pub struct Kept<J: Journal + Drop> {
     pub journal: J,
@@ -49,7 +49,7 @@ pub struct Kept<J: Journal + Drop> {
 
 impl<N: DeskName, S: JournalName, J: Journal + Drop> Scribe<N, S, J> {
     /// Over the journal as it stands, before the first call of a desk. The front is of the desk's book, and knows of the entries
-    /// that are there already, so many, whose lines the journal has behind what it held at its start, all of it synced.
+    /// that are there already, whose lines the journal has after what it held at its start, all of it synced.
     pub fn new(alloc: Global, journal: J, front: &Front, written: u64) -> Scribe<N, S, J>
         requires book { front.now.book ≡ N.book }
         requires written { written ≡ length front.now.past.history }
@@ -99,7 +99,7 @@ impl<N: DeskName, S: JournalName, J: Journal + Drop> Scribe<N, S, J> {
         }
     }
 
-    /// Whether the first entries of a history of the desk, so many, are synced. Those that are entered, and not yet synced, it
+    /// Whether the given number of first entries of a history of the desk are synced. Those that are entered, and not yet synced, it
     /// appends and syncs first, or waits while somebody else does. It may wait for calls, and for the sync.
     pub fn keeps<X: Wait>(&self, rt: &X, known: &Front, count: u64) -> bool
         requires { known.now.book ≡ N.book }

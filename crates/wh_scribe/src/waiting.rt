@@ -37,7 +37,7 @@ impl<N: DeskName> Model for Waiting<N> {
 }
 
 impl<N: DeskName> Waiting<N> {
-    /// No line waits. So many entries are known, and were taken.
+    /// No line waits. This many entries are known, and were taken.
     pub(crate) fn new(alloc: Global, front: &Front, entered: u64) -> Waiting<N>
         requires book { front.now.book ≡ N.book }
         requires entered { entered ≡ length front.now.past.history }

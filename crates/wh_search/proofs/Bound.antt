@@ -9,7 +9,8 @@ use Rattle.wh_grid.specs.Grids.{Floor, IsPassable, passable_cells}
 use Rattle.wh_resv.specs.Others.{Others}
 use Rattle.wh_path.specs.Paths.{horizon}
 use Rattle.wh_search.specs.Steps.{AddsNone, marked_count}
-use Rattle.wh_search.proofs.Cells.{same_cell, count-subset, count-more, marked_count-is, past_end}
+use Rattle.wh_grid.proofs.Cells.{same_cell}
+use Rattle.wh_search.proofs.Cells.{count-subset, count-more, marked_count-is, past_end}
 use Rattle.wh_search.specs.Tours.{longest_tour}
 use Rattle.wh_search.specs.States.{State, Steps, IsEnd, Reaches}
 use Rattle.wh_search.proofs.BestFirst.{IsSpace}

@@ -1,14 +1,10 @@
 -- lists of marks: growing one, reading one at a cell, counting
-use Rattle.std.proofs.Common.{◌≡◌, ◌≢◌, ℕ, ◌+◌, ◌-◌, ◌<◌, ◌≤◌, ◌⊎◌, inl, inr, ◌∙◌, List, [], ◌∷◌, length, get_or, count_by, Bool, true, false, refl, sym, ap, suc, zero, min, lit<, Contains, arith}
-use Rattle.std.proofs.lemmas.Bool.{cases_eq}
+use Rattle.std.proofs.Common.{◌≡◌, ℕ, ◌+◌, ◌-◌, ◌<◌, ◌≤◌, inl, inr, List, [], ◌∷◌, length, get_or, count_by, Bool, true, false, refl, sym, suc, zero, min, lit<, Contains, arith}
 use Rattle.std.proofs.lemmas.List.Recursion.{is_count_by}
 use Rattle.wh_grid.specs.declared.cell.Cell.{Cell}
 use Rattle.wh_grid.specs.Grids.{IsMove}
+use Rattle.wh_grid.proofs.Cells.{same_cell}
 use Rattle.wh_search.specs.Steps.{AddsNone, marked_count}
-
--- cells with the same coordinates are one
-pub same_cell : (c d : Cell) → c.x ≡ d.x → c.y ≡ d.y → c ≡ d
-same_cell c d e f = ap (λ n. record { x = n; y = c.y }) e ∙ ap (λ n. record { x = d.x; y = n }) f
 
 -- past the end nothing is marked
 pub past_end : (xs : List Bool) (i : ℕ) → length xs ≤ i → get_or xs i false ≡ true → ⊥
@@ -56,13 +52,3 @@ moves_complete to r a b c d ea eb ec ed hx hy (inr (inr (e, inr f))) = (4, lit< 
 -- counted by std's word
 pub marked_count-is : (xs : List Bool) → marked_count xs ≡ count_by (λ b. b) xs
 marked_count-is xs = is_count_by marked_count (λ b. b) refl (λ x ys. refl) xs
-
-pub same_or_not : (c d : Cell) → (c ≡ d) ⊎ (c ≢ d)
-same_or_not c d =
-    elim (cases_eq c.x d.x) [
-      | inr n ↦ inr (λ e. n (ap (λ (z : Cell). z.x) e))
-      | inl p ↦ elim (cases_eq c.y d.y) [
-        | inl q ↦ inl (same_cell c d p q)
-        | inr n ↦ inr (λ e. n (ap (λ (z : Cell). z.y) e))
-      ]
-    ]

@@ -8,8 +8,6 @@ pub mod Paths
 pub mod Kept
 pub mod Expands
 pub mod Searches
-pub mod Layered
-pub mod Trails
 pub mod Ways
 pub mod Stops
 pub mod Parks

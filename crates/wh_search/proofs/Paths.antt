@@ -7,7 +7,7 @@ use Rattle.wh_resv.specs.Others.{Others, IsClearStep, StaysAway}
 use Rattle.wh_path.specs.Paths.{at, last_index, IsFree, cell_at}
 use Rattle.wh_path.proofs.AtLemmas.{at-within, at-rests, origin}
 use Rattle.wh_search.specs.Steps.{Go}
-use Rattle.wh_search.proofs.Cells.{same_or_not}
+use Rattle.wh_grid.proofs.Pigeons.{cell_cases}
 use Rattle.wh_search.specs.Tours.{IsTour}
 use Rattle.wh_search.specs.States.{State, Arrives, IsEnd, Leads}
 
@@ -102,7 +102,7 @@ run_free nofollow q p n c l e steps rest =
         | inl b ↦ (steps k b).no_swap (sym m.1) (sym m.0)
         | inr b ↦ rest.away (k + 1) (omega arith) (sym m.0 ∙ stays k b)
       ];
-      no_follow = λ r k m. elim (same_or_not (at p k) (at p (k + 1))) [
+      no_follow = λ r k m. elim (cell_cases (at p k) (at p (k + 1))) [
         | inl s ↦ elim m [ inl f ↦ apart k (s ∙ f) | inr f ↦ apart (k + 1) (sym s ∙ sym f) ]
         | inr ne ↦ elim (cases_lt k n) [
           | inl b ↦ (let h = (steps k b).no_follow r ne in elim m [ inl f ↦ h.0 (sym f) | inr f ↦ h.1 f ])

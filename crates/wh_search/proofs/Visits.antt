@@ -6,7 +6,7 @@ use Rattle.wh_grid.specs.Grids.{Floor}
 use Rattle.wh_resv.specs.Others.{Others}
 use Rattle.wh_path.specs.Paths.{at, end, last_index, VisitsInOrder, cell_at}
 use Rattle.wh_path.proofs.AtLemmas.{at-beyond, at-rests}
-use Rattle.wh_search.proofs.Cells.{same_or_not}
+use Rattle.wh_grid.proofs.Pigeons.{cell_cases}
 use Rattle.wh_search.specs.Tours.{IsTour}
 use Rattle.wh_search.specs.States.{State, Arrives, Steps, IsEnd, Reaches}
 use Rattle.wh_search.proofs.Reach.{tour_go, arrival}
@@ -45,7 +45,7 @@ progress g others loc via ends first p a d v zero =
 progress g others loc via ends first p a d v (suc k) =
     let before = progress g others loc via ends first p a d v k in
     let few = before.few in
-    let m = arrival via (at p (suc k)) (λ i. same_or_not (cell_at via i) (at p (suc k))) before.leg (length via - before.leg) (omega arith) in
+    let m = arrival via (at p (suc k)) (λ i. cell_cases (cell_at via i) (at p (suc k))) before.leg (length via - before.leg) (omega arith) in
     let seen : VisitedBy via v.when (suc k) before.leg = λ j b s. before.visited j b (omega arith) in
     record {
       leg = m.0;

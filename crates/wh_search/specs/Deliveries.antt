@@ -1,4 +1,4 @@
--- what a path that delivers is, and a least one
+-- what a path that delivers is, and a shortest one
 use Rattle.std.specs.Prelude.{Result, Ok, Err, ⊤, ◌≡◌, ℕ, ◌+◌, ◌-◌, ◌*◌, ◌≤◌, List, length, All}
 use Rattle.wh_grid.specs.declared.cell.Cell.{Cell}
 use Rattle.wh_grid.specs.Grids.{Floor, passable_cells}
@@ -24,7 +24,7 @@ pub record IsLawful (g : Floor) (others : Others) (loc : Cell) (stops : List Cel
   pub is_delivery : IsDelivery g others loc stops p
   pub bounded : last_index p ≤ longest g others stops
 
--- a lawful path, of which no delivery is shorter
+-- a lawful path such that no delivery is shorter
 pub record IsLeast (g : Floor) (others : Others) (loc : Cell) (stops : List Cell) (p : List Cell) : Type 0 where
   pub lawful : IsLawful g others loc stops p
   pub least : (q : List Cell) → IsDelivery g others loc stops q → last_index p ≤ last_index q
@@ -33,7 +33,7 @@ pub record IsLeast (g : Floor) (others : Others) (loc : Cell) (stops : List Cell
 abbrev pub AreStops : List Cell → Type 0
 AreStops stops = (2 ≤ length stops) × (length stops ≤ 8)
 
--- a fact for the answer that there is no path
+-- the fact for the result that there is no path
 abbrev pub IfNoPath : {T : Type 0} → Result T Fault → Type 0 → Type 0
 IfNoPath (Ok p) P = ⊤
 IfNoPath (Err NoPath) P = P

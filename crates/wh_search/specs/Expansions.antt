@@ -1,14 +1,8 @@
 -- which states a best-first search expands: makes the successors of
-use Rattle.std.specs.Prelude.{◌≡◌, ◌≢◌, ℕ, ◌+◌, ◌-◌, ◌<◌, ◌≤◌, ◌⊎◌, List, Option, length, take, Contains, true}
-use Rattle.std.specs.List.{AllPairs}
-use Rattle.std.specs.Borrow.{Bor}
+use Rattle.std.specs.Prelude.{◌≡◌, ℕ, ◌-◌, List, true}
 use Rattle.wh_grid.specs.declared.cell.Cell.{Cell}
 use Rattle.wh_grid.specs.Grids.{Floor}
-use Rattle.wh_field.specs.Fields.{Source}
-use Rattle.wh_path.specs.Paths.{horizon, cell_at, last_index}
 use Rattle.wh_resv.specs.Others.{Others, MayRest}
-use Rattle.wh_search.specs.Deliveries.{IsLeast}
-use Rattle.wh_search.specs.Guides.{stops_estimate, IsOnward}
 use Rattle.wh_search.specs.States.{State, Arrives, Steps, Reaches}
 
 -- an agent that is at loc at 0, and has the stops behind it that it is at, may be in the state s at k

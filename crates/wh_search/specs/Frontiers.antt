@@ -1,5 +1,5 @@
--- what a search keeps: the states that it met, and how far each is expanded
-use Rattle.std.specs.Prelude.{◌≡◌, ℕ, ◌+◌, ◌<◌, ◌≤◌, ◌^◌, ◌⊎◌, Option, Some, None, IsTrue, List, [], ◌∷◌, ◌++◌, length, max, slice_index_or, Contains}
+-- what is searched for, and what a search keeps: the states that it met
+use Rattle.std.specs.Prelude.{◌≡◌, ℕ, ◌<◌, ◌≤◌, ◌^◌, ◌⊎◌, IsTrue, List, ◌∷◌, length, slice_index_or, Contains}
 use Rattle.wh_grid.specs.declared.cell.Cell.{Cell}
 use Rattle.wh_grid.specs.Grids.{Floor, IsPassable}
 use Rattle.wh_resv.specs.Others.{Others, MayRest}
@@ -7,7 +7,7 @@ use Rattle.wh_path.specs.Paths.{horizon, last_index}
 use Rattle.wh_search.specs.declared.errand.Errand.{Errand}
 use Rattle.wh_search.specs.declared.noted.Node.{Node}
 use Rattle.wh_search.specs.Guides.{guide_estimate}
-use Rattle.wh_search.specs.States.{State, Arrives, Steps, IsEnd, IsEstimate, Leads, Reaches}
+use Rattle.wh_search.specs.States.{State, Arrives, IsEnd, IsEstimate, Leads}
 use Rattle.wh_search.specs.Tours.{longest_tour, IsTour}
 
 -- what is searched for
@@ -44,38 +44,12 @@ state_of n = record { leg = n.leg; cell = n.cell }
 abbrev pub node_at : List Node → ℕ → Node
 node_at nodes i = slice_index_or nodes i (record { time = 0; leg = 0; cell = record { x = 0; y = 0 }; parent = 0 })
 
--- time and estimate
-abbrev pub total_of : Problem → ℕ → State → ℕ
-total_of p k s = k + p.estimate s.leg s.cell
-
-abbrev pub total_at : Problem → Node → ℕ
-total_at p n = total_of p n.time (state_of n)
-
 -- a state at time k was met, at k or from the horizon on before it
 pub record HasState (p : Problem) (nodes : List Node) (k : ℕ) (t : State) : Type 0 where
   pub index : ℕ
   pub within : index < length nodes
   pub state_is : state_of (node_at nodes index) ≡ t
   pub alike : ((node_at nodes index).time ≡ k) ⊎ ((p.horizon ≤ (node_at nodes index).time) × ((node_at nodes index).time ≤ k))
-
--- the node is one step after its parent
-pub record IsChild (p : Problem) (nodes : List Node) (i : ℕ) (n : Node) : Type 0 where
-  pub earlier : n.parent < i
-  pub later : n.time ≡ (node_at nodes n.parent).time + 1
-  pub steps : Steps p.grid p.others p.via (node_at nodes n.parent).time (state_of (node_at nodes n.parent)) (state_of n)
-
--- the node, at place i, is the start or comes from an earlier one
-pub record IsReached (p : Problem) (nodes : List Node) (i : ℕ) (n : Node) : Type 0 where
-  pub in_time : n.time ≤ p.limit
-  pub few : n.leg ≤ length p.via
-  pub inside : IsPassable p.grid n.cell
-  pub comes : ((n.time ≡ 0) × (state_of n ≡ p.start)) ⊎ IsChild p nodes i n
-
--- each state to which this one leads, of less than the bound by time and estimate, was met, unless it is too late;
--- and where the bound is beyond its own, it is no end
-pub record IsExpanded (p : Problem) (nodes : List Node) (k : ℕ) (s : State) (bound : ℕ) : Type 0 where
-  pub onward : (t : State) → Steps p.grid p.others p.via k s t → total_of p (k + 1) t < bound → total_of p (k + 1) t ≤ p.limit → HasState p nodes (k + 1) t
-  pub no_end : total_of p k s < bound → IsEnd p.others p.via p.ends k s → ⊥
 
 -- a path from the start to a node, by its first cell and those to which that leads
 pub record IsTrace (p : Problem) (path : List Cell) (n : Node) : Type 0 where

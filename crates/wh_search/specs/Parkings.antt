@@ -1,4 +1,4 @@
--- what a path that parks is, and a least one
+-- what a path that parks is, and a shortest one
 use Rattle.std.specs.Prelude.{◌≡◌, ◌+◌, ◌*◌, ◌≤◌, List, All, Contains}
 use Rattle.wh_grid.specs.declared.cell.Cell.{Cell}
 use Rattle.wh_grid.specs.Grids.{Floor, passable_cells}
@@ -12,7 +12,7 @@ pub record IsParking (g : Floor) (others : Others) (loc : Cell) (allowed : List 
   pub free : All (λ q. IsFree others.nofollow p q) others.paths
   pub parks : Contains allowed (end p)
 
--- one within the bound, of which none is shorter
+-- a shortest one within the bound
 pub record IsLeastParking (g : Floor) (others : Others) (loc : Cell) (allowed : List Cell) (p : List Cell) : Type 0 where
   pub is_parking : IsParking g others loc allowed p
   pub bounded : last_index p ≤ horizon others.paths + 2 * passable_cells g

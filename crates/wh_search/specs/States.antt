@@ -30,8 +30,8 @@ pub record IsEnd (others : Others) (via : List Cell) (ends : List Cell) (k : ℕ
   pub delivered : Contains ends s.cell
   pub rests : MayRest others s.cell k
 
--- an estimate of the steps left: 0 at the ends, falling by at most 1 in a step, and not greater at a stop for who has yet to visit it.
--- Of cells that are not passable nothing is asked
+-- an estimate of the steps left: 0 at the ends, falling by at most 1 in a step, and not greater at a stop for an agent that has yet to visit it.
+-- Nothing is required of cells that are not passable
 pub record IsEstimate (g : Floor) (via : List Cell) (ends : List Cell) (estimate : ℕ → Cell → ℕ) : Type 0 where
   pub at_end : (c : Cell) → Contains ends c → IsPassable g c → estimate (length via) c ≡ 0
   pub falls : (l : ℕ) (r c : Cell) → l ≤ length via → IsPassable g r → IsPassable g c → IsMove r c → estimate l r ≤ estimate l c + 1

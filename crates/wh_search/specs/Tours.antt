@@ -17,7 +17,7 @@ pub record IsTour (g : Floor) (others : Others) (loc : Cell) (via : List Cell) (
 abbrev pub longest_tour : Floor → Others → List Cell → ℕ
 longest_tour g others via = horizon others.paths + (length via + 1) * passable_cells g
 
--- a tour within the bound, of which no tour is shorter
+-- a shortest tour within the bound
 pub record IsLeastTour (g : Floor) (others : Others) (loc : Cell) (via : List Cell) (ends : List Cell) (p : List Cell) : Type 0 where
   pub is_tour : IsTour g others loc via ends p
   pub bounded : last_index p ≤ longest_tour g others via

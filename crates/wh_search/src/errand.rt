@@ -17,7 +17,7 @@ use crate::noted::holds;
 use wh_grid::{Cell, Grid};
 use wh_resv::Reservations;
 
-/// What an agent is to do: from where, through which stops in order, and to which ends; how
+/// What an agent must do: from where, through which stops in order, and to which ends; how
 /// many stops it has behind it at once, the time from which all others rest, the last time that
 /// is looked at, and a time before which nobody may rest at an end; whether one may rest at each end
 /// from that time on; and a time before which no tour ends.
@@ -48,7 +48,7 @@ impl<'a> Errand<'a> {
         self.grid.passable(to) && self.others.may_enter(from, to, k)
     }
 
-    /// Whether a passable cell is one of the ends. There may be many, and they are gone through only
+    /// Whether a passable cell is one of the ends. There may be many, and they are searched only
     /// where the estimate is 0, as it is at each of them.
     pub fn ends_at(&self, cell: Cell) -> bool
         requires errand { IsErrand self.now }
@@ -73,7 +73,7 @@ impl<'a> Errand<'a> {
         self.others.may_rest(end, k)
     }
 
-    /// Whether an agent at a passable cell with so many stops behind it at k is at an end.
+    /// Whether an agent at a passable cell with the given number of stops behind it at k is at an end.
     pub fn ends(&self, leg: usize, cell: Cell, k: u64) -> bool
         requires errand { IsErrand self.now }
         requires inside { IsPassable self.now.grid.now cell }
@@ -82,7 +82,7 @@ impl<'a> Errand<'a> {
         leg == self.via.len() && self.ends_at(cell) && self.rests(cell, k)
     }
 
-    /// The estimate for an agent at a cell with so many stops behind it, where that for another
+    /// The estimate for an agent at a cell with the given number of stops behind it, where that for another
     /// number of stops is known.
     pub fn estimate_by(&self, known: u64, behind: usize, leg: usize, cell: Cell) -> u64
         requires { known ≡ guide_estimate self.now.guide behind cell }
@@ -120,7 +120,7 @@ pub fn first_end(others: &Reservations, cell: Cell, soonest: u64) -> u64
     }
 }
 
-/// How many stops an agent has behind it when it comes to a cell with so many behind it.
+/// How many stops an agent has behind it when it comes to a cell with the given number behind it.
 #[inline(never)]
 pub fn arrive(via: &[Cell], leg: usize, cell: Cell) -> usize
     requires { leg ≤ length via.now }
@@ -134,7 +134,7 @@ pub fn arrive(via: &[Cell], leg: usize, cell: Cell) -> usize
     via.len()
 }
 
-/// The next stop of an agent that has so many stops behind it; any cell where there is none.
+/// The next stop of an agent that has the given number of stops behind it; any cell where there is none.
 pub fn next_stop(via: &[Cell], leg: usize) -> Cell
     ensures { leg < length via.now → result ≡ cell_at via.now leg }
 {

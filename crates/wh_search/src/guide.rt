@@ -193,7 +193,7 @@ fn by_field_around(field: Option<&Field>, further: u64, cell: Cell) -> [u64; 5]
 }
 
 impl<'a> Guide<'a> {
-    /// The estimates for an agent at a cell and at those beside it, with so many stops behind it.
+    /// The estimates for an agent at a cell and at those beside it, with the given number of stops behind it.
     pub fn around(&self, leg: usize, cell: Cell) -> [u64; 5]
         ensures { result ≡ map (guide_estimate self.now leg) (around cell) }
     {
@@ -216,7 +216,7 @@ impl<'a> Guide<'a> {
         }
     }
 
-    /// The estimated number of steps left for an agent at a cell with so many stops behind it.
+    /// The estimated number of steps left for an agent at a cell with the given number of stops behind it.
     pub fn estimate(&self, leg: usize, cell: Cell) -> u64
         ensures { result ≡ guide_estimate self.now leg cell }
     {

@@ -14,7 +14,7 @@ use wh_grid::Cell;
 /// The greatest number that a node holds. Where there would be a greater one, memory has run out.
 pub const MOST: u64 = 4294967295;
 
-/// An agent that is at a cell at some time with so many stops behind it, and the number of the
+/// An agent that is at a cell at some time with a number of stops behind it, and the number of the
 /// node from which it came.
 #[derive(Clone, Copy)]
 pub struct Node {

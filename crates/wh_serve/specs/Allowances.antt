@@ -15,7 +15,7 @@ allows rights command.Tick = rights.tick
 allows rights (command.Replace agent) = rights.replace
 allows rights command.Close = rights.close
 
--- A command of a client with so many entries may be called: it has the right to it, and may have an entry more.
+-- A command of a client with a given number of entries may be called: it has the right to it, and may have an entry more.
 abbrev pub MayCall : Allowance → ℕ → Command → Type 0
 MayCall may held asked = (allows may.rights asked ≡ true) × (held < may.entries)
 

@@ -7,12 +7,12 @@ pub record IsDue {C : Type 0} (clients : List C) (passes : List Received) (i : �
   pub had_is : slice_get passes i ≡ Some had
   pub client_is : slice_get clients i ≡ Some client
 
--- the client at place i was served over so many connections
+-- the client at place i was served over this many connections
 abbrev pub ReportAt : {C : Type 0} → (C → Received → Received → ℕ → Type 0) → List C → List Received → ℕ → Received → ℕ → Type 0
 ReportAt {C} serves clients passes i has connections =
     (client : C) (had : Received) → slice_get clients i ≡ Some client → slice_get passes i ≡ Some had → serves client had has connections
 
--- Each client was served with the pass at its place, over so many connections as stand at its place, and its pass was left as it
+-- Each client was served with the pass at its place, over as many connections as stand at its place, and its pass was left as it
 -- stands there in the second list of passes.
 abbrev pub AllReported : {C : Type 0} → (C → Received → Received → ℕ → Type 0) → List C → List Received → List Received → List ℕ → Type 0
 AllReported {C} serves clients passes left connections =

@@ -51,14 +51,14 @@ replies_to text [] outcomes = []
 replies_to text (line ∷ lines) outcomes =
     answers text (command_of line) outcomes ++ replies_to text lines (drop (length (asked (command_of line))) outcomes)
 
--- What came of a command of a client with so many entries. A receipt answers the command, and takes the spare that its event
+-- What came of a command of a client with a given number of entries. A receipt answers the command, and takes the spare that its event
 -- tells; without one no spare is taken, and it is told why.
 abbrev pub Moves : {X : Type 0} → Allowance → (X → Floor → Bool) → (X → ℕ) → Floor → ℕ → Command → Outcome → List X → List X → Type 0
 Moves may fits count grid held command (Ok receipt) spares left =
     MayCall may held command × (work.command_of receipt.1.event ≡ command) × Takes fits count grid receipt.1.event spares left
 Moves may fits count grid held command (Err without) spares left = IsWhyNone may held command without × (left ≡ spares)
 
--- the commands of a client with so many entries, one after another, each with its outcome
+-- the commands of a client with a given number of entries, one after another, each with its outcome
 abbrev pub Made : {X : Type 0} → Allowance → (X → Floor → Bool) → (X → ℕ) → Floor → ℕ → List Command → List Outcome → List X → List X → Type 0
 Made may fits count grid held [] [] spares rest = rest ≡ spares
 Made {X} may fits count grid held (command ∷ commands) (outcome ∷ outcomes) spares rest =
@@ -74,8 +74,8 @@ HasFull (outcome ∷ outcomes) = (outcome ≡ Err (without.Refused fault.Full)) 
 
 -- The commands had these outcomes, one after another, by calls of the desk where the client may make them, and these tell the
 -- replies. What the pass gained are the receipts, in order, and nothing else. What it knows of goes on, and where a call was
--- refused since the journal is full, it knows of a history with an entry for each of so many cells. Fits and count say what a
--- planner answers.
+-- refused since the journal is full, it knows of a history with an entry for each cell. Fits and count say what a planner
+-- returns.
 pub record Gives {X : Type 0} (may : Allowance) (cells : ℕ) (fits : X → Floor → Bool) (count : X → ℕ) (grid : Floor) (commands : List Command) (told : List Outcome → List (List ℕ))
     (old : Received) (spares : List X) (new : Received) (rest : List X) (replies : List (List ℕ)) : Type 0 where
   pub outcomes : List Outcome

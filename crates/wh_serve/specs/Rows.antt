@@ -67,14 +67,14 @@ Row may cells fits count grid text remaining contents had spares (visit ∷ visi
     Session may cells fits count grid text remaining contents visit.reader visit.writer visit.outcome visit.left had spares visit.has visit.rest
     × Row may cells fits count grid text remaining contents visit.has visit.rest visits has rest
 
--- so many connections, one after another
+-- a number of connections, one after another
 pub record Visits {R W X : Type 0} (may : Allowance) (cells : ℕ) (fits : X → Floor → Bool) (count : X → ℕ) (grid : Floor) (text : ℕ × Entry → List ℕ) (remaining : R → Option (List ℕ)) (contents : W → Option (List ℕ))
     (had : Received) (spares : List X) (has : Received) (rest : List X) (connections : ℕ) : Type 0 where
   pub visits : List (Visit R W X)
   pub count_is : connections ≡ length visits
   pub row : Row may cells fits count grid text remaining contents had spares visits has rest
 
--- A client was served over so many connections, with a pass that had one list and has another.
+-- A client was served over this many connections, with a pass that had one list and has another.
 pub record Attended {R W X : Type 0} (cells : ℕ) (fits : X → Floor → Bool) (count : X → ℕ) (grid : Floor) (text : ℕ × Entry → List ℕ) (remaining : R → Option (List ℕ)) (contents : W → Option (List ℕ))
     (client : Client X) (had has : Received) (connections : ℕ) : Type 0 where
   pub rest : List X

@@ -1,8 +1,8 @@
 -- what a client is served, and what a beginning of it is
 use Rattle.std.specs.Prelude.{◌≡◌, ◌≤◌, ◌<◌, ◌⊎◌, ℕ, Bool, List, [], ◌∷◌, ◌++◌, length, Option, Result}
 use Rattle.std.specs.Io.KnownBytes.{Appends, IsAtEnd}
-use Rattle.wh_text.specs.Lines.{lines_of}
-use Rattle.wh_lines.specs.Text.{EndsLine, IsPlain}
+use Rattle.wh_text.specs.Lines.{lines_of, IsLine}
+use Rattle.wh_lines.specs.Text.{EndsLine}
 use Rattle.wh_lines.specs.Input.{Input, left, Takes}
 use Rattle.wh_grid.specs.Grids.{Floor}
 use Rattle.wh_event.specs.declared.event.Command.{Command}
@@ -48,13 +48,13 @@ pub record Follows {X : Type 0} (may : Allowance) (cells : ℕ) (fits : X → Fl
 
 -- a line with the line feed behind it
 abbrev pub IsWholeLine : List ℕ → Type 0
-IsWholeLine bytes = (line : List ℕ) × IsPlain line × (bytes ≡ line ++ 10 ∷ [])
+IsWholeLine bytes = (line : List ℕ) × IsLine line × (bytes ≡ line ++ 10 ∷ [])
 
 -- What was taken and not served where the connection ended: nothing, part of a line that nobody ended, or one line, which had come
 -- when the service was over.
 abbrev pub IsUnserved : End → List ℕ → Type 0
 IsUnserved ended.Input bytes = bytes ≡ []
-IsUnserved ended.Torn bytes = IsPlain bytes × (0 < length bytes)
+IsUnserved ended.Torn bytes = IsLine bytes × (0 < length bytes)
 IsUnserved ended.Over bytes = IsWholeLine bytes
 
 -- the input has ended, but where the service was over before
@@ -63,7 +63,7 @@ IsReadTo ended.Input after = IsAtEnd (left after)
 IsReadTo ended.Torn after = IsAtEnd (left after)
 IsReadTo ended.Over after = Unit {0}
 
--- Whole lines were read and served, and what was written is their output, in so many lines. No more was served, and no more was
+-- Whole lines were read and served, and what was written is their output, in this many lines. No more was served, and no more was
 -- taken than one line or part of one.
 pub record ServesAll {X : Type 0} (may : Allowance) (cells : ℕ) (fits : X → Floor → Bool) (count : X → ℕ) (grid : Floor) (text : ℕ × Entry → List ℕ) (before after : Input)
     (old : Received) (spares : List X) (new : Received) (rest : List X) (had has : Option (List ℕ)) (written : ℕ) (end : End) : Type 0 where
@@ -113,7 +113,7 @@ WritesUntil Unjournaled had has replies = WritesButLast had has replies
 
 -- What was taken and not served when there was a fault: part of a line, or, where the journal had failed, one line.
 abbrev pub IsLost : ServeFault → List ℕ → Type 0
-IsLost (Cut fault) bytes = IsPlain bytes
+IsLost (Cut fault) bytes = IsLine bytes
 IsLost Unjournaled bytes = (bytes ≡ []) ⊎ IsWholeLine bytes
 
 -- That the reader failed, or was asked too often, is told only where it is so.

@@ -97,7 +97,7 @@ fn unserved_fault(why: Unserved) -> ServeFault
     }
 }
 
-/// Serves a line, of which a front is kept. How many replies it got: one or none.
+/// Serves a line, of which only a front is kept. How many replies it got: one or none.
 fn serve_line<
     N: DeskName,
     S: JournalName,
@@ -214,9 +214,9 @@ fn let_go<R: Read, W: Write, D: Doors<R, W>>(doors: &D, fault: ServeFault) {
 /// Serves a client to its reader's end, or until the service is over: before each line is served that is asked, and a line that
 /// had come then is not served. Where a client is told that the warehouse is closed, the service ends. Each line that is a command is one call of the desk with the client's pass, and is
 /// answered by its receipt, or by why the desk refused. A command that the client has no right to is answered `refused C3`,
-/// and one beyond its share of the entries `refused E11`, both without a call. A line that is no command is answered
-/// `refused C1` or `refused C2`, and an empty line and a comment are answered nothing. What follows the last line feed is
-/// no line: a client or a network that was cut leaves part of one, which may read as another command. A Replace takes the
+/// and one beyond its share of the entries `refused E11`, both without a call. A line that is not a command is answered
+/// `refused C1` or `refused C2`, and an empty line and a comment get no reply. What follows the last line feed is
+/// not a line: a client or a network that was cut leaves part of one, which may read as another command. A Replace takes the
 /// last spare. Each reply is a line; the writer is flushed before each read, which may wait.
 ///
 /// A receipt is told once the journal keeps its entry. Where the journal has failed the client is told nothing more, and the service

@@ -1,4 +1,4 @@
-//! Where clients come in.
+//! Where clients connect.
 #![tactic(auto)]
 
 use crate::served::{ServeFault, Served};
@@ -30,9 +30,9 @@ pub enum WorkerEnd {
     Untold(CallFault),
 }
 
-/// Where clients come in, each over one connection after another. All that names a client is called in its own thread.
+/// Where clients connect, each over one connection after another. All that names a client is called in its own thread.
 pub trait Doors<R: Read, W: Write>: Sync {
-    /// The client's next connection. It may take as long as the client does. `None`: no more are to come.
+    /// The client's next connection. It may take as long as the client does. `None`: there are no more.
     fn open(&self, client: u32) -> Option<Connection<R, W>>;
 
     /// Whether the service is over: asked before each connection, and before each line is served.
@@ -45,7 +45,7 @@ pub trait Doors<R: Read, W: Write>: Sync {
     /// A command of the client was answered E11: its share of the entries is used, or the journal is full. Told at each such command.
     fn is_full(&self, client: u32, what: Full);
 
-    /// The worker for all agents and the clock, where there is one beside the clients, ends here, before they are through.
+    /// The worker for all agents and the clock, if there is one beside the clients, ends here, before they are through.
     fn worker_ends(&self, why: WorkerEnd);
 
     /// A connection is over, told at once, with how the client was served. Whoever takes the writer drops it, so that its other end is

@@ -1,4 +1,4 @@
-//! Clients that are served at once: a thread for each, all over one desk and its journal.
+//! Clients served concurrently: a thread for each, all over one desk and its journal.
 
 ghost use Rattle.std.specs.Prelude.{◌≡◌, ◌≤◌, [], ℕ, IfOk, length, map, vec_len, vec_capacity, Some, slice_get};
 ghost use Rattle.wh_desk.specs.Lists.{AllAt};
@@ -289,7 +289,7 @@ fn take_apart<N: DeskName>(reports: Vec<Report<N>>, mut left: Reports<N>) -> Rep
     left
 }
 
-/// Each client in a thread of its own. All threads are joined when it returns, also where one could not be started.
+/// Each client in its own thread. All threads are joined when it returns, also where one could not be started.
 fn run_all<
     N: DeskName + Send + Sync,
     S: JournalName + Send + Sync,
@@ -334,8 +334,8 @@ fn run_all<
     )
 }
 
-/// Serves client i with pass i in a thread of its own, over one connection after another, until no more of them are to come or
-/// the service is over. A client whose reader or writer fails may come again, and the others go on. Each pass gained the receipts
+/// Serves client i with pass i in its own thread, over one connection after another, until there are no more of them or
+/// the service is over. A client whose reader or writer fails may reconnect, and the others go on. Each pass gained the receipts
 /// by which its client was told. The desk and the journal stay the caller's.
 ///
 /// No client is served before all threads stand, and none at all where one of them could not be started (E93) or room for what
@@ -375,7 +375,7 @@ pub fn serve_clients<
     }
 }
 
-/// Room for what so many clients leave, made before the first thread starts.
+/// Room for what the given number of clients leave, made before the first thread starts.
 struct Room<N: DeskName> {
     reports: Vec<Report<N>>,
     left: Reports<N>,

@@ -1,4 +1,4 @@
-//! What a line is answered, and how that is written.
+//! The reply to a line, and how it is written.
 
 ghost use Rattle.std.specs.Prelude.{◌≡◌, ◌++◌, ◌∷◌, ◌≤◌, [], IfOk, IfErr, OnOk, OnErr, length, MatchResult};
 ghost use Rattle.std.specs.Io.KnownBytes.{Appends};
@@ -60,7 +60,7 @@ pub(crate) fn full_of(told: &Told) -> Option<Full>
     }
 }
 
-/// What a line says, of which a front is kept.
+/// What a line says, of which only a front is kept.
 fn read_kept(line: &CommandLine) -> Result<Option<Command>, LineFault>
     ensures { result ≡ said (short_line line.now) }
 {

@@ -80,7 +80,7 @@ fn serve_connection<
     }
 }
 
-/// Serves one connection after another with the same pass and spares, until no more are to come or the service is over. How many
+/// Serves one connection after another with the same pass and spares, until there are no more or the service is over. How many
 /// there were.
 pub(crate) fn serve_visits<
     N: DeskName,

@@ -6,11 +6,12 @@ use Rattle.std.proofs.lemmas.List.{length-reverse, get_or-reverse}
 use Rattle.std.proofs.lemmas.List.Elements.{All-from_recursion}
 use Rattle.std.proofs.lemmas.Option.{get_or_from_slice_get, slice_get-get_or, slice_get_within}
 use Rattle.std.proofs.lemmas.Bool.Decides.{nat_tests}
+use Rattle.std.proofs.lemmas.Bool.{and_parts}
 use Rattle.wh_grid.specs.Grids.{Floor}
 use Rattle.wh_text.specs.Lines.{lines_of}
 use Rattle.wh_text.specs.Numbers.{decimal, is_digit}
 use Rattle.wh_text.specs.Words.{has_bytes, words_of}
-use Rattle.wh_text.proofs.NumberLemmas.{and_both, decimal_small}
+use Rattle.wh_text.proofs.NumberLemmas.{decimal_small}
 use Rattle.wh_lines.specs.Input.{Input}
 use Rattle.wh_event.specs.CommandLines.{command_of}
 use Rattle.wh_event.specs.Grammar.{Asks, AsksAgent, IsName}
@@ -32,7 +33,7 @@ use Rattle.wh_core.specs.States.{State}
 use Rattle.wh_live.specs.Clients.{ReadInTurn}
 use Rattle.wh_live.specs.Lives.{WorkedFrom}
 use Rattle.wh_live.specs.Works.{requests}
-use Rattle.wh_verify.specs.Written.{IsAskedInRange}
+use Rattle.wh_judge.specs.Written.{IsAskedInRange}
 
 -- ---- the commands
 
@@ -48,7 +49,7 @@ agent_keeps : (word : List ℕ) (agent : ℕ) (words : List (List ℕ)) → Asks
 agent_keeps word agent words asks =
     let w = asks.writes in
     let value = w.value in
-    let digits : list_all is_digit asks.number ≡ true = (and_both (has_bytes asks.number) (list_all is_digit asks.number) w.digits).1 in
+    let digits : list_all is_digit asks.number ≡ true = (and_parts (has_bytes asks.number) (list_all is_digit asks.number) w.digits).1 in
     let small : decimal asks.number < 1000000000 = decimal_small asks.number digits w.few in omega arith
 
 asked_keeps : (command : Command) (words : List (List ℕ)) → Asks command words → CommandKeeps command

@@ -10,7 +10,7 @@ use Rattle.wh_lines.specs.Input.{Input}
 use Rattle.wh_log.specs.Told.{Answered}
 use Rattle.wh_core.specs.Laws.{IsOpening}
 use Rattle.wh_core.specs.Steps.{Run}
-use Rattle.wh_verify.specs.Drafts.{AllServed, Seen}
+use Rattle.wh_judge.specs.Drafts.{AllServed, Seen}
 use Rattle.wh_drive.specs.Drives.{Drive}
 use Rattle.wh_dispatch.specs.Crews.{Crew}
 use Rattle.wh_dispatch.specs.SettingOut.{SomeInStep}

@@ -13,7 +13,7 @@ use Rattle.wh_service.specs.Fleets.{IsEquipped}
 use Rattle.std.specs.List.{count_by}
 use Rattle.wh_lines.specs.Input.{Input}
 use Rattle.wh_grid.specs.Grids.{Floor}
-use Rattle.wh_verify.specs.Drafts.{Seen}
+use Rattle.wh_judge.specs.Drafts.{Seen}
 use Rattle.wh_log.specs.Told.{Answered}
 use Rattle.wh_drive.specs.declared.vehicle.Vehicle.{Vehicle}
 use Rattle.wh_drive.specs.Drives as drives

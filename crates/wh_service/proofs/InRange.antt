@@ -16,7 +16,7 @@ use Rattle.wh_points.specs.PointGrammar.{IsPointsFile, Says, Spells}
 use Rattle.wh_points.proofs.GrammarLaws.{read_found}
 use Rattle.wh_event.specs.Grammar.{IsName}
 use Rattle.wh_edge.specs.Site.{SiteRead}
-use Rattle.wh_verify.specs.Written.{IsInRange}
+use Rattle.wh_judge.specs.Written.{IsInRange}
 
 row_cells : (width : ℕ) (rows : List (List ℕ)) → AllByRecursion (IsRow width) rows → length (flat_map (map is_passable) rows) ≡ width * length rows
 row_cells width [] all = omega arith

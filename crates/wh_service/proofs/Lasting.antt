@@ -11,7 +11,7 @@ use Rattle.std.proofs.lemmas.Slice.Zip.{all_zipped_more}
 use Rattle.wh_grid.specs.Grids.{Floor}
 use Rattle.wh_points.specs.Points.{Layout, Site}
 use Rattle.wh_claims.specs.declared.bank.Bank.{Bank}
-use Rattle.wh_verify.specs.Drafts.{AllServed, Seen}
+use Rattle.wh_judge.specs.Drafts.{AllServed, Seen}
 use Rattle.wh_options.specs.declared.chosen.Fleet.{Fleet}
 use Rattle.wh_continue.specs.Starting.{Begins, GoesOnFrom, StartsIn}
 use Rattle.wh_continue.specs.declared.starting.Start.{Start}

@@ -8,7 +8,7 @@ use Rattle.wh_points.specs.Points.{Site}
 use Rattle.wh_event.specs.declared.event.Command.{Command}
 use Rattle.wh_log.specs.Logs.{Content, IsLogText, IsSlots}
 use Rattle.wh_log.specs.declared.version.Version.TheVariants.{Two}
-use Rattle.wh_verify.proofs.Histories.{runs_are_logs}
+use Rattle.wh_judge.proofs.Histories.{runs_are_logs}
 use Rattle.wh_edge.specs.declared.work.Work.{Work}
 use Rattle.wh_options.specs.declared.chosen.LiveOptions.{LiveOptions}
 use Rattle.wh_live.specs.Lives.{Lives}

@@ -10,7 +10,7 @@ use Rattle.wh_core.specs.Laws.{IsOpening}
 use Rattle.wh_core.specs.States.{State, opened}
 use Rattle.wh_core.specs.Steps.{Run}
 use Rattle.wh_log.specs.Logs.{IsSlots}
-use Rattle.wh_verify.specs.Verifying.{IsRunOf}
+use Rattle.wh_judge.specs.Verifying.{IsRunOf}
 use Rattle.wh_edge.specs.Site.{SiteRead}
 
 pub slots_keep : (n slots : ℕ) → 2 ≤ slots → slots ≤ 64 → AllByRecursion IsSlots (replicate n slots)

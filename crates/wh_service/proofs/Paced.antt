@@ -23,7 +23,7 @@ use Rattle.wh_crew.specs.Turns.{MayTurn, TurnsIn, WorksBeside, asked_at, asks, a
 use Rattle.wh_crew.specs.Work.{commands_of, spares_told, told_by}
 use Rattle.wh_crew.specs.Work as crew
 use Rattle.wh_live.specs.Lives.{PacedFrom, WorkedBy, WorkedFrom}
-use Rattle.wh_verify.specs.Written.{IsAskedInRange}
+use Rattle.wh_judge.specs.Written.{IsAskedInRange}
 use Rattle.wh_service.proofs.Asked.{CommandKeeps, ReceiptKeeps, WorkKeeps, crew_keeps, keeps_append, receipts_keep, split_left, worker_keeps}
 
 -- ---- the commands of turns

@@ -19,7 +19,7 @@ use Rattle.wh_event.specs.declared.entry.Entry.{Entry}
 use Rattle.wh_log.specs.Told.{Answered}
 use Rattle.wh_core.specs.States.{State, opened}
 use Rattle.wh_core.specs.Steps.{Run}
-use Rattle.wh_verify.specs.Drafts.{Seen}
+use Rattle.wh_judge.specs.Drafts.{Seen}
 use Rattle.wh_replay.specs.Fleet.{IsTied, AllFit}
 use Rattle.wh_replay.specs.Runs.{Ran, entries_of}
 use Rattle.wh_edge.specs.Site.{SiteRead}

@@ -21,8 +21,8 @@ use Rattle.wh_replay.specs.Runs.{Takes, entries_of}
 use Rattle.wh_log.specs.Logs.{Content, IsLogText}
 use Rattle.wh_log.specs.Ranges.{EventKeeps}
 use Rattle.wh_log.specs.declared.version.Version.TheVariants.{Two}
-use Rattle.wh_verify.specs.Written.{IsAskedInRange}
-use Rattle.wh_verify.proofs.Histories.{runs_are_logs}
+use Rattle.wh_judge.specs.Written.{IsAskedInRange}
+use Rattle.wh_judge.proofs.Histories.{runs_are_logs}
 use Rattle.wh_edge.specs.Site.{SiteRead}
 use Rattle.wh_options.specs.declared.chosen.Fleet.{Fleet}
 use Rattle.wh_options.specs.declared.chosen.Tail.TheVariants.{Log}

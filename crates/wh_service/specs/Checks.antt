@@ -56,7 +56,7 @@ pub record JudgesUnwritten (old new : Input) (had has : Option (List ℕ)) : Typ
   pub verdict_is : IsVerdict site verdict
   pub front : WritesFront had has (verdict_text site.layout verdict)
 
--- Why no verdict was told: there is no site, or memory was wanting, and nothing is written; or the line of the verdict was not
+-- Why no verdict was told: there is no site, or memory ran out, and nothing is written; or the line of the verdict was not
 -- written to its end.
 abbrev pub IsWhyUnjudged : Trouble → Input → Input → Option (List ℕ) → Option (List ℕ) → Type 0
 IsWhyUnjudged trouble.Unwritten old new had has = JudgesUnwritten old new had has

@@ -10,7 +10,7 @@ use Rattle.wh_points.specs.Formed.{IsFormed}
 use Rattle.wh_log.specs.Told.{Answered}
 use Rattle.wh_core.specs.Laws.{IsOpening}
 use Rattle.wh_core.specs.Steps.{Run}
-use Rattle.wh_verify.specs.Drafts.{AllServed, Seen}
+use Rattle.wh_judge.specs.Drafts.{AllServed, Seen}
 use Rattle.wh_edge.specs.Site.{SiteKept, SiteFault}
 use Rattle.wh_edge.specs.Trouble.{status_of, trouble_text}
 use Rattle.wh_edge.specs.declared.trouble.Status.{Status}
@@ -76,7 +76,7 @@ pub record StandsOver (book : Seen) (ahead : ℕ) (file : Option (List ℕ)) (st
   pub text_is : IfSome file (λ held. text ≡ held)
   pub stood : StandsBy book ahead text stands
 
--- Why they do not: it was not to be read, or by its text no vehicles of the run stand anywhere, or memory was wanting.
+-- Why they do not: it was not to be read, or by its text no vehicles of the run stand anywhere, or memory ran out.
 abbrev pub IsWhyNotOver : Seen → ℕ → Option (List ℕ) → DriveTrouble → Type 0
 IsWhyNotOver book ahead file (Arrivals line) = (text : List ℕ) × IfSome file (λ held. text ≡ held) × IsWhyNotStood book ahead text (stood.BadLine line)
 IsWhyNotOver book ahead file (Astray agent) = (text : List ℕ) × IfSome file (λ held. text ≡ held) × IsWhyNotStood book ahead text (stood.Astray agent)
@@ -97,17 +97,17 @@ pub record GoesToEnd {X : Type 0} (fits : X → Floor → Bool) (count : X → �
     (final : Seen) (crew : Crew) (had has : Option (List ℕ)) (files holds synced : Held) : Type 0 where
   pub rest : List X
   pub runs : RidesOn fits count text again bound before after start.book stands spares final rest crew had has files holds synced
-  -- the vehicles carry out the whole run, old entries and new ones: their plan's rows are the ticks of its history
+  -- the vehicles carry out the whole run, old and new entries: their plan's rows are the ticks of its history
   pub drive : Drive
   pub manned : IsManned final crew drive
   -- the whole run is one of the abstract warehouse, from an opening state of the site with which it began
   pub site_is : final.site ≡ start.book.site
   pub is_opening : IsOpening final.site final.opening
   pub run : Run final.site final.opening final.history final.state
-  -- on a well-formed site no request was ever refused for want of a path
+  -- on a well-formed site no request was ever refused for lack of a path
   pub served : IsFormed final.site → AllServed final.history
 
--- And what is to follow the replies follows them. So many vehicles are on their way then.
+-- And what must follow the replies follows them. This many vehicles are on their way then.
 pub record GoesOn {X : Type 0} (fits : X → Floor → Bool) (count : X → ℕ) (text : Answered → List ℕ) (tail : Tail) (again : Option ℕ) (bound : ℕ) (before after : Input) (start : Start) (stands : Stood) (spares : List X)
     (had has : Option (List ℕ)) (files holds synced : Held) (left : ℕ) : Type 0 where
   pub final : Seen

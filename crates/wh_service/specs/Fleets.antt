@@ -17,8 +17,8 @@ use Rattle.wh_service.specs.declared.parts.PlannerParts.{PlannerParts}
 abbrev pub IsForPlanner : Claim → Type 0
 IsForPlanner claim = (2 ≤ claim_amount claim) × (claim_amount claim ≤ 64)
 
--- Each planner that a call gives of such parts plans on their grid, and has the slots of their claim. Fits and count say what
--- a planner answers.
+-- Each planner that a call gives of such parts plans on their grid, and has the slots of their claim. Fits and count say
+-- what a planner returns.
 pub record MakesPlanners {X : Type 0} (fits : X → Floor → Bool) (count : X → ℕ) (gives : PlannerParts → Result X AllocError → Type 0) : Type 0 where
   pub on_grid : (parts : PlannerParts) (planner : X) → IsForPlanner parts.claim → gives parts (Ok planner) → fits planner (arc_value parts.grid) ≡ true
   pub has_slots : (parts : PlannerParts) (planner : X) → IsForPlanner parts.claim → gives parts (Ok planner) → count planner ≡ claim_amount parts.claim
@@ -36,7 +36,7 @@ pub record IsMember {X : Type 0} (gives : PlannerParts → Result X AllocError �
   pub slots_are : claim_amount parts.claim ≡ fleet.slots
   pub bank_is : claim_bank parts.claim ≡ bank
 
--- the fleet, but that each planner has so many slots
+-- the fleet, but that each planner has the given number of slots
 abbrev pub with_slots : Fleet → ℕ → Fleet
 with_slots fleet slots = record fleet { slots = slots }
 
@@ -44,7 +44,7 @@ with_slots fleet slots = record fleet { slots = slots }
 abbrev pub AreSeated : {X : Type 0} → (PlannerParts → Result X AllocError → Type 0) → Fleet → Floor → Bank → List ℕ → List X → Type 0
 AreSeated gives fleet grid bank slots planners = AllZip (λ n planner. IsMember gives (with_slots fleet n) grid bank planner) slots planners
 
--- One planner for each of so many agents, and as many spare ones as the options name, all of them members of the fleet. The
+-- One planner for each of the given number of agents, and as many spare ones as the options name, all of them members of the fleet. The
 -- bank has as many slots in all as the options name.
 pub record IsEquipped {X : Type 0} (gives : PlannerParts → Result X AllocError → Type 0) (fleet : Fleet) (grid : Floor) (agents : ℕ) (planners spares : List X) : Type 0 where
   pub bank : Bank
@@ -54,7 +54,7 @@ pub record IsEquipped {X : Type 0} (gives : PlannerParts → Result X AllocError
   pub planners_are : All (IsMember gives fleet grid bank) planners
   pub spares_are : All (IsMember gives fleet grid bank) spares
 
--- why so many slots were not claimed: fewer were free, or the bank's word changed meanwhile, or memory was wanting
+-- why the slots were not claimed: fewer were free, or the bank's word changed meanwhile, or memory ran out
 abbrev pub IsWhyUnclaimed : ℕ → Trouble → Type 0
 IsWhyUnclaimed slots (trouble.Short free) = free < slots
 IsWhyUnclaimed slots (trouble.Raced seen) = Unit {0}
@@ -62,7 +62,7 @@ IsWhyUnclaimed slots trouble.NoMemory = Unit {0}
 IsWhyUnclaimed slots _ = ⊥
 
 -- why planners with these numbers of slots were not made: fewer were free than one of them is to have, or the bank's word
--- changed meanwhile, or memory was wanting
+-- changed meanwhile, or memory ran out
 abbrev pub IsWhyUnseated : List ℕ → Trouble → Type 0
 IsWhyUnseated slots (trouble.Short free) = (n : ℕ) × Contains slots n × (free < n)
 IsWhyUnseated slots (trouble.Raced seen) = Unit {0}

@@ -10,7 +10,7 @@ use Rattle.wh_points.specs.Formed.{IsFormed}
 use Rattle.wh_event.specs.declared.event.Command.{Command}
 use Rattle.wh_core.specs.Laws.{IsOpening}
 use Rattle.wh_core.specs.States.{opened}
-use Rattle.wh_verify.specs.Drafts.{AllServed}
+use Rattle.wh_judge.specs.Drafts.{AllServed}
 use Rattle.wh_claims.specs.Bank.{bank_total}
 use Rattle.wh_log.specs.Logs.{IsLogText}
 use Rattle.wh_claims.specs.declared.bank.Bank.{Bank}
@@ -30,7 +30,7 @@ use Rattle.wh_display.specs.declared.screen.ShowFault.{ShowFault}
 use Rattle.wh_service.specs.Fleets.{IsMember, IsWhyUnclaimed}
 use Rattle.wh_service.specs.declared.parts.PlannerParts.{PlannerParts}
 
--- so many planners, all of them members of the fleet
+-- the given number of planners, all of them members of the fleet
 pub record AreMembers {X : Type 0} (gives : PlannerParts → Result X AllocError → Type 0) (fleet : Fleet) (grid : Floor) (bank : Bank) (many : ℕ) (planners : List X) : Type 0 where
   pub many_is : length planners ≡ many
   pub members : All (IsMember gives fleet grid bank) planners
@@ -48,7 +48,7 @@ agent_threads (Some every) agents = 0
 abbrev pub paced_turns : LiveOptions → Option ℕ
 paced_turns options = option_map (λ every. options.turns) options.every
 
--- how the worker for all agents and the clock goes on, where there is one: so many turns at most, and so many milliseconds of rest behind
+-- how the worker for all agents and the clock goes on, if there is one: this many turns at most, and this many milliseconds of rest behind
 -- each
 abbrev pub IsPaceOf : (every : Option ℕ) → (turns : ℕ) → Option Pace → Type 0
 IsPaceOf None turns pace = pace ≡ None
@@ -60,7 +60,7 @@ abbrev pub AreWorkers : {X : Type 0} → LiveOptions → ℕ → List (Work X) �
 AreWorkers options agents clients works =
     MatchOption options.every (AreWorks agents options.turns clients works) (λ every. works ≡ clients)
 
--- The planners of so many agents, and the workers: the clients with these scripts and with spares of their own, and where no
+-- The planners of the given number of agents, and the workers: the clients with these scripts and with spares of their own, and where no
 -- worker is there for all, the agents and the clock. All planners have their claims on one bank, which has as many slots in all as the options name.
 pub record IsTeam {X : Type 0} (gives : PlannerParts → Result X AllocError → Type 0) (options : LiveOptions) (grid : Floor) (agents : ℕ)
     (scripts : List (List Command)) (planners : List X) (works : List (Work X)) : Type 0 where
@@ -81,7 +81,7 @@ pub record ReadsAll (every : Option ℕ) (old new : Input) (site : Site) (script
 -- A site and its clients were read, and the team did its works; each agent's planner had the fleet's slots at the opening.
 -- The text is the log of all that was done: it has no more entries than the journal of the options has positions, and
 -- where these are fewer than 1,000,000,000 it is of the format, so that it is read back as what was done. The run is from an
--- opening state, so that each law of runs is one of it; on a well-formed site no request is refused for want of a path.
+-- opening state, so that each law of runs is one of it; on a well-formed site no request is refused for lack of a path.
 pub record Hosts {X : Type 0} (fits : X → Floor → Bool) (count : X → ℕ) (gives : PlannerParts → Result X AllocError → Type 0) (options : LiveOptions)
     (old new : Input) (text : List ℕ) : Type 0 where
   pub site : Site
@@ -128,7 +128,7 @@ abbrev pub Tells : List ℕ → Result Unit ShowFault → Result Unit Trouble �
 Tells text last came had has =
     (Appends had has text × (came ≡ told_of last)) ⊎ (WritesFront had has text × (came ≡ Err trouble.Unwritten))
 
--- all was read, and there it ended: a planner got no slots, or memory was wanting
+-- all was read, and there it ended: a planner got no slots, or memory ran out
 pub record EndsAtTeam (options : LiveOptions) (told : Trouble) (old new : Input) : Type 0 where
   pub site : Site
   pub scripts : List (List Command)

@@ -11,7 +11,7 @@ use Rattle.wh_claims.specs.declared.bank.Bank.{Bank}
 use Rattle.wh_log.specs.Told.{Answered}
 use Rattle.wh_core.specs.Laws.{IsOpening}
 use Rattle.wh_core.specs.Steps.{Run}
-use Rattle.wh_verify.specs.Drafts.{AllServed, Seen}
+use Rattle.wh_judge.specs.Drafts.{AllServed, Seen}
 use Rattle.wh_continue.specs.Starting.{IsWhyNoStart, StartsByFile}
 use Rattle.wh_continue.specs.Besides.{HoldsOther, StandsBeside}
 use Rattle.wh_continue.specs.Running.{LeavesFront, Opens, RunsOn, StopsRun}
@@ -81,7 +81,7 @@ pub record StartsOver {X : Type 0} (gives : PlannerParts → Result X AllocError
   pub seated : IsSeated gives fleet site.grid start.book.state.slots planners spares
 
 -- The run went on from there: the site stands beside the log, the script behind the site was served to its end, with planners
--- for its agents, over the file, which is the log of the whole run now, and what is to follow the replies follows them.
+-- for its agents, over the file, which is the log of the whole run now, and what must follow the replies follows them.
 pub record ServesKept {X : Type 0} (fits : X → Floor → Bool) (count : X → ℕ) (text : Answered → List ℕ) (gives : PlannerParts → Result X AllocError → Type 0) (fleet : Fleet) (tail : Tail) (again : Option ℕ)
     (old new : Input) (had has file synced holds : Option (List ℕ)) (beside : Siding) : Type 0 where
   pub site : Site
@@ -96,11 +96,11 @@ pub record ServesKept {X : Type 0} (fits : X → Floor → Bool) (count : X → 
   pub replied : Option (List ℕ)
   pub runs : RunsOn fits count text again between new start.book spares final rest had replied file synced holds
   pub follows : Appends replied has (tail_after tail final.opening final.history final.state)
-  -- the whole run, old entries and new ones, is one of the abstract warehouse, from an opening state of this site
+  -- the whole run, old and new entries, is one of the abstract warehouse, from an opening state of this site
   pub site_is : final.site ≡ site
   pub is_opening : IsOpening site final.opening
   pub run : Run site final.opening final.history final.state
-  -- on a well-formed site no request was ever refused for want of a path
+  -- on a well-formed site no request was ever refused for lack of a path
   pub served : IsFormed site → AllServed final.history
 
 -- what is told of a log file that was not begun or not ended
@@ -124,7 +124,7 @@ run_trouble (ran.Continue (continued.Resume fault)) = trouble.NoMemory
 run_trouble (ran.End fault) = keep_trouble fault
 
 -- Why the file beside the log does not allow a run: it holds the text of another site, or another text, which is told as line
--- 0; or it was not to be read; or memory was wanting.
+-- 0; or it was not to be read; or memory ran out.
 abbrev pub IsWhyAside : (beside : Option (List ℕ)) (text : List ℕ) → Trouble → Type 0
 IsWhyAside beside text (trouble.Log line) = (line ≡ 0) × HoldsOther beside text
 IsWhyAside beside text trouble.Unkept = Unit {0}
@@ -132,14 +132,14 @@ IsWhyAside beside text trouble.NoMemory = Unit {0}
 IsWhyAside beside text _ = ⊥
 
 -- Why no run starts over the log of a site that was read: it was not to be read, or its text is none that a run goes on from,
--- or memory was wanting.
+-- or memory ran out.
 abbrev pub IsWhyNotStarted : Fleet → Site → Option (List ℕ) → Trouble → Type 0
 IsWhyNotStarted fleet site file (trouble.Log line) = IsWhyNoStart site (first_slots fleet site) file (started.Bad line)
 IsWhyNotStarted fleet site file trouble.Unkept = Unit {0}
 IsWhyNotStarted fleet site file trouble.NoMemory = Unit {0}
 IsWhyNotStarted fleet site file _ = ⊥
 
--- A run could start, and entries are to be told again from one on that it has not come to: the first line that is wanting is
+-- A run could start, and entries are to be told again from one on that it has not come to: the first line that is missing is
 -- told. Two lines stand before the entries.
 pub record IsBeyond (fleet : Fleet) (again : Option ℕ) (site : Site) (file : Option (List ℕ)) (told : Trouble) : Type 0 where
   pub start : Start
@@ -153,7 +153,7 @@ pub record IsBeyond (fleet : Fleet) (again : Option ℕ) (site : Site) (file : O
 abbrev pub IsWhyNoRun : Fleet → (again : Option ℕ) → Site → (file beside : Option (List ℕ)) (text : List ℕ) → Trouble → Type 0
 IsWhyNoRun fleet again site file beside text told = IsWhyAside beside text told ⊎ IsWhyNotStarted fleet site file told ⊎ IsBeyond fleet again site file told
 
--- the run starts, and a planner got no slots, or memory was wanting for one
+-- the run starts, and a planner got no slots, or memory ran out for one
 pub record IsUnequipped (fleet : Fleet) (site : Site) (file : Option (List ℕ)) (told : Trouble) : Type 0 where
   pub start : Start
   pub starts : StartsFrom fleet site file start

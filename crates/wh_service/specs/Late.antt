@@ -9,7 +9,7 @@ use Rattle.wh_points.specs.Points.{Site}
 use Rattle.wh_points.specs.Formed.{IsFormed}
 use Rattle.wh_core.specs.Laws.{IsOpening}
 use Rattle.wh_core.specs.Steps.{Run}
-use Rattle.wh_verify.specs.Drafts.{AllServed, Seen}
+use Rattle.wh_judge.specs.Drafts.{AllServed, Seen}
 use Rattle.wh_edge.specs.Site.{SiteRead, SiteFault}
 use Rattle.wh_edge.specs.declared.trouble.Trouble.{Trouble}
 use Rattle.wh_edge.specs.declared.trouble.Trouble.TheVariants as trouble
@@ -37,13 +37,13 @@ trouble_of dispatch.Endless = trouble.Endless
 trouble_of dispatch.Unwritten = trouble.Unwritten
 trouble_of dispatch.NoMemory = trouble.NoMemory
 
--- the warehouse of the book, with a vehicle for each agent where the agent stands, each told so many cells ahead
+-- the warehouse of the book, with a vehicle for each agent where the agent stands, each told at most this many cells ahead
 abbrev pub setting_out : {X : Type 0} → ℕ → Seen → List X → Depot X
 setting_out ahead book spares =
     record { book = book; spares = spares; drive = drives.opened book.site.layout.nofollow ahead (places book.state) }
 
 -- A warehouse was opened with its vehicles, and served the script to its end. Its run is one of the abstract warehouse, from an
--- opening state; on a well-formed site no request was refused for want of a path.
+-- opening state; on a well-formed site no request was refused for lack of a path.
 pub record DrivesThrough {X : Type 0} (fits : X → Floor → Bool) (count : X → ℕ) (text : Answered → List ℕ) (site : Site) (planners spares : List X) (pace : VehicleOptions)
     (before after : Input) (had has : Option (List ℕ)) (final : Depot X) : Type 0 where
   pub book : Seen
@@ -53,7 +53,7 @@ pub record DrivesThrough {X : Type 0} (fits : X → Floor → Bool) (count : X �
   pub run : Run final.book.site final.book.opening final.book.history final.book.state
   pub served : IsFormed final.book.site → AllServed final.book.history
 
--- and what is to follow the replies follows them; so many vehicles are on their way then
+-- and what must follow the replies follows them; this many vehicles are on their way then
 pub record Drives {X : Type 0} (fits : X → Floor → Bool) (count : X → ℕ) (text : Answered → List ℕ) (site : Site) (planners spares : List X) (tail : Tail) (pace : VehicleOptions)
     (before after : Input) (had has : Option (List ℕ)) (left : ℕ) : Type 0 where
   pub final : Depot X
@@ -78,7 +78,7 @@ pub record DrivesUntil {X : Type 0} (fits : X → Floor → Bool) (count : X →
   pub final : Depot X
   pub stops : Stops fits count text pace.behind fault before after (setting_out pace.ahead book spares) final had has
 
--- Why it was not served to its end: memory was wanting to open the warehouse or its vehicles, or for what is told to them, or
+-- Why it was not served to its end: memory ran out to open the warehouse or its vehicles, or for what is told to them, or
 -- the reader or the writer failed, or what is to follow the replies does not.
 abbrev pub IsWhyUndriven : {X : Type 0} → (X → Floor → Bool) → (X → ℕ) → (Answered → List ℕ) → Site → List X → List X → Tail → VehicleOptions → Trouble → Input → Input → Option (List ℕ) → Option (List ℕ) → Type 0
 IsWhyUndriven fits count text site planners spares tail pace told before after had has =

@@ -8,7 +8,7 @@ pub mod Convoys
 pub mod Checks
 pub mod Verifies
 pub mod Hosts
--- handed on, for the crates above
+-- re-exported for the crates above
 pub use Rattle.wh_live.specs.Calls
 pub use Rattle.wh_live.specs.Lists
 pub use Rattle.wh_live.specs.Pasts

@@ -5,7 +5,7 @@ use Rattle.wh_lines.specs.Input.{Input}
 use Rattle.wh_grid.specs.Grids.{Floor}
 use Rattle.wh_points.specs.Points.{Site}
 use Rattle.wh_core.specs.States.{opened}
-use Rattle.wh_verify.specs.Drafts.{Seen}
+use Rattle.wh_judge.specs.Drafts.{Seen}
 use Rattle.wh_replay.specs.Fleet.{IsTied}
 use Rattle.wh_edge.specs.declared.trouble.Trouble.{Trouble}
 use Rattle.wh_edge.specs.declared.trouble.Trouble.TheVariants as trouble
@@ -53,7 +53,7 @@ pub record PlaysThrough {X : Type 0} (fits : X → Floor → Bool) (count : X �
   pub rest : List X
   pub replays : Replays fits count text before after book spares final rest had has written
 
--- and what is to follow the replies follows them
+-- and what must follow the replies follows them
 pub record Plays {X : Type 0} (fits : X → Floor → Bool) (count : X → ℕ) (text : Answered → List ℕ) (site : Site) (planners spares : List X) (tail : Tail)
     (before after : Input) (had has : Option (List ℕ)) (written : ℕ) : Type 0 where
   pub final : Seen
@@ -79,7 +79,7 @@ pub record PlaysUntil {X : Type 0} (fits : X → Floor → Bool) (count : X → 
   pub rest : List X
   pub stops : Stops fits count text fault before after book spares final rest had has
 
--- Why a script was not played to its end: memory was wanting to open the warehouse, or the reader or the writer failed, or what
+-- Why a script was not played to its end: memory ran out to open the warehouse, or the reader or the writer failed, or what
 -- is to follow the replies does not.
 abbrev pub IsWhyUnplayed : {X : Type 0} → (X → Floor → Bool) → (X → ℕ) → (Answered → List ℕ) → Site → List X → List X → Tail → Trouble → Input → Input → Option (List ℕ) → Option (List ℕ) → Type 0
 IsWhyUnplayed fits count text site planners spares tail told before after had has =

@@ -2,8 +2,7 @@
 use Rattle.std.specs.Prelude.{◌≡◌, ◌⊎◌, ◌<◌, ◌^◌, ℕ, Bool, true, false, List, ◌++◌, length, replicate, Option, Result, Ok, Err}
 use Rattle.std.specs.declared.alloc.AllocError.{AllocError}
 use Rattle.std.specs.Io.KnownBytes.{Appends, Keeps, IsAtEnd}
-use Rattle.wh_text.specs.Lines.{lines_of}
-use Rattle.wh_lines.specs.Text.{IsPlain}
+use Rattle.wh_text.specs.Lines.{lines_of, IsLine}
 use Rattle.wh_lines.specs.Input.{Input, left, Takes}
 use Rattle.wh_grid.specs.Grids.{Floor}
 use Rattle.wh_points.specs.Points.{Site}
@@ -14,7 +13,7 @@ use Rattle.wh_log.specs.Told.{Answered}
 use Rattle.wh_core.specs.Laws.{IsOpening}
 use Rattle.wh_core.specs.States.{State, opened}
 use Rattle.wh_core.specs.Steps.{Run}
-use Rattle.wh_verify.specs.Drafts.{AllServed}
+use Rattle.wh_judge.specs.Drafts.{AllServed}
 use Rattle.wh_replay.specs.Runs.{Ran, entries_of}
 use Rattle.wh_edge.specs.Site.{SiteRead, SiteFault}
 use Rattle.wh_edge.specs.declared.trouble.Trouble.{Trouble}
@@ -62,7 +61,7 @@ pub record Operates (text : Answered → List ℕ) (fleet : Fleet) (site : Site)
   pub ran : RanFrom site (opening fleet site) (replicate fleet.spares fleet.slots) (commands_of lines) outcomes final rest
   -- the entries are one run of the abstract warehouse
   pub run : Run site (opening fleet site) (entries_of outcomes) final
-  -- on a well-formed site no request is refused for want of a path
+  -- on a well-formed site no request is refused for lack of a path
   pub served : IsFormed site → AllServed (entries_of outcomes)
 
 -- A site was read, all that followed was read to the end, and these are the replies to its lines. The run is from an opening
@@ -109,7 +108,7 @@ pub record ServesUntil (text : Answered → List ℕ) (fleet : Fleet) (fault : R
   pub read : List ℕ
   pub begun : List ℕ
   pub takes : Takes between new (read ++ begun)
-  pub part : IsPlain begun
+  pub part : IsLine begun
   pub whole : IsWholeUntil fault new read
   pub replies : List (List ℕ)
   pub operates : Operates text fleet site (lines_of read) replies
@@ -128,7 +127,7 @@ pub record ServesByFleet {X : Type 0} (fits : X → Floor → Bool) (count : X �
   pub equipped : IsEquipped gives fleet site.grid (length site.layout.agents) planners spares
   pub plays : Plays fits count text site planners spares tail between new had has written
 
--- a site was read, and there it ended: a planner got no slots, or memory was wanting
+-- a site was read, and there it ended: a planner got no slots, or memory ran out
 pub record EndsAtFleet (fleet : Fleet) (told : Trouble) (old new : Input) : Type 0 where
   pub site : Site
   pub site_read : SiteRead old new site.grid site.layout

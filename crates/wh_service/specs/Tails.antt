@@ -30,7 +30,7 @@ tail_text Ledger opening entries final = ledger_text (rows_of final.tasks)
 abbrev pub tail_after : Tail → State → List Entry → State → List ℕ
 tail_after tail opening entries final = separator tail ++ tail_text tail opening entries final
 
--- why it did not follow: memory was wanting, and nothing of it was written, or the writer failed, and a front of it was
+-- why it did not follow: memory ran out, and nothing of it was written, or the writer failed, and a front of it was
 abbrev pub IsWhyNoTail : Trouble → Option (List ℕ) → Option (List ℕ) → List ℕ → Type 0
 IsWhyNoTail trouble.NoMemory had has text = Keeps had has
 IsWhyNoTail trouble.Unwritten had has text = WritesFront had has text

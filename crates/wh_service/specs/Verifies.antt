@@ -10,9 +10,9 @@ use Rattle.wh_edge.specs.declared.trouble.Trouble.{Trouble}
 use Rattle.wh_edge.specs.declared.trouble.Trouble.TheVariants as trouble
 use Rattle.wh_edge.specs.declared.trouble.Status.{Status}
 use Rattle.wh_edge.specs.declared.trouble.Status.TheVariants as status
-use Rattle.wh_verify.specs.Verifying.{Says}
-use Rattle.wh_verify.specs.declared.verifier.Verified.{Verified}
-use Rattle.wh_verify.specs.declared.verifier.Verified.TheVariants.{Run, Bad}
+use Rattle.wh_judge.specs.Verifying.{Says}
+use Rattle.wh_judge.specs.declared.verifier.Verified.{Verified}
+use Rattle.wh_judge.specs.declared.verifier.Verified.TheVariants.{Run, Bad}
 
 -- the line that tells what a text is
 unfoldable pub verified_text : Verified → List ℕ
@@ -65,7 +65,7 @@ pub record LogFault (told : Trouble) (old new : Input) : Type 0 where
   pub site_read : SiteRead old between site.grid site.layout
   pub why : IsWhyNoLog told between new
 
--- Why nothing was told: there is no site, or behind it no log, or memory was wanting, and nothing is written; or the line was
+-- Why nothing was told: there is no site, or behind it no log, or memory ran out, and nothing is written; or the line was
 -- not written to its end.
 abbrev pub IsWhyUnverified : Trouble → Input → Input → Option (List ℕ) → Option (List ℕ) → Type 0
 IsWhyUnverified trouble.Unwritten old new had has = VerifiesUnwritten old new had has

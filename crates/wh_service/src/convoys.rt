@@ -26,19 +26,19 @@ use wh_convoy::{ConvoyFault, RideFault, Stood, StoodFault, find_stand, ride_on};
 use wh_edge::{KeptSite, Site, Status, Trouble, read_kept_site};
 use wh_event::{put, put_number};
 use wh_grid::Grid;
+use wh_judge::Book;
 use wh_lines::Lines;
 use wh_log::Form;
 use wh_options::{ReplayOptions, Tail, VehicleOptions};
 use wh_planner::Planner;
 use wh_points::Points;
-use wh_verify::Book;
 
 /// Why a replay with vehicles was not brought to its end.
 #[derive(Clone, Copy, Debug, PartialEq, Eq)]
 pub enum DriveTrouble {
     /// As any replay.
     Plain(Trouble),
-    /// The file of arrivals has this line first that is no report of a vehicle of this site, or that is wanting.
+    /// The file of arrivals has this line first that is no report of a vehicle of this site, or that is missing.
     Arrivals { line: u64 },
     /// By the file of arrivals the vehicle of this agent has come further than the log allows.
     Astray { agent: u32 },
@@ -212,11 +212,11 @@ fn go_on<R: Read, W: Write, L: LogFile, P: Planner>(
     }
 }
 
-/// Reads a site by whose rule nobody follows, finds out from the log file and the file beside it what the run starts from, and from the
+/// Reads a site whose rule is that nobody follows, finds out from the log file and the file beside it what the run starts from, and from the
 /// file of arrivals where its vehicles stand, makes the planners, keeps the site's text beside the log, has the vehicles set out, serves
-/// the script behind the site over both files, and writes what is to follow the replies. What stands in the files outlives a kill, and
-/// nothing is told before the entries and the reports that it rests on were synced. How many vehicles are on their way at the end. What can
-/// go wrong is told in this order: the site, its rule, the file beside the log, the log, the file of arrivals, the bank and the planners, what is
+/// the script after the site over both files, and writes what follows the replies. What is in the files survives a kill, and
+/// nothing is told before the entries and the reports that it rests on were synced. Returns how many vehicles are on their way at the end. Errors
+/// are reported in this order: the site, its rule, the file beside the log, the log, the file of arrivals, the bank and the planners, what is
 /// written beside the log, the run, what follows the replies. Before the run starts nothing is told, and the log and the file of arrivals are as
 /// they were.
 pub fn serve_convoy<

@@ -17,8 +17,8 @@ use wh_grid::Grid;
 use wh_options::Fleet;
 use wh_planner::Planner;
 
-/// A claim of so many slots on the bank, by a seat of its own. The error tells how many slots the bank had left where
-/// they were too few, or that its word changed meanwhile, or that memory is wanting.
+/// A claim of the given number of slots on the bank, by a seat of its own. The error tells how many slots the bank had left where
+/// they were too few, or that its word changed meanwhile, or that memory ran out.
 pub fn claim(bank: &Arc<Bank>, seat: &mut BankSeat, slots: u32) -> Result<Claim, Trouble>
     requires { Belongs seat.old (arc_value bank.now) }
     ensures seat { Belongs seat.new (arc_value bank.now) }
@@ -61,8 +61,8 @@ fn member<P: Planner, F: Fn(PlannerParts) -> Result<P, AllocError>>(
     Ok(make(PlannerParts { kind, grid, claim })?)
 }
 
-/// So many planners of the fleet, each with a claim of its own on the bank. The error tells why one of them got no
-/// slots, or that memory is wanting.
+/// The given number of planners of the fleet, each with a claim of its own on the bank. The error tells why one of them got no
+/// slots, or that memory ran out.
 pub fn members<P: Planner, F: Fn(PlannerParts) -> Result<P, AllocError>>(
     alloc: Global,
     fleet: &Fleet,
@@ -89,7 +89,7 @@ pub fn members<P: Planner, F: Fn(PlannerParts) -> Result<P, AllocError>>(
 }
 
 /// One planner of the fleet for each of these numbers of slots, 2 to 64, each with a claim of its own on the bank. The error
-/// tells why one of them got no slots, or that memory is wanting.
+/// tells why one of them got no slots, or that memory ran out.
 pub fn seated<P: Planner, F: Fn(PlannerParts) -> Result<P, AllocError>>(
     alloc: Global,
     fleet: &Fleet,
@@ -121,9 +121,9 @@ pub fn seated<P: Planner, F: Fn(PlannerParts) -> Result<P, AllocError>>(
     Ok(row)
 }
 
-/// One planner for each of so many agents, and then the spare ones, all of the fleet's kind and on the grid, each with a
-/// claim of its own on one bank, and each made by `make`, whose error tells that memory is wanting. The error tells why
-/// one of them got no slots, or that memory is wanting.
+/// One planner for each of the given number of agents, and then the spare ones, all of the fleet's kind and on the grid, each with a
+/// claim of its own on one bank, and each made by `make`, which fails only when out of memory. The error tells why
+/// one of them got no slots, or that memory ran out.
 pub fn equip<P: Planner, F: Fn(PlannerParts) -> Result<P, AllocError>>(
     alloc: Global,
     fleet: &Fleet,

@@ -28,7 +28,7 @@ use wh_options::{Fleet, ReplayOptions};
 use wh_planner::Planner;
 use wh_points::Points;
 
-/// What is told of a log file that was not begun or not ended.
+/// The error of a log file that was not begun or not ended.
 pub fn keep_trouble(fault: KeepFault) -> Trouble
     ensures { result ≡ keep_trouble fault }
 {
@@ -65,8 +65,8 @@ fn run_trouble(fault: RunFault) -> Trouble
 }
 
 /// One planner for each of these numbers of slots, and then the spare ones, with the fleet's slots, all of the fleet's kind and
-/// on the grid, each with a claim of its own on one bank. The error tells why one of them got no slots, or that memory is
-/// wanting.
+/// on the grid, each with a claim of its own on one bank. The error tells why one of them got no slots, or that memory ran
+/// out.
 pub(crate) fn equip_for<P: Planner, F: Fn(PlannerParts) -> Result<P, AllocError>>(
     alloc: Global,
     fleet: &Fleet,
@@ -132,9 +132,9 @@ fn start_over<L: LogFile>(
     }
 }
 
-/// The line that is wanting in a log of so many entries, where entries are to be told again from one on that it does not come
-/// to. Two lines stand before the entries.
-fn wanting_line(again: Option<u32>, entries: u64) -> Option<u64>
+/// The line that is missing in a log of this many entries, where entries are to be told again from one that it does not
+/// have. Two lines stand before the entries.
+fn missing_line(again: Option<u32>, entries: u64) -> Option<u64>
     requires few { entries < 2 ^ 63 }
     ensures some { IfSome result (λ line. (line ≡ entries + 3) × ((first : ℕ) × (again ≡ Some first) × (entries < first))) }
     ensures none { IfNone result (IfSome again (λ first. first ≤ entries)) }
@@ -176,18 +176,18 @@ pub fn start_aside<L: LogFile, B: LogFile>(
         Ok(start) => start,
         Err(trouble) => return Err(trouble),
     };
-    match wanting_line(again, start.book.history().len() as u64) {
+    match missing_line(again, start.book.history().len() as u64) {
         Some(line) => Err(Trouble::Log { line }),
         None => Ok((start, found)),
     }
 }
 
 /// Reads a site, finds out from the log file and the file beside it what the run starts from, makes one planner for each
-/// agent, with the slots that its state tells, and then the spare ones, keeps the site's text beside the log, serves the script
-/// behind the site over the log, and writes what is to follow the replies. The first line written is `entries N`, the number
-/// of entries that the run has so far, and behind it those that are to be told again. What stands in the log outlives a kill,
-/// and no reply is told before its entry was synced. `make` makes one planner of its parts, and its error tells that memory is
-/// wanting. What can go wrong is told in this order: the site, the file beside the log, the log, the bank and the planners, what
+/// agent, with the slots that its state tells, and then the spare ones, keeps the site's text beside the log, serves the
+/// script after the site over the log, and writes what follows the replies. The first line written is `entries N`, the number
+/// of entries that the run has so far, followed by those that are to be told again. What is in the log survives a kill,
+/// and no reply is told before its entry was synced. `make` makes one planner of its parts, and fails only when out of
+/// memory. Errors are reported in this order: the site, the file beside the log, the log, the bank and the planners, what
 /// is written beside the log, the run, what follows the replies. Before the run starts nothing is told, and the log is as it was.
 pub fn serve_kept<
     R: Read,

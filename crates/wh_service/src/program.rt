@@ -21,7 +21,7 @@ use wh_log::Form;
 use wh_options::{Refusal, ReplayOptions, Replies, Tail};
 use wh_planner::Planner;
 use wh_points::Points;
-use wh_replay::{OpenFault, ReplayFault, Replayed, Warehouse, replay};
+use wh_replay::{OpenFault, ReplayFault, Replayed, Warehouse};
 
 /// What is told of a script that was not served to its end.
 fn trouble_of(fault: ReplayFault) -> Trouble
@@ -45,8 +45,7 @@ pub fn form_of(replies: Replies) -> Form
     }
 }
 
-/// Opens the warehouse at clock 0 with one planner for each agent, serves the script, and writes what is to follow the
-/// replies.
+/// Opens the warehouse at clock 0 with one planner for each agent, serves the script, and writes what follows the replies.
 pub fn play<R: Read, W: Write, P: Planner>(
     alloc: Global,
     lines: &mut Lines<R>,
@@ -71,7 +70,14 @@ pub fn play<R: Read, W: Write, P: Planner>(
         Err(OpenFault::NoMemory) => return Err(Trouble::NoMemory),
         Err(OpenFault::WrongCount | OpenFault::Foreign { .. }) => unreachable!(),
     };
-    let replayed = match replay(lines, alloc, form, output, &mut warehouse, &mut spares) {
+    let replayed = match wh_replay::replay(
+        lines,
+        alloc,
+        form,
+        output,
+        &mut warehouse,
+        &mut spares,
+    ) {
         Ok(replayed) => replayed,
         Err(fault) => return Err(trouble_of(fault)),
     };
@@ -82,11 +88,11 @@ pub fn play<R: Read, W: Write, P: Planner>(
 }
 
 /// Reads a site, makes one planner for each agent and then the spare ones, all of the fleet's kind and with their claims
-/// on one bank, serves the script behind the site, and writes what is to follow the replies: behind a line `%%` the log
-/// of the run or the rows of its ledger. `make` makes one planner of its parts, and its error tells that memory is
-/// wanting. What can go wrong is told in this order: the site, the bank and the planners, the script, what follows the
+/// on one bank, serves the script after the site, and writes what follows the replies: after a line `%%` the log
+/// of the run or the rows of its ledger. `make` makes one planner of its parts, and fails only when out of memory.
+/// Errors are reported in this order: the site, the bank and the planners, the script, what follows the
 /// replies.
-pub fn serve<R: Read, W: Write, P: Planner, F: Fn(PlannerParts) -> Result<P, AllocError>>(
+pub fn replay<R: Read, W: Write, P: Planner, F: Fn(PlannerParts) -> Result<P, AllocError>>(
     alloc: Global,
     lines: &mut Lines<R>,
     output: &mut W,
@@ -119,7 +125,7 @@ pub fn serve<R: Read, W: Write, P: Planner, F: Fn(PlannerParts) -> Result<P, All
     )
 }
 
-/// How the program ends where its words give no options, by whether their text was shown.
+/// How the program ends if its words give no options, by whether their text was shown.
 pub fn ended(refusal: Refusal, is_shown: bool) -> Result<Status, Trouble>
     ensures { result ≡ ended_by refusal is_shown }
 {

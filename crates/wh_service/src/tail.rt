@@ -56,7 +56,7 @@ fn write_both<W: Write>(output: &mut W, line: &[u8], text: &[u8]) -> Result<(), 
     }
 }
 
-/// Writes what follows the replies, and flushes the writer. Want of memory is told before any of it is written.
+/// Writes what follows the replies, and flushes the writer. Lack of memory is told before any of it is written.
 pub(crate) fn write_tail<W: Write, P: Planner>(
     alloc: Global,
     output: &mut W,

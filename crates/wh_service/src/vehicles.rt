@@ -90,7 +90,7 @@ fn play_late<R: Read, W: Write, P: Planner>(
     }
 }
 
-/// Serves a script as `serve` does, with vehicles that carry out the plan at their own pace. A points file without
+/// Serves a script as `replay` does, with vehicles that carry out the plan at their own pace. A points file without
 /// `rule nofollow` is refused, since vehicles might then stand still for ever. How many vehicles are on their way at the end.
 pub fn serve_late<R: Read, W: Write, P: Planner, F: Fn(PlannerParts) -> Result<P, AllocError>>(
     alloc: Global,

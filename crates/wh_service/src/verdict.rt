@@ -10,7 +10,7 @@ use std::io::{Read, Write};
 use std::thread::Threads;
 use wh_edge::{Site, Status, Trouble, read_site};
 use wh_event::{put, put_number};
-use wh_formed::{NoMemory, Verdict, check};
+use wh_formed::{NoMemory, Verdict};
 use wh_lines::Lines;
 use wh_points::Points;
 
@@ -38,7 +38,7 @@ pub fn text(points: &Points, verdict: Verdict) -> ArrayVec<u8, 64>
     line
 }
 
-/// How the program ends after a verdict: well only where the site is well-formed.
+/// How the program ends after a verdict: with success only if the site is well-formed.
 pub fn status(verdict: Verdict) -> Status
     ensures { result ≡ status_of verdict }
 {
@@ -50,7 +50,7 @@ pub fn status(verdict: Verdict) -> Status
 
 /// Reads a site, and writes in one line whether it is well-formed. What follows the points is not looked at. What can go
 /// wrong is told in this order: the site, want of memory for the check, the writer. Before the writer fails nothing is written.
-pub fn judge<R: Read, W: Write>(
+pub fn check<R: Read, W: Write>(
     rt: &(impl Threads + Sync),
     alloc: Global,
     lines: &mut Lines<R>,
@@ -60,7 +60,7 @@ pub fn judge<R: Read, W: Write>(
     ensures fault { IfErr result (λ told. IsWhyUnjudged told lines.old lines.new (W.contents output.old) (W.contents output.new)) }
 {
     let Site { grid, points } = read_site(lines, alloc)?;
-    let verdict = match check(rt, alloc, &grid, &points) {
+    let verdict = match wh_formed::check(rt, alloc, &grid, &points) {
         Ok(verdict) => verdict,
         Err(NoMemory) => return Err(Trouble::NoMemory),
     };

@@ -10,9 +10,9 @@ use std::alloc::Global;
 use std::io::{Read, Write};
 use wh_edge::{Site, Status, Trouble, read_site};
 use wh_event::{put, put_number};
+use wh_judge::Verified;
 use wh_lines::{Lines, SectionFault};
 use wh_log::NoMemory;
-use wh_verify::{Verified, verify};
 
 /// The most bytes of a log.
 const LOG_LIMIT: usize = 268_435_456;
@@ -58,9 +58,9 @@ fn status(verified: Verified) -> Status
 
 /// Reads a site and the section of a log, at most 268,435,456 bytes, and writes in one line `run N` where the log's N
 /// entries are a run over the site, and else `bad L` with the first line with which no such log begins. What follows the
-/// log's section is not looked at. What can go wrong is told in this order: the site, the section of the log, want of
+/// log's section is ignored. Errors are reported in this order: the site, the section of the log, lack of
 /// memory, the writer. Before the writer fails nothing is written.
-pub fn judge_log<R: Read, W: Write>(
+pub fn verify<R: Read, W: Write>(
     alloc: Global,
     lines: &mut Lines<R>,
     output: &mut W,
@@ -76,7 +76,7 @@ pub fn judge_log<R: Read, W: Write>(
         Ok(log) => log,
         Err(trouble) => return Err(trouble),
     };
-    let verified = match verify(alloc, &grid, &points, log.as_slice()) {
+    let verified = match wh_judge::verify(alloc, &grid, &points, log.as_slice()) {
         Ok(verified) => verified,
         Err(NoMemory) => return Err(Trouble::NoMemory),
     };

@@ -8,7 +8,7 @@ use std::io::Write;
 use wh_edge::Trouble;
 use wh_lines::write_all;
 
-/// Writes a text, and flushes the writer. The error tells that one of the two failed; of the text a front is then written.
+/// Writes a text, and flushes the writer. Fails if one of the two failed; a front of the text is then written.
 pub fn write_text<W: Write>(output: &mut W, text: &[u8]) -> Result<(), Trouble>
     ensures ok { OnOk result (Appends (W.contents output.old) (W.contents output.new) text.now) }
     ensures fault { IfErr result (λ told. told ≡ Trouble.Unwritten) }

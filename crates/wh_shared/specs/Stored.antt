@@ -1,5 +1,5 @@
 -- what a contract sees of the fields that planners share
-use Rattle.std.specs.Prelude.{◌≡◌, ℕ, ◌+◌, List, Bool, Contains, ◌==◌, ◌&&◌, Option, Some, None, min}
+use Rattle.std.specs.Prelude.{◌≡◌, ℕ, ◌+◌, List, Contains, Option, Some, None, min}
 use Rattle.wh_grid.specs.declared.cell.Cell.{Cell}
 use Rattle.wh_grid.specs.Grids.{Floor}
 use Rattle.wh_field.specs.Growing.{Growing}
@@ -11,10 +11,6 @@ IsFieldFrom g from field = (field.grid ≡ g) × (field.cell ≡ from)
 -- each field is the true one from its cell
 abbrev pub AreTrue : Floor → List (Cell × Growing) → Type 0
 AreTrue g fields = (e : Cell × Growing) → Contains fields e → IsFieldFrom g e.0 e.1
-
--- how cells are told apart
-abbrev pub same_cell : Cell → Cell → Bool
-same_cell a b = (a.x == b.x) && (a.y == b.y)
 
 -- a level so many steps beyond a distance, but no greater than a field's greatest, which it is where there is no distance
 abbrev pub level_beyond : Option ℕ → ℕ → ℕ

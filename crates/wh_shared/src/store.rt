@@ -28,10 +28,11 @@ impl SharedFields {
     ghost use Rattle.std.specs.Prelude.{[], IfOk, IfSome, IsSomeAnd, OnErr, length};
     ghost use Rattle.std.specs.Map.{lookup};
     ghost use Rattle.std.specs.Option.{option_copied};
-    ghost use Rattle.wh_shared.specs.Stored.{IsFieldFrom, same_cell};
+    ghost use Rattle.wh_grid.specs.Cells.{is_cell};
+    ghost use Rattle.wh_shared.specs.Stored.{IsFieldFrom};
     ghost use Rattle.wh_shared.specs.Shares.{HasAsked, stored, stored_grid, room};
 
-    /// No field yet, and room for so many. The error comes where memory is wanting.
+    /// No field yet, and room for the given number. Fails when out of memory.
     pub fn new(
         alloc: Global,
         grid: Arc<Grid, Global>,
@@ -45,9 +46,9 @@ impl SharedFields {
         Ok(SharedFields { grid, fields })
     }
 
-    /// Fills the field from a stop until it has met a cell, and some steps farther, and answers how far; all of it where no
-    /// walk leads there. It is then the last used one, filled no less than before; where there was none, the one that was
-    /// used longest ago makes room. The error comes where memory is wanting for a new field, and nothing has changed.
+    /// Fills the field from a stop until it has met a cell, and some steps farther, and returns how far; all of it where no
+    /// walk leads there. It is then the most recently used one, filled no less than before; where there was none, the least recently
+    /// used one makes room. Fails when out of memory for a new field, and nothing has changed.
     pub fn ask(
         &mut self,
         alloc: Global,
@@ -59,7 +60,7 @@ impl SharedFields {
         ensures grid { stored_grid self.new ≡ stored_grid self.old }
         ensures level { IfOk result (λ level. level ≡ level_beyond (distance (stored_grid self.old) stop cell) farther) }
         ensures asked { IfOk result (λ level. HasAsked self.old self.new stop level) }
-        ensures there { IfOk result (λ level. IsSomeAnd (lookup (same_cell stop) (stored self.new)) (λ f. level ≤ f.level)) }
+        ensures there { IfOk result (λ level. IsSomeAnd (lookup (is_cell stop) (stored self.new)) (λ f. level ≤ f.level)) }
         ensures err { OnErr result (stored self.new ≡ stored self.old) }
     {
         if let Some(field) = self.fields.get_mut(&stop) {
@@ -74,7 +75,7 @@ impl SharedFields {
     /// The field from a cell, where it is there.
     pub fn look(&self, from: Cell) -> Option<&GrowingField>
         ensures exact { IfSome result (λ f. IsFieldFrom (stored_grid self.now) from f.now) }
-        ensures found { option_copied result ≡ lookup (same_cell from) (stored self.now) }
+        ensures found { option_copied result ≡ lookup (is_cell from) (stored self.now) }
     {
         self.fields.peek(&from)
     }
@@ -96,7 +97,7 @@ impl SharedFields {
     }
 }
 
-/// Fills a field until it has met a cell, and some steps farther, and answers how far.
+/// Fills a field until it has met a cell, and some steps farther, and returns how far.
 fn extend(field: &mut GrowingField, cell: Cell, farther: u32) -> u32
     ensures grid { field.new.grid ≡ field.old.grid }
     ensures source { field.new.cell ≡ field.old.cell }
@@ -121,7 +122,7 @@ fn level_beyond(distance: Option<u32>, farther: u32) -> u32
     }
 }
 
-/// Room for as many fields as may take so many bytes, and no more than the planners have slots, but for those of one
+/// Room for as many fields as fit into the given number of bytes, and no more than the planners have slots, but for those of one
 /// task, eight, in any case. A field takes 8 bytes for each of its places.
 pub fn room_within(grid: &Grid, bytes: u64, slots: usize) -> NonZeroUsize
     ensures { non_zero_usize_get result ≡ max (min slots (bytes / (8 * places grid.now))) 8 }

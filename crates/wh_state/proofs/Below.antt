@@ -12,7 +12,7 @@ use Rattle.wh_tasks.specs.Tasks.{IsTask, visited, stops_left, load_for, phase_of
 use Rattle.wh_tasks.specs.Arrivals.{stops_here, visited_at, arrived_by, is_picked, is_dropped}
 use Rattle.wh_tasks.specs.Changes.{IsInTime}
 use Rattle.wh_tasks.specs.Loads.{task_of}
-use Rattle.wh_state.specs.Floors.{AreTied}
+use Rattle.wh_state.specs.Standings.{AreTied}
 
 -- the task after the arrivals of its agent, if that is below a number
 abbrev pub below : ℕ → ℕ → (ℕ → Cell) → Option ℕ → Task → Task

@@ -13,7 +13,7 @@ use Rattle.wh_tasks.specs.Tasks.{IsTask, visited, load_for}
 use Rattle.wh_tasks.specs.Arrivals.{visited_at, arrived_task, is_picked, is_dropped, picked, dropped}
 use Rattle.wh_tasks.specs.Loads.{task_of}
 use Rattle.wh_tasks.specs.Visiting.{Foretells}
-use Rattle.wh_state.specs.Floors.{AreTied}
+use Rattle.wh_state.specs.Standings.{AreTied}
 use Rattle.wh_state.specs.Arriving.{ForetellsBy}
 use Rattle.wh_state.proofs.Pointwise.{count-agree, count-none, bit}
 use Rattle.wh_state.proofs.Below.{arrived_below, below-none, below-all, picked-same, dropped-same, done-unless}

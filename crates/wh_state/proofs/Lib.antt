@@ -2,5 +2,5 @@ pub mod Pointwise
 pub mod Below
 pub mod Ties
 pub mod Steps
-pub mod FloorLemmas
+pub mod StandingLemmas
 pub mod Foretelling

@@ -18,7 +18,7 @@ use Rattle.wh_tasks.specs.Arrivals.{visited_at, arrived_by, arrived_task, arrive
 use Rattle.wh_tasks.specs.Changes.{changed_at, IsInTime}
 use Rattle.wh_tasks.specs.Loads.{task_of, Holds}
 use Rattle.wh_tasks.specs.Visiting.{Arrives}
-use Rattle.wh_state.specs.Floors.{AreTied}
+use Rattle.wh_state.specs.Standings.{AreTied}
 use Rattle.wh_state.specs.Arriving.{visited_by, ArrivesBy}
 use Rattle.wh_state.proofs.Pointwise.{map-agree, map-step, count-agree, count-step, count-none, bit}
 use Rattle.wh_state.proofs.Below.{arrived_below, below-none, below-other, below-before, below-after, below-all, picked-same, dropped-same, in_time-below, done-unless}

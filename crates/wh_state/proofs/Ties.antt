@@ -14,7 +14,7 @@ use Rattle.wh_tasks.specs.Tasks.{IsTask, IsOpen, visited, stops_left, load_for, 
 use Rattle.wh_tasks.specs.Arrivals.{arrived_by, arrived_task, arrived_tasks, arrived_load, load_of_task, stops_here}
 use Rattle.wh_tasks.specs.Changes.{fresh, assigned, IsInTime, IsOrderly}
 use Rattle.wh_tasks.specs.Loads.{task_of, Holds}
-use Rattle.wh_state.specs.Floors.{AreTied}
+use Rattle.wh_state.specs.Standings.{AreTied}
 use Rattle.wh_state.proofs.Below.{in_time-visited_at, task_of-load_for, load-left}
 
 -- a list with one element more

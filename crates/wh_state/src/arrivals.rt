@@ -7,7 +7,7 @@ ghost use Rattle.wh_tasks.specs.Arrivals.{arrived_tasks, arrived_load, picked, d
 ghost use Rattle.wh_tasks.specs.Changes.{IsInTime};
 ghost use Rattle.wh_tasks.specs.Loads.{task_of, Holds};
 ghost use Rattle.wh_state.specs.Arriving.{visited_by, ArrivesBy, ForetellsBy};
-ghost use Rattle.wh_state.specs.Floors.{AreTied};
+ghost use Rattle.wh_state.specs.Standings.{AreTied};
 
 use wh_grid::Cell;
 use wh_path::TimedPath;
@@ -20,8 +20,8 @@ pub struct Arrivals {
     pub dropped: u32,
 }
 
-/// Each agent that has a task visits its next stop, and the next after it, as long as it stands there. It goes over
-/// the agents alone, and takes no memory.
+/// Each agent that has a task visits its next stop, and the next after it, as long as it stands there. It visits only the
+/// agents, and takes no memory.
 pub fn arrive_all(
     clock: u32,
     paths: &[TimedPath],

@@ -26,7 +26,7 @@ const TWO: &[u8] = b"0 token 0 = rested\n0 tick = clock 1 picked 0 dropped 0\n";
 
 const THREE: &[u8] = b"0 token 0 = rested\n0 tick = clock 1 picked 0 dropped 0\n0 close = closed\n";
 
-/// A journal in memory that tells its contracts nothing. So many appends succeed; the next one writes five bytes and fails.
+/// A journal in memory that tells its contracts nothing. This many appends succeed; the next one writes five bytes and fails.
 #[derive(Drop)]
 struct Weak {
     held: Vec<u8>,
@@ -164,7 +164,7 @@ fn three<N: DeskName, S: JournalName, J: Journal + Drop, H: Wait + Drop, R: Wait
     [first, second, third]
 }
 
-/// The calls at a desk with so many cells.
+/// The calls at a desk with the given number of cells.
 fn called<J: Journal + Drop, R: Wait>(
     rt: &R,
     alloc: Global,

@@ -22,7 +22,7 @@ const POINTS: &[u8] =
 const SCRIPT: &str =
     "submit x A B\ntoken 0\ntick\ntick\nsubmit y D C\ntoken 1\ntick\ntick\ntick\ntick\ntick\ntick\ntick\ntoken 0\ntoken 1\nreplace 0\ntick\nclose\ntick\n";
 
-/// A journal in memory that tells its contracts nothing, as one in a file. So many bytes were synced.
+/// A journal in memory that tells its contracts nothing, as one in a file. It records how many bytes were synced.
 #[derive(Drop)]
 struct Shelf {
     held: Vec<u8>,
@@ -102,7 +102,7 @@ pub fn planners(alloc: Global, grid: &Arc<Grid>, slots: &[u32]) -> Result<Vec<Pa
     Ok(row)
 }
 
-/// The bytes behind so many line feeds.
+/// The bytes after the given number of line feeds.
 fn behind(text: &[u8], lines: usize) -> usize
     ensures { result ≤ length text.now }
 {

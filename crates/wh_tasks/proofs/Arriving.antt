@@ -8,7 +8,8 @@ use Rattle.wh_grid.specs.declared.cell.Cell.{Cell}
 use Rattle.wh_tasks.specs.declared.task.Task.{Task}
 use Rattle.wh_tasks.specs.declared.task.Phase.{Phase}
 use Rattle.wh_tasks.specs.Tasks.{visited, phase_of, carried_or_done}
-use Rattle.wh_tasks.specs.Arrivals.{is_cell, stops_here}
+use Rattle.wh_grid.specs.Cells.{is_cell}
+use Rattle.wh_tasks.specs.Arrivals.{stops_here}
 use Rattle.wh_tasks.specs.Changes.{changed_at, visited_once, IsUnderway, IsInTime}
 use Rattle.wh_tasks.specs.Visiting.{IsGoing, visited_times}
 use Rattle.wh_tasks.proofs.Edits.{slice_get-changed_at}
@@ -38,9 +39,6 @@ pub changed_at-agree : {X : Type 0} (xs : List X) (n : ℕ) (f g : X → X) (x :
 changed_at-agree [] n f g x is same = refl
 changed_at-agree (y ∷ ys) zero f g x is same = let one : y ≡ x = cc in ap (λ v. v ∷ ys) (ap f one ∙ same ∙ ap g (sym one))
 changed_at-agree (y ∷ ys) (suc n) f g x is same = ap (λ v. y ∷ v) (changed_at-agree ys n f g x is same)
-
-with_visits : Task → List ℕ → Task
-with_visits task visits = record task { visits = visits }
 
 pub times-none : (clock : ℕ) (task : Task) → visited_times 0 clock task ≡ task
 times-none clock task = ap (λ (v : List ℕ). record task { visits = v }) (append-nil task.visits)

@@ -10,11 +10,11 @@ use Rattle.std.proofs.lemmas.List.Sums.{sum_by-set, sum_by-remove}
 use Rattle.std.proofs.lemmas.List.Elements.{Contains-append_left, Contains-append_right, Contains-append_cases}
 use Rattle.wh_grid.proofs.Removed.{remove-slices}
 use Rattle.wh_grid.specs.declared.cell.Cell.{Cell}
-use Rattle.wh_tasks.specs.Arrivals.{is_cell}
+use Rattle.wh_grid.specs.Cells.{is_cell}
+use Rattle.wh_grid.proofs.Cells.{is_cell-same, is_cell-itself}
 use Rattle.wh_tasks.specs.CellCounts.{Tally, IsInside, IsRaised, count_of, times}
 use Rattle.wh_tasks.specs.Ends.{IsCounted}
-use Rattle.wh_tasks.proofs.Visiting.{is_cell-same}
-use Rattle.wh_tasks.proofs.Tallies.{is_cell-itself, times-few, times-some, contains-times, times-contains}
+use Rattle.wh_tasks.proofs.Tallies.{times-few, times-some, contains-times, times-contains}
 
 -- another end in place of one
 times-set : (cell : Cell) (cells : List Cell) (agent : ℕ) (own new : Cell) → agent < length cells → get_or cells agent own ≡ own →

@@ -157,15 +157,6 @@ first-kept tasks ends numbers i n f = record {
   none = f.none;
 }
 
--- at first no cell is sought
-pub sought-begin : (g : Floor) (tasks : List Task) (ends : List Cell) (sought : Cell → Bool) (numbers : List ℕ) → ((c : Cell) → IsTrue (sought c) → ⊥) → IsSoughtSoFar g tasks ends sought numbers 0 None 0
-sought-begin g tasks ends sought numbers none = record {
-  only = λ c e. absurd (none c e);
-  all = λ k other lt. absurd (omega arith);
-  earliest = λ k task lt. absurd (omega arith);
-  latest = λ k task lt. absurd (omega arith);
-}
-
 -- the next number is that of a task which may not be chosen
 pub sought-skip : (g : Floor) (tasks : List Task) (ends : List Cell) (sought : Cell → Bool) (i : ℕ) (task : Task) (first : Option ℕ) (last : ℕ) → IsTask tasks (get_or (open_from 0 tasks) i 0) task →
     (All (λ stop. ¬ Contains ends stop) task.stops → ⊥) → IsSoughtSoFar g tasks ends sought (open_from 0 tasks) i first last → IsSoughtSoFar g tasks ends sought (open_from 0 tasks) (i + 1) first last

@@ -8,17 +8,14 @@ use Rattle.wh_tasks.specs.declared.task.Task.{Task}
 use Rattle.wh_tasks.specs.declared.task.Phase.{Phase}
 use Rattle.wh_tasks.specs.declared.task.Counts.{Counts}
 use Rattle.wh_tasks.specs.Tasks.{IsOpen, IsTask, visited, phase, phase_of}
-use Rattle.wh_tasks.specs.Changes.{changed_at, fresh, assigned, visited_once, visit_of, counted_submit, counted_assign, counted_visit, CanCount, AreFew, IsUnderway, IsInTime, IsOrderly}
+use Rattle.wh_tasks.specs.Changes.{changed_at, fresh, assigned, visited_once, visit_of, counted_submit, counted_assign, counted_visit, CanCount, IsUnderway, IsInTime, IsOrderly}
 use Rattle.wh_tasks.specs.CellCounts.{Tally, IsRaised, times}
 use Rattle.wh_tasks.specs.Sets.{IsIndexed, open_from}
 use Rattle.wh_tasks.proofs.Edits.{length-changed_at, All-changed_at, length-snoc}
 use Rattle.wh_tasks.proofs.Numbers.{open_from-push, open_from-kept, open_from-assigned}
-use Rattle.wh_tasks.proofs.Counting.{Moves, count-moved, counts-few, counts-submitted, counts-assigned, counts-visited, passes-visited, underway-left}
+use Rattle.wh_tasks.proofs.Counting.{Moves, count-moved, counts-submitted, counts-assigned, counts-visited, passes-visited, underway-left}
 use Rattle.wh_tasks.proofs.Stopping.{stops-submitted, stops-assigned, stops-kept}
 use Rattle.wh_tasks.proofs.Orders.{orderly-fresh, orderly-assigned, orderly-visited}
-
-pub few-counts : (tasks : List Task) (numbers : List ℕ) (counts : Counts) (tally : Tally) → IsIndexed tasks numbers counts tally → AreFew counts
-few-counts tasks numbers counts tally is = rw is.counts_are (counts-few tasks is.few)
 
 pub indexed-submitted : (tasks : List Task) (numbers : List ℕ) (counts : Counts) (old new : Tally) (client : List ℕ) (stops : List Cell) (clock : ℕ) →
     IsIndexed tasks numbers counts old → IsRaised old new (λ cell. times cell stops) → 2 ≤ length stops → length stops ≤ 8 → length tasks < 1000000 →

@@ -8,24 +8,16 @@ use Rattle.std.proofs.lemmas.Bool.{cases_eq, cases_Bool}
 use Rattle.std.proofs.lemmas.List.{get_or-set_same, get_or-set_other}
 use Rattle.std.proofs.lemmas.List.Sums.{sum_by-cons, get_or-le-sum_by, count_by-le-length}
 use Rattle.wh_grid.specs.declared.cell.Cell.{Cell}
-use Rattle.wh_tasks.specs.Arrivals.{is_cell}
+use Rattle.wh_grid.specs.Cells.{is_cell}
+use Rattle.wh_grid.proofs.Cells.{same_cell, is_cell-same, is_cell-itself}
 use Rattle.wh_tasks.specs.CellCounts.{Tally, IsInside, IsRaised, count_of, times}
-use Rattle.wh_tasks.proofs.Visiting.{is_cell-same}
-
-same-cell : (c d : Cell) → c.x ≡ d.x → c.y ≡ d.y → c ≡ d
-same-cell c d e f =
-    let make : ℕ → ℕ → Cell = λ x y. record { x = x; y = y } in
-    ap (λ x. make x c.y) e ∙ ap (λ y. make d.x y) f
 
 -- two cells within the sides have one place only where they are one cell
 same-place : (width height : ℕ) (c d : Cell) → IsInside width height c → IsInside width height d → c.y * width + c.x ≡ d.y * width + d.x → c ≡ d
 same-place width height c d c_in d_in e =
     let x : c.x ≡ d.x = sym (mod-mul-add c.y width c.x c_in.in_width) ∙ ap (λ n. n % width) e ∙ mod-mul-add d.y width d.x d_in.in_width in
     let y : c.y ≡ d.y = sym (div-mul-add c.y width c.x c_in.in_width) ∙ ap (λ n. n / width) e ∙ div-mul-add d.y width d.x d_in.in_width in
-    same-cell c d x y
-
-pub is_cell-itself : (c : Cell) → is_cell c c ≡ true
-is_cell-itself c = grind arith
+    same_cell c d x y
 
 -- a count that is written: it is that of the cell itself, and every other is as before
 written : (old : Tally) (cell : Cell) (n : ℕ) (other : Cell) → IsInside old.width old.height cell → length old.counts ≡ old.width * old.height → IsInside old.width old.height other →

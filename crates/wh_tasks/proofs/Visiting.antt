@@ -5,10 +5,12 @@ use Rattle.std.proofs.Math.Seq.{drop-drop}
 use Rattle.std.proofs.lemmas.List.{length-replicate, length-drop}
 use Rattle.std.specs.Prelude.{replicate}
 use Rattle.wh_grid.specs.declared.cell.Cell.{Cell}
+use Rattle.wh_grid.specs.Cells.{is_cell}
+use Rattle.wh_grid.proofs.Cells.{is_cell-same}
 use Rattle.wh_path.specs.Paths.{cell_at}
 use Rattle.wh_tasks.specs.declared.task.Task.{Task}
 use Rattle.wh_tasks.specs.Tasks.{visited, stops_left}
-use Rattle.wh_tasks.specs.Arrivals.{is_cell, stops_here, visited_at, arrived_by, arrived_task}
+use Rattle.wh_tasks.specs.Arrivals.{stops_here, visited_at, arrived_by, arrived_task}
 
 pub option_cases : {X : Type 0} (o : Option X) → (o ≡ None) ⊎ ((x : X) × (o ≡ Some x))
 option_cases None = inl refl
@@ -17,9 +19,6 @@ option_cases (Some x) = inr (x, refl)
 pub bool_cases : (b : Bool) → (b ≡ true) ⊎ (b ≡ false)
 bool_cases true = inl refl
 bool_cases false = inr refl
-
-pub is_cell-same : (c d : Cell) → is_cell c d ≡ true → c ≡ d
-is_cell-same c d e = grind arith
 
 is_cell-other : (c d : Cell) → is_cell c d ≡ false → c ≢ d
 is_cell-other c d e = grind arith

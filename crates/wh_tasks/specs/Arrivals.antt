@@ -4,11 +4,8 @@ use Prim.Native.Nat.{suc}
 use Rattle.wh_grid.specs.declared.cell.Cell.{Cell}
 use Rattle.wh_tasks.specs.declared.task.Task.{Task}
 use Rattle.wh_tasks.specs.declared.task.Load.{Load}
+use Rattle.wh_grid.specs.Cells.{is_cell}
 use Rattle.wh_tasks.specs.Tasks.{visited, stops_left, load_for}
-
--- whether two cells are one
-abbrev pub is_cell : Cell → Cell → Bool
-is_cell c d = (c.x == d.x) && (c.y == d.y)
 
 -- how many of the stops, from the first on, are the cell where the agent is
 abbrev pub stops_here : Cell → List Cell → ℕ

@@ -1,7 +1,7 @@
 -- a count for each cell of a grid
 use Rattle.std.specs.Prelude.{◌≡◌, ℕ, ◌+◌, ◌*◌, ◌<◌, List, count_by, slice_index_or}
 use Rattle.wh_grid.specs.declared.cell.Cell.{Cell}
-use Rattle.wh_tasks.specs.Arrivals.{is_cell}
+use Rattle.wh_grid.specs.Cells.{is_cell}
 
 -- one count for each cell of a grid of these sides, row by row
 pub record Tally : Type 0 where

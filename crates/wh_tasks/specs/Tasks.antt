@@ -28,7 +28,7 @@ abbrev pub carried_or_done : Bool → Phase
 carried_or_done true = Phase.Carried
 carried_or_done false = Phase.Done
 
--- the phase of a task with this agent, of which so many stops were visited, out of so many
+-- the phase of a task with this agent, with this many of its stops visited
 abbrev pub phase_of : Option ℕ → ℕ → ℕ → Phase
 phase_of None seen stops = Phase.Open
 phase_of (Some agent) zero stops = Phase.Assigned

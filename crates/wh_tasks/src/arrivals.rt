@@ -43,7 +43,7 @@ pub fn arrive(tasks: &mut TaskSet, n: u32, clock: u32, here: Cell) -> Arrived
     }
 }
 
-/// Whether arrivals to come pick up a task, and whether they deliver it.
+/// Whether the next arrivals pick up a task, and whether they deliver it.
 #[derive(Clone, Copy, Debug, PartialEq, Eq)]
 pub struct Foretold {
     /// The first stop would be among those visited.
@@ -68,7 +68,7 @@ pub fn foretell(tasks: &TaskSet, n: u32, here: Cell) -> Foretold
     }
 }
 
-/// So many stops are visited one after another.
+/// This many stops are visited one after another.
 fn visit_times(tasks: &mut TaskSet, n: u32, clock: u32, count: usize)
     requires { (task : Job) × IsGoing tasks.old.tasks n count task × IsInTime clock task }
     ensures tasks { tasks.new.tasks ≡ changed_at n (visited_times count clock) tasks.old.tasks }

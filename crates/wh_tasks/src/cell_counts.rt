@@ -3,7 +3,7 @@
 
 ghost use Rattle.std.specs.Prelude.{◌≡◌, ◌+◌, ◌*◌, ◌<◌, ◌≤◌, length, cond, IfOk, IfNone, IfSome};
 ghost use Rattle.wh_grid.specs.declared.cell.Cell.{Cell as Place};
-ghost use Rattle.wh_tasks.specs.Arrivals.{is_cell};
+ghost use Rattle.wh_grid.specs.Cells.{is_cell};
 ghost use Rattle.wh_tasks.specs.CellCounts.{AreCounts, IsInside, IsRaised, count_of, times};
 
 use std::alloc::{AllocError, Global};
@@ -55,7 +55,7 @@ impl Model for CellCounts {
 }
 
 impl CellCounts {
-    /// No cell of a grid of these sides counts yet. The error comes where memory is wanting.
+    /// No cell of a grid of these sides counts yet. Fails when out of memory.
     pub(crate) fn none(alloc: Global, width: u16, height: u16) -> Result<CellCounts, AllocError>
         ensures sides { IfOk result (λ counts. (counts.width ≡ width) × (counts.height ≡ height)) }
         ensures zero { IfOk result (λ counts. AreCounts counts (λ cell. 0)) }

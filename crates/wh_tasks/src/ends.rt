@@ -30,7 +30,7 @@ impl Model for PathEnds {
 }
 
 impl PathEnds {
-    /// The ends of paths on a grid of these sides. The error comes where memory is wanting.
+    /// The ends of paths on a grid of these sides. Fails when out of memory.
     pub fn of(
         alloc: Global,
         width: u16,

@@ -27,7 +27,7 @@ impl Model for Places {
 }
 
 impl Places {
-    /// These cells, of which there are 2 to 8. It takes no memory.
+    /// These 2 to 8 cells. It takes no memory.
     pub fn of(cells: &[Cell]) -> Places
         requires two { 2 ≤ length cells.now }
         requires eight { length cells.now ≤ 8 }
@@ -137,7 +137,7 @@ pub enum Load {
     None,
     /// It is on its way to the first stop of a task.
     Fetching(u32),
-    /// It has visited so many stops of a task, and not yet the last.
+    /// It has visited this many stops of a task, and not yet the last.
     Carrying {
         /// The number of the task.
         task: u32,

@@ -50,7 +50,7 @@ struct Eligible {
 }
 
 impl TaskSet {
-    /// No task, on a grid of these sides. The error comes where memory is wanting.
+    /// No task, on a grid of these sides. Fails when out of memory.
     pub fn new(alloc: Global, width: u16, height: u16) -> Result<TaskSet, AllocError>
         ensures { IfOk result (λ set. set.tasks ≡ []) }
     {
@@ -63,7 +63,7 @@ impl TaskSet {
         })
     }
 
-    /// Makes room for one task. The error comes where memory is wanting, and only where there was no room.
+    /// Makes room for one task. Fails when out of memory, and only where there was no room.
     pub fn reserve(&mut self, _alloc: Global) -> Result<(), AllocError>
         ensures tasks { self.new.tasks ≡ self.old.tasks }
         ensures kept { self.old.room ≤ self.new.room }
@@ -180,7 +180,7 @@ impl TaskSet {
         self.counts
     }
 
-    /// Adds an open task, and answers its number. It takes no memory.
+    /// Adds an open task, and returns its number. It takes no memory.
     pub fn submit(&mut self, client: Name, stops: Places, clock: u32) -> u32
         requires room { 1 ≤ self.old.room }
         requires few { length self.old.tasks < 1000000 }
@@ -212,9 +212,9 @@ impl TaskSet {
         }
     }
 
-    /// The task that may be chosen whose first stop is nearest; of several the first. Where just one may be chosen the field
-    /// is not asked. Else it goes twice over the open tasks: the first stops of those that may be chosen are sought, and of
-    /// those as near as the nearest of them the first is taken. The field is not asked for what lies farther.
+    /// The task that may be chosen whose first stop is nearest; the first of several. If just one may be chosen the field
+    /// is not used. Else it passes twice over the open tasks: first it seeks the first stops of those that may be chosen,
+    /// then it takes the first of those as near as the nearest. The field is not filled any farther.
     pub fn nearest<F: Distances>(&self, field: &mut F, ends: &EndSet) -> Option<u32>
         ensures none { IfNone result (NoneEligible self.now.tasks ends.now) }
         ensures nearest { IfSome result (λ n. (task : Job) × IsNearest (F.grid field.old) self.now.tasks ends.now (F.source field.old) n task) }
@@ -234,7 +234,7 @@ impl TaskSet {
         }
     }
 
-    /// From now on the field seeks the first stops of the tasks that may be chosen, and no other cell. Answers between which
+    /// From now on the field seeks the first stops of the tasks that may be chosen, and no other cell. Returns between which
     /// numbers these tasks are.
     fn seek<F: Distances>(&self, field: &mut F, ends: &EndSet) -> Eligible
         ensures none { IfNone result.first (NoneEligible self.now.tasks ends.now) }

@@ -1,5 +1,5 @@
 -- what stays tell of paths stays true
-use Rattle.std.proofs.Common.{◌≡◌, ◌≢◌, refl, ℕ, ◌+◌, ◌-◌, ◌^◌, ◌<◌, ◌≤◌, inl, inr, ◌∙◌, List, [], ◌∷◌, ◌++◌, length, map, min, set, get_or, sym, ap, subst, arith, get_or-set_same, get_or-set_other}
+use Rattle.std.proofs.Common.{◌≡◌, ◌≢◌, refl, ℕ, ◌+◌, ◌-◌, ◌<◌, ◌≤◌, inl, inr, ◌∙◌, List, [], ◌∷◌, ◌++◌, length, map, min, set, get_or, sym, ap, subst, arith, get_or-set_same, get_or-set_other}
 use Rattle.std.proofs.lemmas.Bool.{cases_lt, cases_eq}
 use Rattle.std.proofs.lemmas.List.{get_or-map, length-map, length-set, length_push, get_or_push, get_or_append_left}
 use Rattle.wh_grid.specs.declared.cell.Cell.{Cell}
@@ -25,7 +25,7 @@ told_same clock places new same paths told = record {
   );
 }
 
-pub told_nothing : (clock : ℕ) (places : List (List Stay)) → clock ≤ 2 ^ 62 → ((p : ℕ) → get_or places p [] ≡ []) → IsTold (record { clock = clock; places = places }) []
+pub told_nothing : (clock : ℕ) (places : List (List Stay)) → clock < endless → ((p : ℕ) → get_or places p [] ≡ []) → IsTold (record { clock = clock; places = places }) []
 told_nothing clock places early none = record {
   early = early;
   short = λ i h. absurd (omega arith);
@@ -35,21 +35,21 @@ told_nothing clock places early none = record {
   );
 }
 
-last_advanced : (p : List Cell) → last_index (advanced p) ≤ last_index p
-last_advanced [] = omega arith
-last_advanced (only ∷ []) = omega arith
+last_advanced : (p : List Cell) → last_index (advanced p) ≡ last_index p - 1
+last_advanced [] = refl
+last_advanced (only ∷ []) = refl
 last_advanced (first ∷ next ∷ rest) = omega arith
 
 -- one step of time
-pub told_later : (clock : ℕ) (places : List (List Stay)) (paths : List (List Cell)) → clock < 2 ^ 62 → IsTold (record { clock = clock; places = places }) paths → IsTold (record { clock = clock + 1; places = places }) (map advanced paths)
+pub told_later : (clock : ℕ) (places : List (List Stay)) (paths : List (List Cell)) → clock + 1 < endless → IsTold (record { clock = clock; places = places }) paths → IsTold (record { clock = clock + 1; places = places }) (map advanced paths)
 told_later clock places paths early told =
     let all = map advanced paths in
     let known : (i : ℕ) → i < length all → i < length paths = λ i h. rw length-map at h in
     let each : (i : ℕ) → i < length paths → path_of all i ≡ advanced (path_of paths i) = λ i h. get_or-map advanced paths i [] [] h in
     record {
-      early = omega arith;
+      early = early;
       short = λ i h. let b = known i h in
-          subst (λ (p : List Cell). last_index p < 2 ^ 61) (sym (each i b)) (omega (arith, told.short i b, last_advanced (path_of paths i)));
+          subst (λ (p : List Cell). clock + 1 + last_index p < endless) (sym (each i b)) (omega (arith, told.short i b, last_advanced (path_of paths i)));
       exact = λ i c t late soon.
           let k = t - (clock + 1) in
           let x = told.exact i c t (omega arith) soon in
@@ -62,7 +62,7 @@ told_later clock places paths early told =
     }
 
 module _ (clock : ℕ) (paths : List (List Cell)) (places : List (List Stay)) (told : IsTold (record { clock = clock; places = places }) paths)
-    (agent : ℕ) (path : List Cell) (short : last_index path < 2 ^ 61) where
+    (agent : ℕ) (path : List Cell) (short : clock + last_index path < endless) where
   pub told_added : agent ≡ length paths → (new : List (List Stay)) → IsNoted path agent clock endless places new → IsTold (record { clock = clock; places = new }) (paths ++ path ∷ [])
   told_added e new noted =
       let all = paths ++ path ∷ [] in
@@ -72,8 +72,8 @@ module _ (clock : ℕ) (paths : List (List Cell)) (places : List (List Stay)) (t
       record {
         early = told.early;
         short = λ i h. elim (cases_lt i (length paths)) [
-          | inl b ↦ subst (λ (p : List Cell). last_index p < 2 ^ 61) (sym (old i b)) (told.short i b)
-          | inr b ↦ subst (λ (p : List Cell). last_index p < 2 ^ 61) (sym (own i (omega arith))) short
+          | inl b ↦ subst (λ (p : List Cell). clock + last_index p < endless) (sym (old i b)) (told.short i b)
+          | inr b ↦ subst (λ (p : List Cell). clock + last_index p < endless) (sym (own i (omega arith))) short
         ];
         exact = λ i c t late soon.
             let n = noted i c t late in
@@ -116,8 +116,8 @@ module _ (clock : ℕ) (paths : List (List Cell)) (places : List (List Stay)) (t
         record {
           early = told.early;
           short = λ i h. elim (cases_eq i agent) [
-            | inl e ↦ subst (λ (p : List Cell). last_index p < 2 ^ 61) (sym (own i e)) short
-            | inr ne ↦ subst (λ (p : List Cell). last_index p < 2 ^ 61) (sym (old i ne)) (told.short i (omega arith))
+            | inl e ↦ subst (λ (p : List Cell). clock + last_index p < endless) (sym (own i e)) short
+            | inr ne ↦ subst (λ (p : List Cell). clock + last_index p < endless) (sym (old i ne)) (told.short i (omega arith))
           ];
           exact = λ i c t late soon.
               let n = noted i c t late in

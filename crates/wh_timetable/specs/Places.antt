@@ -13,7 +13,7 @@ number_of c = c.x + c.y * 65536
 unfoldable pub start_of : Cell → ℕ
 start_of c = number_of c * 1540483477 % 2 ^ 32 / 2 ^ 15
 
--- the place of the cell among so many
+-- the place of the cell among n
 abbrev pub place : ℕ → Cell → ℕ
 place size c = bit_and (start_of c) (size - 1)
 

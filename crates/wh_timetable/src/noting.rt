@@ -8,11 +8,11 @@ use crate::place_stays::PlaceStays;
 use crate::places::{leave_all, note_all};
 use wh_path::TimedPath;
 
-/// Adds the stays of one more agent, that goes by a path from now on, and answers whether there was room for them and its
-/// number has no more than 32 bits. It takes no memory.
+/// Adds the stays of one more agent, that goes by a path from now on, and answers whether there was room for them, and its
+/// number and their times fit. It takes no memory.
 pub fn add_agent(
     places: &mut [PlaceStays],
-    clock: u64,
+    clock: u32,
     paths: &[TimedPath],
     path: &TimedPath,
 ) -> bool
@@ -23,14 +23,13 @@ pub fn add_agent(
     let Ok(agent) = u32::try_from(paths.len()) else {
         return false;
     };
-    let _short = path.remaining();
     note_all(places, path.cells(), agent, clock)
 }
 
-/// Puts the stays of another path of an agent in the place of those of its path, and answers as `add_agent` does.
+/// Puts the stays of another path of an agent in the place of those of its path, and returns what `add_agent` returns.
 pub fn change_agent(
     places: &mut [PlaceStays],
-    clock: u64,
+    clock: u32,
     paths: &[TimedPath],
     agent: usize,
     path: &TimedPath,
@@ -43,7 +42,6 @@ pub fn change_agent(
     let Ok(number) = u32::try_from(agent) else {
         return false;
     };
-    let _short = path.remaining();
     leave_all(places, paths[agent].cells(), number, clock);
     note_all(places, path.cells(), number, clock)
 }

@@ -11,7 +11,7 @@ use crate::stay::Stay;
 use std::alloc::{AllocError, Global};
 use std::marker::Model;
 
-/// The stays at the cells of one place, and how many more of them are wanted at the moment.
+/// The stays at the cells of one place, and for how many more of them room is still to be made.
 #[derive(Drop)]
 pub struct PlaceStays {
     list: Vec<Stay>,
@@ -28,14 +28,14 @@ impl Model for PlaceStays {
 }
 
 /// Drops the stays that are over.
-fn keep_later(list: &mut Vec<Stay>, now: u64)
+fn keep_later(list: &mut Vec<Stay>, now: u32)
     ensures { list.new.items ≡ filter (λ (s : Visit). nat_lt now s.until) list.old.items }
 {
     list.retain(|s| now < s.until);
 }
 
 /// Drops the stays that are over, and those of an agent.
-fn keep_others(list: &mut Vec<Stay>, agent: u32, now: u64)
+fn keep_others(list: &mut Vec<Stay>, agent: u32, now: u32)
     ensures { list.new.items ≡ filter (λ (s : Visit). not (nat_eq s.agent agent) && nat_lt now s.until) list.old.items }
 {
     list.retain(|s| s.agent != agent && now < s.until);
@@ -49,6 +49,18 @@ fn give_back(list: &mut Vec<Stay>)
     if list.capacity() > 16 && list.capacity() / 8 >= needed {
         list.shrink_to(needed);
     }
+}
+
+/// Makes room for so many more at once. Where they are few it is room for four and a quarter of those that are there, so
+/// that all seldom move.
+fn grow(list: &mut Vec<Stay>, wanted: usize) -> Result<(), AllocError>
+    ensures { list.new.items ≡ list.old.items }
+{
+    let count = list.len();
+    if list.capacity().saturating_sub(count) >= wanted {
+        return Ok(());
+    }
+    list.reserve_exact(wanted.max(4 + count / 4))
 }
 
 /// Whether one stay is over just where another one of the same agent at the same cell begins.
@@ -89,34 +101,42 @@ impl PlaceStays {
         self.list.clear();
     }
 
-    /// Drops the stays that are over. No more of them are wanted yet.
-    pub fn sweep(&mut self, now: u64)
+    /// Drops the stays that are over.
+    fn sweep(&mut self, now: u32)
         ensures { (i : ℕ) (c : Cell) (t : ℕ) → now ≤ t → IsThere self.new i c t ↔ IsThere self.old i c t }
     {
         keep_later(&mut self.list, now);
         give_back(&mut self.list);
-        self.wanted = 0;
     }
 
-    /// One more of them is wanted: makes room for as many. The error comes where memory is wanting.
-    pub fn want_one(&mut self) -> Result<(), AllocError>
+    /// Room for one more of them is wanted. Where it is the first one, the stays that are over are dropped.
+    pub fn want_one(&mut self, now: u32)
+        ensures { (i : ℕ) (c : Cell) (t : ℕ) → now ≤ t → IsThere self.new i c t ↔ IsThere self.old i c t }
+    {
+        if self.wanted == 0 {
+            self.sweep(now);
+        }
+        self.wanted = self.wanted.saturating_add(1);
+    }
+
+    /// Makes room for as many as are wanted; then no more are. The error comes where memory is wanting.
+    pub fn make_room(&mut self) -> Result<(), AllocError>
         ensures { self.new ≡ self.old }
     {
-        let wanted = self.wanted.saturating_add(1);
-        self.list.reserve(wanted)?;
-        self.wanted = wanted;
-        Ok(())
+        let wanted = self.wanted;
+        self.wanted = 0;
+        grow(&mut self.list, wanted)
     }
 
     /// Drops the stays of an agent, and those that are over.
-    pub fn leave(&mut self, agent: u32, now: u64)
+    pub fn leave(&mut self, agent: u32, now: u32)
         ensures others { (i : ℕ) (c : Cell) (t : ℕ) → now ≤ t → i ≢ agent → IsThere self.new i c t ↔ IsThere self.old i c t }
         ensures gone { (c : Cell) (t : ℕ) → IsThere self.new agent c t → ⊥ }
     {
         keep_others(&mut self.list, agent, now);
     }
 
-    /// Adds a stay, and answers whether there was room for it. Where it goes on from the last one, that one gets longer.
+    /// Adds a stay, and returns whether there was room for it. Where it goes on from the last one, that one gets longer.
     pub fn put(&mut self, stay: Stay) -> bool
         requires { stay.from < stay.until }
         ensures { IsTrue result → (i : ℕ) (c : Cell) (t : ℕ) → IsThere self.new i c t ↔ (IsThere self.old i c t ⊎ IsBy stay i c t) }

@@ -3,7 +3,7 @@
 
 ghost use Rattle.std.specs.Prelude.{◌≡◌, ◌≢◌, ℕ, ◌+◌, ◌<◌, ◌≤◌, ◌↔◌, ◌⊎◌, IsTrue, length};
 ghost use Rattle.wh_grid.specs.declared.cell.Cell.{Cell as Spot};
-ghost use Rattle.wh_path.specs.Paths.{cell_at};
+ghost use Rattle.wh_path.specs.Paths.{cell_at, last_index};
 ghost use Rattle.wh_timetable.specs.Stays.{IsBy, IsThere, endless};
 ghost use Rattle.wh_timetable.specs.Places.{stays_for, AreSame, IsLeft, IsNoted};
 
@@ -14,7 +14,7 @@ use std::alloc::AllocError;
 use wh_grid::Cell;
 
 /// Drops the stays of an agent at the place of a cell, and those there that are over.
-fn leave_at(places: &mut [PlaceStays], cell: Cell, agent: u32, now: u64)
+fn leave_at(places: &mut [PlaceStays], cell: Cell, agent: u32, now: u32)
     requires { 0 < length places.old }
     ensures left { IsLeft agent now places.old places.new }
     ensures gone { (t : ℕ) → IsThere (stays_for places.new cell) agent cell t → ⊥ }
@@ -25,7 +25,7 @@ fn leave_at(places: &mut [PlaceStays], cell: Cell, agent: u32, now: u64)
 }
 
 /// Drops the stays of an agent at each cell of a path.
-pub fn leave_all(places: &mut [PlaceStays], cells: &[Cell], agent: u32, now: u64)
+pub fn leave_all(places: &mut [PlaceStays], cells: &[Cell], agent: u32, now: u32)
     requires { 0 < length places.old }
     ensures left { IsLeft agent now places.old places.new }
     ensures gone { (k t : ℕ) → k < length cells.now → now ≤ t → IsThere (stays_for places.new (cell_at cells.now k)) agent (cell_at cells.now k) t → ⊥ }
@@ -47,16 +47,19 @@ fn put_at(places: &mut [PlaceStays], stay: Stay) -> bool
 }
 
 /// Adds the stays of an agent that goes by a path from now on: at its cells in turn, and at the last one for ever. It
-/// answers whether there was room for all of them, and takes no memory.
-pub fn note_all(places: &mut [PlaceStays], cells: &[Cell], agent: u32, now: u64) -> bool
+/// answers whether their times fit and there was room for all of them, and takes no memory.
+pub fn note_all(places: &mut [PlaceStays], cells: &[Cell], agent: u32, now: u32) -> bool
     requires some { 0 < length places.old }
     requires path { 1 ≤ length cells.now }
-    requires early { now + length cells.now < endless }
-    ensures { IsTrue result → IsNoted cells.now agent now endless places.old places.new }
+    ensures noted { IsTrue result → IsNoted cells.now agent now endless places.old places.new }
+    ensures short { IsTrue result → now + last_index cells.now < endless }
 {
     let last = cells.len() - 1;
+    if last >= (u32::MAX - now) as usize {
+        return false;
+    }
     for k in 0..last {
-        let from = now + k as u64;
+        let from = now + k as u32;
         let until = from + 1;
         let cell = cells[k];
         if !put_at(
@@ -71,7 +74,7 @@ pub fn note_all(places: &mut [PlaceStays], cells: &[Cell], agent: u32, now: u64)
             return false;
         }
     }
-    let from = now + last as u64;
+    let from = now + last as u32;
     let cell = cells[last];
     put_at(
         places,
@@ -79,50 +82,60 @@ pub fn note_all(places: &mut [PlaceStays], cells: &[Cell], agent: u32, now: u64)
             cell,
             agent,
             from,
-            until: u64::MAX,
+            until: u32::MAX,
         },
     )
 }
 
-/// Drops the stays that are over at the place of a cell.
-fn sweep_at(places: &mut [PlaceStays], cell: Cell, now: u64)
+/// Room for one more stay is wanted at the place of a cell. Where it is the first one, those that are over are dropped.
+fn want_at(places: &mut [PlaceStays], cell: Cell, now: u32)
     requires { 0 < length places.old }
     ensures { AreSame now places.old places.new }
 {
     let at = place_of(places.len(), cell);
     let stays = &mut places[at];
-    stays.sweep(now);
+    stays.want_one(now);
 }
 
-/// One more stay is wanted at the place of a cell. The error comes where memory is wanting.
-fn want_at(places: &mut [PlaceStays], cell: Cell) -> Result<(), AllocError>
+/// Makes the room that is wanted at the place of a cell, and answers whether there was memory for it.
+fn grow_at(places: &mut [PlaceStays], cell: Cell) -> bool
     requires { 0 < length places.old }
     ensures { places.new ≡ places.old }
 {
     let at = place_of(places.len(), cell);
     let stays = &mut places[at];
-    stays.want_one()
+    stays.make_room().is_ok()
 }
 
-/// Drops the stays that are over at each cell of a path.
-fn sweep_all(places: &mut [PlaceStays], cells: &[Cell], now: u64)
+/// Whether a path comes to a cell then, and does not wait there.
+fn is_visit(cells: &[Cell], k: usize) -> bool
+    requires { k < length cells.now }
+{
+    k == 0 || !cells[k].is(cells[k - 1])
+}
+
+/// Wants room for each stay of a path, one where it comes to a cell.
+fn want_all(places: &mut [PlaceStays], cells: &[Cell], now: u32)
     requires { 0 < length places.old }
     ensures { AreSame now places.old places.new }
 {
-    for cell in cells {
-        sweep_at(places, *cell, now);
+    for k in 0..cells.len() {
+        if is_visit(cells, k) {
+            want_at(places, cells[k], now);
+        }
     }
 }
 
-/// Makes room for a stay for each time that a path is at a cell. Stays that are over are dropped there. The error comes
-/// where memory is wanting.
-pub fn make_room(places: &mut [PlaceStays], cells: &[Cell], now: u64) -> Result<(), AllocError>
+/// Makes room for the stays of a path, at each place once for all of them. Stays that are over are dropped there. The error
+/// comes where memory is wanting; each place is gone to nevertheless, so that none wants room any more.
+pub fn make_room(places: &mut [PlaceStays], cells: &[Cell], now: u32) -> Result<(), AllocError>
     requires { 0 < length places.old }
     ensures { AreSame now places.old places.new }
 {
-    sweep_all(places, cells, now);
+    want_all(places, cells, now);
+    let mut is_room = true;
     for cell in cells {
-        want_at(places, *cell)?;
+        is_room = grow_at(places, *cell) && is_room;
     }
-    Ok(())
+    if is_room { Ok(()) } else { Err(AllocError) }
 }

@@ -21,7 +21,7 @@ fn start_of(cell: Cell) -> usize
     (number_of(cell).wrapping_mul(1_540_483_477) >> 15) as usize
 }
 
-/// The place of a cell among so many. It is a good spread where they are a power of two.
+/// The place of a cell among the given number. It is a good spread where they are a power of two.
 pub fn place_of(size: usize, cell: Cell) -> usize
     requires { 0 < size }
     ensures value { result ≡ place size cell }

@@ -15,7 +15,7 @@ use Rattle.wh_tasks.specs.Choice.{NoneEligible}
 use Rattle.wh_points.specs.Points.{Site}
 use Rattle.wh_core.specs.States.{State, arrived, moved}
 use Rattle.wh_state.proofs.Ties.{mapped-from}
-use Rattle.wh_state.proofs.FloorLemmas.{ends-advanced}
+use Rattle.wh_state.proofs.StandingLemmas.{ends-advanced}
 use Rattle.wh_core.specs.Steps.{Answers, IsDue, NoneIsNext, last_clock}
 use Rattle.wh_event.specs.declared.event.Event.{Event}
 use Rattle.wh_event.specs.declared.event.Spare.{Spare}

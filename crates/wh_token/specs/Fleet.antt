@@ -9,7 +9,7 @@ use Rattle.wh_event.specs.declared.event.Event.{Event}
 use Rattle.wh_event.specs.declared.event.Command.{Command}
 use Rattle.wh_event.specs.declared.reply.Reply.{Reply}
 
--- Each planner plans on the map, and has the slots that the state tells. Fits and count say what a planner answers.
+-- Each planner plans on the map, and has the slots that the state tells. Fits and count say what a planner returns.
 pub record IsTied {X : Type 0} (fits : X → Floor → Bool) (count : X → ℕ) (grid : Floor) (planners : List X) (slots : List ℕ) : Type 0 where
   pub seats : length planners ≡ length slots
   pub fit : (k : ℕ) (planner : X) → slice_get planners k ≡ Some planner → fits planner grid ≡ true

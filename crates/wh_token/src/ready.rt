@@ -15,7 +15,7 @@ pub struct Ran {
     pub starved: u64,
 }
 
-/// A growth was refused.
+/// An allocation failed.
 #[derive(Clone, Copy, Debug, PartialEq, Eq)]
 pub struct NoMemory;
 

@@ -34,6 +34,7 @@ use std::marker::Model;
 use std::mem;
 use std::sync::Arc;
 use wh_book::{Book, Draft, Setting};
+use wh_core::LAST_CLOCK;
 use wh_event::{Command, Entry, Event, Refusal, Reply, Spare};
 use wh_field::LazyField;
 use wh_grid::{Cell, Grid};
@@ -221,7 +222,7 @@ impl<P: Planner> Warehouse<P> {
         self.book.tasks().task(n)
     }
 
-    /// What the tasks of each client have come to, in one pass over the tasks. The error is out of memory.
+    /// What the tasks of each client have come to, in one pass over the tasks. Fails when out of memory.
     pub fn ledger(&self, alloc: Global) -> Result<DeliveryLedger, AllocError>
         ensures { IfOk result (λ ledger. ledger ≡ rows_of self.now.book.state.tasks) }
     {
@@ -229,7 +230,7 @@ impl<P: Planner> Warehouse<P> {
     }
 
     /// All entries so far: a run from the opening state to the state. On a well-formed instance none of them is a refusal
-    /// for want of a path.
+    /// for lack of a path.
     pub fn history(&self) -> &[Entry]
         ensures value { result.now ≡ self.now.book.history }
         ensures opening { IsOpening self.now.book.site self.now.book.opening }
@@ -502,8 +503,8 @@ impl<P: Planner> Warehouse<P> {
         Ok((draft, told))
     }
 
-    /// Plans and makes every growth; the state and the history stay. What was prepared before, and is neither committed nor
-    /// withdrawn, may be committed still.
+    /// Plans and does every allocation; the state and the history stay. What was prepared before, and neither committed nor
+    /// withdrawn, may still be committed.
     pub fn prepare(
         &mut self,
         alloc: Global,
@@ -617,7 +618,7 @@ impl<P: Planner> Warehouse<P> {
     fn may_tick(&self) -> bool
         ensures { IsTrue result → (self.now.book.state.closed ≡ false) × (self.now.book.state.clock < last_clock) }
     {
-        !self.book.closed() && self.book.clock() < 1_000_000_000
+        !self.book.closed() && self.book.clock() < LAST_CLOCK
     }
 
     /// One step of time at once: whether there was memory for the entry.
@@ -736,7 +737,7 @@ impl<P: Planner> Warehouse<P> {
     }
 }
 
-/// Puts the spare in the agent's place, and answers the box that is left over.
+/// Puts the spare in the agent's place, and returns the box that is left over.
 fn swap<P>(planners: &mut Vec<P>, replaced: Option<u32>, spare: Option<P>) -> Option<P>
     requires { IsSeated replaced planners.old.items }
     ensures swaps { Swaps replaced planners.old.items spare planners.new.items result }

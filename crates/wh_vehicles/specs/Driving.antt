@@ -21,7 +21,7 @@ pub record HasArrived (old : Drive) (agent step : ℕ) (new : Drive) : Type 0 wh
   pub run : Run old events new
   pub reached_is : reached new agent ≡ max (reached old agent) step
 
--- What a report is answered, and where it leads: of an agent that is unknown or a step that was not told nothing changes;
+-- The reply to a report, and where it leads: of an agent that is unknown or a step that was not told nothing changes;
 -- of a step that was told the vehicle has arrived there, and so at each step before.
 abbrev pub AnswersReport : Drive → Report → Notice → Drive → Type 0
 AnswersReport old r (UnknownAgent agent) new = (agent ≡ r.agent) × (length old.vehicles ≤ r.agent) × (new ≡ old)
@@ -33,7 +33,7 @@ AnswersReport old r (Visited agent task visit) new = ⊥
 AnswersReport old r (Go agent step cell) new = ⊥
 AnswersReport old r (Behind agent steps) new = ⊥
 
--- The vehicle of whom none is further behind is so many steps behind, and that is the bound or more.
+-- The vehicle furthest behind is this many steps behind, which is at least the bound.
 abbrev pub TellsLate : Order → ℕ → Notice → Type 0
 TellsLate o bound (Behind agent steps) = IsFurthestBack o.vehicles agent × (steps ≡ o.clock - reached_of o.vehicles agent) × (bound ≤ steps)
 TellsLate o bound (UnknownAgent agent) = ⊥

@@ -10,7 +10,7 @@ use crate::notice::Notice;
 use crate::report::Report;
 use wh_order::{Told, VisitOrder};
 
-/// What a report is answered. Of a step that was told the vehicle has arrived there, and so at each step before: a report
+/// The reply to a report. Of a step that was told the vehicle has arrived there, and so at each step before: a report
 /// that is repeated or late changes nothing, and one of a later step implies those that are due before.
 pub fn answer_report(order: &mut VisitOrder, report: Report) -> Notice
     ensures { (d : Drive) → Represents order.old d → (e : Drive) × AnswersReport d report result e × Represents order.new e }

@@ -16,7 +16,7 @@ pub enum Notice {
     Visited { agent: u32, task: u32, visit: u32 },
     /// The vehicle is to go to the step, at this cell.
     Go { agent: u32, step: u64, cell: Cell },
-    /// V1: the clock does not go on, since the vehicle is so many steps behind.
+    /// V1: the clock does not go on, since the vehicle is this many steps behind.
     Behind { agent: u32, steps: u64 },
     /// V2: there is no agent of this number.
     UnknownAgent { agent: u32 },

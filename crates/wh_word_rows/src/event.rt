@@ -128,7 +128,7 @@ fn name(word: &[u8]) -> Name {
     Name::read(word).unwrap_or_default()
 }
 
-/// A path of so many steps.
+/// A path of the given number of steps.
 fn path(alloc: Global, steps: u64) -> Result<TimedPath, AllocError> {
     let mut path = TimedPath::one(alloc, Default::default())?;
     for _ in 0..steps {

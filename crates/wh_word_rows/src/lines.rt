@@ -134,12 +134,12 @@ fn a_section_has_no_more_bytes_than_the_limit(rt: HostRuntime) {
     }
 }
 
-/// The fault of the next section of so many bytes, if it has one.
+/// The fault of the next section of at most this many bytes, if it has one.
 fn fault_of<R: Read>(alloc: Global, lines: &mut Lines<R>, limit: usize) -> Option<SectionFault> {
     lines.section(alloc, limit).err()
 }
 
-/// Whether a section that is too long is told, and that nothing more is read behind it.
+/// Whether a section that is too long is told, and that nothing more is read after it.
 fn is_given_up(alloc: Global) -> bool {
     let mut lines = Lines::new(b"abcde\n%%\nf".as_slice());
     fault_of(alloc, &mut lines, 5) == Some(SectionFault::TooLong)
@@ -154,7 +154,7 @@ fn nothing_is_read_behind_a_long_section(rt: HostRuntime) {
 /// One section of two bytes and a line feed, and a line behind it.
 const SHORT: &[u8] = b"ab\n%%\nc\n";
 
-/// Whether the section has a fault where the reader fails after so many bytes, now and again.
+/// Whether the section has a fault where the reader fails after this many bytes, now and again.
 fn section_fails(alloc: Global, given: usize) -> bool {
     let mut lines = Lines::new(Drip::new(SHORT, given));
     fault_of(alloc, &mut lines, 100) == Some(SectionFault::Broken)
@@ -170,7 +170,7 @@ fn is_broken<R: Read>(alloc: Global, lines: &mut Lines<R>) -> bool {
     lines.next_line(&mut sink, &mut CommandLine::new()) == broken
 }
 
-/// Whether the line behind the section has a fault where the reader fails after so many bytes, now and again.
+/// Whether the line behind the section has a fault where the reader fails after this many bytes, now and again.
 fn line_fails(alloc: Global, given: usize) -> bool {
     let mut lines = Lines::new(Drip::new(SHORT, given));
     fault_of(alloc, &mut lines, 100).is_none()
@@ -222,7 +222,7 @@ fn lines_are_the_same_in_one_piece_and_byte_by_byte(rt: HostRuntime) {
     assert!(rt; has_lines(rt.alloc(), Lines::new(text)) && has_lines(rt.alloc(), drops));
 }
 
-/// Of each part its byte, so many times, and its end.
+/// Of each part its byte, the given number of times, and its end.
 fn parts_of(alloc: Global, parts: &[(u8, usize, &[u8])]) -> Result<Vec<u8>, AllocError> {
     let mut text = Vec::new(alloc);
     for (byte, count, end) in parts {
@@ -234,7 +234,7 @@ fn parts_of(alloc: Global, parts: &[(u8, usize, &[u8])]) -> Result<Vec<u8>, Allo
     Ok(text)
 }
 
-/// Whether the text is this byte, so many times.
+/// Whether the text is this byte, the given number of times.
 fn repeats(text: &[u8], byte: u8, count: usize) -> bool {
     for found in text {
         if *found != byte {
@@ -244,7 +244,7 @@ fn repeats(text: &[u8], byte: u8, count: usize) -> bool {
     text.len() == count
 }
 
-/// Whether the next line is a whole one of this byte, so many times, or too long where none is given, and the bytes at
+/// Whether the next line is a whole one of this byte, the given number of times, or too long where none is given, and the bytes at
 /// hand behind it end with these.
 fn goes_on(lines: &mut Lines<&[u8]>, wanted: Option<(u8, usize)>, waiting: &[u8]) -> bool {
     let mut line = CommandLine::new();

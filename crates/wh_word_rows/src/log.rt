@@ -124,7 +124,7 @@ fn one_entry_changed(rt: HostRuntime) {
     }
 }
 
-/// Whether a log of this clock, these slots and so many entries is read from a text, and written as another.
+/// Whether a log of this clock, these slots and this number of entries is read from a text, and written as another.
 fn is_read(
     alloc: Global,
     text: &[u8],

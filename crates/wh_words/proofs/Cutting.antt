@@ -1,32 +1,24 @@
 -- How lines and words are cut, and joined again.
-use Rattle.std.proofs.Common.{◌≡◌, ℕ, suc, ◌<◌, ◌≤◌, ◌+◌, Some, None, Bool, true, false, ◌&&◌, cond, not, List, [], ◌∷◌, ◌++◌, length, take, drop, get_or, eqb, refl, ap, ◌∙◌, subst, arith}
+use Rattle.std.proofs.Common.{◌≡◌, ℕ, suc, ◌<◌, ◌≤◌, ◌+◌, Some, None, Bool, true, false, cond, not, List, [], ◌∷◌, ◌++◌, length, take, drop, get_or, eqb, refl, ap, ◌∙◌, subst, arith}
 use Rattle.std.proofs.Math.Dec.{ltb as nat_lt}
-use Rattle.std.proofs.lemmas.Bool.{ltb-true, ltb-false, eqb-true, ne_eqb}
+use Rattle.std.proofs.lemmas.Bool.{ltb-true, ltb-false, eqb-true, ne_eqb, and_parts}
 use Rattle.std.proofs.lemmas.List.{take_all}
 use Rattle.std.proofs.lemmas.List.Sums.{split_at_first, passes_at_first}
 use Rattle.std.proofs.lemmas.List.Splits.{slice_split_first, slice_split_none, slice_split_at, join_with_byte-slice_split}
 use Rattle.std.proofs.lemmas.List.Elements.{All-from_recursion}
 use Rattle.std.specs.List.{position, position_or_len, before_first, after_first, AllByRecursion, list_all}
-use Rattle.wh_text.specs.Lines.{is_line_feed}
-use Rattle.wh_words.specs.Lines.{IsLine}
+use Rattle.std.proofs.lemmas.Option.{cond_some}
+use Rattle.wh_text.specs.Lines.{is_line_feed, IsLine, HasNone}
 use Rattle.wh_words.specs.Words.{is_space, is_plain, IsPlain, words_of, line_of}
 
--- no byte of the kind
-abbrev pub Lacks : (ℕ → Bool) → List ℕ → Type 0
-Lacks p bytes = AllByRecursion (λ b. p b ≡ false) bytes
-
-lacks_one : (p : ℕ → Bool) (x : ℕ) (xs : List ℕ) (n : ℕ) (v : Bool) → p x ≡ v → Lacks p (take n xs) → Lacks p (take (cond (not v) (1 + n) 0) (x ∷ xs))
+lacks_one : (p : ℕ → Bool) (x : ℕ) (xs : List ℕ) (n : ℕ) (v : Bool) → p x ≡ v → HasNone p (take n xs) → HasNone p (take (cond (not v) (1 + n) 0) (x ∷ xs))
 lacks_one p x xs n true e h = tt
 lacks_one p x xs n false e h = let one : 1 + n ≡ suc n = omega arith in rw one (e, h)
 
 -- what stands before the first byte of the kind has none
-lacks-before_first : (p : ℕ → Bool) (xs : List ℕ) → Lacks p (before_first p xs)
+lacks-before_first : (p : ℕ → Bool) (xs : List ℕ) → HasNone p (before_first p xs)
 lacks-before_first p [] = tt
 lacks-before_first p (x ∷ xs) = lacks_one p x xs (position_or_len p xs) (p x) refl (lacks-before_first p xs)
-
-found : (b : Bool) (m n : ℕ) → cond b (Some m) None ≡ Some n → (b ≡ true) × (m ≡ n)
-found true m n h = (refl, cc)
-found false m n h = cc
 
 unfound : (b : Bool) (m : ℕ) → cond b (Some m) None ≡ None → b ≡ false
 unfound true m h = cc
@@ -34,7 +26,7 @@ unfound false m h = refl
 
 pub place : (p : ℕ → Bool) (xs : List ℕ) (i : ℕ) → position p xs ≡ Some i → (position_or_len p xs < length xs) × (position_or_len p xs ≡ i)
 place p xs i h =
-    let f = found (nat_lt (position_or_len p xs) (length xs)) (position_or_len p xs) i h in
+    let f = cond_some (nat_lt (position_or_len p xs) (length xs)) (position_or_len p xs) i h in
     (ltb-true _ _ f.0, f.1)
 
 no_place : (p : ℕ → Bool) (xs : List ℕ) → position p xs ≡ None → length xs ≤ position_or_len p xs
@@ -71,20 +63,16 @@ pub words-None : (text : List ℕ) → position is_space text ≡ None → words
 words-None text h =
     let past = no_place is_space text h in
     let e : take (position_or_len is_space text) text ≡ text = take_all (position_or_len is_space text) text past in
-    slice_split_none is_space text (All-from_recursion (λ b. is_space b ≡ false) text (subst (λ (t : List ℕ). Lacks is_space t) e (lacks-before_first is_space text)))
+    slice_split_none is_space text (All-from_recursion (λ b. is_space b ≡ false) text (subst (λ (t : List ℕ). HasNone is_space t) e (lacks-before_first is_space text)))
 
 pub joined : (line : List ℕ) → line_of (words_of line) ≡ line
 joined line = join_with_byte-slice_split 32 line
 
-and_both : (a b : Bool) → (a && b) ≡ true → (a ≡ true) × (b ≡ true)
-and_both true b h = (refl, h)
-and_both false b h = cc
-
 -- a plain word has no space and no line feed
-pub plain_lacks : (p : ℕ → Bool) → ((b : ℕ) → 32 < b → p b ≡ false) → (word : List ℕ) → IsPlain word → Lacks p word
+pub plain_lacks : (p : ℕ → Bool) → ((b : ℕ) → 32 < b → p b ≡ false) → (word : List ℕ) → IsPlain word → HasNone p word
 plain_lacks p h [] plain = tt
 plain_lacks p h (b ∷ word) plain =
-    let both = and_both (is_plain b) (list_all is_plain word) plain in
+    let both = and_parts (is_plain b) (list_all is_plain word) plain in
     (h b (ltb-true _ _ both.0), plain_lacks p h word both.1)
 
 no_space : (b : ℕ) → 32 < b → is_space b ≡ false
@@ -100,7 +88,7 @@ split (word ∷ other ∷ words) some plain =
     slice_split_at is_space word 32 (line_of (other ∷ words)) (All-from_recursion (λ b. is_space b ≡ false) word (plain_lacks is_space no_space word plain.0)) refl
     ∙ ap (λ (rest : List (List ℕ)). word ∷ rest) (split (other ∷ words) (omega arith) plain.1)
 
-lacks-append : (p : ℕ → Bool) (xs ys : List ℕ) → Lacks p xs → Lacks p ys → Lacks p (xs ++ ys)
+lacks-append : (p : ℕ → Bool) (xs ys : List ℕ) → HasNone p xs → HasNone p ys → HasNone p (xs ++ ys)
 lacks-append p [] ys f g = g
 lacks-append p (x ∷ xs) ys f g = (f.0, lacks-append p xs ys f.1 g)
 

@@ -1,12 +1,13 @@
 -- What numerals write.
-use Rattle.std.proofs.Common.{◌≡◌, ℕ, zero, suc, ◌<◌, ◌≤◌, ◌+◌, ◌-◌, ◌*◌, ◌^◌, Some, None, Bool, true, false, ◌&&◌, cond, not, List, [], ◌∷◌, ◌++◌, length, take, get_or, eqb, decimal, refl, ap, sym, ◌∙◌, subst, arith, rules, lit<, lit≤}
+use Rattle.std.proofs.Common.{◌≡◌, ℕ, zero, suc, ◌<◌, ◌≤◌, ◌+◌, ◌-◌, ◌*◌, ◌^◌, Some, Bool, true, false, ◌&&◌, not, List, [], ◌∷◌, ◌++◌, length, take, get_or, eqb, decimal, refl, ap, sym, ◌∙◌, subst, arith, rules, lit<, lit≤}
 use Rattle.std.proofs.Math.Nat.{pow-le-pow_right}
 use Rattle.std.proofs.Math.Dec.{leb as nat_le, ltb as nat_lt}
-use Rattle.std.proofs.lemmas.Bool.{leb-true, le-leb, ltb-true, lt-ltb, ne_eqb}
+use Rattle.std.proofs.lemmas.Bool.{leb-true, le-leb, ltb-true, lt-ltb, ne_eqb, and_parts, and_from, not-true}
 use Rattle.std.proofs.lemmas.List.{take_more, take_all, length-take}
 use Rattle.std.proofs.lemmas.Fmt.{decimal-digits_value, digits_value-decimal, digits_decimal, decimal_nonempty, first_decimal, length-decimal-le}
 use Rattle.std.proofs.lemmas.Str.Parse.{IsNumeralModel, numerals_by_fold, digits_value_short}
 use Rattle.std.specs.List.{list_all}
+use Rattle.std.proofs.lemmas.Option.{cond_some}
 use Rattle.wh_words.specs.Words.{is_plain, IsPlain}
 use Rattle.wh_text.specs.Numbers.{is_digit}
 use Rattle.wh_text.specs.Words.{has_bytes}
@@ -17,13 +18,6 @@ AreDigits ds = list_all is_digit ds ≡ true
 
 own : IsNumeralModel AreDigits (value_after 0)
 own = numerals_by_fold _ (search rules) value_after (search rules)
-
-pub and_both : (a b : Bool) → (a && b) ≡ true → (a ≡ true) × (b ≡ true)
-and_both true b h = (refl, h)
-and_both false b h = cc
-
-pub and_true : (a b : Bool) → a ≡ true → b ≡ true → (a && b) ≡ true
-and_true a b p q = rw (p, q) refl
 
 pub value-push : (n : ℕ) (ds : List ℕ) (d : ℕ) → value_after n (ds ++ d ∷ []) ≡ 10 * value_after n ds + (d - 48)
 value-push n [] d = refl
@@ -45,13 +39,9 @@ value_next ds i p lt few =
     front_digits : (n : ℕ) (ds : List ℕ) → AreDigits ds → AreDigits (take n ds)
     front_digits zero ds p = refl
     front_digits (suc n) [] p = refl
-    front_digits (suc n) (d ∷ ds) p = let b = and_both (is_digit d) (list_all is_digit ds) p in and_true (is_digit d) (list_all is_digit (take n ds)) b.0 (front_digits n ds b.1)
+    front_digits (suc n) (d ∷ ds) p = let b = and_parts (is_digit d) (list_all is_digit ds) p in and_from (is_digit d) (list_all is_digit (take n ds)) b.0 (front_digits n ds b.1)
 
 -- ---- a numeral and its number
-not_true : (b : Bool) → not b ≡ true → b ≡ false
-not_true true h = cc
-not_true false h = refl
-
 no_leading_zero : (word : List ℕ) → has_leading_zero word ≡ false → get_or word 0 0 ≡ 48 → 0 < length word → length word ≡ 1
 no_leading_zero [] h e some = absurd (omega arith)
 no_leading_zero (b ∷ []) h e some = refl
@@ -79,21 +69,17 @@ record Numeral (word : List ℕ) : Type 0 where
 
 numeral_parts : (word : List ℕ) → is_numeral word ≡ true → Numeral word
 numeral_parts word h =
-    let a = and_both (has_bytes word && list_all is_digit word) (not (has_leading_zero word)) h in
-    let b = and_both (has_bytes word) (list_all is_digit word) a.0 in
-    record { some = some_bytes word b.0; digits = b.1; leading = not_true (has_leading_zero word) a.1 }
+    let a = and_parts (has_bytes word && list_all is_digit word) (not (has_leading_zero word)) h in
+    let b = and_parts (has_bytes word) (list_all is_digit word) a.0 in
+    record { some = some_bytes word b.0; digits = b.1; leading = not-true (has_leading_zero word) a.1 }
 
 written : (word : List ℕ) → Numeral word → value_of word < 2 ^ 64 → word ≡ decimal (value_of word)
 written word num below = sym (decimal-digits_value own word num.digits num.some (λ e. no_leading_zero word num.leading e num.some) below)
 
-guard_some : (b : Bool) (m n : ℕ) → cond b (Some m) None ≡ Some n → (b ≡ true) × (m ≡ n)
-guard_some true m n h = (refl, cc)
-guard_some false m n h = cc
-
 pub numeral_found : (most : ℕ) (word : List ℕ) (n : ℕ) → most ≤ 19 → numeral_of most word ≡ Some n → (word ≡ decimal n) × (n < 10 ^ most)
 numeral_found most word n few h =
-    let g = guard_some (is_numeral word && nat_le (length word) most) (value_of word) n h in
-    let b = and_both (is_numeral word) (nat_le (length word) most) g.0 in
+    let g = cond_some (is_numeral word && nat_le (length word) most) (value_of word) n h in
+    let b = and_parts (is_numeral word) (nat_le (length word) most) g.0 in
     let num = numeral_parts word b.0 in
     let short : length word ≤ most = leb-true _ _ b.1 in
     let below : value_of word < 10 ^ most = value_below word most num.digits short in
@@ -138,9 +124,9 @@ numeral_again most n some few h =
 
 pub wide_found : (word : List ℕ) (n : ℕ) → wide_numeral_of word ≡ Some n → (word ≡ decimal n) × (n < 2 ^ 64)
 wide_found word n h =
-    let g = guard_some (is_numeral word && nat_le (length word) 20 && nat_lt (value_of word) (2 ^ 64)) (value_of word) n h in
-    let a = and_both (is_numeral word && nat_le (length word) 20) (nat_lt (value_of word) (2 ^ 64)) g.0 in
-    let b = and_both (is_numeral word) (nat_le (length word) 20) a.0 in
+    let g = cond_some (is_numeral word && nat_le (length word) 20 && nat_lt (value_of word) (2 ^ 64)) (value_of word) n h in
+    let a = and_parts (is_numeral word && nat_le (length word) 20) (nat_lt (value_of word) (2 ^ 64)) g.0 in
+    let b = and_parts (is_numeral word) (nat_le (length word) 20) a.0 in
     let below : value_of word < 2 ^ 64 = ltb-true _ _ a.1 in
     subst (λ (v : ℕ). (word ≡ decimal v) × (v < 2 ^ 64)) g.1 (written word (numeral_parts word b.0) below, below)
 
@@ -153,13 +139,13 @@ wide_again n small =
     rw (numeral-decimal n small, short, back, below) refl
 
 digit_plain : (b : ℕ) → is_digit b ≡ true → is_plain b ≡ true
-digit_plain b h = let low : 48 ≤ b = leb-true _ _ ((and_both (nat_le 48 b) (nat_le b 57) h).0) in lt-ltb _ _ (omega arith)
+digit_plain b h = let low : 48 ≤ b = leb-true _ _ ((and_parts (nat_le 48 b) (nat_le b 57) h).0) in lt-ltb _ _ (omega arith)
 
 pub digits_plain : (ds : List ℕ) → AreDigits ds → IsPlain ds
 digits_plain [] p = refl
 digits_plain (d ∷ ds) p =
-    let b = and_both (is_digit d) (list_all is_digit ds) p in
-    and_true (is_plain d) (list_all is_plain ds) (digit_plain d b.0) (digits_plain ds b.1)
+    let b = and_parts (is_digit d) (list_all is_digit ds) p in
+    and_from (is_plain d) (list_all is_plain ds) (digit_plain d b.0) (digits_plain ds b.1)
 
 pub plain-decimal : (n : ℕ) → n < 2 ^ 64 → IsPlain (decimal n)
 plain-decimal n h = digits_plain (decimal n) (digits_decimal own n h)

@@ -21,7 +21,7 @@ has_leading_zero (b ∷ bs) = (b == 48) && has_bytes bs
 abbrev pub is_numeral : List ℕ → Bool
 is_numeral word = are_digits word && not (has_leading_zero word)
 
--- the number that a numeral of at most so many digits writes
+-- the number that a numeral of at most the given number of digits writes
 abbrev pub numeral_of : ℕ → List ℕ → Option ℕ
 numeral_of most word = cond (is_numeral word && nat_le (length word) most) (Some (value_of word)) None
 

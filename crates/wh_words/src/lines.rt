@@ -1,17 +1,10 @@
 //! The first line of a text.
 
-ghost use Rattle.std.specs.Prelude.{◌≡◌, ◌∷◌, ◌++◌, IfNone, IfSome, position};
-ghost use Rattle.wh_text.specs.Lines.{is_line_feed};
-ghost use Rattle.wh_words.specs.Lines.{IsLine};
+ghost use Rattle.std.specs.Prelude.{◌≡◌, ◌∷◌, ◌++◌, IfNone, IfSome};
+ghost use Rattle.wh_text.specs.Lines.{IsLine};
 
 use crate::cuts::around;
-
-/// Where the first line feed stands.
-fn first_line_feed(text: &[u8]) -> Option<usize>
-    ensures { result ≡ position is_line_feed text.now }
-{
-    text.iter().position(|b| *b == b'\n')
-}
+use wh_text::first_line_feed;
 
 /// The first line of a text and what follows its line feed, or None where no line feed stands.
 pub fn whole_line(text: &[u8]) -> Option<(&[u8], &[u8])>

@@ -6,17 +6,7 @@ ghost use Rattle.wh_text.specs.Numbers as numbers;
 ghost use Rattle.wh_words.specs.Numerals as numerals;
 ghost use Rattle.wh_words.specs.Numerals.{value_of, numeral_of, wide_numeral_of};
 
-fn is_digit(b: u8) -> bool
-    ensures { result ≡ numbers.is_digit b }
-{
-    b >= b'0' && b <= b'9'
-}
-
-fn all_digits(word: &[u8]) -> bool
-    ensures { result ≡ list_all numbers.is_digit word.now }
-{
-    word.iter().all(|b| is_digit(*b))
-}
+use wh_text::are_digits;
 
 /// Whether a zero leads other digits.
 fn has_leading_zero(word: &[u8]) -> bool
@@ -29,7 +19,7 @@ fn has_leading_zero(word: &[u8]) -> bool
 fn is_numeral(word: &[u8]) -> bool
     ensures { result ≡ numerals.is_numeral word.now }
 {
-    !word.is_empty() && all_digits(word) && !has_leading_zero(word)
+    are_digits(word) && !has_leading_zero(word)
 }
 
 /// The number that up to 19 digits write.
@@ -57,7 +47,7 @@ pub fn numeral(word: &[u8]) -> Option<u32>
     }
 }
 
-/// The number that a word writes in 1 digit to so many, or None: also for a zero in front of other digits.
+/// The number that a word writes in 1 to `most_digits` digits, or None: also for a zero in front of other digits.
 pub fn long_numeral(word: &[u8], most_digits: usize) -> Option<u64>
     requires { most_digits ≤ 19 }
     ensures { result ≡ numeral_of most_digits word.now }

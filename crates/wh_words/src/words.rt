@@ -1,4 +1,4 @@
-//! Goes over the words of a line.
+//! Iterates over the words of a line.
 
 ghost use Rattle.std.specs.Prelude.{◌≡◌, List, ℕ, [], ◌∷◌, cond, MatchOption, position};
 ghost use Rattle.std.specs.List.{slice_split};
@@ -7,7 +7,7 @@ ghost use Rattle.wh_words.specs.Words.{is_space, words_of};
 use crate::cuts::around;
 use std::marker::Model;
 
-/// Goes over the words of a line, between which one space stands.
+/// Iterates over the words of a line, separated by one space each.
 #[derive(Drop)]
 pub struct Words<'a> {
     rest: &'a [u8],

@@ -4,16 +4,14 @@ ghost use Rattle.std.specs.Prelude.{IfOk, ◌≡◌};
 ghost use Rattle.wh_claims.specs.Claim.{claim_amount};
 
 use crate::shared::{WALLED, number, read};
-use std::alloc::{AllocError, Global};
+use std::alloc::Global;
 use std::sync::Arc;
 use std::test::Fail;
 use wh_claims::{Bank, Claim};
-use wh_grid::{Cell, Grid};
+use wh_grid::Cell;
 use wh_path::TimedPath;
 use wh_planner::{Duty, PlanFault, Planner, Scene};
 use wh_planners::Sharing;
-use wh_resv::Reservations;
-use wh_search::layers;
 use wh_shared::SharedFields;
 use wh_timetable::Timetable;
 
@@ -22,23 +20,6 @@ const STOPS: [Cell; 3] = [
     Cell { x: 3, y: 5 },
     Cell { x: 6, y: 5 },
 ];
-
-/// How many steps the first of these agents needs by whole fields, if it may rest where it is.
-fn steps_by_whole_fields(
-    alloc: Global,
-    grid: &Grid,
-    paths: &[TimedPath; 2],
-    loc: Cell,
-) -> Result<Option<u64>, AllocError> {
-    let others = Reservations::build(alloc, paths, 0, true)?;
-    if !grid.passable(loc) || !others.may_rest(loc, 0) {
-        return Ok(None);
-    }
-    match layers::deliver(alloc, grid, &others, loc, &STOPS) {
-        Ok(path) => Ok(Some(path.remaining())),
-        Err(_) => Ok(None),
-    }
-}
 
 fn claim(alloc: Global) -> Result<Claim, Fail>
     ensures { IfOk result (λ c. claim_amount c ≡ 2) }
@@ -57,9 +38,10 @@ fn steps(planned: Result<TimedPath, PlanFault>) -> Option<u64> {
     }
 }
 
-// 16 steps to the first stop and 13 to each of the others, each time through the gap at (4, 0)
+// 16 steps to the first stop and 13 to each of the others, each time through the gap at (4, 0): no path has fewer, as a row of
+// `wh_motion_rows` says
 #[test]
-fn a_path_is_as_short_as_by_whole_fields(rt: HostRuntime) -> Result<(), Fail> {
+fn a_path_by_shared_fields_is_shortest(rt: HostRuntime) -> Result<(), Fail> {
     let grid = Arc::new(rt.alloc(), read(rt.alloc(), WALLED)?)?;
     let mut store = SharedFields::new(rt.alloc(), Arc::try_clone(&grid)?, number(4)?)?;
     let mut planner = Sharing::new(rt.alloc(), Arc::try_clone(&grid)?, claim(rt.alloc())?)?;
@@ -69,7 +51,6 @@ fn a_path_is_as_short_as_by_whole_fields(rt: HostRuntime) -> Result<(), Fail> {
         TimedPath::one(rt.alloc(), loc)?,
         TimedPath::one(rt.alloc(), other)?,
     ];
-    let whole = steps_by_whole_fields(rt.alloc(), &grid, &paths, loc)?;
     let cells = grid.width() as usize * grid.height() as usize;
     let all = Timetable::of(rt.alloc(), cells, &paths)?;
     let scene = Scene {
@@ -84,6 +65,6 @@ fn a_path_is_as_short_as_by_whole_fields(rt: HostRuntime) -> Result<(), Fail> {
         &scene,
         Duty::Deliver { stops: &STOPS },
     ));
-    assert!(rt; whole == Some(42) && shared == Some(42) && planner.kept() == 2);
+    assert!(rt; shared == Some(42) && planner.kept() == 2);
     Ok(())
 }

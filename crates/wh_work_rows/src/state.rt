@@ -5,7 +5,7 @@ use std::alloc::Global;
 use std::test::Fail;
 use wh_grid::{Cell, Grid};
 use wh_path::TimedPath;
-use wh_state::{Arrivals, Floor};
+use wh_state::{Arrivals, FleetState};
 use wh_tasks::{Counts, Load, Phase, Places};
 use wh_text::Name;
 
@@ -18,17 +18,17 @@ const C: Cell = Cell { x: 1, y: 2 };
 const RIGHT: Cell = Cell { x: 4, y: 1 };
 
 /// A floor of five columns and three rows with an agent at each of these cells, at clock 0.
-fn floor_with(alloc: Global, starts: &[Cell]) -> Result<Floor, Fail> {
+fn floor_with(alloc: Global, starts: &[Cell]) -> Result<FleetState, Fail> {
     if starts.len() > 256 {
         return Err("there are too many agents".into());
     }
     let grid = Grid::new(5, 3, vec![in alloc; true; 15]?);
     let slots = vec![in alloc; 4; starts.len()]?;
-    Ok(Floor::open(alloc, &grid, 0, starts, slots)?)
+    Ok(FleetState::open(alloc, &grid, 0, starts, slots)?)
 }
 
 /// Submits a task with these stops.
-fn submit(alloc: Global, floor: &mut Floor, stops: &[Cell]) -> Result<u32, Fail> {
+fn submit(alloc: Global, floor: &mut FleetState, stops: &[Cell]) -> Result<u32, Fail> {
     floor.reserve_task(alloc)?;
     if stops.len() < 2 || stops.len() > 8 || floor.tasks().len() >= 1_000_000 {
         return Err("this is no task, or there is no room".into());
@@ -37,7 +37,13 @@ fn submit(alloc: Global, floor: &mut Floor, stops: &[Cell]) -> Result<u32, Fail>
 }
 
 /// An agent takes a task over these cells.
-fn take(alloc: Global, floor: &mut Floor, agent: u32, n: u32, cells: &[Cell]) -> Result<(), Fail> {
+fn take(
+    alloc: Global,
+    floor: &mut FleetState,
+    agent: u32,
+    n: u32,
+    cells: &[Cell],
+) -> Result<(), Fail> {
     let is_free = (agent as usize) < floor.paths().len() && floor.is_idle(agent);
     if cells.is_empty() || !is_free || !floor.tasks().is_open(n) {
         return Err("it may not take the task".into());
@@ -49,7 +55,7 @@ fn take(alloc: Global, floor: &mut Floor, agent: u32, n: u32, cells: &[Cell]) ->
 }
 
 /// An agent goes over these cells.
-fn park(alloc: Global, floor: &mut Floor, agent: u32, cells: &[Cell]) -> Result<(), Fail> {
+fn park(alloc: Global, floor: &mut FleetState, agent: u32, cells: &[Cell]) -> Result<(), Fail> {
     if cells.is_empty() || agent as usize >= floor.paths().len() {
         return Err("it may not go there".into());
     }
@@ -60,7 +66,7 @@ fn park(alloc: Global, floor: &mut Floor, agent: u32, cells: &[Cell]) -> Result<
 }
 
 /// Whether an agent may choose a task, if there is such an agent.
-fn may_choose(floor: &Floor, agent: u32, n: u32) -> Option<bool> {
+fn may_choose(floor: &FleetState, agent: u32, n: u32) -> Option<bool> {
     if agent as usize >= floor.paths().len() {
         return None;
     }
@@ -68,7 +74,7 @@ fn may_choose(floor: &Floor, agent: u32, n: u32) -> Option<bool> {
 }
 
 /// The next tick's arrivals: how many tasks are picked up, and how many delivered.
-fn tick(floor: &mut Floor) -> Option<(u32, u32)> {
+fn tick(floor: &mut FleetState) -> Option<(u32, u32)> {
     if floor.clock() >= 1_000_000_000 {
         return None;
     }
@@ -76,21 +82,21 @@ fn tick(floor: &mut Floor) -> Option<(u32, u32)> {
     Some((picked, dropped))
 }
 
-fn is_loaded(floor: &Floor, agent: usize, load: Load) -> bool {
+fn is_loaded(floor: &FleetState, agent: usize, load: Load) -> bool {
     agent < floor.loads().len() && floor.loads()[agent] == load
 }
 
-fn is_in(floor: &Floor, n: u32, phase: Phase) -> bool {
+fn is_in(floor: &FleetState, n: u32, phase: Phase) -> bool {
     n < floor.tasks().len() && floor.tasks().phase(n) == phase
 }
 
 /// Whether these are the clocks of a task's visits.
-fn is_visited(floor: &Floor, n: u32, clocks: &[u32]) -> bool {
+fn is_visited(floor: &FleetState, n: u32, clocks: &[u32]) -> bool {
     n < floor.tasks().len() && floor.tasks().task(n).visits.as_slice() == clocks
 }
 
 /// Whether the next ticks have these arrivals, and agent 0 has this load after each.
-fn go_on(floor: &mut Floor, ticks: &[((u32, u32), Load)]) -> bool {
+fn go_on(floor: &mut FleetState, ticks: &[((u32, u32), Load)]) -> bool {
     for (arrivals, load) in ticks {
         if tick(floor) != Some(*arrivals) || !is_loaded(floor, 0, *load) {
             return false;
@@ -138,7 +144,7 @@ const BEFORE_THE_LAST: [((u32, u32), Load); 7] = [
 ];
 
 /// Whether agent 0 carries the first task over that way.
-fn is_carried(alloc: Global, floor: &mut Floor) -> Result<bool, Fail> {
+fn is_carried(alloc: Global, floor: &mut FleetState) -> Result<bool, Fail> {
     take(alloc, floor, 0, 0, &OVER_THREE)?;
     Ok(
         is_loaded(floor, 0, FETCHING)
@@ -188,7 +194,7 @@ fn stops_that_repeat(rt: HostRuntime) -> Result<(), Fail> {
 }
 
 /// Whether so many tasks are open, assigned, carried and done.
-fn has_counts(floor: &Floor, open_tasks: u32, assigned: u32, carried: u32, done: u32) -> bool {
+fn has_counts(floor: &FleetState, open_tasks: u32, assigned: u32, carried: u32, done: u32) -> bool {
     floor.tasks().counts()
         == Counts {
             open_tasks,
@@ -199,7 +205,7 @@ fn has_counts(floor: &Floor, open_tasks: u32, assigned: u32, carried: u32, done:
 }
 
 /// Three tasks. Agent 0 takes the first, at both of whose stops it is, and agent 1 the third.
-fn take_two(alloc: Global, floor: &mut Floor) -> Result<(), Fail> {
+fn take_two(alloc: Global, floor: &mut FleetState) -> Result<(), Fail> {
     for stops in [[A, A], [B, C], [B, C]] {
         submit(alloc, floor, &stops)?;
     }
@@ -223,14 +229,14 @@ fn visited_at_once(rt: HostRuntime) -> Result<(), Fail> {
 /// one of its stops.
 const CHOICES: [(u32, u32, bool); 4] = [(0, 0, true), (0, 1, false), (0, 2, false), (1, 0, false)];
 
-fn submit_both(alloc: Global, floor: &mut Floor) -> Result<(), Fail> {
+fn submit_both(alloc: Global, floor: &mut FleetState) -> Result<(), Fail> {
     for stops in [[A, RIGHT, C], [A, B, C]] {
         submit(alloc, floor, &stops)?;
     }
     Ok(())
 }
 
-fn may_choose_so(floor: &Floor) -> bool {
+fn may_choose_so(floor: &FleetState) -> bool {
     for (agent, task, may) in CHOICES {
         if may_choose(floor, agent, task) != Some(may) {
             return false;
@@ -240,7 +246,7 @@ fn may_choose_so(floor: &Floor) -> bool {
 }
 
 /// Agent 1 parks elsewhere, and then takes a task.
-fn go_elsewhere(alloc: Global, floor: &mut Floor) -> Result<bool, Fail> {
+fn go_elsewhere(alloc: Global, floor: &mut FleetState) -> Result<bool, Fail> {
     park(alloc, floor, 1, &[B, Cell { x: 3, y: 1 }])?;
     let may_at_once = may_choose(floor, 0, 1) == Some(true);
     let may_then = tick(floor).is_some() && may_choose(floor, 0, 1) == Some(true);

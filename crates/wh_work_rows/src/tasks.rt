@@ -243,7 +243,7 @@ fn far_tasks(rt: HostRuntime) -> Result<(), Fail> {
     Ok(())
 }
 
-/// Clocks of the visits of a task with four stops, what each visit is, and the phase behind it.
+/// Clocks of the visits of a task with four stops, what each visit is, and the phase after it.
 const VISITS: [(u32, Visit, Phase); 4] = [
     (5, Visit::First, Phase::Carried),
     (5, Visit::Between, Phase::Carried),
@@ -260,7 +260,7 @@ fn are_visited(set: &mut TaskSet) -> bool {
     true
 }
 
-/// Whether all tasks are done, and there are so many.
+/// Whether all tasks are done, and there are this many.
 fn are_done(set: &TaskSet, count: u32) -> bool {
     set.len() == count
         && set.counts()

@@ -2,8 +2,8 @@
 use std::alloc::Global;
 use std::test::*;
 use wh_grid::Grid;
+use wh_judge::{Verified, verify};
 use wh_points::Points;
-use wh_verify::{Verified, verify};
 
 const MAP: &[u8] = b"type octile\nheight 3\nwidth 5\nmap\n@.@.@\n.....\n@.@.@\n";
 
@@ -36,7 +36,7 @@ fn told(alloc: Global, points: &[u8], log: &[u8]) -> Option<u64> {
 }
 
 /// Logs, each with what it is: a whole one; the end is missing; a pickup too early; a path that goes by
-/// the first stop; no path where there is one; one seat for two agents; two spaces; a wrong task number.
+/// the first stop; no path if there is one; one seat for two agents; two spaces; a wrong task number.
 const LOGS: [(&[u8], u64); 8] = [
     (
         b"wlog 1\nstart 0 slots 4 4\n0 submit x A B = accepted 0\n0 token 0 = took 0 path 0,1 1,1 1,0 1,1 2,1 3,1 3,0\n0 tick = clock 1 picked 0 dropped 0\nend 3\n",

@@ -1,4 +1,4 @@
--- The number before the first `=`, and what stands behind it.
+-- The number before the first `=`, and what follows it.
 use Rattle.std.proofs.Common.{refl, sym, subst, lit<, Some}
 use Rattle.std.proofs.lemmas.Str.Pattern.{split_once_first}
 use Rattle.wh_client.specs.Clients.{GivesPlace, IsNumber}

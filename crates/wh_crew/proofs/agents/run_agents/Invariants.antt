@@ -3,7 +3,7 @@ use Rattle.wh_board.specs.Pasts.{Extends}
 use Rattle.wh_crew.proofs.Turning.{Taking}
 use Rattle.wh_crew.proofs.agents.run_agents.Given as goal
 
--- so many turns were taken
+-- this many turns were taken
 abbrev pub invariant-loop-turn : goal.invariant-loop-turn
 invariant-loop-turn g l = record {
   taking : Taking l.fn.pace.ends_idle l.viewer.past l.fn.pass l.pass l.turn;

@@ -4,7 +4,7 @@ use Rattle.wh_desk.specs.Lists.{AllAt}
 use Rattle.wh_crew.specs.Work.{Worked}
 use Rattle.wh_crew.proofs.threads.join_all.Given as goal
 
--- so many threads are joined, and the handles from there on are left
+-- this many threads are joined, and the handles from there on are left
 abbrev pub invariant-loop-handle : goal.invariant-loop-handle
 invariant-loop-handle g l =
     (length l.reports.items + into_iter_len l.handle-iterator ≡ length l.fn.handles.items)

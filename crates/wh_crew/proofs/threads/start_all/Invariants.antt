@@ -4,7 +4,7 @@ use Rattle.wh_desk.specs.Lists.{AllAt}
 use Rattle.wh_crew.specs.Work.{IsDue}
 use Rattle.wh_crew.proofs.threads.start_all.Given as goal
 
--- so many threads are started, and the passes and works from there on are left
+-- this many threads are started, and the passes and works from there on are left
 abbrev pub invariant-loop-pass : goal.invariant-loop-pass
 invariant-loop-pass g l =
     (length l.handles.items + into_iter_len l.pass-iterator ≡ length l.fn.passes.items)

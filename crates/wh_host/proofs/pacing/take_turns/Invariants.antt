@@ -4,7 +4,7 @@ use Rattle.wh_crew.proofs.Turning.{Taking}
 use Rattle.wh_host.proofs.Turning.{KeepsShare}
 use Rattle.wh_host.proofs.pacing.take_turns.Given as goal
 
--- so many turns were taken
+-- this many turns were taken
 abbrev pub invariant-loop : goal.invariant-loop
 invariant-loop g l = record {
   taking : Taking false l.viewer.past l.fn.pass l.pass l.counter;

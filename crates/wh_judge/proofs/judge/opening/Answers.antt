@@ -1,7 +1,7 @@
 use Rattle.std.proofs.Common.{◌≡◌, ◌∙◌, List, sym, ap, subst}
 use Rattle.wh_grid.specs.declared.cell.Cell.{Cell}
 use Rattle.wh_core.specs.States.{opened}
-use Rattle.wh_book.specs.Floors.{standing_at}
+use Rattle.wh_book.specs.Standings.{standing_at}
 use Rattle.wh_judge.specs.Judged.{IsReachable}
 use Rattle.wh_judge.proofs.Reachable.{reached-opening}
 use Rattle.wh_judge.proofs.judge.opening.Goals as goal

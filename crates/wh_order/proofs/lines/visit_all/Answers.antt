@@ -2,7 +2,7 @@ use Rattle.std.proofs.Common.{Option, Some, arith}
 use Rattle.indexmap.specs.IndexMap.{Updates}
 use Rattle.wh_path.specs.Paths.{cell_at}
 use Rattle.wh_order.specs.declared.visit.Visit.{Visit}
-use Rattle.wh_order.specs.Orders.{is_cell}
+use Rattle.wh_grid.specs.Cells.{is_cell}
 use Rattle.wh_order.proofs.Latest.{on-ok, visited-more}
 use Rattle.wh_order.proofs.lines.visit_all.Goals as goal
 

@@ -2,7 +2,7 @@ use Rattle.std.proofs.Common.{◌≡◌, ℕ, ◌+◌, ◌-◌, ◌<◌, ◌≤�
 use Rattle.std.proofs.lemmas.Bool.{cases_lt}
 use Rattle.wh_path.specs.Paths.{cell_at}
 use Rattle.wh_field.specs.Growing.{Growing}
-use Rattle.wh_shared.specs.Stored.{same_cell}
+use Rattle.wh_grid.specs.Cells.{is_cell}
 use Rattle.wh_shared.specs.Shares.{room, slots, stored}
 use Rattle.wh_shared.specs.declared.share.Share.{Share}
 use Rattle.wh_planners.proofs.Staying.{among_asked, among_stays, within}
@@ -49,4 +49,4 @@ returns-clause-asked c k in_stops in_room =
     let l = c.loop-i in
     let lt : k < c.min-few.result = omega arith in
     let done : c.min-few.result ≤ k + l.i = omega arith in
-    weaker (get_or l.levels k None) (λ m. within (same_cell (cell_at c.args.stops.now k)) (λ (f : Growing). m ≤ f.level) l.i (stored l.store)) (l.invariant.4 k lt done)
+    weaker (get_or l.levels k None) (λ m. within (is_cell (cell_at c.args.stops.now k)) (λ (f : Growing). m ≤ f.level) l.i (stored l.store)) (l.invariant.4 k lt done)

@@ -4,7 +4,7 @@ use Rattle.std.proofs.KnownBytes.{Keeps-refl}
 use Rattle.wh_points.specs.Formed.{IsFormed}
 use Rattle.wh_core.specs.Laws.{IsOpening}
 use Rattle.wh_core.specs.Steps.{Run}
-use Rattle.wh_verify.specs.Drafts.{AllServed, Seen}
+use Rattle.wh_judge.specs.Drafts.{AllServed, Seen}
 use Rattle.wh_log.specs.Told.{told_text}
 use Rattle.wh_drive.specs.Drives as drives
 use Rattle.wh_vehicles.specs.Plans.{places}

@@ -1,7 +1,7 @@
-use Rattle.std.proofs.Common.{◌≡◌, ℕ, ◌<◌, ◌≤◌, List, [], length, subst, ◌∙◌, arith}
+use Rattle.std.proofs.Common.{◌≡◌, ℕ, ◌+◌, ◌<◌, ◌≤◌, List, [], length, subst, ◌∙◌}
 use Rattle.std.proofs.lemmas.List.{get_or_read}
 use Rattle.wh_grid.specs.declared.cell.Cell.{Cell}
-use Rattle.wh_path.specs.Paths.{path_of, cell_at}
+use Rattle.wh_path.specs.Paths.{path_of, cell_at, last_index}
 use Rattle.wh_timetable.specs.Stays.{endless, IsThere}
 use Rattle.wh_timetable.specs.Places.{stays_for, IsLeft, IsNoted}
 use Rattle.wh_timetable.proofs.ToldLemmas.{told_changed}
@@ -23,5 +23,6 @@ returns c = λ done.
     subst (λ (p : List Cell). (k t : ℕ) → k < length p → clock ≤ t → IsThere (stays_for left (cell_at p k)) agent (cell_at p k) t → ⊥) before
     (subst (λ n. (k t : ℕ) → k < length c.cells.result.now → clock ≤ t → IsThere (stays_for left (cell_at c.cells.result.now k)) n (cell_at c.cells.result.now k) t → ⊥) same c.leave_all.ensures.gone) in
     let noted = subst (λ n. IsNoted c.args.path.now n clock endless left c.note_all.new.places) same
-    (subst (λ (p : List Cell). IsNoted p number clock endless left c.note_all.new.places) c.cells-2.ensures.value (c.note_all.ensures done)) in
-    told_changed clock paths c.args.places.now c.requires.told agent c.args.path.now (omega arith) c.requires.known some left parts gone c.note_all.new.places noted
+    (subst (λ (p : List Cell). IsNoted p number clock endless left c.note_all.new.places) c.cells-2.ensures.value (c.note_all.ensures.noted done)) in
+    let short = subst (λ (p : List Cell). clock + last_index p < endless) c.cells-2.ensures.value (c.note_all.ensures.short done) in
+    told_changed clock paths c.args.places.now c.requires.told agent c.args.path.now short c.requires.known some left parts gone c.note_all.new.places noted

@@ -18,12 +18,12 @@ loop-k-preserved c =
     noted_more cells c.args.agent now (now + (k + 1)) c.args.places.now c.loop-k.places c.put_at.new.places stay (omega arith) refl (omega arith) (omega arith)
     (λ t from until. there_now cells now k (omega arith) t from (omega arith)) c.loop-k.invariant (c.put_at.ensures c.if-not-put_at.false)
 
-pub returns : goal.returns
-returns c = λ done.
+pub returns-clause-noted : goal.returns-clause-noted
+returns-clause-noted c = λ done.
     let cells = c.args.cells.now in
     let now = c.args.now in
     let last = last_index cells in
     let k_is : c.loop-k.k ≡ last = omega arith in
     let stay : Stay = record { cell = cell_at cells last; agent = c.args.agent; from = now + last; until = endless } in
-    noted_more cells c.args.agent now endless c.args.places.now c.loop-k.places c.put_at-2.new.places stay (omega arith) refl refl (let early = c.requires.early in omega arith)
+    noted_more cells c.args.agent now endless c.args.places.now c.loop-k.places c.put_at-2.new.places stay (omega arith) refl refl (omega arith)
     (λ t from until. there_last cells now last c.requires.path refl t from) (subst (λ k. IsNoted cells c.args.agent now (now + k) c.args.places.now c.loop-k.places) k_is c.loop-k.invariant) (c.put_at-2.ensures done)

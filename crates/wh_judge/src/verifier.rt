@@ -1,0 +1,45 @@
+//! Verifies a log.
+#![tactic(auto)]
+
+ghost use Rattle.std.specs.Prelude.{◌≡◌, ◌≤◌, IfOk, length};
+ghost use Rattle.wh_points.specs.Points.{IsLayout};
+ghost use Rattle.wh_log.specs.Logs.{Content, IsLogText};
+ghost use Rattle.wh_judge.specs.Verifying.{Says, IsRunOf};
+
+use crate::follower::Follower;
+use crate::instance::Instance;
+use std::alloc::Global;
+use wh_grid::Grid;
+use wh_log::{Followed, NoMemory, follow};
+use wh_points::Points;
+
+/// What a text is to a warehouse.
+#[derive(Clone, Copy, Debug, PartialEq, Eq)]
+pub enum Verified {
+    /// A log whose entries, this many, are a run from the opening state.
+    Run { entries: u32 },
+    /// No such log: the first line, from 1, that is not in the format or whose entry is no step.
+    Bad { line: u64 },
+}
+
+/// Whether a text is a log whose entries are a run over the grid and the points, from the opening state with its clock
+/// and its slots. Else the first line is told with which no such log begins: a list of slots of another length than the
+/// agents is a fault of line 2, a line that is missing is the one after the last. The log is read once, with memory
+/// for the state and one line.
+///
+/// Error: `NoMemory` when out of memory.
+pub fn verify(alloc: Global, grid: &Grid, points: &Points, log: &[u8]) -> Result<Verified, NoMemory>
+    requires layout { IsLayout grid.now points.now }
+    requires some { 1 ≤ length points.now.agents }
+    // What is said of the text is so.
+    ensures says { IfOk result (Says (record { grid = grid.now; layout = points.now }) log.now) }
+    // A log whose entries are a run is told as one.
+    ensures run { (content : Content) → IsLogText content log.now → IsRunOf (record { grid = grid.now; layout = points.now }) content → IfOk result (λ told. told ≡ Verified.Run (length content.entries)) }
+{
+    let _agents = points.agents();
+    let mut follower = Follower::new(alloc, Instance::new(grid, points))?;
+    match follow(alloc, &mut follower, log)? {
+        Followed::Whole { entries } => Ok(Verified::Run { entries }),
+        Followed::Bad { line } => Ok(Verified::Bad { line }),
+    }
+}

@@ -1,6 +1,0 @@
-use Rattle.wh_search.specs.Frontiers.{problem}
-use Rattle.wh_search.specs.Layers.{IsLayered}
-use Rattle.wh_search.proofs.layers.search.Given as goal
-
-abbrev pub invariant-loop-index : goal.invariant-loop-index
-invariant-loop-index l = IsLayered (problem l.errand) l.met.nodes.items l.index

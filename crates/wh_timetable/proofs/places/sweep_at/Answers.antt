@@ -1,6 +1,0 @@
-use Rattle.std.proofs.Common.{arith}
-use Rattle.wh_timetable.proofs.PlaceLemmas.{same_at}
-use Rattle.wh_timetable.proofs.places.sweep_at.Goals as goal
-
-pub returns : goal.returns
-returns c = same_at c.args.now c.args.places.now c.place_of-at.result c.index-places-at.result c.sweep.new.self (omega arith) c.sweep.ensures

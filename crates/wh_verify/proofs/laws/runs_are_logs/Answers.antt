@@ -1,5 +1,0 @@
-use Rattle.wh_verify.proofs.Histories.{runs_are_logs}
-use Rattle.wh_verify.proofs.laws.runs_are_logs.Goals as goal
-
-pub returns : goal.returns
-returns c = runs_are_logs

@@ -1,5 +1,0 @@
-use Rattle.wh_verify.proofs.Verdicts.{one_verdict}
-use Rattle.wh_verify.proofs.laws.verdicts_are_one.Goals as goal
-
-pub returns : goal.returns
-returns c = one_verdict
