@@ -13,7 +13,7 @@ use Rattle.wh_timetable.specs.Timetables.{Noted, IsAt, IsTold, time}
 use Rattle.wh_resv.specs.Calls.{IsVacant, NoneExchanges}
 use Rattle.wh_resv.specs.Others.{StaysAway}
 use Rattle.wh_resv.specs.Questions.{IsLastFree, IsTakenUntil, IsNeverFree}
-use Rattle.wh_resv.specs.Looks.{IsOthers, IsDuring, IsFreeFor, IsEndAt, IsKeptFrom, IsNextStart, IsLastEnd, Bars}
+use Rattle.wh_resv.specs.Looks.{IsOthers, IsDuring, IsFreeFor, IsEndAt, IsNextStart, IsLastEnd, Bars}
 
 -- none of the others is there
 pub vacant_from : (paths : List (List Cell)) (except : ℕ) (c : Cell) (k : ℕ) → ((i : ℕ) → i ≢ except → IsAt paths i c k → ⊥) → IsVacant (remove paths except) c k
@@ -82,13 +82,6 @@ module _ (noted : Noted) (paths : List (List Cell)) (told : IsTold noted paths) 
 
   pub vacant_free : (k : ℕ) → IsVacant (remove paths except) c k → IsFreeFor stays except c (time clock k)
   vacant_free k v j h others during = vacant_at paths except c k v (stay_at stays j).agent others.other (others_at j k h others during)
-
-  pub kept_always : (k : ℕ) → IsKeptFrom stays except c (time clock k) → (j : ℕ) → k ≤ j → IsVacant (remove paths except) c j → ⊥
-  kept_always k kept j late v =
-      vacant_free j v kept.place kept.within kept.others (record {
-        since = (let since = kept.since in let grows = time_grows clock k j late in omega arith);
-        still = subst (λ n. time clock j < n) (sym kept.always) (omega arith);
-      })
 
   -- up to a stay's end somebody is there
   pub taken_to : (k end : ℕ) → IsEndAt stays except c (time clock k) end → end < endless → IsTakenUntil (remove paths except) c k (end - clock)

@@ -28,14 +28,6 @@ pub record IsEndAt (stays : List Stay) (except : ℕ) (c : Cell) (t end : ℕ) :
   pub during : IsDuring (stay_at stays place) t
   pub over : (stay_at stays place).until ≡ end
 
--- by one of the stays another is at the cell from a time on that is no later, for ever
-pub record IsKeptFrom (stays : List Stay) (except : ℕ) (c : Cell) (t : ℕ) : Type 0 where
-  pub place : ℕ
-  pub within : place < length stays
-  pub others : IsOthers (stay_at stays place) except c
-  pub since : (stay_at stays place).from ≤ t
-  pub always : (stay_at stays place).until ≡ endless
-
 -- no stay of another at the cell begins between the times, and one does at the second, if that is one
 pub record IsNextStart (stays : List Stay) (except : ℕ) (c : Cell) (t start : ℕ) : Type 0 where
   pub least : (j : ℕ) → j < length stays → IsOthers (stay_at stays j) except c → t < (stay_at stays j).from → start ≤ (stay_at stays j).from

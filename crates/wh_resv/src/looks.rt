@@ -4,7 +4,7 @@
 ghost use Rattle.std.specs.Prelude.{◌≡◌, ◌≢◌, ℕ, ◌+◌, ◌<◌, ◌≤◌, ◌^◌, ◌↔◌, ◌⊎◌, IsTrue, IfSome, IfNone, List, length};
 ghost use Rattle.wh_grid.specs.declared.cell.Cell.{Cell as Spot};
 ghost use Rattle.wh_timetable.specs.Stays.{stay_at};
-ghost use Rattle.wh_resv.specs.Looks.{IsOthers, IsDuring, IsFreeFor, IsEndAt, IsKeptFrom, IsNextStart, IsLastEnd};
+ghost use Rattle.wh_resv.specs.Looks.{IsOthers, IsDuring, IsFreeFor, IsEndAt, IsNextStart, IsLastEnd};
 
 use wh_grid::Cell;
 use wh_timetable::Stay;
@@ -46,18 +46,6 @@ pub fn end_at(stays: &[Stay], except: usize, cell: Cell, time: u32) -> Option<u3
         }
     }
     None
-}
-
-/// Whether somebody else is at a cell from a time on that is no later, for ever.
-pub fn is_kept_from(stays: &[Stay], except: usize, cell: Cell, time: u32) -> bool
-    ensures { IsTrue result → IsKeptFrom stays.now except cell time }
-{
-    for stay in stays {
-        if stay.until == u32::MAX && stay.from <= time && is_others(*stay, except, cell) {
-            return true;
-        }
-    }
-    false
 }
 
 /// The first time after one at which a stay of somebody else at a cell begins, the greatest number where none does.

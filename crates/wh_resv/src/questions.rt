@@ -10,7 +10,7 @@ ghost use Rattle.wh_resv.specs.Looks.{IsOthers, IsDuring, Bars};
 ghost use Rattle.wh_resv.specs.Others.{StaysAway};
 ghost use Rattle.wh_resv.specs.Questions.{IsLastFree, IsTakenUntil, IsNeverFree};
 
-use crate::looks::{end_at, is_during, is_free, is_kept_from, is_others, last_end, next_start};
+use crate::looks::{end_at, is_during, is_free, is_others, last_end, next_start};
 use wh_grid::Cell;
 use wh_path::TimedPath;
 use wh_timetable::{Stay, Stays};
@@ -70,15 +70,6 @@ pub fn is_open(
         }
     }
     true
-}
-
-/// Whether one of the others is at a cell from a time on that is no later than k, for ever.
-pub fn is_kept(stays: &Stays, paths: &[TimedPath], except: usize, cell: Cell, k: u64) -> bool
-    requires { IsTold stays.now paths.now }
-    ensures { IsTrue result → (j : ℕ) → k ≤ j → IsVacant (remove paths.now except) cell j → ⊥ }
-{
-    let _ = paths;
-    is_kept_from(stays.list(cell), except, cell, stays.time(k))
 }
 
 /// The last time up to which none of the others is at a cell, where none is at time k; none where none ever comes.

@@ -9,7 +9,7 @@ ghost use Rattle.wh_resv.specs.Calls.{IsVacant, NoneExchanges};
 ghost use Rattle.wh_resv.specs.Questions.{IsLastFree, IsNextFree, IsNeverFree};
 ghost use Rattle.wh_resv.specs.Telling.{noted_of};
 
-use crate::questions::{free_until, is_kept, is_open, none_there, not_before};
+use crate::questions::{free_until, is_open, none_there, not_before};
 use crate::times::next_free;
 use crate::told::Told;
 use std::alloc::{AllocError, Global};
@@ -167,14 +167,6 @@ impl<'a> Reservations<'a> {
         ensures none { IfNone result ((k : ℕ) → MayRest self.now cell k → ⊥) }
     {
         not_before(self.told.stays(), self.paths, self.except, cell)
-    }
-
-    /// Whether somebody is at a cell from a time on that is no later than k, for ever. Where it is not so found, somebody
-    /// may still be there at each time.
-    pub fn is_kept(&self, cell: Cell, k: u64) -> bool
-        ensures { IsTrue result → (j : ℕ) → k ≤ j → IsVacant self.now.paths cell j → ⊥ }
-    {
-        is_kept(self.told.stays(), self.paths, self.except, cell, k)
     }
 
     /// The last time up to which nobody is at a cell, where nobody is at time k; none where an agent may rest there from
