@@ -157,13 +157,23 @@ fn plain_request(line: &[u8]) -> Option<u32>
     }
 }
 
+/// Puts a request into the room, which most often holds one already: then only its agent is written.
+fn put_request(agent: u32, command: &mut Command)
+    ensures { command.new ≡ Command.Token agent }
+{
+    match command {
+        Command::Token { agent: room } => *room = agent,
+        _ => *command = Command::Token { agent },
+    }
+}
+
 /// Reads a line as `read_line` does, into a room that the caller keeps, since a command has room for nine names: whether
 /// the line asks for a command, which then stands there. Else the room is as it was.
 pub fn read_line_into(line: &[u8], command: &mut Command) -> Result<bool, LineFault>
     ensures { Reads result command.old command.new (command_of line.now) }
 {
     if let Some(agent) = plain_request(line) {
-        *command = Command::Token { agent };
+        put_request(agent, command);
         return Ok(true);
     }
     if line.len() > 256 {

@@ -1,11 +1,11 @@
 -- A line that comes in several parts.
-use Rattle.std.proofs.Common.{◌≡◌, ◌<◌, ◌+◌, ℕ, List, [], ◌∷◌, ◌++◌, length, take, drop, refl, sym, ap, ◌∙◌, arith, Bool, true, false, cond, None, Some, Option, nat_lt, inl, inr, ltb-false, ltb-true, subst, append_assoc, append-nil, eqb-true, lt-ltb, not, suc}
+use Rattle.std.proofs.Common.{◌≡◌, ◌<◌, ◌+◌, ℕ, List, [], ◌∷◌, ◌++◌, length, take, drop, refl, sym, ap, ◌∙◌, arith, Bool, true, false, cond, None, Some, Option, nat_lt, inl, inr, ltb-false, ltb-true, subst, append_assoc, append-nil, eqb-true, lt-ltb, not, suc, zero}
 use Rattle.std.proofs.lemmas.Bool.{lt-leb}
 use Rattle.std.specs.Prelude.{position, nat_le}
 use Rattle.std.specs.List.{position_or_len, before_first, after_first}
 use Rattle.std.proofs.lemmas.List.{take_all, drop_all, take-append-le, take-take, length-take}
 use Rattle.std.proofs.lemmas.Bool.{cases_lt}
-use Rattle.std.proofs.KnownBytes.{Consumes-trans, Consumes-kept}
+use Rattle.std.proofs.KnownBytes.{Consumes-nil, Consumes-trans, Consumes-kept}
 use Rattle.std.specs.Io.KnownBytes.{Keeps, Consumes, IsAtEnd, prepend_known}
 use Rattle.std.proofs.lemmas.Option.{cond_some}
 use Rattle.wh_text.specs.Lines.{is_line_feed, without_cr, IsLine}
@@ -37,6 +37,25 @@ none_before xs e = take_all _ xs (omega (arith, ltb-false (position_or_len is_li
 
 pub none_after : (xs : List ℕ) → nat_lt (position_or_len is_line_feed xs) (length xs) ≡ false → after_first is_line_feed xs ≡ []
 none_after xs e = drop_all _ xs (omega (arith, ltb-false (position_or_len is_line_feed xs) (length xs) e))
+
+front_step : (b : Bool) (n m len : ℕ) → nat_lt (cond (not b) (1 + m) 0) (suc len) ≡ true → (nat_lt m len ≡ true → n ≡ m) → cond (not b) (1 + n) 0 ≡ cond (not b) (1 + m) 0
+front_step true n m len e rest = refl
+front_step false n m len e rest = (let less : 1 + m < suc len = ltb-true (1 + m) (suc len) e in ap (λ k. 1 + k) (rest (lt-ltb m len (omega (arith, less)))))
+
+front_first : (xs : List ℕ) (n : ℕ) → nat_lt (position_or_len is_line_feed (take n xs)) (length (take n xs)) ≡ true → position_or_len is_line_feed xs ≡ position_or_len is_line_feed (take n xs)
+front_first [] zero e = cc
+front_first [] (suc n) e = cc
+front_first (x ∷ xs) zero e = cc
+front_first (x ∷ xs) (suc n) e = front_step (is_line_feed x) (position_or_len is_line_feed xs) (position_or_len is_line_feed (take n xs)) (length (take n xs)) e (front_first xs n)
+
+-- the first line feed of a front is the first of all
+pub found_in_front : (xs : List ℕ) (n i : ℕ) → position is_line_feed (take n xs) ≡ Some i → (nat_lt (position_or_len is_line_feed xs) (length xs) ≡ true) × (position_or_len is_line_feed xs ≡ i) × (i < n)
+found_in_front xs n i e =
+    let front = found (take n xs) i e in
+    let same = front_first xs n front.0 in
+    let less : position_or_len is_line_feed (take n xs) < length (take n xs) = ltb-true (position_or_len is_line_feed (take n xs)) (length (take n xs)) front.0 in
+    let long = length-take n xs in
+    (lt-ltb (position_or_len is_line_feed xs) (length xs) (omega (arith, same, less, long)), same ∙ front.1, omega (arith, front.1, less, long))
 
 pub plain_append : (xs ys : List ℕ) → IsLine xs → IsLine ys → IsLine (xs ++ ys)
 plain_append [] ys p q = q
@@ -142,3 +161,13 @@ pub gathered_next : (i j k m : Input) (kept has : List ℕ) (whole : Bool) → B
 gathered_next i j k m kept has whole b filled line lines test is =
     subst (λ (x : Input). Gathered Whole i x has) (sym lines)
     (subst (λ l. Gathered Whole i (with_waiting k (after_first is_line_feed k.waiting)) l) (sym line) (gathered_whole i k kept (begun_filled i j k kept b filled) (sym test ∙ is)))
+
+begun_nothing : (i : Input) → Begun i i []
+begun_nothing i = record { raw = []; plain = tt; kept_is = refl; takes = Consumes-nil (left i) }
+
+-- a line that waits as a whole
+pub gathered_at_once : (i m : Input) (has : List ℕ) → has ≡ take 258 (before_first is_line_feed i.waiting) → m ≡ with_waiting i (after_first is_line_feed i.waiting)
+    → nat_lt (position_or_len is_line_feed i.waiting) (length i.waiting) ≡ true → Gathered Whole i m has
+gathered_at_once i m has line lines whole =
+    subst (λ (x : Input). Gathered Whole i x has) (sym lines)
+    (subst (λ l. Gathered Whole i (with_waiting i (after_first is_line_feed i.waiting)) l) (sym line) (gathered_whole i i [] (begun_nothing i) whole))

@@ -5,7 +5,7 @@ use Rattle.std.proofs.Common.{inl, inr}
 use Rattle.std.proofs.lemmas.Slice.{take-put_mid}
 use Rattle.std.proofs.lemmas.Bool.{cases_lt}
 use borrow.Rule.Slice.PartMut.{put_mid}
-use Rattle.std.proofs.lemmas.List.{drop-drop, drop-take, length-take, length-append, take_all}
+use Rattle.std.proofs.lemmas.List.{drop-drop, drop-take, length-take, length-append, take_all, take-take}
 
 pub drop_range : (xs : List ℕ) (s e n : ℕ) → n ≤ length (slice_range xs s e) → slice_range xs (s + n) e ≡ drop n (slice_range xs s e)
 drop_range xs s e n h =
@@ -30,3 +30,11 @@ added bytes piece kept count long low fits room whole =
           ap (λ l. take kept bytes ++ l) all ∙ sym (take_all 258 (take kept bytes ++ piece) (omega (arith, length-append (take kept bytes) piece, whole less))))
       | inr full ↦ sym (take_past (take kept bytes) piece 258 count (omega arith))
     ]
+
+-- a copy of a whole front, of which a part is kept
+pub front_kept : (bytes text : List ℕ) (most count n : ℕ) → length bytes ≡ 258 → most ≤ length text → count ≤ most → take count (put_mid 0 n bytes (take most text)) ≡ take count text
+front_kept bytes text most count n long room few =
+    let mid : length (take most text) ≡ most = omega (arith, length-take most text) in
+    sym (take-take count most (put_mid 0 n bytes (take most text)) few)
+    ∙ ap (take count) (take-put_mid 0 n bytes (take most text) most (omega (arith, mid)) (omega arith))
+    ∙ take-take count most text few

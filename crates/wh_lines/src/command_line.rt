@@ -54,6 +54,16 @@ impl CommandLine {
         self.length = 0;
     }
 
+    /// Keeps a front of up to 32 bytes of a text. All 32 are copied, since a copy of a fixed size takes no call.
+    pub(crate) fn keep_front(&mut self, text: &[u8], count: usize)
+        requires room { 32 ≤ length text.now }
+        requires count { count ≤ 32 }
+        ensures { self.new ≡ take count text.now }
+    {
+        self.bytes[..32].copy_from_slice(&text[..32]);
+        self.length = count;
+    }
+
     /// Adds the bytes for which there is room.
     pub(crate) fn add(&mut self, piece: &[u8])
         ensures { self.new ≡ take 258 (self.old ++ piece.now) }

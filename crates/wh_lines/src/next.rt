@@ -41,6 +41,27 @@ fn take_part<R: Read>(lines: &mut Lines<R>, line: &mut CommandLine) -> bool
     }
 }
 
+/// Takes the next line where it is short and waits as a whole, as nearly all lines of a script do: whether it did.
+fn take_short<R: Read>(lines: &mut Lines<R>, line: &mut CommandLine) -> bool
+    ensures line { result ≡ true → line.new ≡ take 258 (before_first is_line_feed lines.old.waiting) }
+    ensures lines { result ≡ true → lines.new ≡ with_waiting lines.old (after_first is_line_feed lines.old.waiting) }
+    ensures whole { result ≡ true → nat_lt (position_or_len is_line_feed lines.old.waiting) (length lines.old.waiting) ≡ true }
+    ensures left { result ≡ false → lines.new ≡ lines.old }
+{
+    let waiting = lines.waiting();
+    if waiting.len() < 32 {
+        return false;
+    }
+    match first_line_feed(&waiting[..32]) {
+        Some(end) => {
+            line.keep_front(waiting, end);
+            lines.take(end + 1);
+            true
+        }
+        None => false,
+    }
+}
+
 /// Whether bytes wait, after a read where none did. Before each read the writer is flushed, so that whoever feeds the
 /// reader sees every reply.
 fn more_waits<R: Read, W: Write>(lines: &mut Lines<R>, writer: &mut W) -> Result<bool, LineFault>
@@ -119,6 +140,9 @@ impl<R: Read> Lines<R> {
     {
         if self.has_failed() {
             return Err(LineFault::Read(ReadFault::Broken));
+        }
+        if take_short(self, line) {
+            return Ok(Next::Whole);
         }
         let result = gather(self, writer, line);
         if result.is_err() {
