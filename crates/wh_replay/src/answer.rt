@@ -31,14 +31,24 @@ fn write_line<W: Write>(writer: &mut W, line: &[u8]) -> Result<u64, WriteFault>
     }
 }
 
-/// Tells a reply in few words, as a line, at once.
-fn tell_short<W: Write>(writer: &mut W, reply: &Reply) -> Result<u64, WriteFault>
+/// Puts a reply in few words together, and tells it as a line, at once.
+fn tell_words<W: Write>(writer: &mut W, reply: &Reply) -> Result<u64, WriteFault>
     ensures { Tells result (W.contents writer.old) (W.contents writer.new) (reply_line (reply_text reply.now)) }
 {
     let mut line = ArrayVec::new();
     put_reply(&mut line, reply);
     put(&mut line, b"\n");
     write_line(writer, line.as_slice())
+}
+
+/// Tells a reply in few words, as a line, at once. Most agents rest, and that line stands ready.
+fn tell_short<W: Write>(writer: &mut W, reply: &Reply) -> Result<u64, WriteFault>
+    ensures { Tells result (W.contents writer.old) (W.contents writer.new) (reply_line (reply_text reply.now)) }
+{
+    match reply {
+        Reply::Rested => write_line(writer, b"rested\n"),
+        _ => tell_words(writer, reply),
+    }
 }
 
 /// Tells a reply in a form that may be long, as a line.
