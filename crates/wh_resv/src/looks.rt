@@ -20,7 +20,7 @@ pub fn is_others(stay: Stay, except: usize, cell: Cell) -> bool
 pub fn is_during(stay: Stay, time: u32) -> bool
     ensures { IsTrue result ↔ IsDuring stay time }
 {
-    stay.from <= time && time < stay.until
+    time < stay.until && stay.from <= time
 }
 
 /// Whether nobody else is at a cell at a time.

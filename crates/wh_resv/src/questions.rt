@@ -36,10 +36,12 @@ fn bars(
     next: u32,
 ) -> bool
     requires time { k + 1 < 2 ^ 64 }
+    requires grows { time ≤ next }
     requires within { IsOthers stay except to → IsDuring stay time → stay.agent < length paths.now }
     ensures { IsTrue result ↔ Bars paths.now stay except from to k time next }
 {
-    if !is_others(stay, except, to) {
+    // mostly it is over, or it begins later
+    if stay.until <= time || next < stay.from || !is_others(stay, except, to) {
         return false;
     }
     if is_during(stay, next) {

@@ -123,6 +123,15 @@ impl<'a> Reservations<'a> {
         none_there(self.told.stays(), self.paths, self.except, cell, k)
     }
 
+    /// Whether nobody is at a cell at k, nor at another one at k + 1. It is seldom asked.
+    #[inline(never)]
+    fn none_follows(&self, from: Cell, to: Cell, k: u64) -> bool
+        requires { k + 1 < 2 ^ 64 }
+        ensures { IsTrue result ↔ (IsVacant self.now.paths to k × IsVacant self.now.paths from (k + 1)) }
+    {
+        self.vacant(to, k) && self.vacant(from, k + 1)
+    }
+
     /// Whether an agent may go from one cell, where nobody else is at k, to another between k
     /// and k + 1.
     pub fn may_enter(&self, from: Cell, to: Cell, k: u64) -> bool
@@ -130,13 +139,10 @@ impl<'a> Reservations<'a> {
         requires time { k + 1 < 2 ^ 64 }
         ensures { IsTrue result ↔ MayStep self.now from to k }
     {
-        if !is_open(self.told.stays(), self.paths, self.except, from, to, k) {
+        if self.nofollow && !from.is(to) && !self.none_follows(from, to, k) {
             return false;
         }
-        if self.nofollow && !from.is(to) {
-            return self.vacant(to, k) && self.vacant(from, k + 1);
-        }
-        true
+        is_open(self.told.stays(), self.paths, self.except, from, to, k)
     }
 
     /// Whether an agent may go from one cell to another between k and k + 1.

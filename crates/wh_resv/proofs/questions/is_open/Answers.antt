@@ -1,6 +1,6 @@
-use Rattle.std.proofs.Common.{refl, arith}
+use Rattle.std.proofs.Common.{◌+◌, refl, arith}
 use Rattle.std.proofs.lemmas.Bool.{false≢true}
-use Rattle.wh_resv.proofs.Telling.{agent_known, bars_not, none_bars}
+use Rattle.wh_resv.proofs.Telling.{agent_known, bars_not, none_bars, time_grows}
 use Rattle.wh_resv.proofs.questions.is_open.Goals as goal
 
 pub bars-requires-clause-within : goal.bars-requires-clause-within
@@ -23,3 +23,8 @@ returns c =
     c.list-list.result.now c.list-list.ensures c.time-time.result c.time-next.result c.time-time.ensures c.time-next.ensures
     (λ j h. c.loop-stay.invariant j (omega arith)) in
     (λ _. free, λ _. refl)
+
+pub bars-requires-clause-grows : goal.bars-requires-clause-grows
+bars-requires-clause-grows c =
+    let grows = time_grows c.args.stays.now.clock c.args.k (c.args.k + 1) (omega arith) in
+    omega (arith, grows, c.time-time.ensures, c.time-next.ensures)
