@@ -1,7 +1,7 @@
 //! What is still to be looked at, the most promising first.
 #![tactic(auto)]
 
-ghost use Rattle.std.specs.Prelude.{◌≡◌, ℕ, ◌<◌, ◌≤◌, [], OnOk, IfSome, IfNone};
+ghost use Rattle.std.specs.Prelude.{◌≡◌, ℕ, ◌<◌, ◌≤◌, [], OnOk, IfOk, IfSome, IfNone};
 ghost use Rattle.wh_intervals.specs.Queues.{Waiting, Pushes, Pops};
 
 use crate::entry::Entry;
@@ -32,13 +32,13 @@ impl Model for Queue {
 }
 
 impl Queue {
-    /// One in which nothing waits.
-    pub fn empty(alloc: Global) -> Self
-        ensures { (bound node : ℕ) → Waiting result bound node → ⊥ }
+    /// One in which nothing waits, with room for so many.
+    pub fn with_room(alloc: Global, count: usize) -> Result<Self, AllocError>
+        ensures { IfOk result (λ q. (bound node : ℕ) → Waiting q bound node → ⊥) }
     {
-        Queue {
-            heap: BinaryHeap::new(alloc),
-        }
+        Ok(Queue {
+            heap: BinaryHeap::with_capacity(alloc, count)?,
+        })
     }
 
     /// Adds a node that waits with a bound, with the given number of steps left from a time on.

@@ -72,8 +72,8 @@ pub fn search(
     if left > errand.limit {
         return Ok(None);
     }
-    let mut states = States::new(alloc);
-    let _until = states.meet(errand, 0, errand.first, errand.loc, 0)?;
+    let mut states = States::new(alloc)?;
+    let _until = states.meet(errand, 0, errand.first, errand.loc, left, 0)?;
     expanded.clear();
     for _ in 0..u64::MAX {
         let Some((_bound, index)) = states.queue.pop() else {
