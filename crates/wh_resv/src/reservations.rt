@@ -123,8 +123,7 @@ impl<'a> Reservations<'a> {
         none_there(self.told.stays(), self.paths, self.except, cell, k)
     }
 
-    /// Whether nobody is at a cell at k, nor at another one at k + 1. It is seldom asked.
-    #[inline(never)]
+    /// Whether nobody is at the second cell at k, nor at the first one at k + 1.
     fn none_follows(&self, from: Cell, to: Cell, k: u64) -> bool
         requires { k + 1 < 2 ^ 64 }
         ensures { IsTrue result ↔ (IsVacant self.now.paths to k × IsVacant self.now.paths from (k + 1)) }
