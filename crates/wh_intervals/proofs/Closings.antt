@@ -1,12 +1,13 @@
 -- the intervals that are noted as expanded
 use Rattle.std.proofs.Common.{◌≡◌, ℕ, inl, inr, ◌∙◌, Bool, true, false, cond, eq-eqb, Option, Some, None, IfSome, IfNone, unwrap_or, refl, sym, ap, subst, arith}
+use Rattle.std.specs.Cmp.{IsEquivalence, decided}
 use Rattle.std.proofs.lemmas.Bool.{cases_Bool}
 use Rattle.std.proofs.lemmas.Bool.Decides.{nat_tests}
 use Rattle.wh_intervals.specs.declared.interval.Interval.{Interval}
 use Rattle.wh_intervals.specs.declared.known.Known.{Known}
 use Rattle.wh_intervals.specs.Closings.{interval_eq, since_of, closed_by, Notes}
 
-interval_same : (a b : Interval) → interval_eq a b ≡ true → a ≡ b
+pub interval_same : (a b : Interval) → interval_eq a b ≡ true → a ≡ b
 interval_same a b e =
     let leg : a.leg ≡ b.leg = grind (arith, nat_tests) in
     let x : a.cell.x ≡ b.cell.x = grind (arith, nat_tests) in
@@ -14,8 +15,11 @@ interval_same a b e =
     let until : a.until ≡ b.until = grind (arith, nat_tests) in
     λ i. record { leg = leg i; cell = record { x = x i; y = y i }; until = until i }
 
-interval_one : (a : Interval) → interval_eq a a ≡ true
+pub interval_one : (a : Interval) → interval_eq a a ≡ true
 interval_one a = let l = eq-eqb a.leg a.leg refl in let x = eq-eqb a.cell.x a.cell.x refl in let y = eq-eqb a.cell.y a.cell.y refl in let u = eq-eqb a.until a.until refl in cc
+
+pub interval_equiv : IsEquivalence interval_eq
+interval_equiv = decided interval_eq (λ a b. (interval_same a b, λ e. subst (λ (j : Interval). interval_eq a j ≡ true) e (interval_one a)))
 
 abbrev value_of : Option ℕ → ℕ
 value_of None = 0
@@ -23,6 +27,17 @@ value_of (Some n) = n
 
 pub some_same : (a b : ℕ) → Some a ≡ Some b → a ≡ b
 some_same a b e = ap value_of e
+
+abbrev key_of : Interval → Option (Interval × Known) → Interval
+key_of d None = d
+key_of d (Some p) = p.0
+
+-- an entry of the map
+abbrev pub entry_of : Known → Interval → Option (Interval × Known)
+entry_of v j = Some (j, v)
+
+pub pair_left : (a b : Interval) (v w : Known) → entry_of v a ≡ entry_of w b → a ≡ b
+pair_left a b v w e = ap (key_of a) e
 
 -- what an insertion makes of a map
 pub notes_from : (old new : Interval → Option ℕ) (i : Interval) (time : ℕ) → ((q : Interval) → new q ≡ cond (interval_eq i q) (Some time) (old q)) → Notes old new i time

@@ -1,7 +1,7 @@
 //! The times in which an agent may wait at a cell, by which arrivals are told apart.
 #![tactic(auto)]
 
-ghost use Rattle.std.specs.Prelude.{◌≡◌, ◌+◌, ◌*◌, ◌%◌, ◌^◌};
+ghost use Rattle.std.specs.Prelude.{◌≡◌, ◌↔◌, ◌+◌, ◌*◌, ◌%◌, ◌^◌, IsTrue};
 ghost use Rattle.std.specs.Cmp.Rules.{hashing};
 ghost use Rattle.std.specs.Hash as fed;
 ghost use Rattle.std.proofs.Common.{rules};
@@ -21,6 +21,13 @@ pub struct Interval {
 }
 
 impl Interval {
+    /// Whether it is this interval.
+    pub fn is(self, other: Interval) -> bool
+        ensures { IsTrue result ↔ (self ≡ other) }
+    {
+        self.until == other.until && self.cell.is(other.cell) && self.leg == other.leg
+    }
+
     /// A number to hash it by, that two intervals seldom share.
     fn number(self) -> u64
         ensures { result ≡ ((self.until + self.leg) % 2 ^ 32) * 2 ^ 32 + (self.cell.y * 2 ^ 16 + self.cell.x) }

@@ -46,7 +46,8 @@ fn take(
     ensures told { OnOk result (IsTold (problem errand.now) states.new.nodes.items states.new.queue None (closed_by (get interval_eq states.new.intervals)) expanded.new.items) }
 {
     let node = states.nodes[index];
-    let Some(last) = close(&mut states.intervals, node)? else {
+    let place = states.place(index);
+    let Some(last) = close(&mut states.intervals, node, place)? else {
         return Ok(());
     };
     states.expand(errand, index, u64::from(last))?;

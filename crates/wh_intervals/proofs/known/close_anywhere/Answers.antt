@@ -7,7 +7,7 @@ use Rattle.wh_intervals.specs.Nodes.{interval_of}
 use Rattle.wh_intervals.specs.Told.{IsPast, IsRest}
 use Rattle.wh_intervals.specs.declared.interval.Interval.{Interval}
 use Rattle.wh_intervals.proofs.Closings.{known_is, closed_stays, closed_notes, some_weaker, none_weaker}
-use Rattle.wh_intervals.proofs.known.close.Goals as goal
+use Rattle.wh_intervals.proofs.known.close_anywhere.Goals as goal
 
 pub returns-clause-rest : goal.returns-clause-rest
 returns-clause-rest c =

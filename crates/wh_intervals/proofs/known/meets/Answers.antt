@@ -12,7 +12,7 @@ returns-clause-closed c =
     let i = c.interval_of.result in
     let was = c.or_insert.result.now in
     let w = c.meets-met.new.self in
-    let since : closed_by old i ≡ was.since = known_is _ was (record { newest = c.args.number; since = None }) old i c.or_insert.ensures.value c.in_ok-intervals.ensures.value refl in
-    let new = get interval_eq (map_with_value c.in_ok-intervals.field-0 w) in
-    let same = closed_stays old new i w (c.in_ok-intervals.ensures.update.0 w).0 (c.meets-met.ensures.since ∙ sym since) in
+    let since : closed_by old i ≡ was.since = known_is _ was (record { newest = c.args.number; since = None }) old i c.or_insert.ensures.value c.in_ok-entry.ensures.value refl in
+    let new = get interval_eq (map_with_value c.in_ok-entry.entry w) in
+    let same = closed_stays old new i w (c.in_ok-entry.ensures.update.0 w).0 (c.meets-met.ensures.since ∙ sym since) in
     grind (arith, common_steps, same)
