@@ -19,3 +19,4 @@ pub mod Collected
 pub mod Telling
 pub mod Sources
 pub mod Growing
+pub mod FrontNumbers

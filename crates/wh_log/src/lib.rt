@@ -24,6 +24,7 @@ mod read_words;
 mod reader;
 mod source;
 mod tell_entries;
+mod usual;
 mod version;
 mod window;
 mod write_entry;

@@ -11,6 +11,7 @@ use crate::fault::NoMemory;
 use crate::head::Head;
 use crate::heads::{end_count, most_stops, start, version};
 use crate::places::Place;
+use crate::usual::usual;
 use crate::version::Version;
 use std::alloc::Global;
 use wh_event::Entry;
@@ -41,8 +42,9 @@ pub fn read_head(alloc: Global, text: &[u8]) -> Result<Head, NoMemory>
     }
 }
 
-/// What follows after a number of entries.
-pub fn next<'a>(
+/// What follows after a number of entries, read word by word.
+#[inline(never)]
+fn any<'a>(
     alloc: Global,
     version: Version,
     count: u32,
@@ -75,4 +77,22 @@ pub fn next<'a>(
         Err(EntryFault::Form) => Ok(Place::WrongLine),
         Err(EntryFault::NoMemory) => Err(NoMemory),
     }
+}
+
+/// What follows after a number of entries.
+pub fn next<'a>(
+    alloc: Global,
+    version: Version,
+    count: u32,
+    text: &'a [u8],
+) -> Result<Place<'a>, NoMemory>
+    requires { count < 10 ^ 9 }
+    ensures { IfOk result (λ place. Stands version count text.now place) }
+{
+    if (count as usize) < MOST_ENTRIES {
+        if let Some((entry, rest)) = usual(text) {
+            return Ok(Place::Next { entry, rest });
+        }
+    }
+    any(alloc, version, count, text)
 }
