@@ -7,6 +7,7 @@ pub mod Visits
 pub mod Paths
 pub mod Kept
 pub mod Expands
+pub mod Falls
 pub mod Searches
 pub mod Ways
 pub mod Stops

@@ -21,7 +21,7 @@ reaches_few g others via start p zero s r = subst (λ (x : State). x.leg ≤ len
 reaches_few g others via start p (suc k) s r = r.2.arrives.few
 
 -- the estimate is not greater at the cell for who has yet to visit stops there
-arrives_estimate : (g : Floor) (via : List Cell) (ends : List Cell) (e : ℕ → Cell → ℕ) → IsEstimate g via ends e → (l : ℕ) (c : Cell) (m : ℕ) → IsPassable g c → Arrives via l c m → (d : ℕ) → l + d ≤ m → e l c ≤ e (l + d) c
+pub arrives_estimate : (g : Floor) (via : List Cell) (ends : List Cell) (e : ℕ → Cell → ℕ) → IsEstimate g via ends e → (l : ℕ) (c : Cell) (m : ℕ) → IsPassable g c → Arrives via l c m → (d : ℕ) → l + d ≤ m → e l c ≤ e (l + d) c
 arrives_estimate g via ends e h l c m i a zero b = let z : l ≡ l + 0 = omega arith in let y : e l c ≡ e (l + 0) c = ap (λ j. e j c) z in omega arith
 arrives_estimate g via ends e h l c m i a (suc d) b =
     let before = arrives_estimate g via ends e h l c m i a d (omega arith) in

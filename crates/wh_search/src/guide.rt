@@ -1,12 +1,13 @@
 //! The estimate that leads the search.
 #![tactic(auto)]
 
-ghost use Rattle.std.specs.Prelude.{◌≡◌, ℕ, ◌+◌, ◌*◌, ◌<◌, ◌≤◌, ◌^◌, Option, Some, IfOk, length, map, slice_index, [], ◌∷◌};
+ghost use Rattle.std.specs.Prelude.{◌≡◌, ℕ, ◌+◌, ◌*◌, ◌/◌, ◌%◌, ◌<◌, ◌≤◌, ◌^◌, ◌⊎◌, ◌↔◌, IsTrue, Option, Some, IfOk, length, map, slice_index, [], ◌∷◌};
 ghost use Rattle.wh_grid.specs.declared.cell.Cell.{Cell};
 ghost use Rattle.wh_field.specs.Sides.{around};
 ghost use Rattle.wh_search.specs.Fields.{far};
 ghost use Rattle.wh_search.specs.Guides.{by_field, guide_estimate, nearest_estimate, IsOnward};
 ghost use Rattle.wh_search.specs.Sights.{by_sight, IsOnwardBySights};
+ghost use Rattle.wh_search.specs.Ways.{IsFallingBy};
 
 use crate::moves::moves_from;
 use std::alloc::{AllocError, Global};
@@ -192,6 +193,23 @@ fn by_field_around(field: Option<&Field>, further: u64, cell: Cell) -> [u64; 5]
     }
 }
 
+/// 1 where a number is less than another, else 0.
+#[inline(always)]
+fn falling(left: u64, here: u64) -> u8
+    ensures { ((left < here) × (result ≡ 1)) ⊎ ((here ≤ left) × (result ≡ 0)) }
+{
+    (left < here) as u8
+}
+
+/// Whether a move is one of some, each of which is a digit of a number of base 2.
+#[inline(always)]
+pub(crate) fn is_among(moves: u8, by: usize) -> bool
+    requires { by < 5 }
+    ensures { IsTrue result ↔ (moves / 2 ^ by % 2 ≡ 1) }
+{
+    moves >> by & 1 == 1
+}
+
 impl<'a> Guide<'a> {
     /// The estimates for an agent at a cell and at those beside it, with the given number of stops behind it.
     pub fn around(&self, leg: usize, cell: Cell) -> [u64; 5]
@@ -214,6 +232,19 @@ impl<'a> Guide<'a> {
                 }
             }
         }
+    }
+
+    /// The moves from a cell by which the estimate becomes less than a number.
+    #[inline(always)]
+    pub(crate) fn falls(&self, leg: usize, cell: Cell, here: u64) -> u8
+        ensures { IsFallingBy (guide_estimate self.now) leg cell here result }
+    {
+        let lefts = self.around(leg, cell);
+        let four = falling(lefts[4], here);
+        let three = four * 2 + falling(lefts[3], here);
+        let two = three * 2 + falling(lefts[2], here);
+        let one = two * 2 + falling(lefts[1], here);
+        one * 2 + falling(lefts[0], here)
     }
 
     /// The estimated number of steps left for an agent at a cell with the given number of stops behind it.

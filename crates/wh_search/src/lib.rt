@@ -7,7 +7,6 @@ pub mod guide;
 mod memory;
 pub mod moves;
 pub mod noted;
-mod seen;
 mod straight;
 
 pub use fault::Fault;

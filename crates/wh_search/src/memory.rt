@@ -8,13 +8,12 @@ use crate::noted::Noted;
 use std::alloc::Global;
 use std::marker::Model;
 
-/// For how many entries there may be room in each table that is kept: at most 426,000 bytes in all,
-/// since each of many planners may keep so much. To a search that takes more, asking for its memory
-/// is little.
+/// For how many entries there may be room in the table that is kept: at most 65,536 bytes, since each
+/// of many planners may keep so much. To a search that takes more, asking for its memory is little.
 pub const MOST_KEPT: usize = 8192;
 
 /// The memory that a search takes, kept for the next one. No answer depends on what is left in it.
-/// Contracts see for how many entries there is room in its largest table.
+/// Contracts see for how many entries there is room in its table.
 #[derive(Drop)]
 pub struct SearchMemory {
     pub(crate) noted: Noted,
@@ -42,8 +41,7 @@ impl SearchMemory {
         }
     }
 
-    /// For how many entries there is room in its largest table. All tables take at most 426,000
-    /// bytes.
+    /// For how many entries there is room in its table, which takes at most 65,536 bytes.
     pub fn room(&self) -> usize
         ensures value { result ≡ self.now }
         ensures bound { result ≤ MOST_KEPT }

@@ -5,6 +5,7 @@ ghost use Rattle.std.specs.Prelude.{◌≡◌, ℕ, ◌<◌, ◌^◌, All, Conta
 ghost use Rattle.wh_grid.specs.declared.cell.Cell.{Cell};
 ghost use Rattle.wh_grid.specs.Grids.{IsMove};
 ghost use Rattle.wh_field.specs.Sides.{around};
+ghost use Rattle.wh_search.specs.Ways.{cell_beside};
 
 use wh_grid::Cell;
 
@@ -34,4 +35,36 @@ pub fn moves_from(from: Cell) -> [Cell; 5]
             y: from.y.saturating_add(1),
         },
     ]
+}
+
+/// The cell to which one of these moves leads.
+#[inline(always)]
+pub(crate) fn move_by(from: Cell, by: usize) -> Cell
+    requires { by < 5 }
+    ensures same { result ≡ cell_beside from by }
+    ensures near { IsMove from result }
+{
+    if by == 4 {
+        Cell {
+            x: from.x,
+            y: from.y.saturating_add(1),
+        }
+    } else if by == 3 {
+        Cell {
+            x: from.x,
+            y: from.y.saturating_sub(1),
+        }
+    } else if by == 2 {
+        Cell {
+            x: from.x.saturating_add(1),
+            y: from.y,
+        }
+    } else if by == 1 {
+        Cell {
+            x: from.x.saturating_sub(1),
+            y: from.y,
+        }
+    } else {
+        from
+    }
 }

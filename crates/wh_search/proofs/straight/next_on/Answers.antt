@@ -1,4 +1,5 @@
-use Rattle.std.proofs.Common.{◌≡◌, ◌+◌, ◌-◌, ◌<◌, List, ap, subst, sym, ◌∙◌, Contains, arith}
+use Rattle.std.proofs.Common.{◌≡◌, ◌+◌, ◌-◌, ◌<◌, inl, inr, refl, ap, subst, sym, ◌∙◌, Contains, arith}
+use Rattle.std.proofs.lemmas.Bool.{cases_lt}
 use Rattle.std.proofs.lemmas.List.{get_or_default}
 use Rattle.std.proofs.lemmas.List.Elements.{All-weaker}
 use Rattle.wh_grid.specs.declared.cell.Cell.{Cell}
@@ -9,15 +10,31 @@ use Rattle.wh_resv.specs.Others.{IsClearStep, MayStep}
 use Rattle.wh_search.specs.Frontiers.{problem}
 use Rattle.wh_search.specs.Guides.{guide_estimate}
 use Rattle.wh_search.specs.States.{State, Steps}
-use Rattle.wh_search.specs.Ways.{AreTried, IsBarred, cell_beside, state_on}
-use Rattle.wh_search.proofs.Expands.{move_at}
+use Rattle.wh_search.specs.Ways.{AreTried, IsBarred, IsFallingBy, cell_beside, state_on}
+use Rattle.wh_path.proofs.WalkLemmas.{move_back}
+use Rattle.wh_search.proofs.Cells.{moves_complete}
 use Rattle.wh_search.proofs.Searches.{errand_falls}
-use Rattle.wh_search.proofs.Ways.{tried_more, tried_far, tried_noted, tried_all}
-use Rattle.wh_search.proofs.noted.Noted.next_on.Goals as goal
-use Rattle.wh_search.proofs.noted.Noted.next_on.Goals.{else-left-here-via-then-left-here+then-not-is_noted+else-allows, else-left-here-via-then-left-here+else-not-is_noted, else-left-here-via-else-left-here}
+use Rattle.wh_search.proofs.Ways.{tried_more, tried_far, tried_not_among, tried_noted, tried_all}
+use Rattle.wh_search.proofs.straight.next_on.Goals as goal
+use Rattle.wh_search.proofs.straight.next_on.Goals.{then-is_among+else-is_nearer, else-is_nearer-via-then-is_nearer+then-not-has+else-allows, else-is_nearer-via-then-is_nearer+else-not-has, else-is_nearer-via-else-is_nearer, else-is_among}
 
 pub loop-done-init : goal.loop-done-init
 loop-done-init c = λ i low five. c.requires.tried i (omega arith) five
+
+pub is_nearer-requires : goal.is_nearer-requires
+is_nearer-requires c =
+    let e = c.args.errand.now in
+    let p = problem e in
+    let d = c.args.stand in
+    let i = c.args.tried - 1 - c.loop-done.done in
+    let few = c.requires.few in
+    let going = c.loop-done-test.true in
+    let five : i < 5 = omega arith in
+    let total = c.requires.stand.total in
+    let here : p.estimate d.leg d.cell ≡ c.args.here = omega arith in
+    let falls : p.estimate d.leg (cell_beside d.cell i) < p.estimate d.leg d.cell = (c.requires.stand.falling i five).1 (c.is_among.ensures.0 c.if-is_among.true) in
+    let same : p.estimate d.leg c.move_by-to.result ≡ p.estimate d.leg (cell_beside d.cell i) = ap (p.estimate d.leg) c.move_by-to.ensures.same in
+    omega arith
 
 pub returns-then-allows-clause-some : goal.returns-then-allows-clause-some
 returns-then-allows-clause-some c =
@@ -29,20 +46,19 @@ returns-then-allows-clause-some c =
     let few = c.requires.few in
     let going = c.loop-done-test.true in
     let five : i < 5 = omega arith in
-    let moves = c.moves_from-moves.result in
-    let to = move_at moves i in
+    let to = c.move_by-to.result in
     let leg = c.arrive_by-leg.result in
     let a = c.allows.ensures.0 c.if-allows.true in
-    let same : to ≡ cell_beside d.cell i = ap (λ (xs : List Cell). move_at xs i) c.moves_from-moves.ensures.same in
-    let size = c.moves_from-moves.ensures.five in
+    let same : to ≡ cell_beside d.cell i = c.move_by-to.ensures.same in
     let step : Steps e.grid.now e.others.now e.via.now k (state_on d) (record { leg = leg; cell = to }) = record {
-      goes = record { passable = a.0; move = c.moves_from-moves.ensures.moves i (record { x = 0; y = 0 }) (omega arith); may = a.1 };
+      goes = record { passable = a.0; move = c.move_by-to.ensures.near; may = a.1 };
       arrives = c.arrive_by-leg.ensures;
     } in
     let total = c.requires.stand.total in
     let here : p.estimate d.leg d.cell - 1 ≡ c.args.here - 1 = omega arith in
     let falls = errand_falls e c.requires.errand k (state_on d) c.requires.stand.few c.requires.stand.inside (record { leg = leg; cell = to }) step in
-    let left : c.estimate_by-left.result ≡ guide_estimate e.guide leg to = c.estimate_by-left.ensures in
+    let less : guide_estimate e.guide leg to < c.args.here = c.is_nearer.ensures.0 c.if-is_nearer.true in
+    let left : c.args.here - 1 ≡ guide_estimate e.guide leg to = omega arith in
     let next : c.args.tried - c.loop-done.done ≡ i + 1 = omega arith in (
       record {
         steps = step;
@@ -51,10 +67,11 @@ returns-then-allows-clause-some c =
         tried = subst (λ n. AreTried p n k (state_on d) (i + 1)) (sym here) (subst (AreTried p (c.args.here - 1) k (state_on d)) next c.loop-done.invariant);
       },
       record {
-        total = (let less = c.if-left-here.true in omega arith);
+        total = omega arith;
         few = c.arrive_by-leg.ensures.few;
         inside = a.0;
         alone = All-weaker (λ q. IsClearStep e.others.now.nofollow q d.cell to k) (λ q. at q (k + 1) ≡ to → ⊥) (λ q s. s.target) e.others.now.paths a.1;
+        falling = subst (λ n. IsFallingBy p.estimate leg to n c.falls.result) left c.falls.ensures;
       },
     )
 
@@ -65,22 +82,42 @@ loop-done-preserved c =
     let d = c.args.stand in
     let k = c.args.time in
     let i = c.args.tried - 1 - c.loop-done.done in
+    let to = cell_beside d.cell i in
     let going = c.loop-done-test.true in
-    let moves = c.moves_from-moves.result in
-    let to = move_at moves i in
-    let leg = c.arrive_by-leg.result in
     let few = c.requires.few in
-    let same : to ≡ cell_beside d.cell i = ap (λ (xs : List Cell). move_at xs i) c.moves_from-moves.ensures.same in
-    let left : c.estimate_by-left.result ≡ guide_estimate e.guide leg to = c.estimate_by-left.ensures in
+    let five : i < 5 = omega arith in
     let next : c.args.tried - c.loop-done.done ≡ i + 1 = omega arith in
     let now : i ≡ c.args.tried - (c.loop-done.done + 1) = omega arith in
+    let wide = c.width-width.type_inv in
+    let high = c.height-height.type_inv in
+    let total = c.requires.stand.total in
     let put : ((t : State) → t.cell ≡ to → Steps p.grid p.others p.via k (state_on d) t → IsBarred p (c.args.here - 1) (k + 1) t) → AreTried p (c.args.here - 1) k (state_on d) (c.args.tried - (c.loop-done.done + 1)) =
-    λ h. subst (AreTried p (c.args.here - 1) k (state_on d)) now (tried_more p (c.args.here - 1) k (state_on d) i (subst (AreTried p (c.args.here - 1) k (state_on d)) next c.loop-done.invariant) (λ t is step. h t (is ∙ sym same) step)) in
-    elim c.else-left-here.branch [
-      | else-left-here-via-then-left-here+then-not-is_noted+else-allows w ↦ put (λ t is step. absurd (let one = w.allows.ensures.1 (subst (λ (x : Cell). IsPassable e.grid.now x × MayStep e.others.now d.cell x k) is (step.goes.passable, step.goes.may)) in let no = w.if-allows.false in cc))
-      | else-left-here-via-then-left-here+else-not-is_noted w ↦ put (tried_noted e c.requires.errand c.args.here k d c.args.self.now.nodes.items leg to c.requires.some c.requires.stand c.requires.hopeless
-          (w.is_noted.ensures w.if-not-is_noted.false) (let less = w.if-left-here.true in omega arith) c.arrive_by-leg.ensures)
-      | else-left-here-via-else-left-here w ↦ put (tried_far e c.requires.errand c.args.here k d leg to c.requires.some (let far = w.if-left-here.false in omega arith) c.arrive_by-leg.ensures)
+    λ h. subst (AreTried p (c.args.here - 1) k (state_on d)) now (tried_more p (c.args.here - 1) k (state_on d) i (subst (AreTried p (c.args.here - 1) k (state_on d)) next c.loop-done.invariant) h) in
+    elim c.if-is_among.branch [
+      | else-is_among w ↦ put (elim (cases_lt (p.estimate d.leg to) c.args.here) [
+        | inl x ↦ absurd (let less : p.estimate d.leg to < p.estimate d.leg d.cell = omega arith in let yes = c.is_among.ensures.1 ((c.requires.stand.falling i five).0 less) in let no = w.if-is_among.false in cc)
+        | inr x ↦ tried_not_among e c.requires.errand c.args.here k d to c.requires.some x
+      ])
+      | then-is_among+else-is_nearer w ↦ (let same : w.move_by-to.result ≡ to = w.move_by-to.ensures.same in
+          let leg = w.arrive_by-leg.result in
+          elim w.else-is_nearer.branch [
+            | else-is_nearer-via-then-is_nearer+then-not-has+else-allows v ↦ put (λ t is step. absurd (let one = v.allows.ensures.1 (subst (λ (x : Cell). IsPassable e.grid.now x × MayStep e.others.now d.cell x k) (is ∙ sym same) (step.goes.passable, step.goes.may)) in let no = v.if-allows.false in cc))
+            | else-is_nearer-via-then-is_nearer+else-not-has v ↦ put (λ t is step.
+                let inside = step.goes.passable in
+                let there : t.cell ≡ w.move_by-to.result = is ∙ sym same in
+                let low = subst (λ (x : Cell). IsPassable e.grid.now x) there inside in
+                let tw = low.in_width in
+                let th = low.in_height in
+                let value = c.width-width.ensures.value in
+                let height = c.height-height.ensures.value in
+                tried_noted e c.requires.errand c.args.here k d c.args.noted.now.slots.items leg w.move_by-to.result c.requires.some c.requires.stand c.requires.hopeless (omega arith) (omega arith)
+                (subst (Contains c.args.noted.now.slots.items) v.state_number.ensures (v.has.ensures v.if-not-has.false)) (w.is_nearer.ensures.0 v.if-is_nearer.true) w.arrive_by-leg.ensures t there step)
+            | else-is_nearer-via-else-is_nearer v ↦ put (λ t is step.
+                elim (cases_lt (p.estimate leg w.move_by-to.result) c.args.here) [
+                  | inl x ↦ absurd (let yes = w.is_nearer.ensures.1 x in let no = v.if-is_nearer.false in cc)
+                  | inr x ↦ tried_far e c.requires.errand c.args.here k d leg w.move_by-to.result c.requires.some x w.arrive_by-leg.ensures t (is ∙ sym same) step
+                ])
+          ])
     ]
 
 pub returns-clause-none : goal.returns-clause-none
@@ -90,12 +127,11 @@ returns-clause-none c =
     let d = c.args.stand in
     let k = c.args.time in
     let over = c.loop-done-test.false in
-    let size = c.moves_from-moves.ensures.five in
     let none : c.args.tried - c.loop-done.done ≡ 0 = omega arith in
     tried_all p c.args.here k (state_on d) c.requires.some (subst (AreTried p (c.args.here - 1) k (state_on d)) none c.loop-done.invariant)
     (λ t step.
     let inside = step.goes.passable in
     let w = inside.in_width in
     let h = inside.in_height in
-    let there : Contains (around d.cell) t.cell = subst (λ (xs : List Cell). Contains xs t.cell) c.moves_from-moves.ensures.same (c.moves_from-moves.ensures.complete t.cell (omega arith) (omega arith) step.goes.move) in
+    let there : Contains (around d.cell) t.cell = moves_complete d.cell t.cell _ _ _ _ refl refl refl refl (omega arith) (omega arith) (move_back d.cell t.cell step.goes.move) in
     (there.0, there.1, sym there.2 ∙ get_or_default (around d.cell) there.0 t.cell (record { x = 0; y = 0 }) there.1))
