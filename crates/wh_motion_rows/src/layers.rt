@@ -24,7 +24,7 @@ use wh_search::Fault;
 use wh_search::errand::{Errand, arrive};
 use wh_search::guide::Guide;
 use wh_search::moves::moves_from;
-use wh_search::noted::{MOST, Node, holds, stands_for};
+use wh_search::noted::{MOST, Node, holds};
 
 /// The states that were met, in the order of their times, and by cell and number of stops behind
 /// where the last of each stands.
@@ -41,6 +41,16 @@ fn place_of(errand: &Errand, node: Node) -> usize {
         .saturating_add(node.cell.y as usize);
     row.saturating_mul(errand.grid.width() as usize)
         .saturating_add(node.cell.x as usize)
+}
+
+/// Whether a node stands for another: the same state, at the same time or earlier from the horizon on.
+fn stands_for(errand: &Errand, old: Node, new: Node) -> bool
+    ensures { IsTrue result → (state_of old ≡ state_of new) × ((old.time ≡ new.time) ⊎ ((errand.now.horizon ≤ old.time) × (old.time ≤ new.time))) }
+{
+    if old.leg != new.leg || !old.cell.is(new.cell) {
+        return false;
+    }
+    old.time == new.time || (errand.horizon <= old.time as u64 && old.time <= new.time)
 }
 
 /// Notes a number at a place, where there is one.

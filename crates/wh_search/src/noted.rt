@@ -3,11 +3,9 @@
 
 ghost use Rattle.std.specs.Prelude.{◌≡◌, ℕ, ◌+◌, ◌*◌, ◌<◌, ◌≤◌, ◌⊎◌, ◌↔◌, IsTrue, IfOk, OnOk, [], length, Contains};
 ghost use Rattle.wh_grid.specs.declared.cell.Cell.{Cell};
-ghost use Rattle.wh_search.specs.Frontiers.{state_of};
 ghost use Rattle.wh_search.specs.Rooms.{noted_room};
 ghost use Rattle.wh_search.specs.Ways.{state_number};
 
-use crate::errand::Errand;
 use std::alloc::{AllocError, Global};
 use wh_grid::Cell;
 
@@ -22,16 +20,6 @@ pub struct Node {
     pub leg: u32,
     pub cell: Cell,
     pub parent: u32,
-}
-
-/// Whether a node stands for another: the same state, at the same time or earlier from the horizon on.
-pub fn stands_for(errand: &Errand, old: Node, new: Node) -> bool
-    ensures { IsTrue result → (state_of old ≡ state_of new) × ((old.time ≡ new.time) ⊎ ((errand.now.horizon ≤ old.time) × (old.time ≤ new.time))) }
-{
-    if old.leg != new.leg || !old.cell.is(new.cell) {
-        return false;
-    }
-    old.time == new.time || (errand.horizon <= old.time as u64 && old.time <= new.time)
 }
 
 /// The number of a state, of its leg and its cell; never 0.
