@@ -32,7 +32,7 @@ impl Model for Queue {
 }
 
 impl Queue {
-    /// One in which nothing waits, with room for so many.
+    /// One in which nothing waits, with room for `count` nodes.
     pub fn with_room(alloc: Global, count: usize) -> Result<Self, AllocError>
         ensures { IfOk result (λ q. (bound node : ℕ) → Waiting q bound node → ⊥) }
     {

@@ -11,7 +11,7 @@ ghost use Rattle.wh_log.specs.Told.{full_text};
 
 use wh_event::{Entry, Event, Refusal, Reply};
 
-/// What follows so many bytes.
+/// What follows a number of bytes.
 fn behind(text: &[u8], count: usize) -> &[u8]
     requires { count ≤ length text.now }
     ensures { result.now ≡ drop count text.now }
@@ -19,7 +19,7 @@ fn behind(text: &[u8], count: usize) -> &[u8]
     &text[count..]
 }
 
-/// The number that so many digits at the front write, and what follows them.
+/// The number that the first `count` bytes write, all of them digits, and what follows them.
 fn ended(text: &[u8], count: usize, value: u32) -> Option<(u32, &[u8])>
     requires few { count ≤ 9 }
     requires inside { count ≤ length text.now }
