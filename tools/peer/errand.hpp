@@ -23,6 +23,7 @@ public:
         uint32_t bound;
         uint32_t onward;    // the steps that the legs behind it need at least
         uint32_t stop;      // where it ends; NONE for the last, which is_end alone ends
+        uint32_t estimate(uint32_t, uint32_t to) const { return std::min(table[to], bound) + onward; }
     };
     const Reservations& reservations;
 
@@ -52,6 +53,7 @@ public:
     }
 
     const Leg& leg(uint32_t number) const { return legs_[number]; }
+    const Leg& beside(uint32_t number, uint32_t) const { return legs_[number]; }
     uint32_t legs() const { return last_ + 1; }
     uint32_t limit() const { return limit_; }    // no least path is longer
 

@@ -72,6 +72,13 @@ public:
         entries_.reserve(room_);
     }
 
+    // Whether the field of a goal is there, and filled as far as this.
+    bool is_filled(uint32_t goal, uint32_t level) const {
+        if (entry_of_[goal] == NONE) return false;
+        const Entry& entry = entries_[entry_of_[goal]];
+        return entry.head == entry.tail || entry.distance >= level;
+    }
+
     // The field of a goal for a leg from this cell. The last MOST_STOPS answers stay as they are.
     Bounded get(uint32_t goal, uint32_t from) {
         Entry& entry = find(goal);

@@ -25,7 +25,10 @@ class Intervals {
 
     const Grid& grid_;
     std::vector<Node> nodes_;
+    // A heap, and apart from it one that came before all others when it was added: mostly it is the next that is taken.
     std::vector<Entry> waiting_;
+    Entry first_{};
+    bool has_first_ = false;
     std::vector<Interval> intervals_;
     std::vector<uint64_t> slots_;    // the upper half of a hash and an index plus 1; 0 is free
     size_t size_ = 0;
@@ -79,13 +82,12 @@ public:
         base_ = base;
         nodes_.clear();
         waiting_.clear();
+        has_first_ = false;
         intervals_.clear();
         clear_slots(512);
         meet(errand, start, first, 0, NONE);
-        while (!waiting_.empty()) {
-            std::pop_heap(waiting_.begin(), waiting_.end());
-            const uint32_t number = waiting_.back().node();
-            waiting_.pop_back();
+        while (has_first_ || !waiting_.empty()) {
+            const uint32_t number = take();
             const Node node = nodes_[number];
             if (errand.is_end(node.leg, node.cell, node.time)) {
                 trace(number, path);
@@ -101,6 +103,29 @@ public:
     }
 
 private:
+    void push(const Entry& entry) {
+        waiting_.push_back(entry);
+        std::push_heap(waiting_.begin(), waiting_.end());
+    }
+
+    void wait(const Entry& entry) {
+        if (has_first_ ? entry < first_ : !waiting_.empty() && entry < waiting_.front()) return push(entry);
+        if (has_first_) push(first_);
+        first_ = entry;
+        has_first_ = true;
+    }
+
+    uint32_t take() {
+        if (has_first_) {
+            has_first_ = false;
+            return first_.node();
+        }
+        std::pop_heap(waiting_.begin(), waiting_.end());
+        const uint32_t number = waiting_.back().node();
+        waiting_.pop_back();
+        return number;
+    }
+
     uint32_t meet(const Errand& errand, uint32_t cell, uint32_t leg, uint32_t time, uint32_t parent) {
         const uint32_t until = std::min(errand.limit(), errand.reservations.free_until(cell, time));
         const uint32_t number = uint32_t(nodes_.size()), interval = interval_of(cell, leg, until);
@@ -109,8 +134,7 @@ private:
         newest = number;
         const uint32_t left = errand.estimate(leg, cell);
         nodes_.push_back({cell, leg, time, until, parent, interval});
-        waiting_.push_back({uint64_t(std::max(base_, time + left)) << 32 | left, uint64_t(time) << 32 | uint32_t(~number)});
-        std::push_heap(waiting_.begin(), waiting_.end());
+        wait({uint64_t(std::max(base_, time + left)) << 32 | left, uint64_t(time) << 32 | uint32_t(~number)});
         return until;
     }
 
@@ -137,11 +161,11 @@ private:
             if (left >= limit) continue;
             const uint32_t soon = std::min(last, limit - left - 1);
             uint32_t next = from.time;
-            if (to == back && leg == back_leg) next = std::max(next, back_until);
+            if (to == back && leg == back_leg) next = std::max(next, back_until + 1);
             while (next <= soon) {
                 const uint32_t time = departure(errand.reservations, from.cell, to, next, soon);
                 if (time == NONE) break;
-                next = meet(errand, to, leg, time + 1, number);
+                next = meet(errand, to, leg, time + 1, number) + 1;    // somebody comes there just after
             }
         }
     }

@@ -17,6 +17,9 @@
 //   however far the field is filled. To park it is the distance to the nearest free point, without such a bound.
 // - No path is sought where more is estimated at the start than any least path has: the horizon, from which on nobody
 //   else moves, and as many steps a leg as there are passable places.
+// - Before any field is filled that is not yet filled as far: where the stops are 128 or more apart by columns and rows,
+//   a straight pass by that estimate, which is given up where more places lead nowhere than the way has steps. It finds
+//   what the next would find.
 // - Straight pass: unless nobody may rest at the last stop so soon, a walk of just as many steps as are estimated at
 //   the start is sought depth first, by those moves alone by which the estimate falls, of the moves the last one first.
 // - Where that finds none, the way to each stop is walked down its field from the stop before, always to the first place

@@ -14,16 +14,31 @@ class Search {
     const Timetable& timetable_;
     Reservations reservations_;
     Errand errand_;
+    Unguided unguided_;
     Straight straight_;
     Intervals intervals_;
     Detours detours_;
+
+    static constexpr uint32_t LONG = 128;    // steps; a field costs up to their square, a look some times as many
 
 public:
     std::vector<uint32_t> path;    // the last that was found
 
     Search(const Site& site, const Timetable& timetable)
         : site_(site), timetable_(timetable), reservations_(timetable, site.nofollow), errand_(reservations_),
-          straight_(site.grid), intervals_(site.grid), detours_(site.grid) {}
+          unguided_(site.grid, reservations_), straight_(site.grid), intervals_(site.grid), detours_(site.grid) {}
+
+    // A least path through the stops that is as long as they are apart by columns and rows, where that is far.
+    bool deliver_unguided(uint32_t self, uint32_t start, const uint32_t* stops, uint32_t count) {
+        reservations_.look(self, stops[count - 1]);
+        unguided_.deliver(stops, count);
+        const uint32_t first = unguided_.arrive(0, start);
+        const uint32_t whole = unguided_.estimate(first, start);
+        if (whole < LONG || whole < reservations_.first_end()) return false;
+        if (!straight_.find(unguided_, start, first, whole, whole, path)) return false;
+        CHECK_PATH(site_, timetable_, self, path, stops, count, nullptr);
+        return true;
+    }
 
     // A least path through the stops.
     bool deliver(uint32_t self, uint32_t start, const uint32_t* stops, uint32_t count, const Bounded* fields) {
@@ -53,7 +68,7 @@ private:
         uint32_t least = reservations_.first_end();    // no path is shorter
         if (whole > errand_.limit()) return false;
         if (whole >= least) {
-            if (straight_.find(errand_, start, first, whole, path)) return true;
+            if (straight_.find(errand_, start, first, whole, NONE, path)) return true;
             least = whole + 1;
         }
         if (fields)

@@ -19,6 +19,11 @@ struct Grid {
     std::vector<uint32_t> places;    // UNSEEN, BLOCKED or EDGE
     uint32_t place(uint32_t x, uint32_t y) const { return (y + 1) * stride + x; }
     size_t size() const { return places.size(); }
+    // How many columns and rows two places are apart.
+    uint32_t apart(uint32_t one, uint32_t other) const {
+        const auto between = [](uint32_t a, uint32_t b) { return a < b ? b - a : a - b; };
+        return between(one % stride, other % stride) + between(one / stride, other / stride);
+    }
 };
 
 struct Point {

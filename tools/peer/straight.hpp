@@ -1,9 +1,10 @@
 // The straight pass: before anything is searched for, a look for a path of just as many steps as are estimated at its
 // start. On such a path the estimate falls by one with each step, so only such steps are tried, depth first, of the
 // moves the last one first; where they lead nowhere is remembered, by place and leg, as the estimate tells the time.
+// It is guided by an errand or by no field at all, and given up where more places than `most` lead nowhere.
 #pragma once
 
-#include "errand.hpp"
+#include "unguided.hpp"
 
 class Straight {
     struct Stand {
@@ -18,8 +19,11 @@ class Straight {
 public:
     explicit Straight(const Grid& grid) : grid_(grid) {}
 
-    bool find(const Errand& errand, uint32_t start, uint32_t first, uint32_t whole, std::vector<uint32_t>& path) {
+    template <typename Guide>
+    bool find(const Guide& errand, uint32_t start, uint32_t first, uint32_t whole, uint32_t most,
+              std::vector<uint32_t>& path) {
         any_hopeless_ = false;
+        uint32_t hopeless = 0;
         way_.assign(1, {start, first, 0});
         for (uint32_t untried = MOVES;;) {
             const Stand here = way_.back();
@@ -33,7 +37,7 @@ public:
                 untried = MOVES;
                 continue;
             }
-            if (time == 0) return false;
+            if (time == 0 || ++hopeless > most) return false;
             note_hopeless(errand, here);
             way_.pop_back();
             untried = here.move;
@@ -41,14 +45,14 @@ public:
     }
 
 private:
-    bool go_on(const Errand& errand, const Stand& here, uint32_t time, uint32_t left, uint32_t untried) {
-        const Errand::Leg& by = errand.leg(here.leg);
+    template <typename Guide>
+    bool go_on(const Guide& errand, const Stand& here, uint32_t time, uint32_t left, uint32_t untried) {
+        const auto& by = errand.beside(here.leg, here.cell);
         uint32_t nexts[MOVES];
         list_moves(here.cell, grid_.stride, nexts);
         while (untried-- > 0) {
             const uint32_t to = nexts[untried];
-            const uint32_t then = std::min(by.table[to], by.bound) + by.onward;
-            if (then >= left) continue;
+            if (by.estimate(untried, to) >= left) continue;
             const uint32_t leg = UNLIKELY(to == by.stop) ? errand.arrive(here.leg, to) : here.leg;
             if (UNLIKELY(any_hopeless_) && hopeless_[leg * grid_.size() + to] == pass_) continue;
             if (!errand.reservations.allows(here.cell, to, time)) continue;
@@ -58,7 +62,8 @@ private:
         return false;
     }
 
-    void note_hopeless(const Errand& errand, const Stand& stand) {
+    template <typename Guide>
+    void note_hopeless(const Guide& errand, const Stand& stand) {
         if (!any_hopeless_) {
             any_hopeless_ = true;
             const size_t size = errand.legs() * grid_.size();

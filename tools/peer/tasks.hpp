@@ -13,36 +13,93 @@ struct Task {
 };
 
 class Tasks {
+    // One of the stops of open tasks at a place, by the number of its task and of the stop. They make a list.
+    struct Link {
+        uint32_t next, before;
+    };
     std::vector<Task> tasks_;
-    std::vector<uint32_t> open_;
-    // by place, so that no open task need be looked at to know whether an agent stands in the way
-    std::vector<uint32_t> stop_counts_, drop_counts_;
+    std::vector<Link> links_;    // MOST_STOPS for each task
+    std::vector<uint32_t> heads_, drop_counts_;    // by place
+    std::vector<uint8_t> is_end_;    // by place, whether a path ends there
+    std::vector<uint8_t> barred_;    // by task, at how many of its stops a path ends
+    std::vector<uint32_t> clear_, turns_;    // the open tasks that no end bars, and by task where it stands there
+    size_t open_ = 0;
+
+    void clear(uint32_t number) {
+        turns_[number] = uint32_t(clear_.size());
+        clear_.push_back(number);
+    }
+
+    void unclear(uint32_t number) {
+        const uint32_t last = clear_.back();
+        clear_[turns_[number]] = last;
+        turns_[last] = turns_[number];
+        clear_.pop_back();
+    }
 
 public:
-    explicit Tasks(size_t places) : stop_counts_(places, 0), drop_counts_(places, 0) {}
+    explicit Tasks(size_t places) : heads_(places, NONE), drop_counts_(places, 0), is_end_(places, 0) {}
 
     size_t size() const { return tasks_.size(); }
     Task& operator[](uint32_t number) { return tasks_[number]; }
     const Task& operator[](uint32_t number) const { return tasks_[number]; }
-    const std::vector<uint32_t>& open() const { return open_; }
-    bool is_stop(uint32_t cell) const { return stop_counts_[cell] != 0; }       // of an open task
+    bool has_open() const { return open_ != 0; }
+    const std::vector<uint32_t>& clear() const { return clear_; }
+    bool is_stop(uint32_t cell) const { return heads_[cell] != NONE; }       // of an open task
     bool is_last_stop(uint32_t cell) const { return drop_counts_[cell] != 0; }
+
+    // Calls with each open task that has a stop at a place, once for each such stop, and at how many stops it is barred.
+    template <typename Call>
+    void for_each_at(uint32_t place, Call call) const {
+        for (uint32_t link = heads_[place]; link != NONE; link = links_[link].next)
+            call(link / MOST_STOPS, barred_[link / MOST_STOPS]);
+    }
 
     uint32_t add(const Task& task) {
         const uint32_t number = uint32_t(tasks_.size());
         tasks_.push_back(task);
-        open_.push_back(number);
-        for (uint32_t stop = 0; stop < task.count; ++stop) ++stop_counts_[task.stops[stop]];
+        links_.resize(links_.size() + MOST_STOPS);
+        turns_.push_back(NONE);
+        uint8_t barred = 0;
+        for (uint32_t stop = 0; stop < task.count; ++stop) {
+            const uint32_t place = task.stops[stop], link = number * MOST_STOPS + stop;
+            links_[link] = {heads_[place], NONE};
+            if (heads_[place] != NONE) links_[heads_[place]].before = link;
+            heads_[place] = link;
+            barred += is_end_[place];
+        }
+        barred_.push_back(barred);
+        if (barred == 0) clear(number);
         ++drop_counts_[task.last_stop()];
+        ++open_;
         return number;
     }
 
     void assign(uint32_t number, uint32_t agent) {
         Task& task = tasks_[number];
-        open_.erase(std::find(open_.begin(), open_.end(), number));
-        for (uint32_t stop = 0; stop < task.count; ++stop) --stop_counts_[task.stops[stop]];
+        for (uint32_t stop = 0; stop < task.count; ++stop) {
+            const Link& link = links_[number * MOST_STOPS + stop];
+            if (link.next != NONE) links_[link.next].before = link.before;
+            if (link.before != NONE) links_[link.before].next = link.next;
+            else heads_[task.stops[stop]] = link.next;
+        }
+        if (barred_[number] == 0) unclear(number);
         --drop_counts_[task.last_stop()];
+        --open_;
         task.agent = agent;
+    }
+
+    // From now on a path ends at a place, or none does any more.
+    void bar(uint32_t place) {
+        is_end_[place] = 1;
+        for (uint32_t link = heads_[place]; link != NONE; link = links_[link].next)
+            if (barred_[link / MOST_STOPS]++ == 0) unclear(link / MOST_STOPS);
+    }
+
+    void unbar(uint32_t place) {
+        is_end_[place] = 0;
+        for (uint32_t link = heads_[place]; link != NONE; link = links_[link].next)
+            if (--barred_[link / MOST_STOPS] == 0) clear(link / MOST_STOPS);
     }
 };
 
@@ -62,9 +119,10 @@ public:
         for (size_t place = 0; place < grid.size(); ++place) seen_[place] = grid.places[place] == UNSEEN ? 0 : NONE;
     }
 
-    uint32_t find(const Tasks& tasks, const PathEnds& ends, uint32_t self, uint32_t here) {
+    // The agent is where its path ends.
+    uint32_t find(const Tasks& tasks, [[maybe_unused]] const PathEnds& ends, [[maybe_unused]] uint32_t self, uint32_t here) {
         uint32_t last = NONE;
-        uint32_t found = seek(tasks, ends, self, last);
+        uint32_t found = seek(tasks, here, last);
         if (found != last) {    // a sole task need not be looked for
             const uint32_t nearest = seen_[here] == sought_ ? first_[here] : look(here);
             if (nearest != NONE) found = nearest;    // else all are equally far, as no walk leads to any
@@ -74,8 +132,9 @@ public:
     }
 
 private:
-    // Notes where the tasks start at whose stops no other's path ends; answers the first of them, and tells the last.
-    uint32_t seek(const Tasks& tasks, const PathEnds& ends, uint32_t self, uint32_t& last) {
+    // Notes where the tasks start at whose stops no other's path ends; answers the first of them, and tells the last. They
+    // are those that no end bars, and those that the own end bars alone.
+    uint32_t seek(const Tasks& tasks, uint32_t here, uint32_t& last) {
         if (sought_ >= 0xFFFFFFF0) {
             for (uint32_t& seen : seen_)
                 if (seen != NONE) seen = 0;
@@ -83,18 +142,20 @@ private:
         }
         sought_ += 2;
         uint32_t eligible = NONE;
-        for (const uint32_t number : tasks.open()) {
-            const Task& task = tasks[number];
-            bool clear = true;
-            for (uint32_t stop = 0; stop < task.count; ++stop) clear = clear && !ends.is_others(self, task.stops[stop]);
-            if (!clear) continue;
-            if (eligible == NONE) eligible = number;
-            last = number;
-            const uint32_t place = task.stops[0];
-            if (seen_[place] == sought_) continue;
+        last = 0;
+        const auto note = [&](uint32_t number) {
+            eligible = std::min(eligible, number);
+            last = std::max(last, number);
+            const uint32_t place = tasks[number].stops[0];
+            first_[place] = seen_[place] == sought_ ? std::min(first_[place], number) : number;
             seen_[place] = sought_;
-            first_[place] = number;
-        }
+        };
+        for (const uint32_t number : tasks.clear()) note(number);
+        tasks.for_each_at(here, [&](uint32_t number, uint32_t barred) {
+            const Task& task = tasks[number];
+            if (barred == std::count(task.stops, task.stops + task.count, here)) note(number);
+        });
+        if (eligible == NONE) last = NONE;
         return eligible;
     }
 

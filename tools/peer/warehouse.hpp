@@ -19,8 +19,6 @@ class Warehouse {
     Site site_;
     Output& output_;
     bool is_closed_ = false;
-    // No open task is clear of all paths' ends: until something changes only one who stands in the way has to look.
-    bool is_quiet_ = false;
     std::vector<Agent> agents_;
     Timetable timetable_;
     Tasks tasks_;
@@ -41,6 +39,7 @@ public:
             const uint32_t start = site_.starts[agent];
             if (ends_.agents[start] != NOBODY) die("two agents start at one point");
             ends_.agents[start] = uint16_t(agent);
+            tasks_.bar(start);
             agents_[agent].here = start;
         }
     }
@@ -69,7 +68,6 @@ public:
         task.agent = NONE;
         task.submitted = timetable_.now();
         const uint32_t number = tasks_.add(task);
-        is_quiet_ = false;
         history_.note(Event::SUBMIT, kept, Reply::ACCEPTED, number);
         output_.line("accepted ", number);
     }
@@ -81,7 +79,7 @@ public:
             history_.note(Event::TOKEN, self, Reply::E5, left);
             return output_.line("refused E5 ", left);
         }
-        if (tasks_.open().empty() || (is_quiet_ && !tasks_.is_stop(agents_[self].here))) return rest(self);
+        if (!tasks_.has_open() || (tasks_.clear().empty() && !tasks_.is_stop(agents_[self].here))) return rest(self);
         choose(self);
     }
 
@@ -146,7 +144,6 @@ private:
         const uint32_t here = agents_[self].here;
         const uint32_t number = nearest_.find(tasks_, ends_, self, here);
         if (number != NONE) return take(self, number);
-        is_quiet_ = true;
         if (tasks_.is_last_stop(here)) return make_way(self);
         rest(self);
     }
@@ -154,11 +151,7 @@ private:
     void take(uint32_t self, uint32_t number) {
         Agent& agent = agents_[self];
         const Task& task = tasks_[number];
-        Bounded fields[MOST_STOPS];
-        // the first stops are the last used
-        for (uint32_t leg = task.count; leg-- > 0;)
-            fields[leg] = fields_.get(task.stops[leg], leg == 0 ? agent.here : task.stops[leg - 1]);
-        if (!search_.deliver(self, agent.here, task.stops, task.count, fields)) return refuse_path(self);
+        if (!deliver(self, agent.here, task)) return refuse_path(self);
         const std::vector<uint32_t>& path = search_.path;
         const uint32_t kept = adopt(self, path);
         tasks_.assign(number, self);
@@ -167,6 +160,22 @@ private:
         arrive(agent, visits);
         history_.note(Event::TOKEN, self, Reply::TOOK, number, kept, uint32_t(path.size()));
         output_.line("took ", number, " end ", uint32_t(path.size()) - 1);
+    }
+
+    bool deliver(uint32_t self, uint32_t here, const Task& task) {
+        if (!are_filled(here, task) && search_.deliver_unguided(self, here, task.stops, task.count)) return true;
+        Bounded fields[MOST_STOPS];
+        // the first stops are the last used
+        for (uint32_t leg = task.count; leg-- > 0;)
+            fields[leg] = fields_.get(task.stops[leg], leg == 0 ? here : task.stops[leg - 1]);
+        return search_.deliver(self, here, task.stops, task.count, fields);
+    }
+
+    bool are_filled(uint32_t here, const Task& task) const {
+        for (uint32_t leg = 0; leg < task.count; ++leg)
+            if (!fields_.is_filled(task.stops[leg], site_.grid.apart(leg == 0 ? here : task.stops[leg - 1], task.stops[leg])))
+                return false;
+        return true;
     }
 
     void make_way(uint32_t self) {
@@ -184,10 +193,12 @@ private:
 
     // The agent goes by a path that was found; answers where the history keeps it.
     uint32_t adopt(uint32_t self, const std::vector<uint32_t>& path) {
-        ends_.agents[agents_[self].here] = NOBODY;    // who asks is at its path's end
+        const uint32_t here = agents_[self].here;    // its path's end
+        ends_.agents[here] = NOBODY;
+        tasks_.unbar(here);
         ends_.agents[path.back()] = uint16_t(self);
+        tasks_.bar(path.back());
         timetable_.adopt(self, path);
-        is_quiet_ = false;
         return history_.keep_path(path);
     }
 

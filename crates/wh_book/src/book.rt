@@ -2,13 +2,13 @@
 #![tactic(auto)]
 
 ghost use Rattle.std.specs.Prelude.{◌≡◌, ◌≢◌, ℕ, ◌+◌, ◌-◌, ◌<◌, ◌≤◌, ◌↔◌, List, [], ◌∷◌, ◌++◌, true, false, Some, length, slice_get, IfOk, IfNone, IfSome, OnOk, OnErr, IsTrue, Contains};
-ghost use Rattle.wh_path.specs.Paths.{AllFree};
+ghost use Rattle.wh_path.specs.Paths.{AllFree, place_of};
 ghost use Rattle.wh_points.specs.Points.{Site};
 ghost use Rattle.wh_tasks.specs.declared.task.Task.{Task as Job};
 ghost use Rattle.wh_tasks.specs.Tasks.{IsTask};
 ghost use Rattle.wh_planner.specs.Duties.{IsLawful, Delivers, ParksAt};
 ghost use Rattle.wh_core.specs.States.{State, opened, arrived, moved};
-ghost use Rattle.wh_core.specs.Steps.{Step, Run, Answers, Refuses, IsDue, IsNext, NoneIsNext, MakesWay, IsAllowed, last_clock};
+ghost use Rattle.wh_core.specs.Steps.{Step, Run, Answers, Refuses, IsDue, IsNext, NoneIsNext, MakesWay, IsAllowed, last_clock, IsDeliveryCell};
 ghost use Rattle.wh_core.specs.Laws.{IsOpening};
 ghost use Rattle.wh_event.specs.declared.event.Event.{Event as Asked};
 ghost use Rattle.wh_grid.specs.declared.cell.Cell.{Cell as Place};
@@ -18,7 +18,7 @@ ghost use Rattle.wh_points.specs.Formed.{IsFormed};
 ghost use Rattle.wh_book.specs.Settings.{IsStop, faulty};
 ghost use Rattle.wh_book.specs.Drafts.{Seen, IsSame, IsReady, Drafts, Changes, CanChange, AllServed, ticked};
 
-use crate::choice::nearest;
+use crate::choice::{nearest, rests_at_once};
 use crate::draft::{Change, Draft};
 use crate::parking::free_points;
 use crate::setting::{Fault, Setting};
@@ -488,6 +488,16 @@ impl Book {
         ensures nearest { IfSome result (λ n. (task : Job) × IsNext self.now.site self.now.state agent n task) }
     {
         nearest(&self.floor, agent, near)
+    }
+
+    /// Whether it is known at once that a due agent has nothing to do and is in nobody's way. It takes constant time.
+    #[inline(always)]
+    pub fn rests_at_once(&self, agent: u32) -> bool
+        requires { IsDue self.now.state agent }
+        ensures none { IsTrue result → NoneIsNext self.now.state agent }
+        ensures out_of_the_way { IsTrue result → ¬ IsDeliveryCell self.now.state (place_of self.now.state.paths agent) }
+    {
+        rests_at_once(&self.floor, agent)
     }
 
     /// The cells at which the agent may park.

@@ -1,11 +1,11 @@
 //! Which task an agent takes.
 #![tactic(auto)]
 
-ghost use Rattle.std.specs.Prelude.{◌≡◌, ◌<◌, IfNone, IfSome, length};
+ghost use Rattle.std.specs.Prelude.{◌≡◌, ◌<◌, IfNone, IfSome, IsTrue, length};
 ghost use Rattle.wh_path.specs.Paths.{place_of};
 ghost use Rattle.wh_tasks.specs.Choice.{IsNearest};
 ghost use Rattle.wh_tasks.specs.declared.task.Task.{Task as Job};
-ghost use Rattle.wh_core.specs.Steps.{NoneIsNext, other_ends};
+ghost use Rattle.wh_core.specs.Steps.{IsDue, IsDeliveryCell, NoneIsNext, other_ends};
 
 use wh_field::LazyField;
 use wh_state::FleetState;
@@ -19,5 +19,16 @@ pub fn nearest(floor: &FleetState, agent: u32, near: &mut LazyField) -> Option<u
     ensures nearest { IfSome result (λ n. (task : Job) × IsNearest near.old.grid floor.now.state.tasks (other_ends floor.now.state agent) (place_of floor.now.state.paths agent) n task) }
 {
     near.again(floor.paths()[agent as usize].start());
-    floor.tasks().nearest(near, &floor.other_ends(agent))
+    floor.tasks().nearest(near, agent)
+}
+
+/// Whether it is known at once that a due agent has nothing to do and is in nobody's way: at a stop of each open task a path
+/// ends, and none stops where the agent is. It takes constant time.
+#[inline(always)]
+pub fn rests_at_once(floor: &FleetState, agent: u32) -> bool
+    requires { IsDue floor.now.state agent }
+    ensures none { IsTrue result → NoneIsNext floor.now.state agent }
+    ensures out_of_the_way { IsTrue result → ¬ IsDeliveryCell floor.now.state (place_of floor.now.state.paths agent) }
+{
+    floor.tasks().has_none_for(agent)
 }

@@ -31,19 +31,27 @@ use Rattle.wh_desk.specs.contracts.pass.Pass as pass
 use Rattle.wh_desk.specs.contracts.pass.Held as held
 use Rattle.wh_token.specs.contracts.warehouse.Warehouse as warehouse
 use Rattle.wh_token.specs.contracts.warehouse.Warehouse.TheInside as Inside
+use Rattle.wh_tasks.specs.contracts.task_set.TaskSet as tasks
+use Rattle.wh_state.specs.contracts.state.FleetState as floor
 use Rattle.wh_book.specs.contracts.book.Book as book
 use Rattle.wh_field.specs.contracts.lazy.LazyField as near
 use Rattle.wh_shared.proofs.Crossing.{fields_send}
 
+tasks_send : IsSend tasks.the_row
+tasks_send = search (sendable, crosses) depth 60 fits 20000
+
+floor_send : IsSend floor.the_row
+floor_send = search (sendable, crosses, tasks_send) depth 60 fits 20000
+
 book_send : IsSend book.the_row
-book_send = search (sendable, crosses) depth 60 fits 20000
+book_send = search (sendable, crosses, floor_send) depth 60 fits 20000
 
 near_send : IsSend near.the_row
 near_send = search (sendable, crosses) depth 60 fits 20000
 
 pub warehouse_send : (P : RattleType) (q : Planning P.Denot) → IsSend P → IsSend (warehouse.the_row P q)
 warehouse_send P q s =
-    view_send (Inside.the_row P q) _ _ _ _ (declared_send (Inside.the_type P q) (book_send, (search (sendable, crosses) depth 60 fits 20000, (near_send, (fields_send, (search sendable depth 20, tt))))))
+    view_send (Inside.the_row P q) _ _ _ _ (declared_send (Inside.the_type P q) (book_send, (search (sendable, crosses) depth 60 fits 20000, (near_send, (fields_send, tt)))))
 
 pub entry_send : IsSend entry.the_row
 entry_send = search (sendable, crosses) depth 60 fits 20000

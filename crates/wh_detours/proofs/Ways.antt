@@ -63,6 +63,10 @@ way_start g others from s whole e is h =
       far = far;
     }
 
+-- as many steps are left as the sight tells
+pub way_left : (g : Floor) (others : Others) (from c : Cell) (s : Sight) (whole left : ℕ) → s.field.now.grid ≡ g → left ≤ s.level → IsOnWay g others from s.field.now.cell c whole left → left ≡ sighted s c
+way_left g others from c s whole left e h w = sym (sighted_is g s c e ∙ capped_some (distance g s.field.now.cell c) s.level left w.far h)
+
 -- one step on
 pub way_on : (g : Floor) (others : Others) (from c d : Cell) (s : Sight) (whole left : ℕ) → s.field.now.grid ≡ g → left ≤ s.level → IsOnWay g others from s.field.now.cell c whole left → IsNearer others s c d
     → IsOnWay g others from s.field.now.cell d whole (left - 1)

@@ -4,7 +4,7 @@
 ghost use Rattle.std.specs.Prelude.{◌≡◌, ℕ, ◌+◌, ◌<◌, ◌≤◌, IsTrue, IfSome, IfNone, false, length};
 ghost use Rattle.wh_grid.specs.declared.cell.Cell.{Cell};
 ghost use Rattle.wh_search.specs.Sights.{AreSightsOf, IsSightAt};
-ghost use Rattle.wh_detours.specs.Barred.{IsShut, IsClearWithin, IsClearBy, AreBarred, IsNearer, IsStuck};
+ghost use Rattle.wh_detours.specs.Barred.{IsShut, IsClearWithin, IsClearBy, AreBarred, IsNearer, IsStuck, sighted};
 
 use crate::taken::is_taken;
 use wh_field::Sight;
@@ -12,18 +12,18 @@ use wh_grid::{Cell, Grid};
 use wh_resv::Reservations;
 use wh_search::moves::moves_from;
 
-/// Of the cells beside a cell the first one that is nearer by a sight, and not taken.
-fn nearer(grid: &Grid, others: &Reservations, sight: Sight, cell: Cell) -> Option<Cell>
-    requires { sight.field.now.grid ≡ grid.now }
+/// Of the cells beside a cell, which is `here` steps away by a sight, the first one that is nearer, and not taken.
+fn nearer(grid: &Grid, others: &Reservations, sight: Sight, cell: Cell, here: u32) -> Option<Cell>
+    requires field { sight.field.now.grid ≡ grid.now }
+    requires here { here ≡ sighted sight cell }
     ensures some { IfSome result (λ d. IsNearer others.now sight.entry cell d) }
     ensures none { IfNone result (IsStuck grid.now others.now sight.entry cell) }
 {
     let _width = grid.width();
     let _height = grid.height();
     let beside = moves_from(cell);
-    let lefts = sight.estimates(cell);
     for i in 1..5 {
-        if lefts[i] < lefts[0] && !is_taken(others, beside[i]) {
+        if sight.estimate(beside[i]) < here && !is_taken(others, beside[i]) {
             return Some(beside[i]);
         }
     }
@@ -44,7 +44,7 @@ fn is_leg_barred(grid: &Grid, others: &Reservations, sight: Sight, from: Cell) -
     let mut cell = from;
     let mut left = whole;
     while left > 0 {
-        let Some(next) = nearer(grid, others, sight, cell) else {
+        let Some(next) = nearer(grid, others, sight, cell, left) else {
             return true;
         };
         cell = next;

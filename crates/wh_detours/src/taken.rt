@@ -13,7 +13,8 @@ use wh_resv::Reservations;
 pub fn is_taken(others: &Reservations, cell: Cell) -> bool
     ensures { IsTrue result ↔ IsTaken others.now cell }
 {
-    others.next_free(cell, 0).is_none()
+    // mostly nobody is there now
+    !others.vacant(cell, 0) && others.next_free(cell, 0).is_none()
 }
 
 /// Bars the cell of a path that stays there, where it is taken.

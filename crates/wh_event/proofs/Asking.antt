@@ -66,7 +66,7 @@ writes word n e =
     let b = and_parts (are_digits word) (nat_le (length word) 9) g.0 in
     record { digits = b.0; few = leb-true _ _ b.1; value = g.1 }
 
-written : (word : List ℕ) (n : ℕ) → Writes n word → small_number_of word ≡ Some n
+pub written : (word : List ℕ) (n : ℕ) → Writes n word → small_number_of word ≡ Some n
 written word n h = rw (h.digits, le-leb (length word) 9 h.few, h.value) refl
 
 token_found : (rest : List (List ℕ)) (c : Command) → token_of rest ≡ Some c → Asks c (codes "token" ∷ rest)

@@ -2,3 +2,4 @@ pub mod CommandLines
 pub mod Reading
 pub mod Grammar
 pub mod ReplyTexts
+pub mod Fronts

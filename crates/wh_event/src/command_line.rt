@@ -136,7 +136,8 @@ fn read_words(mut words: Words, command: &mut Command) -> Result<bool, LineFault
 }
 
 /// Whether a line's first six bytes ask for the token.
-fn begins_request(front: &[u8]) -> bool
+#[inline(always)]
+pub(crate) fn begins_request(front: &[u8]) -> bool
     ensures { IsTrue result → front.now ≡ codes "token " }
 {
     matches!(front, b"token ")
@@ -158,7 +159,8 @@ fn plain_request(line: &[u8]) -> Option<u32>
 }
 
 /// Puts a request into the room, which most often holds one already: then only its agent is written.
-fn put_request(agent: u32, command: &mut Command)
+#[inline(always)]
+pub(crate) fn put_request(agent: u32, command: &mut Command)
     ensures { command.new ≡ Command.Token agent }
 {
     match command {

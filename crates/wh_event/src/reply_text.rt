@@ -1,6 +1,6 @@
 //! Writes a reply.
 
-ghost use Rattle.std.specs.Prelude.{◌≡◌, ◌+◌, ◌++◌, ◌≤◌, [], length, decimal};
+ghost use Rattle.std.specs.Prelude.{◌≡◌, ◌+◌, ◌++◌, ◌≤◌, ◌<◌, [], length, decimal};
 ghost use Rattle.wh_event.specs.declared.reply.Reply.{Reply};
 ghost use Rattle.wh_event.specs.ReplyTexts.{refusal_text, reply_text, ReplyHolds, TellSame};
 
@@ -19,11 +19,30 @@ pub fn put(line: &mut ArrayVec<u8, 64>, text: &[u8])
     }
 }
 
-/// Writes a number's digits.
+/// Writes the one or two digits of a number below 100.
+#[inline(always)]
+fn put_few(line: &mut ArrayVec<u8, 64>, number: u64)
+    requires few { number < 100 }
+    requires room { length line.old.items + length (decimal number) ≤ 64 }
+    ensures { line.new.items ≡ line.old.items ++ decimal number }
+{
+    if number < 10 {
+        line.push(b'0' + number as u8);
+        return;
+    }
+    line.push(b'0' + (number / 10) as u8);
+    line.push(b'0' + (number % 10) as u8);
+}
+
+/// Writes a number's digits. Most numbers are small, and are not worth the buffer.
 fn put_digits(line: &mut ArrayVec<u8, 64>, number: u64)
     requires { length line.old.items + length (decimal number) ≤ 64 }
     ensures { line.new.items ≡ line.old.items ++ decimal number }
 {
+    if number < 100 {
+        put_few(line, number);
+        return;
+    }
     let mut buffer = Buffer::new();
     put(line, buffer.format(number).as_bytes());
 }

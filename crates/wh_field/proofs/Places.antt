@@ -1,8 +1,9 @@
 -- the places of cells
-use Rattle.std.proofs.Common.{◌≡◌, ◌≢◌, ℕ, ◌+◌, ◌*◌, ◌<◌, ◌≤◌, ◌⊎◌, inl, inr, ◌∙◌, List, [], set, get_or-set_same, get_or-set_other, length, length-set, get_or, Bool, true, false, sym, ap, subst, arith}
-use Rattle.std.proofs.lemmas.Bool.{cases_lt, cases_eq}
+use Rattle.std.proofs.Common.{◌≡◌, ℕ, ◌+◌, ◌*◌, ◌<◌, ◌≤◌, ◌⊎◌, inl, inr, ◌∙◌, List, [], ◌∷◌, ◌++◌, length, length-append, get_or, Bool, true, false, sym, ap, subst, arith}
+use Rattle.std.proofs.lemmas.Bool.{cases_lt}
 use Rattle.std.proofs.lemmas.Nat.{mul-add-lt, same_from_place}
-use Rattle.std.proofs.lemmas.List.{get_or_past}
+use Rattle.std.proofs.lemmas.List.{get_or_past, get_or_append_left}
+use Rattle.std.proofs.Math.Seq.{get_or-append_seam}
 use Rattle.std.specs.Prelude.{Some, slice_get}
 use Rattle.std.proofs.lemmas.Option.{slice_get-get_or}
 use Rattle.std.proofs.Math.Nat.{mul_comm, mul-add, mul-one}
@@ -11,7 +12,7 @@ use Rattle.wh_grid.proofs.Cells.{same_cell}
 use Rattle.wh_field.proofs.Tables.{Contains-none}
 use Rattle.wh_grid.specs.Grids.{Floor, IsPassable}
 use Rattle.wh_field.specs.Tables.{value, blocked, unseen}
-use Rattle.wh_field.specs.Places.{place, IsAllowedAt, IsOpenAt, IsOpenBelow, IsOpen}
+use Rattle.wh_field.specs.Places.{place, IsAllowedAt, IsOpenAt, IsOpenBelow}
 
 -- one place has one cell
 pub place_one : (g : Floor) (c d : Cell) → c.x ≤ g.width → d.x ≤ g.width → place g c ≡ place g d → c ≡ d
@@ -36,39 +37,22 @@ row_ends g c wx wy =
 pub row_most : (g : Floor) (c : Cell) → IsPassable g c → place g c + (g.width + 1) < (g.width + 1) * (g.height + 2)
 row_most g c w = row_ends g c w.in_width w.in_height
 
-pub row_before_last : (g : Floor) (c : Cell) → IsPassable g c → place g c < (g.height + 1) * (g.width + 1)
-row_before_last g c w =
-    let f = mul-add-lt (c.y + 1) (g.width + 1) c.x (g.height + 1) (let h = w.in_height in omega arith) (let h = w.in_width in omega arith) in
-    omega (arith, mul_comm (g.width + 1) (g.height + 1))
-
 -- one more entry
-pub open_set : (g : Floor) (n m : ℕ) (t : List ℕ) (v : ℕ) → IsOpenBelow g n t → m ≡ n + 1 → n < (g.width + 1) * (g.height + 2)
-    → ((v ≡ blocked) × (IsAllowedAt g [] n → ⊥)) ⊎ ((v ≡ unseen) × IsAllowedAt g [] n) → IsOpenBelow g m (set t n v)
-open_set g n m t v o e within here =
+pub open_next : (g : Floor) (n m : ℕ) (t : List ℕ) (v : ℕ) → IsOpenBelow g n t → m ≡ n + 1
+    → ((v ≡ blocked) × (IsAllowedAt g [] n → ⊥)) ⊎ ((v ≡ unseen) × IsAllowedAt g [] n) → IsOpenBelow g m (t ++ v ∷ [])
+open_next g n m t v o e here =
     let size = o.size in
-    let new : value (set t n v) n ≡ v = get_or-set_same t n v 4294967294 (omega arith) in
-    let others : (i : ℕ) → i ≢ n → value (set t n v) i ≡ value t i = λ i ne. get_or-set_other t n i v 4294967294 ne in
+    let new : value (t ++ v ∷ []) n ≡ v = ap (value (t ++ v ∷ [])) (sym size) ∙ get_or-append_seam t v [] 4294967294 in
+    let others : (i : ℕ) → i < n → value (t ++ v ∷ []) i ≡ value t i = λ i h. get_or_append_left t (v ∷ []) 4294967294 i (omega arith) in
     record {
-      size = length-set t n v ∙ o.size;
-      each = λ i h. elim (cases_eq i n) [
-        | inl same ↦ subst (IsOpenAt g [] (set t n v)) (sym same) (elim here [ inl a ↦ inl (new ∙ a.0, a.1) | inr a ↦ inr (new ∙ a.0, a.1) ])
-        | inr ne ↦ elim (o.each i (omega arith)) [ inl a ↦ inl (others i ne ∙ a.0, a.1) | inr a ↦ inr (others i ne ∙ a.0, a.1) ]
+      size = length-append t (v ∷ []) ∙ omega arith;
+      each = λ i h. elim (cases_lt i n) [
+        | inl less ↦ elim (o.each i less) [ inl a ↦ inl (others i less ∙ a.0, a.1) | inr a ↦ inr (others i less ∙ a.0, a.1) ]
+        | inr more ↦ subst (IsOpenAt g [] (t ++ v ∷ [])) (let same : n ≡ i = omega arith in same) (elim here [ inl a ↦ inl (new ∙ a.0, a.1) | inr a ↦ inr (new ∙ a.0, a.1) ])
       ];
-      rest = λ i h. others i (λ same. omega arith) ∙ o.rest i (omega arith);
     }
 
--- one more place that is blocked and has no cell
-pub open_more : (g : Floor) (n m : ℕ) (t : List ℕ) → IsOpenBelow g n t → m ≡ n + 1 → (IsAllowedAt g [] n → ⊥) → IsOpenBelow g m t
-open_more g n m t o e none = record {
-  size = o.size;
-  each = λ i h. elim (cases_lt i n) [
-    | inl less ↦ o.each i less
-    | inr more ↦ (let same : n ≡ i = omega arith in inl (o.rest i (omega arith), λ a. none (subst (IsAllowedAt g []) (sym same) a)))
-  ];
-  rest = λ i h. o.rest i (omega arith);
-}
-
--- the place that closes a row and the row below have no cell
+-- the place that closes a row has no cell
 pub none_beside : (g : Floor) (avoid : List Cell) (y i : ℕ) → i ≡ (y + 1) * (g.width + 1) + g.width → IsAllowedAt g avoid i → ⊥
 none_beside g avoid y i e a =
     let here = a.here in
@@ -77,19 +61,6 @@ none_beside g avoid y i e a =
     let same : a.cell ≡ d = place_one g a.cell d (omega arith) (omega arith) (here ∙ e) in
     let x : a.cell.x ≡ g.width = ap (λ (c : Cell). c.x) same in
     omega arith
-
-pub none_below : (g : Floor) (avoid : List Cell) (i : ℕ) → (g.height + 1) * (g.width + 1) ≤ i → IsAllowedAt g avoid i → ⊥
-none_below g avoid i h a = let e = a.here in let f = row_before_last g a.cell a.allowed.passable in omega arith
-
--- with all rows of cells it is open: the last row has no cell
-pub open_last : (g : Floor) (t : List ℕ) → IsOpenBelow g ((g.height + 1) * (g.width + 1)) t → IsOpen g [] t
-open_last g t o = record {
-  size = o.size;
-  each = λ i h. elim (cases_lt i ((g.height + 1) * (g.width + 1))) [
-    | inl less ↦ o.each i less
-    | inr more ↦ inl (o.rest i more, none_below g [] i more)
-  ];
-}
 
 -- the entry of a cell
 pub entry_open : (g : Floor) (c : Cell) (n : ℕ) → n ≡ place g c → IsPassable g c → IsAllowedAt g [] n

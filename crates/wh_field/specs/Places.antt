@@ -37,11 +37,10 @@ pub record IsOpen (g : Floor) (avoid : List Cell) (t : List ℕ) : Type 0 where
   pub size : length t ≡ (g.width + 1) * (g.height + 2)
   pub each : (i : ℕ) → i < (g.width + 1) * (g.height + 2) → IsOpenAt g avoid t i
 
--- the first n places of a table are open, and all others are still blocked
+-- a table has its first n places, and they are open
 pub record IsOpenBelow (g : Floor) (n : ℕ) (t : List ℕ) : Type 0 where
-  pub size : length t ≡ (g.width + 1) * (g.height + 2)
+  pub size : length t ≡ n
   pub each : (i : ℕ) → i < n → IsOpenAt g [] t i
-  pub rest : (i : ℕ) → n ≤ i → value t i ≡ blocked
 
 -- one of the sources is at this place, and is allowed
 pub record IsSourceAt (g : Floor) (avoid sources : List Cell) (i : ℕ) : Type 0 where

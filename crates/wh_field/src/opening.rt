@@ -1,9 +1,9 @@
 //! Tables in which no walk has begun.
 #![tactic(auto)]
 
-ghost use Rattle.std.specs.Prelude.{◌≡◌, ℕ, ◌+◌, ◌*◌, ◌<◌, ◌≤◌, [], length, vec_capacity, IfOk, IfSome, IfNone, Contains, ◌∷◌};
+ghost use Rattle.std.specs.Prelude.{◌≡◌, ℕ, ◌+◌, ◌*◌, ◌<◌, ◌≤◌, [], length, vec_len, vec_capacity, IfOk, IfSome, IfNone, Contains, ◌∷◌};
 ghost use Rattle.wh_field.specs.Tables.{HasRoom, IsListed};
-ghost use Rattle.wh_field.specs.Places.{IsOpen, IsOpenBelow, IsStarted, IsSurveyed, IsFalling, IsLeastAt, StartsAt, StartsAgainAt};
+ghost use Rattle.wh_field.specs.Places.{IsAllowedAt, IsOpen, IsOpenBelow, IsStarted, IsSurveyed, IsFalling, IsLeastAt, StartsAt, StartsAgainAt};
 
 use crate::table::{BLOCKED, Front, UNSEEN, fill, fill_until, forget, visit};
 use std::alloc::{AllocError, Global};
@@ -15,27 +15,44 @@ pub fn open_table(alloc: Global, grid: &Grid) -> Result<Vec<u32>, AllocError>
 {
     let height = grid.height();
     let places = (grid.width() as usize + 1) * (height as usize + 2);
-    let mut table = vec![in alloc; BLOCKED; places]?;
+    let mut table = Vec::with_capacity(alloc, places)?;
+    close_row(&mut table, grid);
     for y in 0..height {
         open_row(&mut table, grid, y as usize);
     }
+    close_row(&mut table, grid);
     Ok(table)
 }
 
-/// Opens the passable cells of a row of a blocked table.
-fn open_row(table: &mut [u32], grid: &Grid, y: usize)
+/// Appends a row with no cells.
+fn close_row(table: &mut Vec<u32>, grid: &Grid)
+    requires open { IsOpenBelow grid.now (vec_len table.old) table.old.items }
+    requires none { (i : ℕ) → vec_len table.old ≤ i → i < vec_len table.old + (grid.now.width + 1) → IsAllowedAt grid.now [] i → ⊥ }
+    requires room { vec_len table.old + (grid.now.width + 1) ≤ vec_capacity table.old }
+    ensures open { IsOpenBelow grid.now (vec_len table.old + (grid.now.width + 1)) table.new.items }
+    ensures room { vec_capacity table.new ≡ vec_capacity table.old }
+{
+    for x in 0..grid.width() as usize + 1 {
+        table.push_reserved(BLOCKED);
+    }
+}
+
+/// Appends a row, with its passable cells open.
+fn open_row(table: &mut Vec<u32>, grid: &Grid, y: usize)
     requires inside { y < grid.now.height }
-    requires above { IsOpenBelow grid.now ((y + 1) * (grid.now.width + 1)) table.old }
-    ensures { IsOpenBelow grid.now ((y + 1 + 1) * (grid.now.width + 1)) table.new }
+    requires above { IsOpenBelow grid.now ((y + 1) * (grid.now.width + 1)) table.old.items }
+    requires room { (grid.now.width + 1) * (grid.now.height + 2) ≤ vec_capacity table.old }
+    ensures open { IsOpenBelow grid.now ((y + 1 + 1) * (grid.now.width + 1)) table.new.items }
+    ensures room { vec_capacity table.new ≡ vec_capacity table.old }
 {
     let width = grid.width() as usize;
     let _height = grid.height();
     let cells = grid.rows();
     let before = y * width;
-    let start = (y + 1) * (width + 1);
     for x in 0..width {
-        table[start + x] = if cells[before + x] { UNSEEN } else { BLOCKED };
+        table.push_reserved(if cells[before + x] { UNSEEN } else { BLOCKED });
     }
+    table.push_reserved(BLOCKED);
 }
 
 /// The place of a cell in a table; none where the cell lies outside.

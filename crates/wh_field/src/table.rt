@@ -25,6 +25,21 @@ pub fn visit(table: &mut [u32], queue: &mut Vec<u32>, place: usize, distance: u3
     }
 }
 
+/// The same for the place below another. It is looked up in the table from its second row on, the same for all places.
+fn visit_below(table: &mut [u32], queue: &mut Vec<u32>, stride: usize, place: usize, distance: u32)
+    requires inside { place + stride < length table.old }
+    requires fits { place + stride < 2 ^ 32 }
+    requires distance { distance < BLOCKED }
+    requires room { HasRoom (vec_capacity queue.old) table.old queue.old.items }
+    ensures visited { IsVisit table.old queue.old.items (place + stride) distance table.new queue.new.items }
+    ensures room { HasRoom (vec_capacity queue.new) table.new queue.new.items }
+{
+    if table[stride..][place] == UNSEEN {
+        queue.push_reserved((place + stride) as u32);
+        table[place + stride] = distance;
+    }
+}
+
 /// Marks the places beside one place with a distance, where they were not met before.
 fn spread(table: &mut [u32], queue: &mut Vec<u32>, stride: usize, place: usize, distance: u32)
     requires positive { 0 < stride }
@@ -39,7 +54,7 @@ fn spread(table: &mut [u32], queue: &mut Vec<u32>, stride: usize, place: usize, 
 {
     visit(table, queue, place + 1, distance);
     visit(table, queue, place - 1, distance);
-    visit(table, queue, place + stride, distance);
+    visit_below(table, queue, stride, place, distance);
     visit(table, queue, place - stride, distance);
 }
 

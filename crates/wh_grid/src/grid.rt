@@ -129,7 +129,11 @@ impl Grid {
 fn count_true(xs: &[bool]) -> usize
     ensures { result ≡ count_by (λ b. b) xs.now }
 {
-    xs.iter().filter(|b| **b).count()
+    let mut count = 0;
+    for x in xs {
+        count += *x as usize;
+    }
+    count
 }
 
 #[tactic(auto, unfolding(crate::specs::Maps::map_of))]

@@ -20,7 +20,7 @@ use Rattle.wh_intervals.specs.Queues.{Waiting, Pops}
 use Rattle.wh_intervals.specs.declared.entry.Entry.{Entry}
 use Rattle.wh_intervals.specs.declared.interval.Interval.{Interval}
 use Rattle.wh_intervals.specs.declared.node.Node.{Node}
-use Rattle.wh_intervals.specs.declared.stay.Stay.{Stay}
+use Rattle.wh_intervals.specs.Stays.{Stay}
 use Rattle.wh_intervals.specs.Nodes.{state_of, arrival_of, interval_of, node_at, total_at, bound_at, IsReached, IsOnward, IsExpanded, IsKept, Spreads}
 use Rattle.wh_intervals.specs.Told.{node_in, IsSpent, IsWithin, IsPast, IsRest, whole, front, IsTold}
 use Rattle.wh_intervals.proofs.Closings.{some_same}

@@ -1,13 +1,23 @@
 -- nodes that wait, each with a bound
-use Rattle.std.specs.Prelude.{◌≡◌, ℕ, ◌≤◌, ◌⊎◌, List, Contains}
+use Rattle.std.specs.Prelude.{◌≡◌, ℕ, ◌-◌, ◌/◌, ◌%◌, ◌^◌, ◌≤◌, ◌⊎◌, List, All, Contains}
 use Rattle.wh_intervals.specs.declared.entry.Entry.{Entry}
+
+abbrev pub bound_of : Entry → ℕ
+bound_of e = e.rank.0 / 2 ^ 32
+
+abbrev pub number_of : Entry → ℕ
+number_of e = 2 ^ 32 - 1 - e.turn.0 % 2 ^ 32
+
+-- none of these has a lower bound
+abbrev pub IsBefore : Entry → List Entry → Type 0
+IsBefore x xs = All (λ y. bound_of x ≤ bound_of y) xs
 
 -- a node waits with a bound
 pub record Waiting (queue : List Entry) (bound node : ℕ) : Type 0 where
   pub entry : Entry
   pub among : Contains queue entry
-  pub bound_is : entry.bound.0 ≡ bound
-  pub node_is : entry.node ≡ node
+  pub bound_is : bound_of entry ≡ bound
+  pub node_is : number_of entry ≡ node
 
 -- one more node waits
 pub record Pushes (old new : List Entry) (bound node : ℕ) : Type 0 where

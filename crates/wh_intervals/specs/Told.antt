@@ -12,7 +12,7 @@ use Rattle.wh_intervals.specs.Queues.{Waiting}
 use Rattle.wh_intervals.specs.declared.entry.Entry.{Entry}
 use Rattle.wh_intervals.specs.declared.interval.Interval.{Interval}
 use Rattle.wh_intervals.specs.declared.node.Node.{Node}
-use Rattle.wh_intervals.specs.declared.stay.Stay.{Stay}
+use Rattle.wh_intervals.specs.Stays.{Stay}
 
 -- a node in the interval, from a time on
 abbrev pub node_in : Interval → ℕ → Node
@@ -67,3 +67,9 @@ pub record IsTold (p : Problem) (nodes : List Node) (queue : List Entry) (busy :
   pub within : (s : Stay) → Contains stays s → IsWithin closed s
   pub each : (i : ℕ) → i < length nodes → IsPast closed (node_at nodes i) ⊎ Waiting queue (bound_at p (node_at nodes i)) i ⊎ IsBusy busy i
   pub begun : (i : ℕ) → i < length nodes → 0 < (node_at nodes i).time → IsBegun stays (node_at nodes (node_at nodes i).parent).time
+
+-- so it is told of this many stays
+pub record IsCounted (p : Problem) (nodes : List Node) (queue : List Entry) (busy : Option ℕ) (closed : Interval → Option ℕ) (count : ℕ) : Type 0 where
+  pub stays : List Stay
+  pub number : length stays ≡ count
+  pub told : IsTold p nodes queue busy closed stays

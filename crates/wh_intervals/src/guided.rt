@@ -1,7 +1,7 @@
 //! The calls for a task of two to eight stops, and for parking.
 #![tactic(auto)]
 
-ghost use Rattle.std.specs.Prelude.{◌≡◌, ℕ, ◌+◌, ◌-◌, ◌*◌, ◌<◌, ◌≤◌, ◌^◌, List, IfOk, IfSome, MatchOption, length};
+ghost use Rattle.std.specs.Prelude.{◌≡◌, ℕ, ◌+◌, ◌-◌, ◌*◌, ◌<◌, ◌≤◌, ◌^◌, List, IfOk, IfSome, MatchOption};
 ghost use Rattle.wh_grid.specs.declared.cell.Cell.{Cell};
 ghost use Rattle.wh_grid.specs.Grids.{IsPassable};
 ghost use Rattle.wh_path.specs.Paths.{last_index};
@@ -9,12 +9,11 @@ ghost use Rattle.wh_resv.specs.Others.{MayRest};
 ghost use Rattle.wh_search.specs.Deliveries.{IsDelivery, IsLawful, IsLeast, IfNoPath, AreStops};
 ghost use Rattle.wh_search.specs.Fields.{AreFieldsOf};
 ghost use Rattle.wh_search.specs.Guides.{IsOnward};
-ghost use Rattle.wh_intervals.specs.Efforts.{MovesAtMost, IsSearch, IsEffort, IsEnough};
+ghost use Rattle.wh_intervals.specs.Efforts.{MovesAtMost, IsSearchOf, IsEffort, IsEnough};
 ghost use Rattle.wh_search.specs.Parkings.{IsParking, IsLeastParking};
 
 use crate::errand::{Errand, first_end};
 use crate::search::search;
-use crate::stay::Stay;
 use std::alloc::{AllocError, Global};
 use wh_field::{Field, NearestField};
 use wh_grid::{Cell, Grid};
@@ -24,7 +23,7 @@ use wh_search::Fault;
 use wh_search::errand::arrive;
 use wh_search::guide::{Guide, onward_of};
 
-/// A shortest path, or none where there is no delivery; and what was expanded.
+/// A shortest path, or none where there is no delivery; and how many arrivals were expanded.
 fn find<'x>(
     alloc: Global,
     grid: &'x Grid,
@@ -32,14 +31,14 @@ fn find<'x>(
     loc: Cell,
     stops: &'x [Cell],
     fields: &'x [Option<&'x Field>],
-    expanded: &mut Vec<Stay>,
+    expanded: &mut u64,
 ) -> Result<Option<TimedPath>, AllocError>
     requires inside { IsPassable grid.now loc }
     requires clear { MayRest others.now loc 0 }
     requires stops { AreStops stops.now }
     requires fields { AreFieldsOf grid.now stops.now fields.now }
-    ensures expanded { IfOk result (λ found. IfSome found (λ p. IsSearch grid.now others.now loc stops.now fields.now (last_index p) expanded.new.items)) }
-    ensures moves { IfOk result (λ found. IfSome found (λ p. MovesAtMost p (length expanded.new.items))) }
+    ensures expanded { IfOk result (λ found. IfSome found (λ p. IsSearchOf grid.now others.now loc stops.now fields.now (last_index p) expanded.new)) }
+    ensures moves { IfOk result (λ found. IfSome found (λ p. MovesAtMost p expanded.new)) }
     ensures found { IfOk result (λ found. MatchOption found
         ((q : List Cell) → IsDelivery grid.now others.now loc stops.now q → ⊥)
         (λ p. IsLeast grid.now others.now loc stops.now p)) }
@@ -87,7 +86,7 @@ pub fn deliver_guided<'x>(
     ensures least { IfOk result (λ p. (q : List Cell) → IsDelivery grid.now others.now loc stops.now q → last_index p ≤ last_index q) }
     ensures none { IfNoPath result ((q : List Cell) → IsDelivery grid.now others.now loc stops.now q → ⊥) }
 {
-    let mut expanded = Vec::new(alloc);
+    let mut expanded = 0;
     match find(alloc, grid, others, loc, stops, fields, &mut expanded) {
         Ok(Some(path)) => Ok(path),
         Ok(None) => Err(Fault::NoPath),
@@ -116,15 +115,15 @@ pub fn guided_steps<'x>(
     ensures enough { IfOk result (λ n. IsEnough grid.now others.now loc stops.now n) }
     ensures none { IfNoPath result ((q : List Cell) → IsDelivery grid.now others.now loc stops.now q → ⊥) }
 {
-    let mut expanded = Vec::new(alloc);
+    let mut expanded = 0;
     match find(alloc, grid, others, loc, stops, fields, &mut expanded) {
-        Ok(Some(_path)) => Ok(expanded.len() as u64),
+        Ok(Some(_path)) => Ok(expanded),
         Ok(None) => Err(Fault::NoPath),
         Err(_) => Err(Fault::NoMemory),
     }
 }
 
-/// A shortest path to one of the allowed cells, or none, by the field of them all; and what was expanded.
+/// A shortest path to one of the allowed cells, or none, by the field of them all; and how many arrivals were expanded.
 fn find_by<'x>(
     alloc: Global,
     grid: &'x Grid,
@@ -132,7 +131,7 @@ fn find_by<'x>(
     loc: Cell,
     allowed: &'x [Cell],
     field: &'x NearestField,
-    expanded: &mut Vec<Stay>,
+    expanded: &mut u64,
 ) -> Result<Option<TimedPath>, AllocError>
     requires inside { IsPassable grid.now loc }
     requires clear { MayRest others.now loc 0 }
@@ -171,7 +170,7 @@ fn find_parking(
         (λ p. IsLeastParking grid.now others.now loc allowed.now p)) }
 {
     let field = NearestField::from(alloc, grid, allowed)?;
-    let mut expanded = Vec::new(alloc);
+    let mut expanded = 0;
     find_by(alloc, grid, others, loc, allowed, &field, &mut expanded)
 }
 

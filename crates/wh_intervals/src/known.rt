@@ -1,16 +1,15 @@
 //! What is known of each interval: which node came last, and from when on it is expanded.
 #![tactic(auto)]
 
-ghost use Rattle.std.specs.Prelude.{◌≡◌, ℕ, ◌≤◌, Some, None, IsTrue, OnOk, IfOk, IfSome, IfNone, slice_get};
-ghost use Rattle.indexmap.specs.IndexMap.{get};
-ghost use Rattle.wh_intervals.specs.Closings.{interval_eq, closed_by, Notes};
+ghost use Rattle.std.specs.Prelude.{◌≡◌, ℕ, ◌≤◌, Some, IsTrue, OnOk, IfOk, IfSome, IfNone};
+ghost use Rattle.wh_intervals.specs.Closings.{closed_by, Notes};
 ghost use Rattle.wh_intervals.specs.Nodes.{state_of, interval_of, Includes};
-ghost use Rattle.wh_intervals.specs.declared.known.Known.{Known as Note};
+ghost use Rattle.wh_intervals.specs.Places.{known_in, IsLatest};
 ghost use Rattle.wh_intervals.specs.Told.{IsPast, IsRest};
 
-use crate::interval::{Interval, interval_of};
+use crate::interval::interval_of;
+use crate::intervals::Intervals;
 use crate::node::Node;
-use indexmap::IndexMap;
 use std::alloc::AllocError;
 
 /// What is known of an interval: the number of the last node that was met there, and from when on it
@@ -20,9 +19,6 @@ pub struct Known {
     pub newest: usize,
     pub since: Option<u32>,
 }
-
-/// What is known of the intervals of which a node was met.
-pub type Intervals = IndexMap<Interval, Known>;
 
 /// Whether a node is in the interval of another one, and no later.
 fn includes(old: Node, node: Node) -> bool
@@ -74,77 +70,50 @@ impl Known {
 }
 
 /// Whether the last node of a node's interval, if there is one, includes the node, which is the last one,
-/// by this number, where it does not; and the place of the interval.
+/// by this number, where it does not.
 pub fn meets(
     intervals: &mut Intervals,
     nodes: &[Node],
     node: Node,
     number: usize,
-) -> Result<(bool, usize), AllocError>
-    ensures includes { IfOk result (λ met. IsTrue met.0 → Includes nodes.now node.time (state_of node) node.until) }
-    ensures closed { OnOk result (closed_by (get interval_eq intervals.new) ≡ closed_by (get interval_eq intervals.old)) }
+) -> Result<bool, AllocError>
+    ensures includes { IfOk result (λ met. IsTrue met → Includes nodes.now node.time (state_of node) node.until) }
+    ensures closed { OnOk result (closed_by (known_in intervals.new) ≡ closed_by (known_in intervals.old)) }
 {
-    let fresh = Known {
-        newest: number,
-        since: None,
-    };
-    let entry = intervals.entry(interval_of(node))?;
-    let place = entry.index();
-    let met = entry.or_insert(fresh).meets(nodes, node, number);
-    Ok((met, place))
+    let place = intervals.number_of(interval_of(node), number)?;
+    let mut known = intervals.known(place);
+    let met = known.meets(nodes, node, number);
+    intervals.set(place, known);
+    Ok(met)
 }
 
-/// Whether an interval is at a place.
-fn is_at(intervals: &Intervals, place: usize, interval: Interval) -> bool
-    ensures { IsTrue result → (known : Note) × (slice_get intervals.now.entries place ≡ Some (interval, known)) }
-{
-    match intervals.get_index(place) {
-        Some((key, _known)) => key.is(interval),
-        None => false,
-    }
-}
-
-/// What `close` does, where the interval is at a place.
+/// What `close` does, where the interval has a number.
 fn close_at(intervals: &mut Intervals, place: usize, node: Node) -> Option<u32>
-    requires { (known : Note) × (slice_get intervals.old.entries place ≡ Some (interval_of node, known)) }
-    ensures rest { IfSome result (λ last. IsRest (closed_by (get interval_eq intervals.old) (interval_of node)) node last) }
-    ensures notes { IfSome result (λ last. Notes (closed_by (get interval_eq intervals.old)) (closed_by (get interval_eq intervals.new)) (interval_of node) node.time) }
-    ensures past { IfNone result (IsPast (closed_by (get interval_eq intervals.old)) node) }
-    ensures same { IfNone result (closed_by (get interval_eq intervals.new) ≡ closed_by (get interval_eq intervals.old)) }
+    requires { IsLatest intervals.old (interval_of node) place }
+    ensures rest { IfSome result (λ last. IsRest (closed_by (known_in intervals.old) (interval_of node)) node last) }
+    ensures notes { IfSome result (λ last. Notes (closed_by (known_in intervals.old)) (closed_by (known_in intervals.new)) (interval_of node) node.time) }
+    ensures past { IfNone result (IsPast (closed_by (known_in intervals.old)) node) }
+    ensures same { IfNone result (closed_by (known_in intervals.new) ≡ closed_by (known_in intervals.old)) }
 {
-    let (_interval, known) = intervals.pair_mut(place);
-    known.close(node)
-}
-
-/// What `close` does, wherever the interval is.
-fn close_anywhere(intervals: &mut Intervals, node: Node) -> Result<Option<u32>, AllocError>
-    ensures rest { IfOk result (λ left. IfSome left (λ last. IsRest (closed_by (get interval_eq intervals.old) (interval_of node)) node last)) }
-    ensures notes { IfOk result (λ left. IfSome left (λ last. Notes (closed_by (get interval_eq intervals.old)) (closed_by (get interval_eq intervals.new)) (interval_of node) node.time)) }
-    ensures past { IfOk result (λ left. IfNone left (IsPast (closed_by (get interval_eq intervals.old)) node)) }
-    ensures same { IfOk result (λ left. IfNone left (closed_by (get interval_eq intervals.new) ≡ closed_by (get interval_eq intervals.old))) }
-{
-    // not used, since each node that was met has an entry
-    let fresh = Known {
-        newest: usize::MAX,
-        since: None,
-    };
-    let left = intervals
-        .entry(interval_of(node))?
-        .or_insert(fresh)
-        .close(node);
-    Ok(left)
+    let mut known = intervals.known(place);
+    let left = known.close(node);
+    intervals.set(place, known);
+    left
 }
 
 /// Up to when a node's interval is left to be expanded from the node's time on, and from now on it is;
-/// none where it is already. The place of the interval is a hint, and it is looked at.
-pub fn close(intervals: &mut Intervals, node: Node, place: usize) -> Result<Option<u32>, AllocError>
-    ensures rest { IfOk result (λ left. IfSome left (λ last. IsRest (closed_by (get interval_eq intervals.old) (interval_of node)) node last)) }
-    ensures notes { IfOk result (λ left. IfSome left (λ last. Notes (closed_by (get interval_eq intervals.old)) (closed_by (get interval_eq intervals.new)) (interval_of node) node.time)) }
-    ensures past { IfOk result (λ left. IfNone left (IsPast (closed_by (get interval_eq intervals.old)) node)) }
-    ensures same { IfOk result (λ left. IfNone left (closed_by (get interval_eq intervals.new) ≡ closed_by (get interval_eq intervals.old))) }
+/// none where it is already.
+pub fn close(intervals: &mut Intervals, node: Node) -> Result<Option<u32>, AllocError>
+    ensures rest { IfOk result (λ left. IfSome left (λ last. IsRest (closed_by (known_in intervals.old) (interval_of node)) node last)) }
+    ensures notes { IfOk result (λ left. IfSome left (λ last. Notes (closed_by (known_in intervals.old)) (closed_by (known_in intervals.new)) (interval_of node) node.time)) }
+    ensures past { IfOk result (λ left. IfNone left (IsPast (closed_by (known_in intervals.old)) node)) }
+    ensures same { IfOk result (λ left. IfNone left (closed_by (known_in intervals.new) ≡ closed_by (known_in intervals.old))) }
 {
-    if is_at(intervals, place, interval_of(node)) {
+    let interval = interval_of(node);
+    if let Some(place) = intervals.find(interval) {
         return Ok(close_at(intervals, place, node));
     }
-    close_anywhere(intervals, node)
+    // not in practice, since each node that was met has an interval that is noted
+    let place = intervals.note(interval, usize::MAX)?;
+    Ok(close_at(intervals, place, node))
 }

@@ -11,7 +11,6 @@ ghost use Rattle.wh_search.specs.Tours.{IsTour, IsLeastTour};
 
 use crate::errand::Errand;
 use crate::search::search;
-use crate::states::ROOM;
 use std::alloc::{AllocError, Global};
 use wh_path::TimedPath;
 use wh_search::errand::Errand as Task;
@@ -39,7 +38,7 @@ pub fn over_intervals(alloc: Global, errand: &Task) -> Result<Option<TimedPath>,
         limit: errand.limit,
         base: errand.least.max(whole.saturating_add(1)),
     };
-    let mut expanded = Vec::with_capacity(alloc, ROOM)?;
+    let mut expanded = 0;
     search(alloc, &task, &mut expanded)
 }
 

@@ -1,34 +1,55 @@
 //! What is still to be looked at, the most promising first.
 #![tactic(auto)]
 
-ghost use Rattle.std.specs.Prelude.{◌≡◌, ℕ, ◌<◌, ◌≤◌, [], OnOk, IfOk, IfSome, IfNone};
-ghost use Rattle.wh_intervals.specs.Queues.{Waiting, Pushes, Pops};
+ghost use Rattle.std.specs.Prelude.{◌≡◌, ℕ, ◌<◌, ◌≤◌, [], IsTrue, OnOk, IfOk, IfSome, IfNone};
+ghost use Rattle.std.specs.BinaryHeap.{IsHeap, heap_items};
+ghost use Rattle.wh_intervals.specs.Queues.{bound_of, IsBefore, Waiting, Pushes, Pops};
 
 use crate::entry::Entry;
 use std::alloc::{AllocError, Global};
-use std::cmp::Reverse;
 use std::collections::BinaryHeap;
 use std::marker::Model;
 
 /// The greatest number that an entry holds. Where there would be a greater one, memory has run out.
 const MOST: u64 = 4294967295;
 
-/// Nodes that wait, each with a bound. It takes memory for those that it holds at a time.
+/// Nodes that wait, each with a bound. It takes memory for those that it holds at a time. One that comes
+/// before all others when it is added is kept apart, since it is mostly the next that is taken.
 #[derive(Drop)]
 pub struct Queue {
+    first: Option<Entry>,
     heap: BinaryHeap<Entry>,
 }
 
 impl Model for Queue {
-    ghost use Rattle.std.specs.Prelude.{List};
+    ghost use Rattle.std.specs.Prelude.{List, IfSome};
+    ghost use Rattle.std.specs.List.{cons_option};
     ghost use Rattle.std.specs.BinaryHeap.{IsHeap, heap_items};
+    ghost use Rattle.wh_intervals.specs.Queues.{IsBefore};
     ghost use Rattle.wh_intervals.specs.declared.entry.Entry.{Entry};
 
     ghost Value = { List Entry };
 
-    ghost view = { λ q. heap_items q.heap };
+    ghost view = { λ q. cons_option q.first (heap_items q.heap) };
 
-    ghost invariant = { λ q. IsHeap ⟦<Entry as Ord>⟧.cmp (heap_items q.heap) };
+    ghost invariant = { λ q. IsHeap ⟦<Entry as Ord>⟧.cmp (heap_items q.heap) × IfSome q.first (λ e. IsBefore e (heap_items q.heap)) };
+}
+
+/// Whether an entry comes before all that wait.
+fn is_first(first: Option<Entry>, heap: &BinaryHeap<Entry>, entry: Entry) -> bool
+    requires heap { IsHeap ⟦<Entry as Ord>⟧.cmp (heap_items heap.now) }
+    requires first { IfSome first (λ e. IsBefore e (heap_items heap.now)) }
+    ensures before { IsTrue result → IsBefore entry (heap_items heap.now) }
+    ensures ahead { IsTrue result → IfSome first (λ e. bound_of entry ≤ bound_of e) }
+    ensures behind { (IsTrue result → ⊥) → IfSome first (λ e. bound_of e ≤ bound_of entry) }
+{
+    if let Some(first) = first {
+        return entry.is_before(first);
+    }
+    match heap.peek() {
+        Some(top) => entry.is_before(*top),
+        None => true,
+    }
 }
 
 impl Queue {
@@ -37,6 +58,7 @@ impl Queue {
         ensures { IfOk result (λ q. (bound node : ℕ) → Waiting q bound node → ⊥) }
     {
         Ok(Queue {
+            first: None,
             heap: BinaryHeap::with_capacity(alloc, count)?,
         })
     }
@@ -48,12 +70,15 @@ impl Queue {
         if bound > MOST || left > MOST || node as u64 > MOST {
             return Err(AllocError);
         }
-        self.heap.push(Entry {
-            bound: Reverse(bound as u32),
-            left: Reverse(left as u32),
-            time: Reverse(time),
-            node: node as u32,
-        })?;
+        let entry = Entry::of(bound as u32, left as u32, time, node as u32);
+        if !is_first(self.first, &self.heap, entry) {
+            self.heap.push(entry)?;
+            return Ok(());
+        }
+        if let Some(first) = self.first {
+            self.heap.push(first)?;
+        }
+        self.first = Some(entry);
         Ok(())
     }
 
@@ -62,7 +87,11 @@ impl Queue {
         ensures some { IfSome result (λ e. Pops self.old self.new e.0 e.1) }
         ensures none { IfNone result ((bound node : ℕ) → Waiting self.old bound node → ⊥) }
     {
+        if let Some(first) = self.first {
+            self.first = None;
+            return Some((first.bound(), first.node()));
+        }
         let entry = self.heap.pop()?;
-        Some((u64::from(entry.bound.0), entry.node as usize))
+        Some((entry.bound(), entry.node()))
     }
 }

@@ -1,7 +1,7 @@
 //! The search, guided by an estimate, for a shortest lawful path.
 #![tactic(auto)]
 
-ghost use Rattle.std.specs.Prelude.{◌≡◌, ℕ, ◌+◌, ◌<◌, ◌≤◌, ◌^◌, List, OnOk, IfOk, IfSome, MatchOption, Option, Some, None, length, vec_len};
+ghost use Rattle.std.specs.Prelude.{◌≡◌, ℕ, ◌+◌, ◌<◌, ◌≤◌, ◌^◌, List, OnOk, IfOk, IfSome, MatchOption, Option, Some, None, vec_len};
 ghost use Rattle.wh_grid.specs.declared.cell.Cell.{Cell};
 ghost use Rattle.wh_resv.specs.Others.{MayRest};
 ghost use Rattle.wh_intervals.specs.Problems.{problem, IsProblem};
@@ -9,62 +9,64 @@ ghost use Rattle.wh_search.specs.States.{IsEnd};
 ghost use Rattle.wh_search.specs.Tours.{IsTour, IsLeastTour};
 ghost use Rattle.wh_path.specs.Paths.{last_index};
 ghost use Rattle.wh_search.specs.Guides.{guide_estimate};
-ghost use Rattle.wh_intervals.specs.Efforts.{AreExpandedBy, MovesAtMost};
+ghost use Rattle.wh_intervals.specs.Efforts.{IsExpandedOf, MovesAtMost};
 ghost use Rattle.wh_intervals.specs.Nodes.{node_at, state_of, bound_at, total_at, IsKept};
 ghost use Rattle.wh_intervals.specs.Queues.{Waiting};
-ghost use Rattle.indexmap.specs.IndexMap.{get};
-ghost use Rattle.wh_intervals.specs.Closings.{interval_eq, closed_by};
-ghost use Rattle.wh_intervals.specs.Told.{node_in, IsTold};
+ghost use Rattle.wh_intervals.specs.Closings.{closed_by};
+ghost use Rattle.wh_intervals.specs.Places.{known_in};
+ghost use Rattle.wh_intervals.specs.Told.{node_in, IsCounted};
 ghost use Rattle.wh_intervals.specs.declared.interval.Interval.{Interval as Span};
 
 use crate::errand::Errand;
 use crate::known::close;
+use crate::leave::stay;
+use crate::node::node_of;
 use crate::states::States;
-use crate::stay::{Stay, stay_of};
 use crate::trail::walk_back;
 use std::alloc::{AllocError, Global};
 use wh_path::TimedPath;
 use wh_resv::Reservations;
 
 /// Expands a node that was taken from the queue, for those times of its interval for which none is
-/// expanded yet.
+/// expanded yet, and counts it, if there are such times.
 fn take(
     errand: &Errand,
     states: &mut States,
-    expanded: &mut Vec<Stay>,
+    expanded: &mut u64,
     index: usize,
 ) -> Result<(), AllocError>
     requires errand { IsProblem (problem errand.now) }
     requires kept { IsKept (problem errand.now) states.old.nodes.items states.old.queue (Some index) }
     requires within { index < vec_len states.old.nodes }
-    requires told { IsTold (problem errand.now) states.old.nodes.items states.old.queue (Some index) (closed_by (get interval_eq states.old.intervals)) expanded.old.items }
+    requires told { IsCounted (problem errand.now) states.old.nodes.items states.old.queue (Some index) (closed_by (known_in states.old.intervals)) expanded.old }
+    requires few { expanded.old + 1 < 2 ^ 64 }
     requires first { (b i : ℕ) → Waiting states.old.queue b i → bound_at (problem errand.now) (node_at states.old.nodes.items index) ≤ b }
-    requires past { (i : Span) (t : ℕ) → closed_by (get interval_eq states.old.intervals) i ≡ Some t → bound_at (problem errand.now) (node_in i t) ≤ bound_at (problem errand.now) (node_at states.old.nodes.items index) }
+    requires past { (i : Span) (t : ℕ) → closed_by (known_in states.old.intervals) i ≡ Some t → bound_at (problem errand.now) (node_in i t) ≤ bound_at (problem errand.now) (node_at states.old.nodes.items index) }
     requires may_lead { (q : List Cell) → IsTour errand.now.grid.now errand.now.others.now errand.now.loc errand.now.via.now errand.now.ends.now q → total_at (problem errand.now) (node_at states.old.nodes.items index) ≤ last_index q }
     requires no_end { IsEnd errand.now.others.now errand.now.via.now errand.now.ends.now (node_at states.old.nodes.items index).time (state_of (node_at states.old.nodes.items index)) → ⊥ }
     ensures kept { OnOk result (IsKept (problem errand.now) states.new.nodes.items states.new.queue None) }
-    ensures told { OnOk result (IsTold (problem errand.now) states.new.nodes.items states.new.queue None (closed_by (get interval_eq states.new.intervals)) expanded.new.items) }
+    ensures told { OnOk result (IsCounted (problem errand.now) states.new.nodes.items states.new.queue None (closed_by (known_in states.new.intervals)) expanded.new) }
+    ensures few { OnOk result (expanded.new ≤ expanded.old + 1) }
 {
     let node = states.nodes[index];
-    let place = states.place(index);
-    let Some(last) = close(&mut states.intervals, node, place)? else {
+    let Some(last) = close(&mut states.intervals, node)? else {
         return Ok(());
     };
     states.expand(errand, index, u64::from(last))?;
-    expanded.push(stay_of(node, last))?;
+    *expanded += 1;
     Ok(())
 }
 
-/// A shortest tour, or none where there is no tour; and what was expanded, whatever was there before.
+/// A shortest tour, or none where there is no tour; and how many arrivals were expanded, whatever was there before.
 pub fn search(
     alloc: Global,
     errand: &Errand,
-    expanded: &mut Vec<Stay>,
+    expanded: &mut u64,
 ) -> Result<Option<TimedPath>, AllocError>
     requires errand { IsProblem (problem errand.now) }
     requires clear { MayRest errand.now.others.now errand.now.loc 0 }
-    ensures expanded { IfOk result (λ found. IfSome found (λ p. AreExpandedBy errand.now.grid.now errand.now.others.now errand.now.via.now errand.now.loc (guide_estimate errand.now.guide) errand.now.base errand.now.limit (last_index p) expanded.new.items)) }
-    ensures moves { IfOk result (λ found. IfSome found (λ p. MovesAtMost p (length expanded.new.items))) }
+    ensures expanded { IfOk result (λ found. IfSome found (λ p. IsExpandedOf errand.now.grid.now errand.now.others.now errand.now.via.now errand.now.loc (guide_estimate errand.now.guide) errand.now.base errand.now.limit (last_index p) expanded.new)) }
+    ensures moves { IfOk result (λ found. IfSome found (λ p. MovesAtMost p expanded.new)) }
     ensures found { IfOk result (λ found. MatchOption found
         ((q : List Cell) → IsTour errand.now.grid.now errand.now.others.now errand.now.loc errand.now.via.now errand.now.ends.now q → ⊥)
         (λ p. IsLeastTour errand.now.grid.now errand.now.others.now errand.now.loc errand.now.via.now errand.now.ends.now p)) }
@@ -74,9 +76,11 @@ pub fn search(
         return Ok(None);
     }
     let mut states = States::new(alloc)?;
-    let _until = states.meet(errand, 0, errand.first, errand.loc, left, 0)?;
-    expanded.clear();
-    for _ in 0..u64::MAX {
+    let until = stay(errand, errand.loc, 0);
+    let start = node_of(0, errand.first, errand.loc, until, 0)?;
+    states.meet(errand, start, left)?;
+    *expanded = 0;
+    for round in 0..u64::MAX {
         let Some((_bound, index)) = states.queue.pop() else {
             return Ok(None);
         };

@@ -4,7 +4,6 @@ pub mod Choices
 pub mod Ways
 pub mod Reachable
 pub mod Reaching
-pub mod Quiet
 pub mod Steps
 pub mod Telling
 pub mod Paths

@@ -10,8 +10,7 @@ use Rattle.wh_core.specs.States.{State}
 use Rattle.wh_core.specs.Steps.{Answers, Step, IsNext, NoneIsNext, MakesWay, IsAllowed, other_ends}
 use Rattle.wh_planner.specs.Duties.{Delivers, ParksAt, HasNoClearWay, HasRoute}
 use Rattle.wh_grid.specs.declared.cell.Cell.{Cell}
-use Rattle.wh_path.specs.Paths.{place_of, ends}
-use Rattle.wh_tasks.specs.Choice.{NoneEligible}
+use Rattle.wh_path.specs.Paths.{place_of}
 
 -- to no state does the reply to the event lead from here
 abbrev pub NoAnswer : Site → State → Reply → Event → Type 0
@@ -42,19 +41,6 @@ LacksParking site s agent = MakesWay s agent × HasNoClearWay site.grid s.paths 
 -- a route leads round the others' ends to a cell where the agent may park
 abbrev pub CanPark : Site → State → ℕ → Type 0
 CanPark site s agent = (cell : Cell) × IsAllowed site s agent cell × HasRoute site.grid (other_ends s agent) (place_of s.paths agent) cell
-
--- No open task is clear of the ends of all paths.
-abbrev pub IsQuiet : State → Type 0
-IsQuiet s = NoneEligible s.tasks (ends s.paths)
-
--- What is noted of that after a step, by its reply and what was noted before: a rest shows that none is clear. Where a task
--- comes or is taken, or an agent gets another path, nothing is known; all else leaves the tasks that are open and the ends.
-abbrev pub quiet_after : Bool → Reply → Bool
-quiet_after was Reply.Rested = true
-quiet_after was (Reply.Accepted task) = false
-quiet_after was (Reply.Took task path) = false
-quiet_after was (Reply.Parked point path) = false
-quiet_after was reply = was
 
 -- what callers see of a judge: the site and the state
 pub record Judged : Type 0 where

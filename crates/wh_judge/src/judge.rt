@@ -5,13 +5,12 @@ ghost use Rattle.std.specs.Prelude.{◌≡◌, ◌≤◌, true, false, IsTrue, I
 ghost use Rattle.wh_points.specs.Points.{IsLayout};
 ghost use Rattle.wh_core.specs.States.{State, opened};
 ghost use Rattle.wh_core.specs.Steps.{Step, last_clock};
-ghost use Rattle.wh_judge.specs.Judged.{Decides, IsQuiet, IsReachable, IsStep};
+ghost use Rattle.wh_judge.specs.Judged.{Decides, IsReachable, IsStep};
 
 use crate::instance::Instance;
 use crate::plain::{close, replace, tick};
 use crate::refusals::refuses;
 use crate::requests::{park, rest, take};
-use crate::rests::quiet_after;
 use crate::submitting::accept;
 use std::alloc::{AllocError, Global};
 use std::marker::Model;
@@ -26,13 +25,11 @@ fn answer(
     instance: &Instance,
     floor: &mut FleetState,
     near: &mut LazyField,
-    is_quiet: bool,
     event: Event,
     reply: Reply,
 ) -> Result<bool, AllocError>
     requires reached { IsReachable instance.now floor.old.state }
     requires grid { near.old.grid ≡ instance.now.grid }
-    requires quiet { is_quiet ≡ true → IsQuiet floor.old.state }
     ensures answer { IfOk result (Decides instance.now floor.old.state reply event floor.new.state) }
     ensures kept { IfOk result (λ b. b ≡ false → floor.new.state ≡ floor.old.state) }
     ensures err { OnErr result (floor.new.state ≡ floor.old.state) }
@@ -48,9 +45,7 @@ fn answer(
         (Reply::Took { task, path }, Event::Request { agent }) => {
             take(instance, floor, near, agent, task, path)
         }
-        (Reply::Rested, Event::Request { agent }) => {
-            Ok(rest(instance, floor, near, is_quiet, agent))
-        }
+        (Reply::Rested, Event::Request { agent }) => { Ok(rest(instance, floor, near, agent)) }
         (Reply::Parked { point, path }, Event::Request { agent }) => {
             park(instance, floor, near, agent, &point, path)
         }
@@ -68,34 +63,6 @@ fn answer(
         (Reply::Closed, Event::Close) => Ok(close(floor)),
         _ => Ok(false),
     }
-}
-
-/// The same, with what is noted of the open tasks.
-fn answer_and_note(
-    alloc: Global,
-    instance: &Instance,
-    floor: &mut FleetState,
-    near: &mut LazyField,
-    is_quiet: &mut bool,
-    event: Event,
-    reply: Reply,
-) -> Result<bool, AllocError>
-    requires reached { IsReachable instance.now floor.old.state }
-    requires grid { near.old.grid ≡ instance.now.grid }
-    requires quiet { is_quiet.old ≡ true → IsQuiet floor.old.state }
-    ensures answer { IfOk result (Decides instance.now floor.old.state reply event floor.new.state) }
-    ensures kept { IfOk result (λ b. b ≡ false → floor.new.state ≡ floor.old.state) }
-    ensures err { OnErr result (floor.new.state ≡ floor.old.state) }
-    ensures reached { IsReachable instance.now floor.new.state }
-    ensures grid { near.new.grid ≡ instance.now.grid }
-    ensures quiet { is_quiet.new ≡ true → IsQuiet floor.new.state }
-{
-    let after = quiet_after(*is_quiet, &reply);
-    let is_step = answer(alloc, instance, floor, near, *is_quiet, event, reply)?;
-    if is_step {
-        *is_quiet = after;
-    }
-    Ok(is_step)
 }
 
 /// The state of a warehouse as it opens over the instance.
@@ -117,25 +84,23 @@ fn opening(
 }
 
 /// The warehouse as a log tells it: the instance, and the state after the entries so far. Beside the state it keeps one
-/// distance field, for its questions, and a note of the last rest.
+/// distance field, for its questions.
 #[derive(Drop)]
 pub struct Judge<'a> {
     instance: Instance<'a>,
     floor: FleetState,
     near: LazyField,
-    /// No open task is clear of all ends, as the last rest showed. What may change that takes it back.
-    is_quiet: bool,
 }
 
 impl<'a> Model for Judge<'a> {
-    ghost use Rattle.std.specs.Prelude.{◌≡◌, true};
-    ghost use Rattle.wh_judge.specs.Judged.{Judged, IsQuiet, IsReachable};
+    ghost use Rattle.std.specs.Prelude.{◌≡◌};
+    ghost use Rattle.wh_judge.specs.Judged.{Judged, IsReachable};
 
     ghost Value = { Judged };
 
     ghost view = { λ j. record { site = j.instance; state = j.floor.state } };
 
-    ghost invariant = { λ j. IsReachable j.instance j.floor.state × (j.near.grid ≡ j.instance.grid) × (j.is_quiet ≡ true → IsQuiet j.floor.state) };
+    ghost invariant = { λ j. IsReachable j.instance j.floor.state × (j.near.grid ≡ j.instance.grid) };
 }
 
 impl<'a> Judge<'a> {
@@ -159,7 +124,6 @@ impl<'a> Judge<'a> {
             instance,
             floor,
             near,
-            is_quiet: false,
         })
     }
 
@@ -171,7 +135,6 @@ impl<'a> Judge<'a> {
         ensures err { OnErr result (self.new ≡ self.old) }
     {
         self.floor = opening(alloc, &self.instance, clock, slots)?;
-        self.is_quiet = false;
         Ok(())
     }
 
@@ -209,12 +172,11 @@ impl<'a> Judge<'a> {
         ensures site { self.new.site ≡ self.old.site }
     {
         let Entry { event, reply, .. } = entry;
-        answer_and_note(
+        answer(
             alloc,
             &self.instance,
             &mut self.floor,
             &mut self.near,
-            &mut self.is_quiet,
             event,
             reply,
         )

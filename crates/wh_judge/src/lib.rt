@@ -13,7 +13,6 @@ pub mod laws;
 mod plain;
 mod refusals;
 mod requests;
-mod rests;
 mod routes;
 mod submitting;
 mod verifier;

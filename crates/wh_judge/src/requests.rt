@@ -10,16 +10,15 @@ ghost use Rattle.wh_event.specs.declared.event.Event.TheVariants as events;
 ghost use Rattle.wh_event.specs.declared.reply.Reply.TheVariants as replies;
 ghost use Rattle.wh_event.specs.declared.reply.Refusal.TheVariants as refusals;
 ghost use Rattle.wh_core.specs.Steps.{Refuses, IsNext, IsAllowed};
-ghost use Rattle.wh_judge.specs.Judged.{Decides, IsQuiet, IsReachable};
+ghost use Rattle.wh_judge.specs.Judged.{Decides, IsReachable};
 
 use crate::agents::is_due;
 use crate::choice::is_next;
 use crate::course::{is_course, may_deliver};
 use crate::instance::Instance;
 use crate::lacking::{lacks_way, makes_way, may_rest};
-use crate::rests::rests_by_note;
 use std::alloc::{AllocError, Global};
-use wh_book::{FleetState, may_end};
+use wh_book::{FleetState, may_end, rests_at_once};
 use wh_field::LazyField;
 use wh_path::TimedPath;
 use wh_text::Name;
@@ -98,24 +97,18 @@ pub fn take(
     Ok(true)
 }
 
-/// Whether the agent may be told to rest. It takes constant time where the note tells it.
-pub fn rest(
-    instance: &Instance,
-    floor: &FleetState,
-    near: &mut LazyField,
-    is_quiet: bool,
-    agent: u32,
-) -> bool
+/// Whether the agent may be told to rest. It takes constant time where at a stop of each open task a path ends, and none
+/// stops where the agent is.
+pub fn rest(instance: &Instance, floor: &FleetState, near: &mut LazyField, agent: u32) -> bool
     requires reached { IsReachable instance.now floor.now.state }
     requires grid { near.old.grid ≡ instance.now.grid }
-    requires quiet { is_quiet ≡ true → IsQuiet floor.now.state }
     ensures answer { Decides instance.now floor.now.state replies.Rested (events.Request agent) floor.now.state result }
     ensures grid { near.new.grid ≡ instance.now.grid }
 {
     if !is_due(floor, agent) {
         return false;
     }
-    if rests_by_note(floor, is_quiet, agent) {
+    if rests_at_once(floor, agent) {
         return true;
     }
     if !may_rest(instance, floor, near, agent) {

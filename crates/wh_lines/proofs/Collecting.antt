@@ -8,25 +8,18 @@ use Rattle.wh_text.specs.Lines.{is_line_feed, lines_of, without_cr, IsLine}
 use Rattle.wh_text.proofs.CutLemmas.{lines-feed, lines-last}
 use Rattle.wh_lines.specs.Text.{is_separator, EndsLine}
 use Rattle.wh_lines.specs.Input.{Input, left, with_waiting, Takes, part_len}
-use Rattle.wh_lines.specs.Section.{HasNoMark, Closed, Overflows}
+use Rattle.wh_lines.specs.Section.{HasNoMark, Collects, Closed, Overflows}
 use Rattle.wh_lines.proofs.Parts.{before_plain, plain_append, around_first, none_before, part_taken}
 use Rattle.wh_lines.proofs.Cuts.{whole_next, long_unmarked}
 
--- a part of a section was taken: whole lines up to start, and the begun line
-pub record Collects (old new : Input) (text : List ℕ) (start : ℕ) : Type 0 where
-  pub takes : Takes old new text
-  pub ends : EndsLine (take start text)
-  pub plain : IsLine (drop start text)
-  pub unmarked : HasNoMark (take start text)
-
-abbrev NoMarks : List (List ℕ) → Type 0
+abbrev pub NoMarks : List (List ℕ) → Type 0
 NoMarks lines = AllByRecursion (λ line. is_separator line ≡ false) lines
 
 -- a line as it came, which stands between two sections
 abbrev pub is_mark : List ℕ → Bool
 is_mark line = is_separator (without_cr line)
 
-marks_append : (xs ys : List (List ℕ)) → NoMarks xs → NoMarks ys → NoMarks (xs ++ ys)
+pub marks_append : (xs ys : List (List ℕ)) → NoMarks xs → NoMarks ys → NoMarks (xs ++ ys)
 marks_append [] ys p q = q
 marks_append (x ∷ xs) ys p q = (p.0, marks_append xs ys p.1 q)
 

@@ -4,3 +4,4 @@ pub mod Cuts
 pub mod Parts
 pub mod Collecting
 pub mod Written
+mod PlainLines

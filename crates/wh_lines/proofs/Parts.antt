@@ -3,7 +3,7 @@ use Rattle.std.proofs.Common.{◌≡◌, ◌<◌, ◌+◌, ℕ, List, [], ◌∷
 use Rattle.std.proofs.lemmas.Bool.{lt-leb}
 use Rattle.std.specs.Prelude.{position, nat_le}
 use Rattle.std.specs.List.{position_or_len, before_first, after_first}
-use Rattle.std.proofs.lemmas.List.{take_all, drop_all, take-append-le, take-take, length-take}
+use Rattle.std.proofs.lemmas.List.{take_all, drop_all, take-append-drop, take-append-le, take-take, length-take}
 use Rattle.std.proofs.lemmas.Bool.{cases_lt}
 use Rattle.std.proofs.KnownBytes.{Consumes-nil, Consumes-trans, Consumes-kept}
 use Rattle.std.specs.Io.KnownBytes.{Keeps, Consumes, IsAtEnd, prepend_known}
@@ -103,11 +103,19 @@ too_long : (line : List ℕ) → 257 < length line → short_line line ≡ None
 too_long line h = let long : nat_le (length (without_cr line)) 256 ≡ false = lt-leb _ _ (omega (arith, h, without_cr_length line)) in rw long refl
 
 -- the first 258 bytes of a line say what the line says
-says_front : (raw : List ℕ) → short_line (take 258 raw) ≡ short_line raw
+pub says_front : (raw : List ℕ) → short_line (take 258 raw) ≡ short_line raw
 says_front raw = elim (cases_lt (length raw) 258) [
   | inl less ↦ ap short_line (take_all 258 raw (omega (arith, less)))
   | inr more ↦ too_long (take 258 raw) (omega (arith, length-take 258 raw, more)) ∙ sym (too_long raw (omega (arith, more)))
 ]
+
+-- a whole line that waits is taken
+pub line_taken : (i j : Input) (line : List ℕ) (n : ℕ) → IsLine line → take n i.waiting ≡ line ++ 10 ∷ [] → j ≡ with_waiting i (drop n i.waiting) → Gathered Whole i j (take 258 line)
+line_taken i j line n plain front e =
+    let all : i.waiting ≡ (line ++ 10 ∷ []) ++ drop n i.waiting = sym (take-append-drop n i.waiting) ∙ ap (λ l. l ++ drop n i.waiting) front in
+    let takes : Takes i j (line ++ 10 ∷ []) =
+    subst (λ (k : Input). Takes i k (line ++ 10 ∷ [])) (sym e) (part_taken i.waiting (line ++ 10 ∷ []) (drop n i.waiting) i.source all) in
+    record { raw = line; plain = plain; kept_is = refl; says = says_front line; ends = takes }
 
 says_kept : (kept raw : List ℕ) → kept ≡ take 258 raw → short_line kept ≡ short_line raw
 says_kept kept raw e = ap short_line e ∙ says_front raw

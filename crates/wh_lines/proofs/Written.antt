@@ -1,9 +1,9 @@
 -- Bytes that are written in parts.
-use Rattle.std.proofs.Common.{Result, Ok, Err, ◌≡◌, ◌≤◌, ◌+◌, ℕ, List, [], ◌∷◌, ◌++◌, length, take, drop, ◌-◌, refl, sym, ap, arith, subst, Option, zero, suc}
+use Rattle.std.proofs.Common.{Result, Ok, Err, ◌≡◌, ◌∙◌, ◌≤◌, ◌+◌, ℕ, List, [], ◌∷◌, ◌++◌, length, take, drop, ◌-◌, refl, sym, ap, arith, subst, Option, zero, suc}
 use Rattle.std.specs.Prelude.{OnErr}
 use Rattle.std.specs.Io.KnownBytes.{Appends, Keeps}
 use Rattle.std.proofs.KnownBytes.{Appends-trans, Appends-kept}
-use Rattle.std.proofs.lemmas.List.{take_all, length-drop}
+use Rattle.std.proofs.lemmas.List.{take_all, length-drop, take-append-drop}
 use Rattle.wh_lines.proofs.Room.{take_past}
 use Rattle.wh_lines.specs.Output.{WritesFront}
 
@@ -63,3 +63,9 @@ in_first a b xs ys text e w = subst (WritesFront a b) (sym e) (front_first a b x
 
 pub in_second : (a b c : Option (List ℕ)) (xs ys text : List ℕ) → text ≡ xs ++ ys → Appends a b xs → WritesFront b c ys → WritesFront a c text
 in_second a b c xs ys text e p w = subst (WritesFront a c) (sym e) (front_after a b c xs ys p w)
+
+-- a front of what follows a front of the text
+pub front_rest : {T E : Type 0} (r : Result T E) (a b c : Option (List ℕ)) (xs : List ℕ) (d : ℕ) → Appends a b (take d xs) → OnErr r (WritesFront b c (take (length xs - d) (drop d xs))) → OnErr r (WritesFront a c xs)
+front_rest (Ok x) a b c xs d p w = tt
+front_rest (Err e) a b c xs d p w =
+    in_second a b c (take d xs) (take (length xs - d) (drop d xs)) xs (sym (ap (λ l. take d xs ++ l) (rest_is xs d) ∙ take-append-drop d xs)) p w

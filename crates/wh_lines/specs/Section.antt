@@ -1,5 +1,5 @@
 -- Sections of the input.
-use Rattle.std.specs.Prelude.{◌≡◌, ℕ, ◌<◌, Bool, true, false, ◌⊎◌, List, [], ◌∷◌, ◌++◌, length, drop}
+use Rattle.std.specs.Prelude.{◌≡◌, ℕ, ◌<◌, Bool, true, false, ◌⊎◌, List, [], ◌∷◌, ◌++◌, length, take, drop}
 use Rattle.std.specs.List.{AllByRecursion}
 use Rattle.std.specs.Io.KnownBytes.{IsAtEnd}
 use Rattle.wh_text.specs.Lines.{lines_of, without_cr, IsLine}
@@ -9,6 +9,13 @@ use Rattle.wh_lines.specs.Input.{Input, left, Takes}
 -- no line of the text stands between two sections
 abbrev pub HasNoMark : List ℕ → Type 0
 HasNoMark text = AllByRecursion (λ line. is_separator line ≡ false) (lines_of text)
+
+-- a part of a section was taken: whole lines up to start, and the begun line
+pub record Collects (old new : Input) (text : List ℕ) (start : ℕ) : Type 0 where
+  pub takes : Takes old new text
+  pub ends : EndsLine (take start text)
+  pub plain : IsLine (drop start text)
+  pub unmarked : HasNoMark (take start text)
 
 -- What closes a section, and is taken too: nothing, at the end of the input, or a whole line `%%` behind whole lines.
 -- At the end of the input that line needs no line feed.

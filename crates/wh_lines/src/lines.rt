@@ -135,7 +135,7 @@ impl<R: Read> Lines<R> {
     }
 
     /// Takes bytes that wait.
-    pub(crate) fn take(&mut self, count: usize)
+    pub fn take(&mut self, count: usize)
         requires { count ≤ length self.old.waiting }
         ensures { self.new ≡ with_waiting self.old (drop count self.old.waiting) }
     {

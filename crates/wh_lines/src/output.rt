@@ -11,6 +11,7 @@ use std::io::{ErrorKind, Write};
 pub struct WriteFault;
 
 /// Writes a front of the bytes: none where the write was interrupted.
+#[inline(always)]
 fn write_front<W: Write>(writer: &mut W, bytes: &[u8]) -> Result<usize, WriteFault>
     ensures bound { IfOk result (λ count. count ≤ length bytes.now) }
     ensures ok { IfOk result (λ count. Appends (W.contents writer.old) (W.contents writer.new) (take count bytes.now)) }
@@ -24,7 +25,26 @@ fn write_front<W: Write>(writer: &mut W, bytes: &[u8]) -> Result<usize, WriteFau
     }
 }
 
+/// Writes all the bytes, in as many parts as it takes. Nearly all texts are taken at once, and never come here.
+#[cold]
+#[inline(never)]
+fn write_parts<W: Write>(writer: &mut W, bytes: &[u8]) -> Result<(), WriteFault>
+    ensures ok { OnOk result (Appends (W.contents writer.old) (W.contents writer.new) bytes.now) }
+    ensures err { OnErr result (WritesFront (W.contents writer.old) (W.contents writer.new) bytes.now) }
+{
+    let mut done = 0;
+    for _ in 0..u64::MAX {
+        if done >= bytes.len() {
+            return Ok(());
+        }
+        done += write_front(writer, &bytes[done..])?;
+    }
+    Err(WriteFault)
+}
+
 /// Writes all the bytes, or a front of them where the writer failed or took no byte. It does not flush.
+// Inlined, so that a text of known length is copied without a call.
+#[inline(always)]
 pub fn write_all<W: Write>(writer: &mut W, bytes: &[u8]) -> Result<(), WriteFault>
     ensures ok { OnOk result (Appends (W.contents writer.old) (W.contents writer.new) bytes.now) }
     ensures err { OnErr result (WritesFront (W.contents writer.old) (W.contents writer.new) bytes.now) }
@@ -33,12 +53,8 @@ pub fn write_all<W: Write>(writer: &mut W, bytes: &[u8]) -> Result<(), WriteFaul
         return Ok(());
     }
     let first = write_front(writer, bytes)?;
-    let mut done = first;
-    for _ in 0..u64::MAX {
-        if done >= bytes.len() {
-            return Ok(());
-        }
-        done += write_front(writer, &bytes[done..])?;
+    if first >= bytes.len() {
+        return Ok(());
     }
-    Err(WriteFault)
+    write_parts(writer, &bytes[first..])
 }

@@ -1,11 +1,11 @@
 //! Sections: the bytes up to a line `%%`, or up to the end.
-ghost use Rattle.std.specs.Prelude.{◌≡◌, ◌<◌, ◌≤◌, ◌⊎◌, ◌++◌, length, take, drop, nat_lt, ◌≢◌, true, false, IfOk, IfErr, OnOk, OnErr};
+ghost use Rattle.std.specs.Prelude.{◌≡◌, ◌<◌, ◌≤◌, ◌⊎◌, ◌++◌, length, take, drop, nat_lt, ◌≢◌, ℕ, true, false, IfOk, IfErr, OnOk, OnErr};
 ghost use Rattle.std.specs.List.{position_or_len};
 ghost use Rattle.std.specs.Io.KnownBytes.{Keeps, IsAtEnd};
-ghost use Rattle.wh_text.specs.Lines.{is_line_feed, without_cr};
-ghost use Rattle.wh_lines.specs.Text.{is_separator};
-ghost use Rattle.wh_lines.specs.Input.{left, with_waiting, part_len, GoesOn};
-ghost use Rattle.wh_lines.specs.Section.{Closed, Sectioned, Overflows};
+ghost use Rattle.wh_text.specs.Lines.{is_line_feed, without_cr, HasNone};
+ghost use Rattle.wh_lines.specs.Text.{is_separator, is_percent, EndsLine};
+ghost use Rattle.wh_lines.specs.Input.{Input, left, with_waiting, part_len, GoesOn};
+ghost use Rattle.wh_lines.specs.Section.{Closed, Collects, HasNoMark, Sectioned, Overflows};
 
 use crate::lines::{Lines, ReadFault};
 use std::alloc::{AllocError, Global};
@@ -81,6 +81,76 @@ fn append_part<R: Read>(lines: &mut Lines<R>, text: &mut Vec<u8>) -> Result<bool
     Ok(whole)
 }
 
+/// Whether any of the bytes is a percent sign. It looks at all of them, which a processor does several at a time.
+fn has_percent(bytes: &[u8]) -> bool
+    ensures { result ≡ false → HasNone is_percent bytes.now }
+{
+    let mut found = false;
+    for byte in bytes {
+        found |= *byte == b'%';
+    }
+    found
+}
+
+/// How many bytes there are up to the last line feed.
+fn whole_lines(bytes: &[u8]) -> usize
+    ensures within { result ≤ length bytes.now }
+    ensures whole { EndsLine (take result bytes.now) }
+{
+    let mut count = bytes.len();
+    while count > 0 && bytes[count - 1] != b'\n' {
+        count -= 1;
+    }
+    count
+}
+
+/// How many bytes whole lines take at the front, of which none has a percent sign. It looks at no more than 1024 bytes,
+/// and gives none where one of these is a percent sign.
+fn plain_lines(waiting: &[u8]) -> usize
+    ensures within { result ≤ length waiting.now }
+    ensures whole { EndsLine (take result waiting.now) }
+    ensures unmarked { HasNoMark (take result waiting.now) }
+{
+    let block = &waiting[..waiting.len().min(1024)];
+    if has_percent(block) {
+        return 0;
+    }
+    whole_lines(block)
+}
+
+/// Where no line is begun, moves whole lines that wait and have no percent sign to the end of the text, many at once. Returns
+/// where the begun line starts.
+fn append_lines<R: Read>(
+    lines: &mut Lines<R>,
+    text: &mut Vec<u8>,
+    start: usize,
+    limit: usize,
+) -> Result<usize, SectionFault>
+    requires within { start ≤ length text.old.items }
+    requires bound { start ≤ limit }
+    ensures collects { IfOk result (λ next. (first : Input) → Collects first lines.old text.old.items start → Collects first lines.new text.new.items next) }
+    ensures within { IfOk result (λ next. next ≤ length text.new.items) }
+    ensures bound { IfOk result (λ next. next ≤ limit) }
+    ensures lines { (count : ℕ) × (lines.new ≡ with_waiting lines.old (drop count lines.old.waiting)) }
+    ensures too_long { result ≡ Err SectionFault.TooLong → (first : Input) → Collects first lines.old text.old.items start → Overflows first lines.new limit }
+    ensures broken { result ≢ Err SectionFault.Broken }
+    ensures endless { result ≢ Err SectionFault.Endless }
+{
+    if start < text.len() {
+        return Ok(start);
+    }
+    let waiting = lines.waiting();
+    let count = plain_lines(waiting);
+    if text.extend_from_slice(&waiting[..count]).is_err() {
+        return Err(SectionFault::NoMemory);
+    }
+    lines.take(count);
+    if text.len() > limit {
+        return Err(SectionFault::TooLong);
+    }
+    Ok(text.len())
+}
+
 /// A section, and whether the end of the input closed it.
 #[derive(Drop)]
 struct Collected {
@@ -105,6 +175,7 @@ fn collect<R: Read>(
     let mut text = Vec::new(alloc);
     let mut start = 0;
     loop {
+        start = append_lines(lines, &mut text, start, limit)?;
         if !more_waits(lines)? {
             if is_mark(&text[start..]) {
                 text.truncate(start);

@@ -29,3 +29,5 @@ mod search;
 #[cfg(test)]
 mod timetable;
 mod trail;
+#[cfg(test)]
+mod unguided;

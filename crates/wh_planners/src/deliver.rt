@@ -15,8 +15,10 @@ use std::alloc::{AllocError, Global};
 use wh_detours::deliver_round;
 use wh_field::Sight;
 use wh_grid::{Cell, Grid};
+use wh_intervals::deliver_unguided;
 use wh_path::TimedPath;
 use wh_resv::Reservations;
+use wh_search::manhattan::manhattan;
 use wh_search::{Fault, SearchMemory};
 use wh_shared::{Share, SharedFields};
 
@@ -82,10 +84,26 @@ fn sights_of<'a>(
     sights
 }
 
+/// Whether the fields of all stops are there and filled as far as the Manhattan distance from the stop before it.
+fn are_filled(store: &SharedFields, loc: Cell, stops: &[Cell]) -> bool {
+    let mut before = loc;
+    for stop in stops {
+        let reaches = match store.look(*stop) {
+            Some(field) => manhattan(before, *stop) <= u64::from(field.level()),
+            None => false,
+        };
+        if !reaches {
+            return false;
+        }
+        before = *stop;
+    }
+    true
+}
+
 /// A shortest path through the stops, guided by the shared fields of all of them, or of as many first ones as the store has
 /// room for; and, where others that stay bar a way by them, by fields of its own, as far as they stand in these paths.
 /// What other planners have filled changes nothing in it.
-pub fn deliver_shared(
+fn deliver_guided(
     alloc: Global,
     store: &mut SharedFields,
     share: &mut Share,
@@ -123,4 +141,38 @@ pub fn deliver_shared(
         }
         Err(_) => Err(Fault::NoMemory),
     }
+}
+
+/// A shortest path through the stops. Where a field is still to be filled it is first looked for a long one along columns
+/// and rows, which needs none.
+pub fn deliver_shared(
+    alloc: Global,
+    store: &mut SharedFields,
+    share: &mut Share,
+    memory: &mut SearchMemory,
+    grid: &Grid,
+    others: &Reservations,
+    paths: &[TimedPath],
+    loc: Cell,
+    stops: &[Cell],
+) -> Result<TimedPath, Fault>
+    requires fits { stored_grid store.old ≡ grid.now }
+    requires inside { IsPassable grid.now loc }
+    requires clear { MayRest others.now loc 0 }
+    requires stops { AreStops stops.now }
+    ensures room { room store.new ≡ room store.old }
+    ensures grid { stored_grid store.new ≡ stored_grid store.old }
+    ensures slots { slots share.new ≡ slots share.old }
+    ensures lawful { IfOk result (λ p. IsLawful grid.now others.now loc stops.now p) }
+    ensures least { IfOk result (λ p. (q : List Cell) → IsDelivery grid.now others.now loc stops.now q → last_index p ≤ last_index q) }
+    ensures none { IfNoPath result ((q : List Cell) → IsDelivery grid.now others.now loc stops.now q → ⊥) }
+{
+    if !are_filled(store, loc, stops) {
+        match deliver_unguided(alloc, memory, grid, others, loc, stops) {
+            Ok(Some(path)) => return Ok(path),
+            Ok(None) => {}
+            Err(_) => return Err(Fault::NoMemory),
+        }
+    }
+    deliver_guided(alloc, store, share, memory, grid, others, paths, loc, stops)
 }

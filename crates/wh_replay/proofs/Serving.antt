@@ -78,7 +78,7 @@ module _ {X : Type 0} (fits : X → Floor → Bool) (count : X → ℕ) (text : 
         ap (λ (ls : List (List ℕ)). length ls) (f.whole (raw ++ 10 ∷ []) ∙ ap (λ l. lines_of f.read ++ l) (lines-feed raw [] plain))
         ∙ length-append (lines_of f.read) (without_cr raw ∷ [])
 
-    following_line : (written m turns : ℕ) → turns ≤ length (lines_of f.read) → i.reads ≤ j.reads → j.reads ≤ k.reads → Gathered Whole j k kept → Serves fits count text (said (short_line kept)) mid held new rest c d written → m ≡ n + written
+    pub following_line : (written m turns : ℕ) → turns ≤ length (lines_of f.read) → i.reads ≤ j.reads → j.reads ≤ k.reads → Gathered Whole j k kept → Serves fits count text (said (short_line kept)) mid held new rest c d written → m ≡ n + written
         → Following fits count text i k old spares new rest a d m (turns + 1)
     following_line written m turns many before now g s e =
         let bytes = g.raw ++ 10 ∷ [] in

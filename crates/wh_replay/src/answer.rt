@@ -22,6 +22,7 @@ use wh_token::Warehouse;
 const CALLER: u32 = 0;
 
 /// Writes a line, the line feed at its end too, at once.
+#[inline(always)]
 fn write_line<W: Write>(writer: &mut W, line: &[u8]) -> Result<u64, WriteFault>
     ensures { Tells result (W.contents writer.old) (W.contents writer.new) line.now }
 {
@@ -32,6 +33,7 @@ fn write_line<W: Write>(writer: &mut W, line: &[u8]) -> Result<u64, WriteFault>
 }
 
 /// Puts a reply in few words together, and tells it as a line, at once.
+#[inline(never)]
 fn tell_words<W: Write>(writer: &mut W, reply: &Reply) -> Result<u64, WriteFault>
     ensures { Tells result (W.contents writer.old) (W.contents writer.new) (reply_line (reply_text reply.now)) }
 {
@@ -42,6 +44,7 @@ fn tell_words<W: Write>(writer: &mut W, reply: &Reply) -> Result<u64, WriteFault
 }
 
 /// Tells a reply in few words, as a line, at once. Most agents rest, and that line stands ready.
+#[inline(always)]
 fn tell_short<W: Write>(writer: &mut W, reply: &Reply) -> Result<u64, WriteFault>
     ensures { Tells result (W.contents writer.old) (W.contents writer.new) (reply_line (reply_text reply.now)) }
 {
@@ -52,6 +55,7 @@ fn tell_short<W: Write>(writer: &mut W, reply: &Reply) -> Result<u64, WriteFault
 }
 
 /// Tells a reply in a form that may be long, as a line.
+#[inline(never)]
 fn tell_long<W: Write>(
     form: Form,
     writer: &mut W,
@@ -68,6 +72,7 @@ fn tell_long<W: Write>(
 }
 
 /// Tells a reply in this form, as a line.
+#[inline(always)]
 fn tell_reply<W: Write>(
     form: Form,
     writer: &mut W,
@@ -84,6 +89,7 @@ fn tell_reply<W: Write>(
 }
 
 /// Writes the reply of a history's last entry, as a line.
+#[inline(always)]
 fn tell_last<W: Write>(
     form: Form,
     writer: &mut W,
@@ -101,6 +107,7 @@ fn tell_last<W: Write>(
 
 /// Tells what a command is answered, as a line: the reply of the entry that it added, which has this place and found the clock
 /// so; with none it was refused for lack of memory.
+#[inline(always)]
 fn tell_outcome<W: Write>(
     form: Form,
     writer: &mut W,
@@ -120,6 +127,8 @@ fn tell_outcome<W: Write>(
 }
 
 /// Runs a command, and tells its reply.
+// Nearly all commands are requests by agents that rest: with these functions inlined, they are answered without a call.
+#[inline(always)]
 pub fn obey<W: Write, P: Planner>(
     command: &Command,
     alloc: Global,

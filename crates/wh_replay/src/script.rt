@@ -1,17 +1,17 @@
 //! A script that is served to its end, or until a fault.
 
-ghost use Rattle.std.specs.Prelude.{◌≡◌, ◌≤◌, IfOk, IfSome, IfErr, OnErr, true, false};
+ghost use Rattle.std.specs.Prelude.{◌≡◌, ◌≤◌, ℕ, List, IfOk, IfSome, IfErr, OnErr, Ok, Some, true, false};
 ghost use Rattle.std.specs.Io.KnownBytes.{Keeps};
 ghost use Rattle.wh_lines.specs.Text.{short_line};
-ghost use Rattle.wh_lines.specs.Input.{left};
+ghost use Rattle.wh_lines.specs.Input.{left, Gathered};
 ghost use Rattle.wh_log.specs.Told.{told_text};
 ghost use Rattle.wh_replay.specs.Answers.{said};
 ghost use Rattle.wh_replay.specs.Scripts.{fault_of, Serves, ServesUnwritten, Replays, Outputs, Stops};
 
-use crate::answer::answer;
+use crate::answer::{answer, obey};
 use std::alloc::Global;
 use std::io::{Read, Write};
-use wh_event::Command;
+use wh_event::{Command, read_front_into};
 use wh_lines::{CommandLine, LineFault, Lines, Next, ReadFault};
 use wh_log::Form;
 use wh_planner::Planner;
@@ -65,6 +65,24 @@ pub fn serve<W: Write, P: Planner>(
     }
 }
 
+/// Takes the next line where it waits as a whole and asks for the token as nearly all lines do: whether it did. The request
+/// then stands in the room.
+#[inline(always)]
+fn take_request<R: Read>(lines: &mut Lines<R>, command: &mut Command) -> bool
+    ensures takes { result ≡ true → ((kept : List ℕ) × Gathered Next.Whole lines.old lines.new kept × (said (short_line kept) ≡ Ok (Some command.new))) }
+    ensures reads { lines.new.reads ≡ lines.old.reads }
+    ensures failed { lines.new.failed ≡ lines.old.failed }
+    ensures left { result ≡ false → lines.new ≡ lines.old }
+{
+    match read_front_into(lines.waiting(), command) {
+        Some(length) => {
+            lines.take(length);
+            true
+        }
+        None => false,
+    }
+}
+
 fn serve_all<R: Read, W: Write, P: Planner>(
     lines: &mut Lines<R>,
     alloc: Global,
@@ -81,6 +99,13 @@ fn serve_all<R: Read, W: Write, P: Planner>(
     let mut command = Command::Close;
     let mut replies = 0;
     for _ in 0..u64::MAX {
+        if take_request(lines, &mut command) {
+            match obey(&command, alloc, form, writer, warehouse, spares) {
+                Ok(count) => replies += count,
+                Err(_) => return Err(ReplayFault::Unwritten),
+            }
+            continue;
+        }
         let next = match lines.next_line(writer, &mut line) {
             Ok(next) => next,
             Err(fault) => return Err(fault_of(fault)),

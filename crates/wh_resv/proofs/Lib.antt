@@ -1,2 +1,3 @@
 pub mod Later
 pub mod Telling
+pub mod Passing

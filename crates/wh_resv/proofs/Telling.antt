@@ -109,7 +109,7 @@ module _ (noted : Noted) (paths : List (List Cell)) (told : IsTold noted paths) 
   all_away : (k : ℕ) → ((j : ℕ) → k ≤ j → IsVacant (remove paths except) c j) → All (λ q. StaysAway q c k) (remove paths except)
   all_away k v = λ n d h. record { away = λ j le. v j le n d h }
 
-  away_all : (k : ℕ) → All (λ q. StaysAway q c k) (remove paths except) → (j : ℕ) → k ≤ j → IsVacant (remove paths except) c j
+  pub away_all : (k : ℕ) → All (λ q. StaysAway q c k) (remove paths except) → (j : ℕ) → k ≤ j → IsVacant (remove paths except) c j
   away_all k a j le = λ n d h. (a n d h).away j le
 
   -- where nobody is at time k, nobody is before the next stay begins

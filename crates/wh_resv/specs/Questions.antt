@@ -13,6 +13,13 @@ pub record IsLastFree (paths : List (List Cell)) (c : Cell) (k u : ℕ) : Type 0
   pub clear : IsClear paths c k u
   pub taken : IsVacant paths c (u + 1) → ⊥
 
+-- u is the last time, as far as a limit, up to which the cell is vacant at each time from k on
+pub record IsFreeWithin (paths : List (List Cell)) (c : Cell) (k limit u : ℕ) : Type 0 where
+  pub from : k ≤ u
+  pub in_time : u ≤ limit
+  pub clear : IsClear paths c k u
+  pub taken : u < limit → IsVacant paths c (u + 1) → ⊥
+
 -- f is the first time from k on at which the cell is vacant
 pub record IsNextFree (paths : List (List Cell)) (c : Cell) (k f : ℕ) : Type 0 where
   pub from : k ≤ f

@@ -8,7 +8,7 @@ ghost use Rattle.wh_timetable.specs.Timetables.{IsTold};
 ghost use Rattle.wh_resv.specs.Calls.{IsVacant, NoneExchanges};
 ghost use Rattle.wh_resv.specs.Looks.{IsOthers, IsDuring, Bars};
 ghost use Rattle.wh_resv.specs.Others.{StaysAway};
-ghost use Rattle.wh_resv.specs.Questions.{IsLastFree, IsTakenUntil, IsNeverFree};
+ghost use Rattle.wh_resv.specs.Questions.{IsLastFree, IsFreeWithin, IsTakenUntil, IsNeverFree};
 
 use crate::looks::{end_at, is_during, is_free, is_others, last_end, next_start};
 use wh_grid::Cell;
@@ -51,6 +51,7 @@ fn bars(
 }
 
 /// Whether none of the others is at a cell at k + 1, nor leaves it for the first one between k and k + 1.
+#[inline(always)]
 pub fn is_open(
     stays: &Stays,
     paths: &[TimedPath],
@@ -72,6 +73,42 @@ pub fn is_open(
         }
     }
     true
+}
+
+/// Up to when none of the others is at a cell from k + 1 on, as far as a limit, where none is there then nor leaves it for
+/// the first one between k and k + 1; none where one is or does.
+#[inline(always)]
+pub fn open_until(
+    stays: &Stays,
+    paths: &[TimedPath],
+    except: usize,
+    from: Cell,
+    to: Cell,
+    k: u64,
+    limit: u64,
+) -> Option<u64>
+    requires told { IsTold stays.now paths.now }
+    requires time { k < limit }
+    ensures some { IfSome result (λ u. IsVacant (remove paths.now except) to (k + 1) × NoneExchanges (remove paths.now except) from to k × IsFreeWithin (remove paths.now except) to (k + 1) limit u) }
+    ensures none { IfNone result (IsVacant (remove paths.now except) to (k + 1) → NoneExchanges (remove paths.now except) from to k → ⊥) }
+{
+    let time = stays.time(k);
+    let next = stays.time(k + 1);
+    let list = stays.list(to);
+    let mut start = u32::MAX;
+    for stay in list {
+        if time < stay.until && is_others(*stay, except, to) {
+            if next < stay.from {
+                start = start.min(stay.from);
+            } else if bars(paths, *stay, except, from, to, k, time, next) {
+                return None;
+            }
+        }
+    }
+    if start == u32::MAX {
+        return Some(limit);
+    }
+    Some(((start - 1).saturating_sub(stays.clock()) as u64).min(limit))
 }
 
 /// The last time up to which none of the others is at a cell, where none is at time k; none where none ever comes.

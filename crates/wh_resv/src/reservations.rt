@@ -6,10 +6,10 @@ ghost use Rattle.wh_path.specs.Paths.{horizon, at};
 ghost use Rattle.wh_timetable.specs.Timetables.{IsTold};
 ghost use Rattle.wh_resv.specs.Others.{MayStep, MayRest};
 ghost use Rattle.wh_resv.specs.Calls.{IsVacant, NoneExchanges};
-ghost use Rattle.wh_resv.specs.Questions.{IsLastFree, IsNextFree, IsNeverFree};
+ghost use Rattle.wh_resv.specs.Questions.{IsLastFree, IsFreeWithin, IsNextFree, IsNeverFree};
 ghost use Rattle.wh_resv.specs.Telling.{noted_of};
 
-use crate::questions::{free_until, is_open, none_there, not_before};
+use crate::questions::{free_until, is_open, none_there, not_before, open_until};
 use crate::times::next_free;
 use crate::told::Told;
 use std::alloc::{AllocError, Global};
@@ -133,6 +133,7 @@ impl<'a> Reservations<'a> {
 
     /// Whether an agent may go from one cell, where nobody else is at k, to another between k
     /// and k + 1.
+    #[inline(always)]
     pub fn may_enter(&self, from: Cell, to: Cell, k: u64) -> bool
         requires alone { IsVacant self.now.paths from k }
         requires time { k + 1 < 2 ^ 64 }
@@ -142,6 +143,22 @@ impl<'a> Reservations<'a> {
             return false;
         }
         is_open(self.told.stays(), self.paths, self.except, from, to, k)
+    }
+
+    /// Up to when nobody is at a cell from k + 1 on, as far as a limit, where an agent may go there from another cell, where
+    /// nobody else is at k, between k and k + 1; none where it may not.
+    #[inline(always)]
+    pub fn enter_until(&self, from: Cell, to: Cell, k: u64, limit: u64) -> Option<u64>
+        requires alone { IsVacant self.now.paths from k }
+        requires time { k < limit }
+        ensures some { IfSome result (λ u. MayStep self.now from to k × IsFreeWithin self.now.paths to (k + 1) limit u) }
+        ensures none { IfNone result (MayStep self.now from to k → ⊥) }
+    {
+        if self.nofollow && !from.is(to) && !self.none_follows(from, to, k) {
+            return None;
+        }
+        let stays = self.told.stays();
+        open_until(stays, self.paths, self.except, from, to, k, limit)
     }
 
     /// Whether an agent may go from one cell to another between k and k + 1.

@@ -4,11 +4,12 @@ use Rattle.std.specs.Borrow.{Bor}
 use Rattle.wh_grid.specs.declared.cell.Cell.{Cell}
 use Rattle.wh_grid.specs.Grids.{Floor}
 use Rattle.wh_search.specs.declared.guide.Guide.{Guide}
-use Rattle.wh_search.specs.declared.guide.Guide.TheVariants.{Nearest, Stops, Sights}
+use Rattle.wh_search.specs.declared.guide.Guide.TheVariants.{Nearest, Stops, Sights, Manhattan}
 use Rattle.wh_field.specs.Fields.{Source}
 use Rattle.wh_field.specs.Distances.{distance}
 use Rattle.wh_search.specs.Fields.{far}
 use Rattle.wh_search.specs.Sights.{sights_estimate}
+use Rattle.wh_search.specs.Manhattan.{manhattan_estimate}
 use Rattle.wh_path.specs.Paths.{cell_at}
 
 -- the distance and what is further on; 0 where the field is absent
@@ -30,6 +31,7 @@ abbrev pub guide_estimate : Guide → ℕ → Cell → ℕ
 guide_estimate (Nearest field) l c = nearest_estimate field.now.grid field.now.cells c
 guide_estimate (Stops fields onward) l c = stops_estimate fields.now onward.now l c
 guide_estimate (Sights sights onward) l c = sights_estimate sights.now onward.now l c
+guide_estimate (Manhattan stops onward) l c = manhattan_estimate stops.now onward.now l c
 
 -- there is one number for each stop: nothing at the last one, and before it the estimate from the stop on
 pub record IsOnward (fields : List (Option (Bor Source))) (stops : List Cell) (onward : List ℕ) : Type 0 where

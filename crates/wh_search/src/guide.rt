@@ -1,14 +1,16 @@
 //! The estimate that leads the search.
 #![tactic(auto)]
 
-ghost use Rattle.std.specs.Prelude.{◌≡◌, ℕ, ◌+◌, ◌*◌, ◌/◌, ◌%◌, ◌<◌, ◌≤◌, ◌^◌, ◌⊎◌, ◌↔◌, IsTrue, Option, Some, IfOk, length, map, slice_index, [], ◌∷◌};
+ghost use Rattle.std.specs.Prelude.{◌≡◌, ℕ, ◌+◌, ◌*◌, ◌/◌, ◌%◌, ◌<◌, ◌≤◌, ◌^◌, ◌⊎◌, ◌↔◌, IsTrue, Option, Some, IfOk, length, map, slice_index, slice_index_or, false, IfSome, IfNone, [], ◌∷◌};
 ghost use Rattle.wh_grid.specs.declared.cell.Cell.{Cell};
 ghost use Rattle.wh_field.specs.Sides.{around};
 ghost use Rattle.wh_search.specs.Fields.{far};
 ghost use Rattle.wh_search.specs.Guides.{by_field, guide_estimate, nearest_estimate, IsOnward};
+ghost use Rattle.wh_search.specs.Manhattan.{by_manhattan};
 ghost use Rattle.wh_search.specs.Sights.{by_sight, IsOnwardBySights};
-ghost use Rattle.wh_search.specs.Ways.{IsFallingBy};
+ghost use Rattle.wh_search.specs.Ways.{IsFallingBy, IsLastBefore};
 
+use crate::manhattan::{by_manhattan, stop_at};
 use crate::moves::moves_from;
 use std::alloc::{AllocError, Global};
 use wh_field::{Field, NearestField, Sight};
@@ -29,6 +31,11 @@ pub enum Guide<'a> {
     /// As `Stops`, by fields that are looked at up to a level.
     Sights {
         sights: &'a [Option<Sight<'a>>],
+        onward: &'a [u64],
+    },
+    /// The Manhattan distance to each stop, and the estimate from each stop on.
+    Manhattan {
+        stops: &'a [Cell],
         onward: &'a [u64],
     },
 }
@@ -193,21 +200,59 @@ fn by_field_around(field: Option<&Field>, further: u64, cell: Cell) -> [u64; 5]
     }
 }
 
-/// 1 where a number is less than another, else 0.
-#[inline(always)]
-fn falling(left: u64, here: u64) -> u8
-    ensures { ((left < here) × (result ≡ 1)) ⊎ ((here ≤ left) × (result ≡ 0)) }
+/// The Manhattan distances from a cell and from those beside it, and what is further on.
+fn by_manhattan_around(stop: Cell, further: u64, cell: Cell) -> [u64; 5]
+    ensures { result ≡ map (by_manhattan stop further) (around cell) }
 {
-    (left < here) as u8
+    let beside = moves_from(cell);
+    [
+        by_manhattan(stop, further, beside[0]),
+        by_manhattan(stop, further, beside[1]),
+        by_manhattan(stop, further, beside[2]),
+        by_manhattan(stop, further, beside[3]),
+        by_manhattan(stop, further, beside[4]),
+    ]
 }
 
-/// Whether a move is one of some, each of which is a digit of a number of base 2.
-#[inline(always)]
-pub(crate) fn is_among(moves: u8, by: usize) -> bool
-    requires { by < 5 }
-    ensures { IsTrue result ↔ (moves / 2 ^ by % 2 ≡ 1) }
+/// Some truths as the digits of a number of base 2.
+fn digits(are: [bool; 5]) -> u8
+    ensures { (i : ℕ) → i < 5 → IsTrue (slice_index_or are i false) ↔ (result / 2 ^ i % 2 ≡ 1) }
 {
-    moves >> by & 1 == 1
+    let three = are[4] as u8 * 2 + are[3] as u8;
+    let two = three * 2 + are[2] as u8;
+    let one = two * 2 + are[1] as u8;
+    one * 2 + are[0] as u8
+}
+
+/// The moves from a cell by which the distance, as far as the level, and what is further on become less than a number.
+fn falls_by_sight(sight: &Option<Sight>, further: u64, leg: usize, cell: Cell, here: u64) -> u8
+    ensures { IsFallingBy (λ l. by_sight sight.now further) leg cell here result }
+{
+    let _ = leg;
+    match sight {
+        Some(sight) => {
+            if further < here {
+                digits(sight.below(cell, here - further))
+            } else {
+                0
+            }
+        }
+        None => { if here > 0 { 31 } else { 0 } }
+    }
+}
+
+/// The last of some moves, each of which is a digit of a number of base 2, that is before another; none where none is.
+pub(crate) fn last_before(moves: u8, before: usize) -> Option<usize>
+    requires { before ≤ 5 }
+    ensures some { IfSome result (λ i. IsLastBefore moves before i) }
+    ensures none { IfNone result ((i : ℕ) → i < before → moves / 2 ^ i % 2 ≡ 0) }
+{
+    let few = u32::from(moves % (1 << before));
+    if few == 0 {
+        None
+    } else {
+        Some(31 - few.leading_zeros() as usize)
+    }
 }
 
 impl<'a> Guide<'a> {
@@ -231,7 +276,25 @@ impl<'a> Guide<'a> {
                     [0, 0, 0, 0, 0]
                 }
             }
+            Guide::Manhattan { stops, onward } => {
+                by_manhattan_around(stop_at(stops, leg), number_at(onward, leg), cell)
+            }
         }
+    }
+
+    /// The moves by which the estimate becomes less than a number, where no sight tells them.
+    #[inline(never)]
+    fn falls_apart(&self, leg: usize, cell: Cell, here: u64) -> u8
+        ensures { IsFallingBy (guide_estimate self.now) leg cell here result }
+    {
+        let lefts = self.around(leg, cell);
+        digits([
+            lefts[0] < here,
+            lefts[1] < here,
+            lefts[2] < here,
+            lefts[3] < here,
+            lefts[4] < here,
+        ])
     }
 
     /// The moves from a cell by which the estimate becomes less than a number.
@@ -239,12 +302,12 @@ impl<'a> Guide<'a> {
     pub(crate) fn falls(&self, leg: usize, cell: Cell, here: u64) -> u8
         ensures { IsFallingBy (guide_estimate self.now) leg cell here result }
     {
-        let lefts = self.around(leg, cell);
-        let four = falling(lefts[4], here);
-        let three = four * 2 + falling(lefts[3], here);
-        let two = three * 2 + falling(lefts[2], here);
-        let one = two * 2 + falling(lefts[1], here);
-        one * 2 + falling(lefts[0], here)
+        if let Guide::Sights { sights, onward } = self {
+            if leg < sights.len() {
+                return falls_by_sight(&sights[leg], number_at(onward, leg), leg, cell, here);
+            }
+        }
+        self.falls_apart(leg, cell, here)
     }
 
     /// The estimated number of steps left for an agent at a cell with the given number of stops behind it.
@@ -266,6 +329,9 @@ impl<'a> Guide<'a> {
                 } else {
                     0
                 }
+            }
+            Guide::Manhattan { stops, onward } => {
+                by_manhattan(stop_at(stops, leg), number_at(onward, leg), cell)
             }
         }
     }

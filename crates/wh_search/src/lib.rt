@@ -4,6 +4,7 @@
 pub mod errand;
 mod fault;
 pub mod guide;
+pub mod manhattan;
 mod memory;
 pub mod moves;
 pub mod noted;
@@ -11,4 +12,4 @@ mod straight;
 
 pub use fault::Fault;
 pub use memory::{MOST_KEPT, SearchMemory};
-pub use straight::find_straight;
+pub use straight::{find_straight, try_straight};

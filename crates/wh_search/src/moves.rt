@@ -37,34 +37,21 @@ pub fn moves_from(from: Cell) -> [Cell; 5]
     ]
 }
 
-/// The cell to which one of these moves leads.
+/// How far each of these moves leads to the right and down, where a step back is one that wraps.
+const ACROSS: [u16; 5] = [0, u16::MAX, 1, 0, 0];
+
+const DOWN: [u16; 5] = [0, 0, 0, u16::MAX, 1];
+
+/// The cell to which one of these moves leads that does not stay at the border.
 #[inline(always)]
 pub(crate) fn move_by(from: Cell, by: usize) -> Cell
-    requires { by < 5 }
+    requires few { by < 5 }
+    requires inside { cell_beside from by ≡ from → by ≡ 0 }
     ensures same { result ≡ cell_beside from by }
     ensures near { IsMove from result }
 {
-    if by == 4 {
-        Cell {
-            x: from.x,
-            y: from.y.saturating_add(1),
-        }
-    } else if by == 3 {
-        Cell {
-            x: from.x,
-            y: from.y.saturating_sub(1),
-        }
-    } else if by == 2 {
-        Cell {
-            x: from.x.saturating_add(1),
-            y: from.y,
-        }
-    } else if by == 1 {
-        Cell {
-            x: from.x.saturating_sub(1),
-            y: from.y,
-        }
-    } else {
-        from
+    Cell {
+        x: from.x.wrapping_add(ACROSS[by]),
+        y: from.y.wrapping_add(DOWN[by]),
     }
 }

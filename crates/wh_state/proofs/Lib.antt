@@ -4,3 +4,5 @@ pub mod Ties
 pub mod Steps
 pub mod StandingLemmas
 pub mod Foretelling
+pub mod Asking
+pub mod NextStops

@@ -20,6 +20,11 @@ pub record AreTied (loads : List Load) (tasks : List Task) : Type 0 where
   pub known : (agent n : ℕ) (task : Task) → IsTask tasks n task → task.agent ≡ Some agent → visited task < length task.stops →
       slice_get loads agent ≡ Some (load_for n task)
 
+-- the load is what an agent's tasks leave it to do: of no other task of its is a stop left
+pub record IsLoadOf (tasks : List Task) (agent : ℕ) (load : Load) : Type 0 where
+  pub holds : (n : ℕ) → task_of load ≡ Some n → Holds tasks agent n load
+  pub done : (n : ℕ) (task : Task) → IsTask tasks n task → (task_of load ≡ Some n → ⊥) → task.agent ≡ Some agent → length task.stops ≤ visited task
+
 -- what a state that is kept keeps
 pub record IsSound (clock : ℕ) (paths : List (List Cell)) (cells : List Cell) (loads : List Load) (slots : List ℕ) (tasks : List Task) : Type 0 where
   pub clock_fits : clock ≤ 1000000000

@@ -10,6 +10,8 @@ ghost use Rattle.wh_core.specs.States.{State, arrived, picked, dropped, submitte
 ghost use Rattle.wh_state.specs.Standings.{Standing, standing_at};
 
 use crate::arrivals::{Arrivals, arrive_all, foretell_all};
+use crate::coming::note_due;
+use crate::dues::Dues;
 use std::alloc::{AllocError, Global};
 use std::marker::Model;
 use wh_grid::{Cell, Grid};
@@ -18,21 +20,22 @@ use wh_tasks::{EndSet, Load, PathEnds, Places, TaskSet};
 use wh_text::Name;
 use wh_timetable::Timetable;
 
-/// The state of the warehouse, as the machine keeps it. For each agent it has a path from now on, the cell where that ends, a load, and its
-/// planner's slots.
+/// The state of the warehouse, as the machine keeps it. For each agent it has a path from now on, a load, and its planner's
+/// slots; the tasks know the cell where each path ends. The arrivals ask only the agents that are due.
 #[derive(Drop)]
 pub struct FleetState {
     clock: u32,
     closed: bool,
     paths: Timetable,
-    ends: PathEnds,
     loads: Vec<Load>,
     slots: Vec<u32>,
     tasks: TaskSet,
+    dues: Dues,
 }
 
 impl Model for FleetState {
     ghost use Rattle.wh_state.specs.Standings.{Standing, IsSound};
+    ghost use Rattle.wh_state.specs.Dues.{AreDue};
 
     ghost Value = { Standing };
 
@@ -48,7 +51,7 @@ impl Model for FleetState {
       room = f.tasks.room;
     } };
 
-    ghost invariant = { λ f. IsSound f.clock f.paths f.ends f.loads.items f.slots.items f.tasks.tasks };
+    ghost invariant = { λ f. IsSound f.clock f.paths f.tasks.ends f.loads.items f.slots.items f.tasks.tasks × AreDue f.clock f.paths f.tasks.tasks f.dues };
 }
 
 impl FleetState {
@@ -73,15 +76,16 @@ impl FleetState {
             loads.push(Load::None)?;
         }
         let ends = PathEnds::of(alloc, grid.width(), grid.height(), starts)?;
-        let tasks = TaskSet::new(alloc, grid.width(), grid.height())?;
+        let tasks = TaskSet::new(alloc, grid.width(), grid.height(), ends)?;
+        let dues = Dues::never(alloc, starts.len())?;
         Ok(FleetState {
             clock,
             closed: false,
             paths,
-            ends,
             loads,
             slots,
             tasks,
+            dues,
         })
     }
 
@@ -145,13 +149,14 @@ impl FleetState {
         requires known { agent < length self.now.state.paths }
         ensures { result ≡ ends (others self.now.state.paths agent) }
     {
-        self.ends.but(agent)
+        self.tasks.other_ends(agent)
     }
 
     /// The tasks.
     pub fn tasks(&self) -> &TaskSet
         ensures tasks { result.now.tasks ≡ self.now.state.tasks }
         ensures room { result.now.room ≡ self.now.room }
+        ensures ends { result.now.ends ≡ ends self.now.state.paths }
     {
         &self.tasks
     }
@@ -177,7 +182,7 @@ impl FleetState {
     }
 
     /// One step of time: each path drops its first cell if a second follows, the clock grows, and the agents arrive.
-    /// It takes time by the number of agents alone, and no memory.
+    /// It takes time by the number of agents, and by the paths of those that arrive, and no memory.
     pub fn tick(&mut self) -> Arrivals
         requires { self.old.state.clock < 1000000000 }
         ensures state { self.new.state ≡ arrived (moved self.old.state) }
@@ -189,12 +194,18 @@ impl FleetState {
         self.arrive()
     }
 
-    /// What the next tick's arrivals will be. Nothing changes.
+    /// What the next tick's arrivals will be. Nothing changes. It takes constant time where nobody is due.
     pub fn next_arrivals(&self) -> Arrivals
         ensures picked { result.picked ≡ picked (moved self.now.state) }
         ensures dropped { result.dropped ≡ dropped (moved self.now.state) }
     {
-        foretell_all(self.paths.paths(), &self.loads, &self.tasks)
+        foretell_all(
+            self.clock,
+            self.paths.paths(),
+            &self.loads,
+            &self.tasks,
+            &self.dues,
+        )
     }
 
     /// Makes room for an agent to follow the path without new memory for who is where. Nothing visible changes.
@@ -215,12 +226,20 @@ impl FleetState {
         self.arrive();
     }
 
-    /// An agent follows a path from now on.
+    /// An agent follows a path from now on. It looks at the open tasks.
     pub fn park(&mut self, agent: u32, path: TimedPath)
         requires { agent < length self.old.state.paths }
         ensures { self.new.state ≡ adopted agent path self.old.state }
     {
-        adopt(&mut self.paths, &mut self.ends, agent, path);
+        adopt(&mut self.paths, &mut self.tasks, agent, path);
+        note_due(
+            self.clock,
+            self.paths.paths(),
+            &self.loads,
+            &self.tasks,
+            &mut self.dues,
+            agent,
+        );
     }
 
     /// An agent's planner has this many slots from now on.
@@ -260,6 +279,7 @@ impl FleetState {
             self.paths.paths(),
             &mut self.loads,
             &mut self.tasks,
+            &mut self.dues,
         )
     }
 
@@ -271,19 +291,29 @@ impl FleetState {
         ensures { (task : Job) × IsTask self.old.state.tasks n task × (self.new.state ≡ adopted agent path (assigned agent n task self.old.state)) }
     {
         let _task = self.tasks.task(n);
-        adopt(&mut self.paths, &mut self.ends, agent, path);
+        adopt(&mut self.paths, &mut self.tasks, agent, path);
         self.loads[agent as usize] = Load::Fetching(n);
         self.tasks.assign(n, agent);
+        note_due(
+            self.clock,
+            self.paths.paths(),
+            &self.loads,
+            &self.tasks,
+            &mut self.dues,
+            agent,
+        );
     }
 }
 
 /// An agent goes by a path from now on, and ends where that ends.
-fn adopt(paths: &mut Timetable, ends: &mut PathEnds, agent: u32, path: TimedPath)
+fn adopt(paths: &mut Timetable, tasks: &mut TaskSet, agent: u32, path: TimedPath)
     requires known { agent < length paths.old }
-    requires ended { agent < length ends.old }
+    requires ended { agent < length tasks.old.ends }
     ensures paths { paths.new ≡ slice_set paths.old agent path }
-    ensures ends { ends.new ≡ slice_set ends.old agent (end path) }
+    ensures ends { tasks.new.ends ≡ slice_set tasks.old.ends agent (end path) }
+    ensures tasks { tasks.new.tasks ≡ tasks.old.tasks }
+    ensures room { tasks.new.room ≡ tasks.old.room }
 {
-    ends.set(agent, path.end());
+    tasks.set_end(agent, path.end());
     paths.adopt(agent as usize, path);
 }

@@ -24,7 +24,7 @@ times-set cell cells agent own new lt at =
     rw at at e
 
 -- a count leaves out one of them
-times-remove : (cell : Cell) (cells : List Cell) (agent : ℕ) (own : Cell) → agent < length cells → get_or cells agent own ≡ own →
+pub times-remove : (cell : Cell) (cells : List Cell) (agent : ℕ) (own : Cell) → agent < length cells → get_or cells agent own ≡ own →
     times cell (remove cells agent) + cond (is_cell cell own) 1 0 ≡ times cell cells
 times-remove cell cells agent own lt at =
     let e = sum_by-remove (λ c. cond (is_cell cell c) 1 0) cells agent own lt in

@@ -1,35 +1,23 @@
 -- what a set of tasks keeps, after each change
-use Rattle.std.proofs.Common.{◌≡◌, ℕ, ◌+◌, ◌<◌, ◌≤◌, List, [], ◌∷◌, ◌++◌, length, get_or, suc, ap, sym, ◌∙◌, arith, refl, subst}
-use Rattle.std.specs.Prelude.{Some, All, remove}
+use Rattle.std.proofs.Common.{◌≡◌, ℕ, ◌+◌, ◌<◌, ◌≤◌, ◌⊎◌, List, [], ◌∷◌, ◌++◌, length, map, get_or, suc, ap, sym, ◌∙◌, arith, refl, subst}
+use Rattle.std.specs.Prelude.{◌≢◌, ◌↔◌, Option, Some, None, IfSome, IfNone, All, Contains}
 use Rattle.std.proofs.lemmas.Option.{slice_get_within, get_or_from_slice_get}
 use Rattle.std.proofs.lemmas.List.Elements.{All-push, All-get_or}
 use Rattle.wh_grid.specs.declared.cell.Cell.{Cell}
 use Rattle.wh_tasks.specs.declared.task.Task.{Task}
 use Rattle.wh_tasks.specs.declared.task.Phase.{Phase}
 use Rattle.wh_tasks.specs.declared.task.Counts.{Counts}
+use Rattle.wh_tasks.specs.declared.cell_lists.Stop.{Stop}
 use Rattle.wh_tasks.specs.Tasks.{IsOpen, IsTask, visited, phase, phase_of}
 use Rattle.wh_tasks.specs.Changes.{changed_at, fresh, assigned, visited_once, visit_of, counted_submit, counted_assign, counted_visit, CanCount, IsUnderway, IsInTime, IsOrderly}
-use Rattle.wh_tasks.specs.CellCounts.{Tally, IsRaised, times}
-use Rattle.wh_tasks.specs.Sets.{IsIndexed, open_from}
+use Rattle.wh_tasks.specs.CellLists.{listed, AreTakenOut}
+use Rattle.wh_tasks.specs.NumberSets.{Members}
+use Rattle.wh_tasks.specs.Sets.{IsIndexed}
 use Rattle.wh_tasks.proofs.Edits.{length-changed_at, All-changed_at, length-snoc}
-use Rattle.wh_tasks.proofs.Numbers.{open_from-push, open_from-kept, open_from-assigned}
 use Rattle.wh_tasks.proofs.Counting.{Moves, count-moved, counts-submitted, counts-assigned, counts-visited, passes-visited, underway-left}
-use Rattle.wh_tasks.proofs.Stopping.{stops-submitted, stops-assigned, stops-kept}
+use Rattle.wh_tasks.proofs.Listing.{listed-submitted, listed-assigned, listed-kept}
+use Rattle.wh_tasks.proofs.Barred.{bars-submitted, bars-assigned, bars-kept}
 use Rattle.wh_tasks.proofs.Orders.{orderly-fresh, orderly-assigned, orderly-visited}
-
-pub indexed-submitted : (tasks : List Task) (numbers : List ℕ) (counts : Counts) (old new : Tally) (client : List ℕ) (stops : List Cell) (clock : ℕ) →
-    IsIndexed tasks numbers counts old → IsRaised old new (λ cell. times cell stops) → 2 ≤ length stops → length stops ≤ 8 → length tasks < 1000000 →
-    IsIndexed (tasks ++ fresh client stops clock ∷ []) (numbers ++ length tasks ∷ []) (counted_submit counts) new
-indexed-submitted tasks numbers counts old new client stops clock is raised two eight few = record {
-  few = rw (length-snoc tasks (fresh client stops clock)) few;
-  orderly = All-push IsOrderly tasks (fresh client stops clock) is.orderly (orderly-fresh client stops clock two eight);
-  numbers_are =
-      let e : 0 + length tasks ≡ length tasks = omega arith in
-      let pushed = rw e at (open_from-push 0 tasks (fresh client stops clock) refl) in
-      ap (λ ns. ns ++ length tasks ∷ []) is.numbers_are ∙ sym pushed;
-  counts_are = ap counted_submit is.counts_are ∙ sym (counts-submitted tasks (fresh client stops clock) refl);
-  stops_are = stops-submitted old new tasks client stops clock is.stops_are raised;
-}
 
 -- the task of a number is orderly
 pub orderly-at : (tasks : List Task) (n : ℕ) (task : Task) → All IsOrderly tasks → IsTask tasks n task → IsOrderly task
@@ -44,24 +32,6 @@ moves-assigned tasks n agent task all there is_open =
     let after : phase (assigned agent task) ≡ Phase.Assigned = ap (λ seen. phase_of (Some agent) seen (length task.stops)) (is.unvisited is_open) in
     count-moved tasks n (assigned agent) task Phase.Open Phase.Assigned there before after
 
-pub indexed-assigned : (tasks : List Task) (numbers : List ℕ) (counts : Counts) (old new : Tally) (n agent place : ℕ) (task : Task) → IsIndexed tasks numbers counts old →
-    IsTask tasks n task → IsOpen task → IsRaised new old (λ cell. times cell task.stops) → place < length numbers → get_or numbers place 0 ≡ n →
-    (1 ≤ counts.open_tasks) × IsIndexed (changed_at n (assigned agent) tasks) (remove numbers place) (counted_assign counts) new
-indexed-assigned tasks numbers counts old new n agent place task is there is_open lowered within number =
-    let counted = counts-assigned tasks (changed_at n (assigned agent) tasks) (moves-assigned tasks n agent task is.orderly there is_open) in
-    let within' = rw is.numbers_are at within in
-    let number' = rw is.numbers_are at number in
-    let number'' : get_or (open_from 0 tasks) place 0 ≡ 0 + n = omega arith in (
-      rw is.counts_are counted.0,
-      record {
-        few = rw (length-changed_at tasks n (assigned agent)) is.few;
-        orderly = All-changed_at IsOrderly tasks n (assigned agent) task there (orderly-assigned agent task (orderly-at tasks n task is.orderly there)) is.orderly;
-        numbers_are = ap (λ ns. remove ns place) is.numbers_are ∙ sym (open_from-assigned 0 tasks n agent task place there is_open within' number'');
-        counts_are = ap counted_assign is.counts_are ∙ sym counted.1;
-        stops_are = stops-assigned old new tasks n agent task there is_open is.stops_are lowered;
-      },
-    )
-
 -- a task that is assigned or carried has an agent, and a stop is left
 pub record HasStopLeft (task : Task) : Type 0 where
   pub agent : ℕ
@@ -74,10 +44,44 @@ stop-left tasks n task all under =
     let parts = underway-left task.agent (visited task) (length task.stops) is.two under.is_underway in
     record { agent = parts.0.0; agent_is = parts.0.1; left = parts.1 }
 
-pub indexed-visited : (tasks : List Task) (numbers : List ℕ) (counts : Counts) (tally : Tally) (n clock : ℕ) (task : Task) → IsIndexed tasks numbers counts tally →
-    IsUnderway tasks n task → IsInTime clock task →
-    CanCount (visit_of task) counts × IsIndexed (changed_at n (visited_once clock) tasks) numbers (counted_visit (visit_of task) counts) tally
-indexed-visited tasks numbers counts tally n clock task is under in_time =
+-- one task more
+pub indexed-submitted : (tasks : List Task) (counts : Counts) (ends : List Cell) (listed_stops : List Stop) (firsts : List ℕ) (bars : List (Option Cell)) (clear clear' : Members) (client : List ℕ) (stops : List Cell) (clock : ℕ) (bar : Option Cell) →
+    IsIndexed tasks counts ends listed_stops firsts bars clear → 2 ≤ length stops → length stops ≤ 8 → length tasks < 1000000 →
+    IfSome bar (λ cell. Contains stops cell × Contains ends cell) → IfNone bar (All (λ cell. ¬ Contains ends cell) stops) →
+    ((m : ℕ) → Contains clear'.members m ↔ (Contains clear.members m ⊎ ((bar ≡ None) × (m ≡ length tasks)))) → clear'.bound ≡ clear.bound + 1 →
+    IsIndexed (tasks ++ fresh client stops clock ∷ []) (counted_submit counts) ends (listed_stops ++ map (listed (length tasks)) stops) (firsts ++ length listed_stops ∷ []) (bars ++ bar ∷ []) clear'
+indexed-submitted tasks counts ends listed_stops firsts bars clear clear' client stops clock bar is two eight few some none put bound = record {
+  few = rw (length-snoc tasks (fresh client stops clock)) few;
+  orderly = All-push IsOrderly tasks (fresh client stops clock) is.orderly (orderly-fresh client stops clock two eight);
+  counts_are = ap counted_submit is.counts_are ∙ sym (counts-submitted tasks (fresh client stops clock) refl);
+  stops_are = listed-submitted tasks firsts listed_stops client stops clock is.stops_are eight;
+  bars_are = bars-submitted tasks ends bars clear.members clear'.members client stops clock bar is.bars_are some none put;
+  bound_is = let a = is.bound_is in let b = length-snoc tasks (fresh client stops clock) in omega (arith, a, b, bound);
+}
+
+-- one task is given to an agent
+pub indexed-assigned : (tasks : List Task) (counts : Counts) (ends : List Cell) (old new : List Stop) (firsts : List ℕ) (bars : List (Option Cell)) (clear clear' : Members) (n agent : ℕ) (task : Task) →
+    IsIndexed tasks counts ends old firsts bars clear → IsTask tasks n task → IsOpen task → AreTakenOut (get_or firsts n 0) (length task.stops) old new →
+    ((m : ℕ) → Contains clear'.members m ↔ (Contains clear.members m × (m ≢ n))) → clear'.bound ≡ clear.bound →
+    (1 ≤ counts.open_tasks) × IsIndexed (changed_at n (assigned agent) tasks) (counted_assign counts) ends new firsts bars clear'
+indexed-assigned tasks counts ends old new firsts bars clear clear' n agent task is there is_open taken out bound =
+    let counted = counts-assigned tasks (changed_at n (assigned agent) tasks) (moves-assigned tasks n agent task is.orderly there is_open) in (
+      rw is.counts_are counted.0,
+      record {
+        few = rw (length-changed_at tasks n (assigned agent)) is.few;
+        orderly = All-changed_at IsOrderly tasks n (assigned agent) task there (orderly-assigned agent task (orderly-at tasks n task is.orderly there)) is.orderly;
+        counts_are = ap counted_assign is.counts_are ∙ sym counted.1;
+        stops_are = listed-assigned tasks firsts old new n agent task is.stops_are there is_open taken;
+        bars_are = bars-assigned tasks ends bars clear.members clear'.members n agent task is.bars_are there out;
+        bound_is = bound ∙ is.bound_is ∙ sym (length-changed_at tasks n (assigned agent));
+      },
+    )
+
+-- a stop of one task is visited
+pub indexed-visited : (tasks : List Task) (counts : Counts) (ends : List Cell) (stops : List Stop) (firsts : List ℕ) (bars : List (Option Cell)) (clear : Members) (n clock : ℕ) (task : Task) →
+    IsIndexed tasks counts ends stops firsts bars clear → IsUnderway tasks n task → IsInTime clock task →
+    CanCount (visit_of task) counts × IsIndexed (changed_at n (visited_once clock) tasks) (counted_visit (visit_of task) counts) ends stops firsts bars clear
+indexed-visited tasks counts ends stops firsts bars clear n clock task is under in_time =
     let orderly = orderly-at tasks n task is.orderly under.there in
     let has = stop-left tasks n task is.orderly under in
     let agent_is = has.agent_is in
@@ -94,8 +98,9 @@ indexed-visited tasks numbers counts tally n clock task is under in_time =
       record {
         few = rw (length-changed_at tasks n (visited_once clock)) is.few;
         orderly = All-changed_at IsOrderly tasks n (visited_once clock) task under.there (orderly-visited clock task has.agent agent_is has.left in_time orderly) is.orderly;
-        numbers_are = is.numbers_are ∙ sym (open_from-kept 0 tasks n (visited_once clock) (λ t. refl));
         counts_are = ap (counted_visit (visit_of task)) is.counts_are ∙ sym counted.1;
-        stops_are = stops-kept tally tasks n (visited_once clock) task under.there (λ cell. refl) is.stops_are;
+        stops_are = listed-kept tasks firsts stops n (visited_once clock) (λ t. refl) (λ t. refl) is.stops_are;
+        bars_are = bars-kept tasks ends bars clear.members n (visited_once clock) (λ t. refl) (λ t. refl) is.bars_are;
+        bound_is = is.bound_is ∙ sym (length-changed_at tasks n (visited_once clock));
       },
     )

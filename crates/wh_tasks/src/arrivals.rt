@@ -29,6 +29,7 @@ pub fn arrive(tasks: &mut TaskSet, n: u32, clock: u32, here: Cell) -> Arrived
     requires { (task : Job) × IsGoing tasks.old.tasks n 1 task × IsInTime clock task }
     ensures tasks { tasks.new.tasks ≡ changed_at n (visited_at clock here) tasks.old.tasks }
     ensures room { tasks.new.room ≡ tasks.old.room }
+    ensures ends { tasks.new.ends ≡ tasks.old.ends }
     ensures arrived { (task : Job) × IsTask tasks.old.tasks n task × Arrives n task (visited_at clock here task) result }
 {
     let task = tasks.task(n);
@@ -73,6 +74,7 @@ fn visit_times(tasks: &mut TaskSet, n: u32, clock: u32, count: usize)
     requires { (task : Job) × IsGoing tasks.old.tasks n count task × IsInTime clock task }
     ensures tasks { tasks.new.tasks ≡ changed_at n (visited_times count clock) tasks.old.tasks }
     ensures room { tasks.new.room ≡ tasks.old.room }
+    ensures ends { tasks.new.ends ≡ tasks.old.ends }
 {
     for _ in 0..count {
         let _visit = tasks.visit(n, clock);

@@ -12,14 +12,14 @@ use wh_grid::Cell;
 
 /// The sides of a grid.
 #[derive(Clone, Copy)]
-struct Sides {
-    width: u16,
-    height: u16,
+pub(crate) struct Sides {
+    pub(crate) width: u16,
+    pub(crate) height: u16,
 }
 
 impl Sides {
     /// Where the count of a cell stands. A cell outside the sides has none.
-    fn place(self, cell: Cell) -> Option<usize>
+    pub(crate) fn place(self, cell: Cell) -> Option<usize>
         ensures inside { IfSome result (λ place. IsInside self.width self.height cell × (place ≡ cell.y * self.width + cell.x) × (place < self.width * self.height)) }
         ensures outside { IfNone result (¬ IsInside self.width self.height cell) }
     {
@@ -103,16 +103,6 @@ impl CellCounts {
     {
         for cell in cells {
             self.raise(*cell);
-        }
-    }
-
-    /// Each of these cells counts once less, as often as it is among them.
-    pub(crate) fn lower_all(&mut self, cells: &[Cell])
-        requires some { (cell : Place) → IsInside self.old.width self.old.height cell → times cell cells.now ≤ count_of self.old cell }
-        ensures { IsRaised self.new self.old (λ cell. times cell cells.now) }
-    {
-        for cell in cells {
-            self.lower(*cell);
         }
     }
 }

@@ -57,6 +57,24 @@ impl PathEnds {
         self.cells[agent as usize] = cell;
     }
 
+    /// The cell at which the path of an agent ends.
+    pub(crate) fn end(&self, agent: u32) -> Cell
+        requires { agent < length self.now }
+        ensures { slice_index_or self.now agent result ≡ result }
+    {
+        self.cells[agent as usize]
+    }
+
+    /// Whether a path ends at the cell. It takes constant time, if the cell is inside the grid; else it looks at all ends.
+    pub(crate) fn is_end(&self, cell: Cell) -> bool
+        ensures { IsTrue result ↔ Contains self.now cell }
+    {
+        match self.count(cell) {
+            Some(count) => count > 0,
+            None => is_among(&self.cells, cell),
+        }
+    }
+
     /// The ends of the paths of all agents but this one.
     pub fn but(&self, agent: u32) -> EndSet<'_>
         requires { agent < length self.now }

@@ -35,7 +35,7 @@ told_nothing clock places early none = record {
   );
 }
 
-last_advanced : (p : List Cell) → last_index (advanced p) ≡ last_index p - 1
+pub last_advanced : (p : List Cell) → last_index (advanced p) ≡ last_index p - 1
 last_advanced [] = refl
 last_advanced (only ∷ []) = refl
 last_advanced (first ∷ next ∷ rest) = omega arith

@@ -1,9 +1,8 @@
 //! The event that a command is.
 #![tactic(auto)]
 
-ghost use Rattle.std.specs.Prelude.{◌≡◌, ◌↔◌, IfOk, IsTrue};
+ghost use Rattle.std.specs.Prelude.{◌≡◌, IfOk};
 ghost use Rattle.wh_token.specs.Commands as commands;
-ghost use Rattle.wh_token.specs.Commands.{LeavesQuiet};
 ghost use Rattle.wh_token.specs.Fleet.{replaced_agent};
 
 use std::alloc::{AllocError, Global};
@@ -32,20 +31,5 @@ pub(crate) fn replaced(entry: &Entry) -> Option<u32>
     match (&entry.event, &entry.reply) {
         (Event::Replace { agent, .. }, Reply::Replaced { .. }) => Some(*agent),
         _ => None,
-    }
-}
-
-/// Whether the reply leaves the open tasks and the ends of paths as they are: no task comes or is taken, and no agent gets
-/// another path.
-pub(crate) fn leaves_quiet(reply: &Reply) -> bool
-    ensures { IsTrue result ↔ LeavesQuiet reply.now }
-{
-    match reply {
-        Reply::Rested
-        | Reply::Clock { .. }
-        | Reply::Replaced { .. }
-        | Reply::Closed
-        | Reply::Refused(_) => true,
-        Reply::Accepted { .. } | Reply::Took { .. } | Reply::Parked { .. } => false,
     }
 }

@@ -26,7 +26,7 @@ ghost use Rattle.wh_token.specs.Fleet.{IsTied, AllFit, RefusesToOpen, RefusesToR
 ghost use Rattle.wh_token.specs.Houses.{StaysAt};
 ghost use Rattle.wh_token.specs.Runs.{RunsOne, Ran as RanBy, WantsSpare, entries_of};
 
-use crate::command::{event_of, leaves_quiet, replaced};
+use crate::command::{event_of, replaced};
 use crate::ready::{Committed, NoMemory, Ran, Ready};
 use crate::roster::{OpenFault, ResumeFault, fields_over, first_foreign, outfit, slots_of};
 use std::alloc::{AllocError, Global};
@@ -54,9 +54,6 @@ pub struct Warehouse<P: Planner = Box<dyn Planner>> {
     near: LazyField,
     /// The distance fields that are lent to the planners.
     fields: SharedFields,
-    /// No open task is clear of all ends, as the last request that looked found. A change of the tasks or the ends takes
-    /// it back.
-    quiet: bool,
 }
 
 impl<P: Planner> Model for Warehouse<P> {
@@ -68,7 +65,7 @@ impl<P: Planner> Model for Warehouse<P> {
 
     ghost view = { λ w. record { book = w.book; planners = w.planners.items } };
 
-    ghost invariant = { λ w. IsFurnished P.fits_map P.slot_count w.book w.planners.items w.near w.quiet (stored_grid w.fields) };
+    ghost invariant = { λ w. IsFurnished P.fits_map P.slot_count w.book w.planners.items w.near (stored_grid w.fields) };
 }
 
 impl<P: Planner> Warehouse<P> {
@@ -130,7 +127,6 @@ impl<P: Planner> Warehouse<P> {
             planners,
             near,
             fields,
-            quiet: false,
         })
     }
 
@@ -148,7 +144,6 @@ impl<P: Planner> Warehouse<P> {
             planners,
             near,
             fields,
-            quiet: false,
         })
     }
 
@@ -381,18 +376,9 @@ impl<P: Planner> Warehouse<P> {
         }
     }
 
-    /// Whether it is known without a look at the tasks that the agent, which stands here, has nothing to do and is in
-    /// nobody's way: no task is open, or none is clear of all ends and none has a stop here.
-    fn rests_at(&self, here: Cell) -> bool
-        ensures none { IsTrue result → (agent : ℕ) → IsDue self.now.book.state agent → here ≡ place_of self.now.book.state.paths agent → NoneIsNext self.now.book.state agent }
-        ensures out_of_the_way { IsTrue result → ¬ IsDeliveryCell self.now.book.state here }
-    {
-        let tasks = self.book.tasks();
-        !tasks.has_open() || (self.quiet && !tasks.stops_at(here))
-    }
-
     /// The reply to a request, where it is known at once and changes nothing. With none the agent is due, while tasks are
     /// open.
+    #[inline(always)]
     fn answer_at_once(&self, agent: u32) -> Option<Reply>
         ensures answers { IfSome result (λ reply. Answers self.now.book.site self.now.book.state reply (Asked.Request agent) self.now.book.state) }
         ensures due { IfNone result (IsDue self.now.book.state agent) }
@@ -407,13 +393,13 @@ impl<P: Planner> Warehouse<P> {
         if left != 0 {
             return Some(Reply::Refused(Refusal::Moving(left)));
         }
-        if self.rests_at(path.start()) {
+        if self.book.rests_at_once(agent) {
             return Some(Reply::Rested);
         }
         None
     }
 
-    /// The draft of a request by a due agent. Where no task is there for it, none is clear of all ends.
+    /// The draft of a request by a due agent.
     #[tactic(auto, using(crate::proofs::Seats::others_same))]
     fn draft_choice(&mut self, alloc: Global, caller: u32, agent: u32) -> Result<Draft, AllocError>
         requires due { IsDue self.old.book.state agent }
@@ -425,7 +411,6 @@ impl<P: Planner> Warehouse<P> {
         if let Some(task) = self.book.next(agent, &mut self.near) {
             return self.draft_delivery(alloc, caller, agent, task);
         }
-        self.quiet = true;
         let here = self.book.paths()[agent as usize].start();
         if !self.book.tasks().delivers_at(here) {
             let event = Event::Request { agent };
@@ -557,7 +542,6 @@ impl<P: Planner> Warehouse<P> {
         ensures swaps { Swaps (replaced_agent draft.entry) self.old.planners spare self.new.planners result }
     {
         let agent = replaced(&draft.entry);
-        self.quiet = self.quiet && leaves_quiet(&draft.entry.reply);
         self.book.commit(draft);
         swap(&mut self.planners, agent, spare)
     }
@@ -599,6 +583,7 @@ impl<P: Planner> Warehouse<P> {
     }
 
     /// Answers a request at once, by a reply that changes nothing: whether there was memory for the entry.
+    #[inline(always)]
     fn add_answer(&mut self, caller: u32, agent: u32, reply: Reply) -> bool
         requires answers { Answers self.old.book.site self.old.book.state reply (Asked.Request agent) self.old.book.state }
         ensures stays { StaysAt self.old.book self.new.book }
@@ -622,6 +607,7 @@ impl<P: Planner> Warehouse<P> {
     }
 
     /// One step of time at once: whether there was memory for the entry.
+    #[inline(never)]
     fn add_tick(&mut self, caller: u32) -> bool
         requires not_closed { self.old.book.state.closed ≡ false }
         requires early { self.old.book.state.clock < last_clock }
@@ -639,6 +625,7 @@ impl<P: Planner> Warehouse<P> {
     }
 
     /// Answers a request by a due agent, which may have a task or may have to make way: whether there was memory for it.
+    #[inline(never)]
     fn add_choice(&mut self, alloc: Global, caller: u32, agent: u32) -> bool
         requires due { IsDue self.old.book.state agent }
         ensures runs { (spares : List P) → RunsOne P.fits_map P.slot_count caller (Asks.Token agent) result self.old.book spares self.new.book spares }
@@ -657,6 +644,9 @@ impl<P: Planner> Warehouse<P> {
 
     /// Runs a command, and a Replace of a known agent takes the last spare: whether it added an entry. With none it was
     /// refused, out of memory, and the spare goes back to its place.
+    // Nearly all events are requests that are answered at once: these are answered in the caller, with no call, and what the
+    // others run stands apart.
+    #[inline(always)]
     pub fn run_event(
         &mut self,
         alloc: Global,

@@ -1,15 +1,15 @@
 //! Tasks on small maps: which is nearest, and how they go from phase to phase.
 #![tactic(auto)]
 
-ghost use Rattle.std.specs.Prelude.{◌≡◌, length};
+ghost use Rattle.std.specs.Prelude.{◌≡◌, ◌<◌, ◌≤◌, length, IfOk};
 
 use std::alloc::{AllocError, Global};
 use std::test::Fail;
 use wh_field::LazyField;
 use wh_grid::{Cell, Grid};
 use wh_tasks::{
-    Arrived, Counts, EndSet, Foretold, Load, PathEnds, Phase, Places, TaskSet, Visit, arrive,
-    foretell, laws,
+    Arrived, Counts, Foretold, Load, PathEnds, Phase, Places, TaskSet, Visit, arrive, foretell,
+    laws,
 };
 use wh_text::Name;
 
@@ -33,8 +33,19 @@ const RIGHT: Cell = Cell { x: 4, y: 1 };
 /// A cell outside the map.
 const OUTSIDE: Cell = Cell { x: 3, y: 9 };
 
+/// No task, where the paths end at these cells, on a grid of these sides.
+fn among(alloc: Global, width: u16, height: u16, cells: &[Cell]) -> Result<TaskSet, AllocError>
+    requires { length cells.now ≤ 65535 }
+    ensures { IfOk result (λ set. set.ends ≡ cells.now) }
+{
+    let ends = PathEnds::of(alloc, width, height, cells)?;
+    TaskSet::new(alloc, width, height, ends)
+}
+
 /// Submits a task at clock 3.
-fn submit(alloc: Global, set: &mut TaskSet, stops: &[Cell]) -> Result<u32, Fail> {
+fn submit(alloc: Global, set: &mut TaskSet, stops: &[Cell]) -> Result<u32, Fail>
+    ensures { set.new.ends ≡ set.old.ends }
+{
     let client = Name::read(b"x").ok_or("no name")?;
     set.reserve(alloc)?;
     if !set.room() || set.len() >= 1_000_000 || stops.len() < 2 || stops.len() > 8 {
@@ -44,7 +55,9 @@ fn submit(alloc: Global, set: &mut TaskSet, stops: &[Cell]) -> Result<u32, Fail>
 }
 
 /// Gives a task to agent 0, where it is open.
-fn assign(set: &mut TaskSet, n: u32) -> bool {
+fn assign(set: &mut TaskSet, n: u32) -> bool
+    ensures { set.new.ends ≡ set.old.ends }
+{
     let is_open = set.is_open(n);
     if is_open {
         set.assign(n, 0);
@@ -78,7 +91,9 @@ fn map(alloc: Global) -> Result<Grid, AllocError> {
     Ok(Grid::new(5, 3, MAP.to_vec(alloc)?))
 }
 
-fn submit_all(alloc: Global, set: &mut TaskSet, tasks: &[[Cell; 2]]) -> Result<(), Fail> {
+fn submit_all(alloc: Global, set: &mut TaskSet, tasks: &[[Cell; 2]]) -> Result<(), Fail>
+    ensures { set.new.ends ≡ set.old.ends }
+{
     for stops in tasks {
         submit(alloc, set, stops)?;
     }
@@ -92,30 +107,36 @@ fn are_nearest_as_they_come(
     alloc: Global,
     set: &mut TaskSet,
     lazy: &mut LazyField,
-    ends: &EndSet<'_>,
-) -> Result<bool, Fail> {
-    let mut are = set.nearest(lazy, ends).is_none();
+) -> Result<bool, Fail>
+    requires { 0 < length set.old.ends }
+    ensures { set.new.ends ≡ set.old.ends }
+{
+    let mut are = set.nearest(lazy, 0).is_none();
     for (stops, nearest) in COMING {
         submit(alloc, set, &stops)?;
-        are = are && set.nearest(lazy, ends) == Some(nearest);
+        are = are && set.nearest(lazy, 0) == Some(nearest);
     }
     Ok(are)
 }
 
 /// Where another rests at a stop of the nearest task, the next one is taken.
-fn is_nearest_barred(set: &mut TaskSet, lazy: &mut LazyField, ends: &EndSet<'_>) -> bool {
-    set.eligible(0, ends)
-        && !set.eligible(1, ends)
-        && !set.eligible(3, ends)
-        && set.nearest(lazy, ends) == Some(2)
+fn is_nearest_barred(set: &TaskSet, lazy: &mut LazyField) -> bool
+    requires { 0 < length set.now.ends }
+{
+    let ends = set.other_ends(0);
+    set.eligible(0, &ends)
+        && !set.eligible(1, &ends)
+        && !set.eligible(3, &ends)
+        && set.nearest(lazy, 0) == Some(2)
 }
 
-/// Two are at the left and the right. The second comes to a stop of the nearest task at last.
-fn are_nearest(alloc: Global, set: &mut TaskSet, lazy: &mut LazyField) -> Result<bool, Fail> {
-    let mut all = PathEnds::of(alloc, 5, 3, &[A, RIGHT])?;
-    let are_nearest = are_nearest_as_they_come(alloc, set, lazy, &all.but(0))?;
-    all.set(1, B);
-    Ok(are_nearest && is_nearest_barred(set, lazy, &all.but(0)))
+/// The second of two comes to a stop of the nearest task at last.
+fn are_nearest(alloc: Global, set: &mut TaskSet, lazy: &mut LazyField) -> Result<bool, Fail>
+    requires { length set.old.ends ≡ 2 }
+{
+    let are_nearest = are_nearest_as_they_come(alloc, set, lazy)?;
+    set.set_end(1, B);
+    Ok(are_nearest && is_nearest_barred(set, lazy))
 }
 
 /// The distances from the cell at the left.
@@ -127,34 +148,87 @@ fn from_left(alloc: Global) -> Result<LazyField, AllocError> {
 #[test]
 fn nearest_task_first(rt: HostRuntime) -> Result<(), Fail> {
     let mut lazy = from_left(rt.alloc())?;
-    let mut set = TaskSet::new(rt.alloc(), 5, 3)?;
+    let mut set = among(rt.alloc(), 5, 3, &[A, RIGHT])?;
     assert!(rt; are_nearest(rt.alloc(), &mut set, &mut lazy)?);
     Ok(())
 }
 
 /// Which task is nearest to the cell at the right, where the distances were those of the left before.
-fn nearest_from_right(alloc: Global, set: &TaskSet) -> Result<Option<u32>, AllocError> {
+fn nearest_from_right(alloc: Global, set: &TaskSet) -> Result<Option<u32>, AllocError>
+    requires { 0 < length set.now.ends }
+{
     let grid = map(alloc)?;
     let mut lazy = LazyField::from(alloc, &grid, LEFT)?;
     lazy.again(RIGHT);
-    nearest_beside(alloc, set, &mut lazy)
-}
-
-fn nearest_beside(
-    alloc: Global,
-    set: &TaskSet,
-    lazy: &mut LazyField,
-) -> Result<Option<u32>, AllocError> {
-    let all = PathEnds::of(alloc, 5, 3, &[A, RIGHT])?;
-    Ok(set.nearest(lazy, &all.but(0)))
+    Ok(set.nearest(&mut lazy, 0))
 }
 
 #[test]
 fn nearest_of_the_open_ones(rt: HostRuntime) -> Result<(), Fail> {
-    let mut set = TaskSet::new(rt.alloc(), 5, 3)?;
+    let mut set = among(rt.alloc(), 5, 3, &[A, RIGHT])?;
     submit_all(rt.alloc(), &mut set, &[[D, C], [A, B], [C, D]])?;
     assert!(rt; assign(&mut set, 1));
     assert!(rt; nearest_from_right(rt.alloc(), &set)? == Some(0));
+    Ok(())
+}
+
+/// Which of two agents may choose the one task.
+fn choosers(set: &TaskSet, lazy: &mut LazyField) -> (bool, bool)
+    requires { length set.now.ends ≡ 2 }
+{
+    (
+        set.nearest(lazy, 0) == Some(0),
+        set.nearest(lazy, 1) == Some(0),
+    )
+}
+
+/// An agent that rests at a stop of the task bars only the others, until its path ends elsewhere.
+fn are_barred_in_turn(set: &mut TaskSet, lazy: &mut LazyField) -> bool
+    requires { length set.old.ends ≡ 2 }
+{
+    let at_first = choosers(set, lazy) == (true, false);
+    set.set_end(1, B);
+    let with_both = choosers(set, lazy) == (false, false);
+    set.set_end(0, LEFT);
+    let with_second = choosers(set, lazy) == (false, true);
+    set.set_end(1, RIGHT);
+    at_first && with_both && with_second && choosers(set, lazy) == (true, true)
+}
+
+#[test]
+fn own_end_bars_the_others(rt: HostRuntime) -> Result<(), Fail> {
+    let mut lazy = from_left(rt.alloc())?;
+    let mut set = among(rt.alloc(), 5, 3, &[A, RIGHT])?;
+    submit(rt.alloc(), &mut set, &[A, B])?;
+    assert!(rt; are_barred_in_turn(&mut set, &mut lazy));
+    Ok(())
+}
+
+/// Of which of two agents it is known at once that it may choose none.
+fn idle(set: &TaskSet) -> (bool, bool)
+    requires { length set.now.ends ≡ 2 }
+{
+    (set.has_none_for(0), set.has_none_for(1))
+}
+
+/// While a path ends at a stop of the one task, that is known of an agent whose own path ends at none of its stops.
+fn are_idle_in_turn(set: &mut TaskSet) -> bool
+    requires { length set.old.ends ≡ 2 }
+{
+    let at_first = idle(set) == (false, true);
+    set.set_end(1, B);
+    let with_both = idle(set) == (false, false);
+    set.set_end(0, LEFT);
+    let with_second = idle(set) == (true, false);
+    set.set_end(1, RIGHT);
+    at_first && with_both && with_second && idle(set) == (false, false)
+}
+
+#[test]
+fn who_may_choose_none_is_known(rt: HostRuntime) -> Result<(), Fail> {
+    let mut set = among(rt.alloc(), 5, 3, &[A, RIGHT])?;
+    submit(rt.alloc(), &mut set, &[A, B])?;
+    assert!(rt; are_idle_in_turn(&mut set));
     Ok(())
 }
 
@@ -205,7 +279,9 @@ fn row(alloc: Global) -> Result<Grid, AllocError> {
 }
 
 /// Tasks at these places of the row.
-fn submit_along(alloc: Global, set: &mut TaskSet, places: &[u16]) -> Result<(), Fail> {
+fn submit_along(alloc: Global, set: &mut TaskSet, places: &[u16]) -> Result<(), Fail>
+    ensures { set.new.ends ≡ set.old.ends }
+{
     for x in places {
         submit(alloc, set, &[Cell { x: *x, y: 0 }, Cell { x: 0, y: 0 }])?;
     }
@@ -213,31 +289,36 @@ fn submit_along(alloc: Global, set: &mut TaskSet, places: &[u16]) -> Result<(), 
 }
 
 /// Whether a task is the nearest; it is taken then.
-fn is_next(set: &mut TaskSet, lazy: &mut LazyField, ends: &EndSet<'_>, n: u32) -> bool {
-    set.nearest(lazy, ends) == Some(n) && assign(set, n)
+fn is_next(set: &mut TaskSet, lazy: &mut LazyField, n: u32) -> bool
+    requires { 0 < length set.old.ends }
+    ensures { set.new.ends ≡ set.old.ends }
+{
+    set.nearest(lazy, 0) == Some(n) && assign(set, n)
 }
 
-fn are_taken_in_turn(set: &mut TaskSet, lazy: &mut LazyField, ends: &EndSet<'_>) -> bool {
+fn are_taken_in_turn(set: &mut TaskSet, lazy: &mut LazyField) -> bool
+    requires { 0 < length set.old.ends }
+{
     for n in [2, 1, 0, 3] {
-        if !is_next(set, lazy, ends, n) {
+        if !is_next(set, lazy, n) {
             return false;
         }
     }
-    set.nearest(lazy, ends).is_none()
+    set.nearest(lazy, 0).is_none()
 }
 
 /// Whether the tasks are taken in turn by one at the left of the row.
-fn are_taken(alloc: Global, set: &mut TaskSet) -> Result<bool, AllocError> {
-    let here = Cell { x: 0, y: 0 };
+fn are_taken(alloc: Global, set: &mut TaskSet) -> Result<bool, AllocError>
+    requires { 0 < length set.old.ends }
+{
     let grid = row(alloc)?;
-    let mut lazy = LazyField::from(alloc, &grid, here)?;
-    let all = PathEnds::of(alloc, 40, 1, &[here])?;
-    Ok(are_taken_in_turn(set, &mut lazy, &all.but(0)))
+    let mut lazy = LazyField::from(alloc, &grid, Cell { x: 0, y: 0 })?;
+    Ok(are_taken_in_turn(set, &mut lazy))
 }
 
 #[test]
 fn far_tasks(rt: HostRuntime) -> Result<(), Fail> {
-    let mut set = TaskSet::new(rt.alloc(), 40, 1)?;
+    let mut set = among(rt.alloc(), 40, 1, &[Cell { x: 0, y: 0 }])?;
     submit_along(rt.alloc(), &mut set, &[37, 30, 20, 38])?;
     assert!(rt; are_taken(rt.alloc(), &mut set)?);
     Ok(())
@@ -290,7 +371,7 @@ fn is_given(set: &mut TaskSet) -> bool {
 
 #[test]
 fn stops_that_repeat(rt: HostRuntime) -> Result<(), Fail> {
-    let mut set = TaskSet::new(rt.alloc(), 5, 3)?;
+    let mut set = among(rt.alloc(), 5, 3, &[])?;
     assert!(rt; submit(rt.alloc(), &mut set, &[A, A, B, B])? == 0);
     assert!(rt; is_given(&mut set) && are_visited(&mut set));
     assert!(rt; are_done(&set, 1) && is_visited(&set, &[5, 5, 7, 9]));
@@ -330,7 +411,7 @@ const NONE_OPEN: [(Cell, bool, bool); 3] = [
 
 #[test]
 fn stops_of_open_tasks(rt: HostRuntime) -> Result<(), Fail> {
-    let mut set = TaskSet::new(rt.alloc(), 5, 3)?;
+    let mut set = among(rt.alloc(), 5, 3, &[])?;
     submit(rt.alloc(), &mut set, &[A, OUTSIDE, A, B])?;
     submit(rt.alloc(), &mut set, &[C, A])?;
     assert!(rt; are_stops(&set, &BOTH_OPEN));
@@ -405,7 +486,7 @@ fn is_done_at_once(set: &mut TaskSet) -> bool {
 
 #[test]
 fn arrivals(rt: HostRuntime) -> Result<(), Fail> {
-    let mut set = TaskSet::new(rt.alloc(), 5, 3)?;
+    let mut set = among(rt.alloc(), 5, 3, &[])?;
     submit(rt.alloc(), &mut set, &[A, A, B, B])?;
     submit(rt.alloc(), &mut set, &[C, C])?;
     assert!(rt; assign(&mut set, 0) && set.len() == 2 && is_foretold(&set, A));

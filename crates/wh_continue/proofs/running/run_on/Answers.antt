@@ -1,7 +1,7 @@
 use Rattle.std.proofs.Common.{◌≡◌, ◌∙◌, ℕ, List, ◌++◌, length, ap, ap₂, subst}
 use Rattle.std.specs.Io.KnownBytes.{Appends}
 use Rattle.wh_event.specs.declared.entry.Entry.{Entry}
-use Rattle.wh_continue.specs.Running.{count_line, first_text, last_line, told_again}
+use Rattle.wh_continue.specs.Running.{EndsShort, count_line, first_text, last_line, told_again}
 use Rattle.wh_continue.proofs.Begun.{whole_log}
 use Rattle.wh_continue.proofs.running.run_on.Goals as goal
 
@@ -34,3 +34,27 @@ returns-in-Ok-end_log-clause-runs g c =
       synced_is = c.in-Ok-end_log.ensures.synced;
       whole = whole_log file begun kept holds c.args.start.book new c.in-Ok-begin_log.ensures.stays c.in-Ok-continue_run.ensures.log ends;
     }
+
+pub returns-in-Err-end_log-clause-fault : goal.returns-in-Err-end_log-clause-fault
+returns-in-Err-end_log-clause-fault g c =
+    let had = g.W.Write.contents c.args.writer.now in
+    let counted = g.W.Write.contents c.tell_first.new.writer in
+    let begun = g.L.Journal.contents c.begin_log.new.file in
+    let kept = g.L.Journal.contents c.continue_run.new.journal in
+    let safe = g.L.Journal.synced c.continue_run.new.journal in
+    let ended = c.end_log.new.journal in
+    let new = c.in-Ok-continue_run.warehouse.book in
+    let short : EndsShort c.in-Err-end_log.fault (length new.history) kept (g.L.Journal.contents ended) safe (g.L.Journal.synced ended) (g.L.Journal.failed ended) =
+    subst (λ (entries : List Entry). EndsShort c.in-Err-end_log.fault (length entries) kept (g.L.Journal.contents ended) safe (g.L.Journal.synced ended) (g.L.Journal.failed ended)) c.history-3.ensures.value c.in-Err-end_log.ensures.fault in
+    let lines : c.as_slice.result.now ≡ told_again c.args.again c.args.start.book.history =
+    c.as_slice.ensures.value ∙ c.in-Ok.ensures ∙ ap (told_again c.args.again) c.history.ensures.value in
+    let text : count_line (length c.history-2.result.now) ++ c.as_slice.result.now ≡ first_text c.args.again c.args.start.book.history =
+    ap₂ (λ (entries : List Entry) (told : List ℕ). count_line (length entries) ++ told) c.history-2.ensures.value lines in (
+      counted,
+      begun,
+      record {
+        counts = subst (λ (bytes : List ℕ). Appends had counted bytes) text c.in-Ok-tell_first.ensures.ok;
+        begins = c.in-Ok-begin_log.ensures.stays;
+      },
+      (new, safe, kept, c.in-Ok-continue_run.ensures.replays, short),
+    )

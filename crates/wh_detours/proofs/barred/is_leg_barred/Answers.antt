@@ -1,6 +1,6 @@
 use Rattle.std.proofs.Common.{◌≡◌, subst, arith}
 use Rattle.wh_detours.specs.Barred.{IsOnWay}
-use Rattle.wh_detours.proofs.Ways.{way_start, way_on, way_shut, clear_within}
+use Rattle.wh_detours.proofs.Ways.{way_start, way_left, way_on, way_shut, clear_within}
 use Rattle.wh_detours.proofs.barred.is_leg_barred.Goals as goal
 
 pub loop-left-init : goal.loop-left-init
@@ -8,6 +8,11 @@ loop-left-init c = record {
   few = omega arith;
   way = way_start c.args.grid.now c.args.others.now c.args.from c.args.sight c.estimate-whole.result c.requires c.estimate-whole.ensures (omega arith);
 }
+
+pub nearer-requires-clause-here : goal.nearer-requires-clause-here
+nearer-requires-clause-here c =
+    let few = c.loop-left.invariant.few in
+    way_left c.args.grid.now c.args.others.now c.args.from c.loop-left.cell c.args.sight c.estimate-whole.result c.loop-left.left c.requires (omega arith) c.loop-left.invariant.way
 
 pub loop-left-preserved : goal.loop-left-preserved
 loop-left-preserved c =

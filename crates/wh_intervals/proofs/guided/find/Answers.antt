@@ -5,8 +5,7 @@ use Rattle.wh_grid.specs.Grids.{passable_cells}
 use Rattle.wh_path.specs.Paths.{last_index}
 use Rattle.wh_search.specs.Deliveries.{IsDelivery, IsLeast, longest}
 use Rattle.wh_search.specs.Guides.{IsOnward, stops_estimate}
-use Rattle.wh_intervals.specs.Efforts.{AreExpandedBy, IsSearch}
-use Rattle.wh_intervals.specs.declared.stay.Stay.{Stay}
+use Rattle.wh_intervals.specs.Efforts.{IsExpandedOf, IsSearchOf}
 use Rattle.wh_search.specs.Tours.{IsTour, IsLeastTour}
 use Rattle.wh_search.proofs.Stops.{ok_weaker, some_weaker, path_weaker, tour_delivery, delivery_ends, delivery_rests, stops_estimates, via_size, last_part}
 use Rattle.wh_intervals.proofs.guided.find.Goals as goal
@@ -60,11 +59,11 @@ returns-clause-expanded c =
     let cells : c.from.result ≡ passable_cells g = c.from.ensures ∙ c.cells.ensures.value in
     let limit = c.horizon-horizon.result + length stops * c.from.result in
     let size : limit ≡ longest g o stops = ap (λ k. c.horizon-horizon.result + length stops * k) cells ∙ ap (λ k. k + length stops * passable_cells g) c.horizon-horizon.ensures.value in
-    let Expanded : ℕ → ℕ → List Stay → Type 0 = AreExpandedBy g o (take (length stops - 1) stops) c.args.loc (stops_estimate c.args.fields.now onward) c.first_end.result in
-    let new = c.search.new.expanded.items in
+    let Expanded : ℕ → ℕ → Type 0 = λ limit n. IsExpandedOf g o (take (length stops - 1) stops) c.args.loc (stops_estimate c.args.fields.now onward) c.first_end.result limit n c.search.new.expanded in
     let on : IsOnward c.args.fields.now stops onward = subst (IsOnward c.args.fields.now stops) (sym c.deref.ensures.value) c.in_ok-onward.ensures in
     ok_weaker c.search.result
-    (λ found. IfSome found (λ p. Expanded limit (last_index p) new))
-    (λ found. IfSome found (λ p. IsSearch g o c.args.loc stops c.args.fields.now (last_index p) new))
-    (λ found h. some_weaker found (λ p. Expanded limit (last_index p) new) (λ p. IsSearch g o c.args.loc stops c.args.fields.now (last_index p) new)
-    (λ p x. record { onward = onward; by_fields = on; soonest = c.first_end.result; not_sooner = c.first_end.ensures; expanded = subst (λ (k : ℕ). Expanded k (last_index p) new) size x }) h) c.search.ensures.expanded
+    (λ found. IfSome found (λ p. Expanded limit (last_index p)))
+    (λ found. IfSome found (λ p. IsSearchOf g o c.args.loc stops c.args.fields.now (last_index p) c.search.new.expanded))
+    (λ found h. some_weaker found (λ p. Expanded limit (last_index p)) (λ p. IsSearchOf g o c.args.loc stops c.args.fields.now (last_index p) c.search.new.expanded)
+    (λ p x. let y : Expanded (longest g o stops) (last_index p) = subst (λ (k : ℕ). Expanded k (last_index p)) size x in
+    record { stays = y.stays; number = y.number; search = record { onward = onward; by_fields = on; soonest = c.first_end.result; not_sooner = c.first_end.ensures; expanded = y.expanded } }) h) c.search.ensures.expanded

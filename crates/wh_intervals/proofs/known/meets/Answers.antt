@@ -1,18 +1,20 @@
-use Rattle.std.proofs.Common.{◌≡◌, ◌∙◌, None, refl, sym, arith}
-use Rattle.std.proofs.lemmas.Grind.{common_steps}
-use Rattle.indexmap.specs.IndexMap.{get}
-use Rattle.indexmap.specs.Entry.{map_with_value}
-use Rattle.wh_intervals.specs.Closings.{interval_eq, closed_by}
-use Rattle.wh_intervals.proofs.Closings.{known_is, closed_stays}
+use Rattle.std.proofs.Common.{◌≡◌, ◌∙◌, cond, Some, List, ap}
+use Rattle.wh_intervals.specs.Closings.{interval_eq}
+use Rattle.wh_intervals.specs.Places.{known_in}
+use Rattle.wh_intervals.specs.declared.interval.Interval.{Interval}
+use Rattle.wh_intervals.specs.declared.intervals.Noted.{Noted}
+use Rattle.wh_intervals.specs.declared.known.Known.{Known}
+use Rattle.wh_intervals.proofs.Closings.{closed_stays}
+use Rattle.wh_intervals.proofs.Places.{known_written, since_latest}
 use Rattle.wh_intervals.proofs.known.meets.Goals as goal
 
 pub returns-clause-closed : goal.returns-clause-closed
 returns-clause-closed c =
-    let old = get interval_eq c.args.intervals.now in
     let i = c.interval_of.result in
-    let was = c.or_insert.result.now in
+    let place = c.in_ok-place.place in
+    let middle = c.number_of.new.self in
+    let latest = c.in_ok-place.ensures.latest in
     let w = c.meets-met.new.self in
-    let since : closed_by old i ≡ was.since = known_is _ was (record { newest = c.args.number; since = None }) old i c.or_insert.ensures.value c.in_ok-entry.ensures.value refl in
-    let new = get interval_eq (map_with_value c.in_ok-entry.entry w) in
-    let same = closed_stays old new i w (c.in_ok-entry.ensures.update.0 w).0 (c.meets-met.ensures.since ∙ sym since) in
-    grind (arith, common_steps, same)
+    let new = known_in c.set.new.self in
+    let written : (q : Interval) → new q ≡ cond (interval_eq i q) (Some w) (known_in middle q) = λ q. ap (λ (l : List Noted). known_in l q) c.set.ensures ∙ known_written middle i place w latest q in
+    closed_stays (known_in middle) new i w written (c.meets-met.ensures.since ∙ ap (λ (k : Known). k.since) c.known-known.ensures ∙ since_latest middle i place latest) ∙ c.in_ok-place.ensures.same

@@ -1,8 +1,7 @@
-use Rattle.wh_lines.proofs.Written.{wrote_rest, rest_long}
+use Rattle.wh_lines.proofs.Written.{front_rest}
 use Rattle.wh_lines.proofs.output.write_all.Goals as goal
 
-pub loop-preserved : goal.loop-preserved
-loop-preserved g c = record {
-  within = rest_long c.args.bytes.now c.loop.done c.in_ok-done.field-0 c.loop.invariant.within c.in_ok-done.ensures.bound;
-  wrote = wrote_rest (g.W.Write.contents c.args.writer.now) (g.W.Write.contents c.loop.writer) (g.W.Write.contents c.write_front-in-loop.new.writer) c.args.bytes.now c.loop.done c.in_ok-done.field-0 c.loop.invariant.wrote c.in_ok-done.ensures.ok;
-}
+pub returns-clause-err : goal.returns-clause-err
+returns-clause-err g c =
+    let told = g.W.Write.contents in
+    front_rest c.write_parts.result (told c.args.writer.now) (told c.write_front.new.writer) (told c.write_parts.new.writer) c.args.bytes.now c.in_ok-first.first c.in_ok-first.ensures.ok c.write_parts.ensures.err

@@ -1,5 +1,5 @@
 use Rattle.std.proofs.Common.{◌≡◌, ◌≤◌, ◌+◌, ◌-◌, ◌*◌, length}
-use Rattle.wh_lines.proofs.Collecting.{Collects}
+use Rattle.wh_lines.specs.Section.{Collects}
 use Rattle.wh_lines.proofs.sections.collect.Given as goal
 
 abbrev pub invariant-loop-text : goal.invariant-loop-text

@@ -1,11 +1,7 @@
-use Rattle.std.proofs.Common.{ℕ, ◌≤◌, map}
+use Rattle.std.proofs.Common.{◌+◌, map}
 use Rattle.wh_path.specs.Paths.{place_of, advanced}
 use Rattle.wh_state.proofs.Foretelling.{IsForetelling}
 use Rattle.wh_state.proofs.arrivals.foretell_all.Given as goal
 
 abbrev pub invariant-loop-agent : goal.invariant-loop-agent
-invariant-loop-agent l = record {
-  each : (clock : ℕ) → IsForetelling clock (place_of (map advanced l.paths)) l.tasks.tasks l.agent l.picked l.dropped;
-  picked_few : l.picked ≤ l.agent;
-  dropped_few : l.dropped ≤ l.agent;
-}
+invariant-loop-agent l = IsForetelling (l.clock + 1) (place_of (map advanced l.paths)) l.tasks.tasks l.agent l.picked l.dropped

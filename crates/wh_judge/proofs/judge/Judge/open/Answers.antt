@@ -1,7 +1,6 @@
 use Rattle.std.proofs.Common.{◌∙◌, ap}
-use Rattle.std.proofs.lemmas.Bool.{false≢true}
 use Rattle.wh_field.specs.Fields.{Seeking}
 use Rattle.wh_judge.proofs.judge.Judge.open.Goals as goal
 
 pub invariant_of-result : goal.invariant_of-result
-invariant_of-result c = (c.in_ok-floor.ensures.reached, ap (λ (f : Seeking). f.grid) c.in_ok-near.ensures ∙ c.grid-grid.ensures.value, λ on. absurd (false≢true on))
+invariant_of-result c = (c.in_ok-floor.ensures.reached, ap (λ (f : Seeking). f.grid) c.in_ok-near.ensures ∙ c.grid-grid.ensures.value)

@@ -24,9 +24,11 @@ loads-kept c =
     refilled c.self.inside.loads.len c.arrive_all.new.loads c.self.inside.loads.items long ∙ loads-are c
 
 pub invariant_of-self : goal.invariant_of-self
-invariant_of-self c =
-    rw (loads-kept c, tasks-are c)
-    (sound-arrived c.self.inside.clock c.self.inside.paths c.self.inside.ends c.self.inside.loads.items c.self.inside.slots.items c.self.inside.tasks.tasks c.self.invariant)
+invariant_of-self c = (
+  rw (loads-kept c, tasks-are c, c.arrive_all.ensures.ends)
+      (sound-arrived c.self.inside.clock c.self.inside.paths c.self.inside.tasks.ends c.self.inside.loads.items c.self.inside.slots.items c.self.inside.tasks.tasks c.self.invariant.0),
+  rw c.paths.ensures at c.arrive_all.ensures.due,
+)
 
 pub returns-clause-state : goal.returns-clause-state
 returns-clause-state c =

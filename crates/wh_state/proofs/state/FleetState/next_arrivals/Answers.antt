@@ -7,12 +7,12 @@ use Rattle.wh_state.proofs.state.FleetState.next_arrivals.Goals as goal
 
 pub returns-clause-picked : goal.returns-clause-picked
 returns-clause-picked c =
-    c.foretell_all.ensures.picked (c.self.inside.clock + 1)
+    c.foretell_all.ensures.picked
     ∙ ap (λ ps. arrivals.picked (c.self.inside.clock + 1) (place_of (map advanced ps)) c.self.inside.tasks.tasks) c.paths.ensures
     ∙ ap (λ (v : Standing). picked (moved v.state)) c.self.view_is
 
 pub returns-clause-dropped : goal.returns-clause-dropped
 returns-clause-dropped c =
-    c.foretell_all.ensures.dropped (c.self.inside.clock + 1)
+    c.foretell_all.ensures.dropped
     ∙ ap (λ ps. arrivals.dropped (c.self.inside.clock + 1) (place_of (map advanced ps)) c.self.inside.tasks.tasks) c.paths.ensures
     ∙ ap (λ (v : Standing). dropped (moved v.state)) c.self.view_is

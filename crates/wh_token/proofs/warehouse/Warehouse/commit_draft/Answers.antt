@@ -4,12 +4,9 @@ use Rattle.wh_token.specs.Fleet.{IsTied}
 use Rattle.wh_grid.specs.Grids.{Floor}
 use Rattle.wh_points.specs.Points.{Site}
 use Rattle.wh_token.proofs.Fleet.{tied-step}
-use Rattle.wh_token.proofs.Quiet.{quiet-step}
 use Rattle.wh_token.proofs.warehouse.Warehouse.commit_draft.Goals as goal
-use Rattle.wh_token.proofs.warehouse.Warehouse.commit_draft.Goals.{then-self, else-self}
 
--- The planners stay tied, also where the one handed in takes a seat. It stays quiet only where the step leaves the open
--- tasks and the ends as they are.
+-- The planners stay tied, also where the one handed in takes a seat.
 pub invariant_of-self : goal.invariant_of-self
 invariant_of-self g c =
     let old = c.self.inside in
@@ -27,10 +24,4 @@ invariant_of-self g c =
       tied = subst (λ (f : Floor). IsTied g.P.Planner.fits_map g.P.Planner.slot_count f c.swap.new.planners.items new.state.slots) grid tied;
       over = c.self.invariant.over ∙ grid;
       lent = c.self.invariant.lent ∙ grid;
-      quiet = λ on. elim c.if-self.branch [
-        | then-self w ↦
-            let leaves = w.leaves_quiet-self-inside.ensures.0 (sym w.self-is ∙ on) in
-            quiet-step old.book.site old.book.state entry.reply entry.event new.state leaves step (c.self.invariant.quiet w.if-self.true)
-        | else-self w ↦ (let off = sym w.self-is ∙ on in cc)
-      ];
     }

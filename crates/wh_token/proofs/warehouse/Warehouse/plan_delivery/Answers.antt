@@ -2,7 +2,7 @@ use Rattle.std.proofs.Common.{◌≡◌, ◌<◌, length, ap}
 use Rattle.wh_token.specs.Houses.{House}
 use Rattle.wh_token.proofs.Fleet.{tied-read}
 use Rattle.wh_token.proofs.Seats.{others_asked}
-use Rattle.wh_token.proofs.Quiet.{furnished-asked}
+use Rattle.wh_token.proofs.Furnished.{furnished-asked}
 use Rattle.wh_token.proofs.warehouse.Warehouse.plan_delivery.Goals as goal
 
 pub plan-requires-clause-fits : goal.plan-requires-clause-fits
@@ -17,7 +17,7 @@ pub invariant_of-self : goal.invariant_of-self
 invariant_of-self g c =
     let self = c.self.inside in
     let same_book : self.book ≡ c.args.self.now.book = ap (λ (h : House g.row.P.Denot). h.book) c.self.view_is in
-    furnished-asked _ _ self.book self.planners.items self.near self.quiet _ _ c.args.agent c.index_mut.result.now c.plan.new.self (rw same_book c.requires.due.known.known)
+    furnished-asked _ _ self.book self.planners.items self.near _ _ c.args.agent c.index_mut.result.now c.plan.new.self (rw same_book c.requires.due.known.known)
     c.index_mut.ensures.value c.plan.ensures.fits_stays c.plan.ensures.slots_stay c.plan.ensures.stored_stays c.self.invariant
 
 pub returns-clause-others : goal.returns-clause-others
