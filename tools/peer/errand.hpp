@@ -45,10 +45,10 @@ public:
         set_limit(passable);
     }
 
-    void park(const uint32_t* field, uint32_t passable) {
+    void park(const Bounded& field, uint32_t passable) {
         last_ = 0;
         goal_ = NONE;
-        legs_[0] = {field, UNSEEN, 0, NONE};
+        legs_[0] = {field.table, field.bound, 0, NONE};
         set_limit(passable);
     }
 

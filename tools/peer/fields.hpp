@@ -35,6 +35,17 @@ inline void fill(uint32_t* table, uint32_t* queue, size_t sources, ptrdiff_t str
     }
 }
 
+// The same, by whole layers until a place is met.
+inline void fill_until(uint32_t* table, uint32_t* queue, size_t sources, ptrdiff_t stride, uint32_t place) {
+    uint32_t* head = queue;
+    uint32_t* tail = queue + sources;
+    for (uint32_t distance = 1; head != tail && table[place] == UNSEEN; ++distance) {
+        uint32_t* const end = tail;
+        tail = spread(table, head, end, end, stride, distance);
+        head = end;
+    }
+}
+
 // How the way to a stop is estimated: by its field, in which all that is farther than a bound counts as the bound, also
 // a place that is blocked or that no walk leads from. So the estimates are the same however far others had it filled.
 struct Bounded {
@@ -91,17 +102,18 @@ public:
         return {table, level + 1};
     }
 
-    // The steps to the nearest point that serves; it is made anew each time, for another agent other points serve.
+    // The steps to the nearest point that serves, no farther than to here. It is made anew each time: for another agent
+    // other points serve.
     template <typename Serves>
-    const uint32_t* to_nearest(const std::vector<Point>& points, Serves serves) {
+    Bounded to_nearest(const std::vector<Point>& points, uint32_t here, Serves serves) {
         if (!nearest_) nearest_.reset(new uint32_t[grid_.size()]);
         size_t count = 0;
         for (const Point& point : points)
             if (serves(point.cell)) queue_[count++] = point.cell;
         memcpy(nearest_.get(), grid_.places.data(), grid_.size() * sizeof(uint32_t));
         for (size_t source = 0; source < count; ++source) nearest_[queue_[source]] = 0;
-        fill(nearest_.get(), queue_.data(), count, grid_.stride);
-        return nearest_.get();
+        fill_until(nearest_.get(), queue_.data(), count, grid_.stride, here);
+        return {nearest_.get(), nearest_[here] == UNSEEN ? UNSEEN : nearest_[here] + 1};
     }
 
 private:

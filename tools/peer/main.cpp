@@ -14,7 +14,8 @@
 //   below it is a border of blocked places, which have an estimate as any blocked place has.
 // - The estimate at a place is its distance to the next stop and the distances between the stops behind that. Of each
 //   leg all that is more than 16 steps farther than where the leg starts, or is blocked, counts as 17 steps farther,
-//   however far the field is filled. To park it is the distance to the nearest free point, without such a bound.
+//   however far the field is filled. To park it is the distance to the nearest free point, and all that is farther than
+//   where the agent starts counts as one step farther.
 // - No path is sought where more is estimated at the start than any least path has: the horizon, from which on nobody
 //   else moves, and as many steps a leg as there are passable places.
 // - Before any field is filled that is not yet filled as far: where the stops are 128 or more apart by columns and rows,

@@ -51,12 +51,12 @@ public:
     }
 
     // A least path to a cell where the field is 0.
-    bool park(uint32_t self, uint32_t start, const uint32_t* field) {
+    bool park(uint32_t self, uint32_t start, const Bounded& field) {
         reservations_.look(self, NONE);
         errand_.park(field, site_.grid.passable);
         const bool found = run(start, nullptr, 0, nullptr);
         if (!found) path.clear();
-        CHECK_PATH(site_, timetable_, self, path, nullptr, 1, field);
+        CHECK_PATH(site_, timetable_, self, path, nullptr, 1, field.table);
         return found;
     }
 

@@ -2,6 +2,7 @@ pub mod Descents
 pub mod DistanceLaws
 pub mod Early
 pub mod Forgets
+pub mod Nearby
 pub mod NearestRoutes
 pub mod Starts
 pub mod Places

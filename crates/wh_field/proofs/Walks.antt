@@ -10,7 +10,7 @@ use Rattle.wh_path.proofs.AtLemmas.{at-one, at-old, at-new}
 use Rattle.wh_path.proofs.WalkLemmas.{walk_one, walk_push}
 use Rattle.wh_field.specs.Tables.{value, blocked, IsBeside}
 use Rattle.wh_field.specs.Places.{place, IsAllowed, IsGround, IsSurveyed}
-use Rattle.wh_field.specs.Distances.{IsDistance, IsNearestDistance, IsRoute}
+use Rattle.wh_field.specs.Distances.{IsDistance, IsRoute}
 use Rattle.wh_field.proofs.Tables.{Contains-none, Contains-cases}
 use Rattle.wh_field.proofs.Places.{place_one, next_row}
 
@@ -188,18 +188,3 @@ pub path_to_least : (g : Floor) (avoid sources : List Cell) (t : List ℕ) (from
 path_to_least g avoid sources t from to p s c h =
     let P : Cell → Type 0 = λ x. (value t (place g x) ≤ last_index p) × (value t (place g x) < blocked) in
     subst P h.walk.starts (met_before g avoid sources t from to p s c h (last_index p) 0 (omega arith))
-
--- the same for several sources
-pub nearest_least : (g : Floor) (sources : List Cell) (to : Cell) (t : List ℕ) (n : ℕ) → IsSurveyed g [] sources t → to.x < g.width → n < blocked → value t (place g to) ≡ n → IsNearestDistance g sources to (Some n)
-nearest_least g sources to t n s w b e =
-    let comes = comes_in g [] sources t n to s.ground s.levels.back w b e in
-    let size = comes.size in
-    let least : (source : Cell) (q : List Cell) → Contains sources source → IsWalkBetween g source to q → n ≤ last_index q = λ source q c v.
-    let h = path_least g [] sources t source to q s c (walk_route g source to q v) in let l = h.0 in omega arith in
-    ((comes.from, comes.source, (comes.path, record { walk = comes.route.walk; least = λ q v. let l = least comes.from q comes.source v in omega arith }, comes.size)), least)
-
-pub nearest_none : (g : Floor) (sources : List Cell) (to : Cell) (t : List ℕ) → IsSurveyed g [] sources t → blocked ≤ value t (place g to) → (source : Cell) → Contains sources source → (p : List Cell) → IsWalkBetween g source to p → ⊥
-nearest_none g sources to t s b source c p w =
-    let h = path_least g [] sources t source to p s c (walk_route g source to p w) in
-    let l = h.1 in
-    omega arith

@@ -1,17 +1,21 @@
-//! How far each cell is from the nearest of several cells.
+//! How far each cell is from the nearest of several cells, no further than asked.
 #![tactic(auto)]
 
-ghost use Rattle.std.specs.Prelude.{◌≡◌, ℕ, ◌+◌, ◌*◌, ◌<◌, ◌≤◌, IfOk};
+ghost use Rattle.std.specs.Prelude.{◌≡◌, ℕ, ◌+◌, ◌*◌, ◌<◌, ◌≤◌, [], length, vec_capacity, IfOk, Some};
 ghost use Rattle.wh_field.specs.Distances.{IsNearestDistance};
+ghost use Rattle.wh_field.specs.Nearest.{nearest_capped, IsFilledTo};
+ghost use Rattle.wh_field.specs.Places.{IsOpen};
 
-use crate::opening::{place_of, survey};
-use crate::table::BLOCKED;
+use crate::growing::level_of;
+use crate::opening::{begin, open_table, place_of};
+use crate::table::{Front, fill_until};
 use std::alloc::{AllocError, Global};
 use std::marker::Model;
 use std::snapshot::Snapshot;
 use wh_grid::{Cell, Grid};
 
-/// How far each cell of a grid is from the nearest of several cells, its sources.
+/// How far each cell of a grid is from the nearest of several cells, its sources, up to a level: the
+/// distances up to it are known.
 #[derive(Drop)]
 pub struct NearestField {
     grid: Snapshot<Grid>,
@@ -19,47 +23,87 @@ pub struct NearestField {
     width: u16,
     height: u16,
     table: Vec<u32>,
+    level: u32,
 }
 
 impl Model for NearestField {
-    ghost use Rattle.std.specs.Prelude.{◌≡◌, []};
     ghost use Rattle.wh_field.specs.Fields.{Sources};
-    ghost use Rattle.wh_field.specs.Places.{IsSurveyed};
+    ghost use Rattle.wh_field.specs.Nearest.{nearest_sources, IsNearestField};
 
     ghost Value = { Sources };
 
-    ghost view = { λ f. record { grid = f.grid.value; cells = f.sources.items } };
+    ghost view = { nearest_sources };
 
-    ghost invariant = { λ f. (f.width ≡ f.grid.value.width) × (f.height ≡ f.grid.value.height) × IsSurveyed f.grid.value [] f.sources.items f.table.items };
+    ghost invariant = { IsNearestField };
+}
+
+/// Fills an open table with the distances from the nearest source, layer by layer until a cell has
+/// its own. Up to which level all have theirs.
+fn mark_to(
+    table: &mut [u32],
+    queue: &mut Vec<u32>,
+    grid: &Grid,
+    sources: &[Cell],
+    cell: Cell,
+) -> u32
+    requires opened { IsOpen grid.now [] table.old }
+    requires empty { queue.old.items ≡ [] }
+    requires capacity { length table.old ≤ vec_capacity queue.old }
+    ensures filled { IsFilledTo grid.now sources.now result table.new }
+    ensures reached { (n : ℕ) → IsNearestDistance grid.now sources.now cell (Some n) → n ≤ result }
+    ensures most { result ≤ 4294967293 }
+{
+    let width = grid.width();
+    let height = grid.height();
+    begin(table, queue, grid, sources, &[]);
+    let start = Front {
+        head: 0,
+        distance: 0,
+    };
+    match place_of(width, height, cell) {
+        Some(place) => {
+            let front = fill_until(table, queue, width as usize + 1, start, place);
+            level_of(front, queue.len())
+        }
+        None => 0,
+    }
 }
 
 impl NearestField {
-    /// The distances from several cells over a grid. Those that are blocked or outside count for
-    /// nothing. Fails when out of memory.
-    pub fn from(alloc: Global, grid: &Grid, sources: &[Cell]) -> Result<Self, AllocError>
-        ensures { IfOk result (λ f. f ≡ record { grid = grid.now; cells = sources.now }) }
+    /// The distances from several cells over a grid, no further than to where one cell has its own.
+    /// Those that are blocked or outside count for nothing. Needs eight bytes per cell while it is filled, and four then;
+    /// fails when out of memory.
+    pub fn until(
+        alloc: Global,
+        grid: &Grid,
+        sources: &[Cell],
+        cell: Cell,
+    ) -> Result<Self, AllocError>
+        ensures grid { IfOk result (λ f. f.grid ≡ grid.now) }
+        ensures sources { IfOk result (λ f. f.cells ≡ sources.now) }
+        ensures reached { IfOk result (λ f. (n : ℕ) → IsNearestDistance grid.now sources.now cell (Some n) → n ≤ f.level) }
     {
-        let table = survey(alloc, grid, sources, &[])?;
+        let mut table = open_table(alloc, grid)?;
+        let mut queue = Vec::with_capacity(alloc, table.len())?;
+        let level = mark_to(&mut table, &mut queue, grid, sources, cell);
         Ok(NearestField {
             grid: Snapshot::of(grid),
             sources: Vec::from_slice(alloc, sources)?,
             width: grid.width(),
             height: grid.height(),
             table,
+            level,
         })
     }
 
-    /// How many steps a shortest walk from any of the sources to a cell has; none where there is no
-    /// walk.
-    pub fn dist(&self, cell: Cell) -> Option<u32>
-        ensures { IsNearestDistance self.now.grid self.now.cells cell result }
+    /// The distance from the nearest source as far as the level; one more than that where it is
+    /// farther, or there is no walk.
+    pub fn estimate(&self, cell: Cell) -> u32
+        ensures { result ≡ nearest_capped self.now.grid self.now.cells self.now.level cell }
     {
         match place_of(self.width, self.height, cell) {
-            Some(place) => {
-                let steps = self.table[place];
-                if steps < BLOCKED { Some(steps) } else { None }
-            }
-            None => None,
+            Some(place) => self.table[place].min(self.level + 1),
+            None => self.level + 1,
         }
     }
 }

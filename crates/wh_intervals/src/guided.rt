@@ -135,7 +135,8 @@ fn find_by<'x>(
 ) -> Result<Option<TimedPath>, AllocError>
     requires inside { IsPassable grid.now loc }
     requires clear { MayRest others.now loc 0 }
-    requires field { field.now ≡ record { grid = grid.now; cells = allowed.now } }
+    requires grid { field.now.grid ≡ grid.now }
+    requires ends { field.now.cells ≡ allowed.now }
     ensures { IfOk result (λ found. MatchOption found
         ((q : List Cell) → IsParking grid.now others.now loc allowed.now q → ⊥)
         (λ p. IsLeastParking grid.now others.now loc allowed.now p)) }
@@ -155,7 +156,7 @@ fn find_by<'x>(
     search(alloc, &errand, expanded)
 }
 
-/// A shortest path to one of the allowed cells, or none; it makes the field of them all.
+/// A shortest path to one of the allowed cells, or none; it makes the field of them all as far as loc.
 fn find_parking(
     alloc: Global,
     grid: &Grid,
@@ -169,13 +170,13 @@ fn find_parking(
         ((q : List Cell) → IsParking grid.now others.now loc allowed.now q → ⊥)
         (λ p. IsLeastParking grid.now others.now loc allowed.now p)) }
 {
-    let field = NearestField::from(alloc, grid, allowed)?;
+    let field = NearestField::until(alloc, grid, allowed, loc)?;
     let mut expanded = 0;
     find_by(alloc, grid, others, loc, allowed, &field, &mut expanded)
 }
 
 /// A lawful path from loc to one of the allowed cells, with the least last index; it makes
-/// the field of them all. `NoPath` exactly if no path parks, however long; `NoMemory` if memory ran out.
+/// the field of them all as far as loc. `NoPath` exactly if no path parks, however long; `NoMemory` if memory ran out.
 pub fn park<'x>(
     alloc: Global,
     grid: &'x Grid,

@@ -33,7 +33,7 @@ fn find_nearest<'x>(
         ((q : List Cell) → IsParking grid.now others.now loc allowed.now q → ⊥)
         (λ p. IsLeastParking grid.now others.now loc allowed.now p)) }
 {
-    let field = NearestField::from(alloc, grid, allowed)?;
+    let field = NearestField::until(alloc, grid, allowed, loc)?;
     let horizon = others.horizon();
     let errand = Errand {
         grid,
@@ -52,8 +52,8 @@ fn find_nearest<'x>(
     find_least(alloc, memory, &errand)
 }
 
-/// A lawful path from loc to one of the allowed cells, with the least last index; it makes the field of them all,
-/// in memory that is kept from one search to the next. `NoPath` exactly if no path parks, however long; `NoMemory` if
+/// A lawful path from loc to one of the allowed cells, with the least last index; it makes the field of them all as far as
+/// loc, in memory that is kept from one search to the next. `NoPath` exactly if no path parks, however long; `NoMemory` if
 /// memory ran out.
 pub fn park_in<'x>(
     alloc: Global,

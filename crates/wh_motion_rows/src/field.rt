@@ -43,17 +43,32 @@ const STEPS: [[u32; 9]; 9] = [
     [4, 2, 4, 3, 2, 1, 2, 4, 0],
 ];
 
-/// Whether three fields from one cell have these steps to each cell, and none to a wall or outside.
-fn have_steps(field: &Field, lazy: &mut LazyField, nearest: &NearestField, row: &[u32; 9]) -> bool {
+/// Whether two fields from one cell have these steps to each cell, and none to a wall or outside.
+fn have_steps(field: &Field, lazy: &mut LazyField, row: &[u32; 9]) -> bool {
     for (to, steps) in CELLS.iter().zip(row.iter()) {
         let steps = Some(*steps);
-        if field.dist(*to) != steps || lazy.dist(*to) != steps || nearest.dist(*to) != steps {
+        if field.dist(*to) != steps || lazy.dist(*to) != steps {
             return false;
         }
     }
-    field.dist(Cell { x: 0, y: 0 }).is_none()
-        && lazy.dist(Cell { x: 5, y: 1 }).is_none()
-        && nearest.dist(Cell { x: 0, y: 3 }).is_none()
+    field.dist(Cell { x: 0, y: 0 }).is_none() && lazy.dist(Cell { x: 5, y: 1 }).is_none()
+}
+
+/// Whether the field of one cell, filled as far as each cell in turn, tells how far that is, and
+/// that a wall is farther.
+fn nearest_tells(
+    alloc: Global,
+    grid: &Grid,
+    from: Cell,
+    row: &[u32; 9],
+) -> Result<bool, AllocError> {
+    for (to, steps) in CELLS.iter().zip(row.iter()) {
+        let field = NearestField::until(alloc, grid, &[from], *to)?;
+        if field.estimate(*to) != *steps || field.estimate(Cell { x: 0, y: 0 }) <= *steps {
+            return Ok(false);
+        }
+    }
+    Ok(true)
 }
 
 fn have_steps_from(
@@ -64,9 +79,8 @@ fn have_steps_from(
     row: &[u32; 9],
 ) -> Result<bool, AllocError> {
     let field = Field::from(alloc, grid, from)?;
-    let nearest = NearestField::from(alloc, grid, &[from])?;
     lazy.again(from);
-    Ok(have_steps(&field, lazy, &nearest, row))
+    Ok(have_steps(&field, lazy, row) && nearest_tells(alloc, grid, from, row)?)
 }
 
 #[test]
@@ -86,6 +100,22 @@ fn row(alloc: Global) -> Result<Grid, AllocError> {
     let mut cells = vec![in alloc; true; 12]?;
     cells[9] = false;
     Ok(Grid::new(12, 1, cells))
+}
+
+/// Whether each cell of the row has its distance from the nearer of its cells 0 and 8, as far as
+/// that of cell 3.
+fn tells_nearer(field: &NearestField) -> bool {
+    let near = |x: u16| field.estimate(Cell { x, y: 0 });
+    near(0) == 0 && near(3) == 3 && near(4) == 4 && near(5) == 3 && near(8) == 0 && near(11) > 3
+}
+
+#[test]
+fn nearer_of_two(rt: HostRuntime) -> Result<(), Fail> {
+    let grid = row(rt.alloc())?;
+    let ends = [Cell { x: 0, y: 0 }, Cell { x: 8, y: 0 }];
+    let field = NearestField::until(rt.alloc(), &grid, &ends, Cell { x: 3, y: 0 })?;
+    assert!(rt; tells_nearer(&field));
+    Ok(())
 }
 
 /// From the left end of the row.
@@ -231,8 +261,11 @@ fn distances_in_two_components(rt: HostRuntime) -> Result<(), Fail> {
     let grid = parted(rt.alloc())?;
     let field = Field::from(rt.alloc(), &grid, LEFT)?;
     assert!(rt; field.dist(NEAR_LEFT) == Some(1) && field.dist(RIGHT).is_none());
-    let ends = NearestField::from(rt.alloc(), &grid, &[LEFT, RIGHT])?;
-    assert!(rt; ends.dist(Cell { x: 3, y: 0 }) == Some(1));
+    let beside = Cell { x: 3, y: 0 };
+    let ends = NearestField::until(rt.alloc(), &grid, &[LEFT, RIGHT], beside)?;
+    assert!(rt; ends.estimate(beside) == 1);
+    let end = NearestField::until(rt.alloc(), &grid, &[LEFT], RIGHT)?;
+    assert!(rt; end.estimate(NEAR_LEFT) == 1 && end.estimate(RIGHT) > 1_000_000);
     Ok(())
 }
 

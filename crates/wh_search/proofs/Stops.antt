@@ -29,7 +29,7 @@ pub some_weaker : {X : Type 0} (o : Option X) (Q R : X → Type 0) → ((x : X) 
 some_weaker (Some x) Q R f h = f x h
 some_weaker None Q R f h = h
 
-pub far_most : (o : Option ℕ) (k : ℕ) → far o k ≤ 2 ^ 64 - 1
+far_most : (o : Option ℕ) (k : ℕ) → far o k ≤ 2 ^ 64 - 1
 far_most None k = omega arith
 far_most (Some n) k = omega arith
 
@@ -38,7 +38,7 @@ far_near k n None h = absurd h
 far_near k n (Some m) h = omega arith
 
 -- a distance falls by at most 1 in one step
-pub far_falls : (g : Floor) (s r c : Cell) (k : ℕ) (o : Option ℕ) → distance g s c ≡ o → IsPassable g r → IsMove r c → far (distance g s r) k ≤ far o k + 1
+far_falls : (g : Floor) (s r c : Cell) (k : ℕ) (o : Option ℕ) → distance g s c ≡ o → IsPassable g r → IsMove r c → far (distance g s r) k ≤ far o k + 1
 far_falls g s r c k None e p m = let h = far_most (distance g s r) k in omega arith
 far_falls g s r c k (Some n) e p m = far_near k n (distance g s r) (distance_falls g s c r n p (move_back r c m) e)
 

@@ -5,7 +5,8 @@ use Rattle.wh_grid.specs.declared.cell.Cell.{Cell}
 use Rattle.wh_grid.specs.Grids.{Floor}
 use Rattle.wh_search.specs.declared.guide.Guide.{Guide}
 use Rattle.wh_search.specs.declared.guide.Guide.TheVariants.{Nearest, Stops, Sights, Manhattan}
-use Rattle.wh_field.specs.Fields.{Source}
+use Rattle.wh_field.specs.Fields.{Source, Sources}
+use Rattle.wh_field.specs.Nearest.{nearest_capped}
 use Rattle.wh_field.specs.Distances.{distance}
 use Rattle.wh_search.specs.Fields.{far}
 use Rattle.wh_search.specs.Sights.{sights_estimate}
@@ -21,14 +22,13 @@ by_field (Some field) further c = far (distance field.now.grid field.now.cell c)
 abbrev pub stops_estimate : List (Option (Bor Source)) → List ℕ → ℕ → Cell → ℕ
 stops_estimate fields onward l c = by_field (slice_index_or fields l None) (slice_index onward l) c
 
--- the distance to the nearest of some cells; the greatest number of 64 bits where there is no walk to any
-abbrev pub nearest_estimate : Floor → List Cell → Cell → ℕ
-nearest_estimate g [] c = 2 ^ 64 - 1
-nearest_estimate g (goal ∷ cells) c = min (far (distance g goal c) 0) (nearest_estimate g cells c)
+-- the distance to the nearest of some cells, as far as their field is filled, and one step more beyond
+abbrev pub nearest_by : Sources → Cell → ℕ
+nearest_by field c = nearest_capped field.grid field.cells field.level c
 
 -- what a guide estimates
 abbrev pub guide_estimate : Guide → ℕ → Cell → ℕ
-guide_estimate (Nearest field) l c = nearest_estimate field.now.grid field.now.cells c
+guide_estimate (Nearest field) l c = nearest_by field.now c
 guide_estimate (Stops fields onward) l c = stops_estimate fields.now onward.now l c
 guide_estimate (Sights sights onward) l c = sights_estimate sights.now onward.now l c
 guide_estimate (Manhattan stops onward) l c = manhattan_estimate stops.now onward.now l c

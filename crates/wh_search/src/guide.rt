@@ -5,7 +5,7 @@ ghost use Rattle.std.specs.Prelude.{◌≡◌, ℕ, ◌+◌, ◌*◌, ◌/◌, �
 ghost use Rattle.wh_grid.specs.declared.cell.Cell.{Cell};
 ghost use Rattle.wh_field.specs.Sides.{around};
 ghost use Rattle.wh_search.specs.Fields.{far};
-ghost use Rattle.wh_search.specs.Guides.{by_field, guide_estimate, nearest_estimate, IsOnward};
+ghost use Rattle.wh_search.specs.Guides.{by_field, guide_estimate, nearest_by, IsOnward};
 ghost use Rattle.wh_search.specs.Manhattan.{by_manhattan};
 ghost use Rattle.wh_search.specs.Sights.{by_sight, IsOnwardBySights};
 ghost use Rattle.wh_search.specs.Ways.{IsFallingBy, IsLastBefore};
@@ -19,7 +19,7 @@ use wh_grid::Cell;
 /// By what the steps left are estimated.
 #[derive(Clone, Copy)]
 pub enum Guide<'a> {
-    /// The field of all ends at once, any of which will do.
+    /// The field of all ends at once, any of which will do, as far as it is filled.
     Nearest {
         field: &'a NearestField,
     },
@@ -60,16 +60,16 @@ pub fn by_field(field: Option<&Field>, further: u64, cell: Cell) -> u64
     }
 }
 
-/// The distance to the nearest of several cells; the greatest number where there is none.
+/// The distance to the nearest of several cells, as far as the field's level.
 fn to_nearest(field: &NearestField, cell: Cell) -> u64
-    ensures { result ≡ nearest_estimate field.now.grid field.now.cells cell }
+    ensures { result ≡ nearest_by field.now cell }
 {
-    far(field.dist(cell), 0)
+    u64::from(field.estimate(cell))
 }
 
 /// The estimates at a cell and at those beside it, by the field of several cells.
 fn to_nearest_around(field: &NearestField, cell: Cell) -> [u64; 5]
-    ensures { result ≡ map (nearest_estimate field.now.grid field.now.cells) (around cell) }
+    ensures { result ≡ map (nearest_by field.now) (around cell) }
 {
     let beside = moves_from(cell);
     [

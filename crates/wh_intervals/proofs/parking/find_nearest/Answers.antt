@@ -1,13 +1,10 @@
 use Rattle.std.proofs.Common.{List, [], MatchOption, sym, subst, arith}
 use Rattle.wh_grid.specs.declared.cell.Cell.{Cell}
-use Rattle.wh_field.specs.Fields.{Sources}
-use Rattle.wh_search.specs.Guides.{nearest_estimate}
 use Rattle.wh_search.specs.Parkings.{IsParking, IsLeastParking}
-use Rattle.wh_search.specs.States.{IsEstimate}
 use Rattle.wh_search.specs.Tours.{IsTour, IsLeastTour}
 use Rattle.wh_search.proofs.Stops.{ok_weaker}
 use Rattle.wh_search.proofs.Parks.{parking_weaker}
-use Rattle.wh_search.proofs.Nearest.{nearest_estimates}
+use Rattle.wh_search.proofs.Nearest.{field_estimates}
 use Rattle.wh_intervals.proofs.parking.find_nearest.Goals as goal
 
 pub find_least-requires-clause-errand : goal.find_least-requires-clause-errand
@@ -20,7 +17,7 @@ find_least-requires-clause-errand c =
       horizon_is = c.horizon-horizon.ensures.value;
       limit_is = omega (arith, c.horizon-horizon.ensures.value, c.cells.ensures.value);
       small = omega (arith, c.horizon-horizon.ensures.bound);
-      guided = subst (λ (f : Sources). IsEstimate g [] ends (λ l d. nearest_estimate f.grid f.cells d)) (sym c.in_ok-field.ensures) (nearest_estimates g ends);
+      guided = field_estimates g ends c.in_ok-field.field c.in_ok-field.ensures.grid c.in_ok-field.ensures.sources;
       not_sooner = λ k s e. omega arith;
       exact = λ t. cc;
       none_before = λ q t. omega arith;
