@@ -105,8 +105,8 @@ impl<'a> Model for Judge<'a> {
 
 impl<'a> Judge<'a> {
     /// The warehouse as it opens, before any entry, at a clock of at most 1,000,000,000, with the slots of each agent's
-    /// planner. Fails when out of memory: it needs memory for the state, with two bytes per cell for the paths' ends, and
-    /// twelve bytes per cell for the field.
+    /// planner. Fails when out of memory: it needs memory for the state, with four bytes per cell for the paths' ends and
+    /// four for the stops of open tasks, and twelve bytes per cell for the field.
     pub fn open(
         alloc: Global,
         instance: Instance<'a>,

@@ -12,7 +12,7 @@ IsFieldFrom g from field = (field.grid ≡ g) × (field.cell ≡ from)
 abbrev pub AreTrue : Floor → List (Cell × Growing) → Type 0
 AreTrue g fields = (e : Cell × Growing) → Contains fields e → IsFieldFrom g e.0 e.1
 
--- a level so many steps beyond a distance, but no greater than a field's greatest, which it is where there is no distance
+-- a level some steps beyond a distance, but no greater than a field's greatest, which it is where there is no distance
 abbrev pub level_beyond : Option ℕ → ℕ → ℕ
 level_beyond None farther = 4294967293
 level_beyond (Some n) farther = min (n + farther) 4294967293

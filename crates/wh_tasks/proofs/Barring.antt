@@ -37,9 +37,17 @@ end-stays cells agent own new bar lt at has not_own = elim (cases_eq has.0 agent
   | inr apart ↦ (has.0, rw length-set has.1, get_or-set_other cells agent has.0 new bar apart ∙ has.2)
 ]
 
+-- the same while the stops from this number on were looked at: only their tasks need have a bar
+pub record AreBarredSince (stops : List Stop) (cell : Cell) (from : ℕ) (old new : List (Option Cell)) (was clear : List ℕ) : Type 0 where
+  pub each : length new ≡ length old
+  pub kept : (n : ℕ) (bar : Cell) → bar_of old n ≡ Some bar → bar_of new n ≡ Some bar
+  pub barred : (n : ℕ) → bar_of old n ≡ None → (bar_of new n ≡ None) ⊎ ((bar_of new n ≡ Some cell) × ((k : ℕ) × StandsAt stops k n cell))
+  pub done : (k n : ℕ) → from ≤ k → StandsAt stops k n cell → bar_of new n ≢ None
+  pub clear_are : (n : ℕ) → Contains clear n ↔ (Contains was n × (bar_of new n ≡ None))
+
 -- at the start of a walk no bar has changed
 pub barred-start : (stops : List Stop) (cell : Cell) (at : Option ℕ) (bars : List (Option Cell)) (clear : List ℕ) → IfSome at (λ k. IsLastBelow stops cell (length stops) k) → IfNone at (NoneBelow stops cell (length stops)) →
-    ((n : ℕ) → Contains clear n → bar_of bars n ≡ None) → AreBarredAt stops cell (bound_of at) bars bars clear clear
+    ((n : ℕ) → Contains clear n → bar_of bars n ≡ None) → AreBarredSince stops cell (bound_of at) bars bars clear clear
 barred-start stops cell at bars clear some none only = record {
   each = refl;
   kept = λ n bar is. is;
@@ -50,7 +58,7 @@ barred-start stops cell at bars clear some none only = record {
 
 -- and one step on, where the task of the stop has no bar
 pub barred-step : (stops : List Stop) (cell : Cell) (k n : ℕ) (old bars : List (Option Cell)) (was clear clear' : List ℕ) → StandsAt stops k n cell → n < length bars → bar_of bars n ≡ None →
-    ((m : ℕ) → Contains clear' m ↔ (Contains clear m × (m ≢ n))) → AreBarredAt stops cell (suc k) old bars was clear → AreBarredAt stops cell k old (set bars n (Some cell)) was clear'
+    ((m : ℕ) → Contains clear' m ↔ (Contains clear m × (m ≢ n))) → AreBarredSince stops cell (suc k) old bars was clear → AreBarredSince stops cell k old (set bars n (Some cell)) was clear'
 barred-step stops cell k n old bars was clear clear' stands lt free less s = record {
   each = length-set bars n (Some cell) ∙ s.each;
   kept = λ m bar is. elim (bar-set bars n m (Some cell) lt) [
@@ -88,7 +96,7 @@ barred-step stops cell k n old bars was clear clear' stands lt free less s = rec
 
 -- where it has one
 pub barred-keep : (stops : List Stop) (cell : Cell) (k n : ℕ) (old bars : List (Option Cell)) (was clear : List ℕ) → StandsAt stops k n cell → bar_of bars n ≢ None →
-    AreBarredAt stops cell (suc k) old bars was clear → AreBarredAt stops cell k old bars was clear
+    AreBarredSince stops cell (suc k) old bars was clear → AreBarredSince stops cell k old bars was clear
 barred-keep stops cell k n old bars was clear stands some s = record {
   each = s.each;
   kept = s.kept;
@@ -102,7 +110,7 @@ barred-keep stops cell k n old bars was clear stands some s = record {
 
 -- and where the walk goes on
 pub barred-next : (stops : List Stop) (cell : Cell) (k : ℕ) (at : Option ℕ) (old bars : List (Option Cell)) (was clear : List ℕ) → IfSome at (λ j. IsLastBelow stops cell k j) → IfNone at (NoneBelow stops cell k) →
-    AreBarredAt stops cell k old bars was clear → AreBarredAt stops cell (bound_of at) old bars was clear
+    AreBarredSince stops cell k old bars was clear → AreBarredSince stops cell (bound_of at) old bars was clear
 barred-next stops cell k at old bars was clear some none s = record {
   each = s.each;
   kept = s.kept;
@@ -117,16 +125,16 @@ barred-next stops cell k at old bars was clear some none s = record {
 -- a whole step of a walk
 pub barred-on : (stops : List Stop) (cell : Cell) (at at' : Option ℕ) (k n : ℕ) (old bars : List (Option Cell)) (was clear clear' : List ℕ) → at ≡ Some k → StandsAt stops k n cell → n < length bars → bar_of bars n ≡ None →
     ((m : ℕ) → Contains clear' m ↔ (Contains clear m × (m ≢ n))) → IfSome at' (λ j. IsLastBelow stops cell k j) → IfNone at' (NoneBelow stops cell k) →
-    AreBarredAt stops cell (bound_of at) old bars was clear → AreBarredAt stops cell (bound_of at') old (set bars n (Some cell)) was clear'
+    AreBarredSince stops cell (bound_of at) old bars was clear → AreBarredSince stops cell (bound_of at') old (set bars n (Some cell)) was clear'
 barred-on stops cell at at' k n old bars was clear clear' is stands lt free less some none s =
-    let here = subst (λ (v : Option ℕ). AreBarredAt stops cell (bound_of v) old bars was clear) is s in
+    let here = subst (λ (v : Option ℕ). AreBarredSince stops cell (bound_of v) old bars was clear) is s in
     barred-next stops cell k at' old (set bars n (Some cell)) was clear' some none (barred-step stops cell k n old bars was clear clear' stands lt free less here)
 
 pub barred-past : (stops : List Stop) (cell : Cell) (at at' : Option ℕ) (k n : ℕ) (old bars : List (Option Cell)) (was clear : List ℕ) → at ≡ Some k → StandsAt stops k n cell → bar_of bars n ≢ None →
     IfSome at' (λ j. IsLastBelow stops cell k j) → IfNone at' (NoneBelow stops cell k) →
-    AreBarredAt stops cell (bound_of at) old bars was clear → AreBarredAt stops cell (bound_of at') old bars was clear
+    AreBarredSince stops cell (bound_of at) old bars was clear → AreBarredSince stops cell (bound_of at') old bars was clear
 barred-past stops cell at at' k n old bars was clear is stands barred some none s =
-    let here = subst (λ (v : Option ℕ). AreBarredAt stops cell (bound_of v) old bars was clear) is s in
+    let here = subst (λ (v : Option ℕ). AreBarredSince stops cell (bound_of v) old bars was clear) is s in
     barred-next stops cell k at' old bars was clear some none (barred-keep stops cell k n old bars was clear stands barred here)
 
 -- the bars, where those of the tasks with a stop from this number on at the cell were looked at again
@@ -292,7 +300,7 @@ end-new cells agent new lt = (agent, rw length-set lt, get_or-set_same cells age
 
 -- a path ends at the cell now, and not any more where it ended before
 pub bars-moved : (tasks : List Task) (stops : List Stop) (ends : List Cell) (old new : List (Option Cell)) (was clear : List ℕ) (agent : ℕ) (before cell : Cell) → agent < length ends → get_or ends agent before ≡ before →
-    AreOpenStops tasks stops → AreBars tasks ends old was → AreBarredAt stops cell 0 old new was clear → AreBarsBut before tasks (set ends agent cell) new clear
+    AreOpenStops tasks stops → AreBars tasks ends old was → AreBarredAt stops cell old new was clear → AreBarsBut before tasks (set ends agent cell) new clear
 bars-moved tasks stops ends old new was clear agent before cell lt at found are s =
     let free : (n : ℕ) → bar_of new n ≡ None → bar_of old n ≡ None = λ n none. elim (option_cases (bar_of old n)) [
       | inl e ↦ e
@@ -325,7 +333,7 @@ bars-moved tasks stops ends old new was clear agent before cell lt at found are 
       clear_stops = λ n task there is_open is k d within has. elim (cell_cases (get_or task.stops k d) cell) [
         | inl same ↦
             let stands = found.there n task cell there is_open (subst (λ (c : Cell). Contains task.stops c) same (Contains-get_or task.stops k d within)) in
-            s.done stands.0 n (omega arith) stands.1 is
+            s.done stands.0 n stands.1 is
         | inr apart ↦ are.clear_stops n task there is_open (free n is) k d within (end-before ends agent cell (get_or task.stops k d) lt has apart)
       ];
       clear_listed = λ n task there is_open is. (s.clear_are n).1 (are.clear_listed n task there is_open (free n is), is);

@@ -78,7 +78,7 @@ listed-submitted tasks firsts stops client cells clock are eight =
       ];
     }
 
--- a number is among so many from one on, or it is before them or after them
+-- a number is in a range, or before it, or after it
 range-cases : (k first count : ℕ) → ((first ≤ k) × (k < first + count)) ⊎ ((k < first) ⊎ (first + count ≤ k))
 range-cases k first count = grind arith
 

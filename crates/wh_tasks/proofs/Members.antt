@@ -10,7 +10,7 @@ use Rattle.wh_tasks.specs.NumberSets.{IsPlaced, AreSwapped}
 pub written-whole : {X : Type 0} (new old : List X) (n : ℕ) → length new ≡ n → take n (new ++ drop (length new) old) ≡ new
 written-whole new old n each = ap (λ k. take k (new ++ drop (length new) old)) (sym each) ∙ take-append_seam new (drop (length new) old)
 
--- the first so many of the numbers may be more or fewer
+-- a beginning of the numbers may be longer or shorter
 pub placed-count : (numbers places : List ℕ) (count other : ℕ) → IsPlaced numbers places count → other ≤ length numbers → IsPlaced numbers places other
 placed-count numbers places count other is within = record {
   within = within;

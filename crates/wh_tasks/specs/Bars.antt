@@ -1,5 +1,5 @@
 -- which open task is barred by which end, and which change their bars after a path ends elsewhere
-use Rattle.std.specs.Prelude.{◌≡◌, ◌≢◌, ℕ, ◌≤◌, ◌⊎◌, ◌↔◌, List, Option, Some, None, length, All, Contains, slice_index_or}
+use Rattle.std.specs.Prelude.{◌≡◌, ◌≢◌, ℕ, ◌⊎◌, ◌↔◌, List, Option, Some, None, length, All, Contains, slice_index_or}
 use Rattle.wh_grid.specs.declared.cell.Cell.{Cell}
 use Rattle.wh_tasks.specs.declared.task.Task.{Task}
 use Rattle.wh_tasks.specs.declared.cell_lists.Stop.{Stop}
@@ -38,13 +38,12 @@ pub record AreOpenStops (tasks : List Task) (stops : List Stop) : Type 0 where
   pub there : (n : ℕ) (task : Task) (cell : Cell) → IsTask tasks n task → IsOpen task → Contains task.stops cell → (k : ℕ) × StandsAt stops k n cell
   pub only : (k n : ℕ) (cell : Cell) → StandsAt stops k n cell → (task : Task) × IsTask tasks n task × IsOpen task × Contains task.stops cell
 
--- A task that had no bar has it at the cell now, and is not clear any more, if a stop of it stands there; so it is at least
--- where that stop has a number from one on. No other has changed.
-pub record AreBarredAt (stops : List Stop) (cell : Cell) (from : ℕ) (old new : List (Option Cell)) (was clear : List ℕ) : Type 0 where
+-- A task that had no bar has it at the cell now, and is not clear any more, if a stop of it stands there. No other has changed.
+pub record AreBarredAt (stops : List Stop) (cell : Cell) (old new : List (Option Cell)) (was clear : List ℕ) : Type 0 where
   pub each : length new ≡ length old
   pub kept : (n : ℕ) (bar : Cell) → bar_of old n ≡ Some bar → bar_of new n ≡ Some bar
   pub barred : (n : ℕ) → bar_of old n ≡ None → (bar_of new n ≡ None) ⊎ ((bar_of new n ≡ Some cell) × ((k : ℕ) × StandsAt stops k n cell))
-  pub done : (k n : ℕ) → from ≤ k → StandsAt stops k n cell → bar_of new n ≢ None
+  pub done : (k n : ℕ) → StandsAt stops k n cell → bar_of new n ≢ None
   pub clear_are : (n : ℕ) → Contains clear n ↔ (Contains was n × (bar_of new n ≡ None))
 
 -- The bars are as they should be, but that at one cell, where bars are, a path may not end any more.

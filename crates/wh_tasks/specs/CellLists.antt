@@ -37,7 +37,7 @@ pub record IsLastBelow (stops : List Stop) (cell : Cell) (bound k : ℕ) : Type 
   pub stands : StandsAt stops k task cell
   pub last : (j other : ℕ) → k < j → j < bound → ¬ StandsAt stops j other cell
 
--- from old to new the stops of so many numbers from one on were taken out, and no other
+-- from old to new the stops in a range of numbers were taken out, and no other
 pub record AreTakenOut (first count : ℕ) (old new : List Stop) : Type 0 where
   pub each : length new ≡ length old
   pub out : (k task : ℕ) (cell : Cell) → first ≤ k → k < first + count → ¬ StandsAt new k task cell

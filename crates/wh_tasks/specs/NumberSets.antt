@@ -7,7 +7,7 @@ pub record Members : Type 0 where
   pub bound : ℕ
   pub room : ℕ
 
--- All numbers below the bound stand in one list, so many of the set first, and for each it is said where it stands.
+-- All numbers below the bound stand in one list, those of the set first, and for each it is said where it stands.
 pub record IsPlaced (numbers places : List ℕ) (count : ℕ) : Type 0 where
   pub within : count ≤ length numbers
   pub each : length places ≡ length numbers

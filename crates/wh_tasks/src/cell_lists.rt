@@ -194,7 +194,7 @@ impl CellLists {
         unlink(self.sides, &mut self.heads, &mut self.stops, k as usize);
     }
 
-    /// The stops of so many numbers from one on are taken out of their lists.
+    /// The stops in a range of numbers are taken out of their lists.
     pub(crate) fn take_all(&mut self, first: u32, count: usize)
         requires few { first + count ≤ length self.old.stops }
         requires small { length self.old.stops ≤ 8000000 }

@@ -536,7 +536,7 @@ fn bar_at(bars: &mut [Option<Cell>], clear: &mut NumberSet, stops: &CellLists, c
     requires within { (k n : ℕ) → StandsAt stops.now.stops k n cell → n < length bars.old }
     requires listed { (k n : ℕ) → StandsAt stops.now.stops k n cell → bar_of bars.old n ≡ None → Contains clear.old.members n }
     requires clear { (n : ℕ) → Contains clear.old.members n → bar_of bars.old n ≡ None }
-    ensures bars { AreBarredAt stops.now.stops cell 0 bars.old bars.new clear.old.members clear.new.members }
+    ensures bars { AreBarredAt stops.now.stops cell bars.old bars.new clear.old.members clear.new.members }
     ensures bound { clear.new.bound ≡ clear.old.bound }
     ensures room { clear.new.room ≡ clear.old.room }
 {
