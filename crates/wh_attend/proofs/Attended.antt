@@ -132,3 +132,12 @@ written_short told log text had has is same front = subst (λ (t : Trouble). IsW
 pub unkept : (fault : KeepFault) (told : Trouble) (log : List ℕ) (had : Option (List ℕ)) → told ≡ keep_trouble fault → IsWhyUntold told log had had
 unkept kept.Unkept told log had is = subst (λ (t : Trouble). IsWhyUntold t log had had) (sym is) (Keeps-refl had)
 unkept kept.NoMemory told log had is = subst (λ (t : Trouble). IsWhyUntold t log had had) (sym is) (Keeps-refl had)
+
+-- out of memory, and nothing was written
+pub no_memory : (told : Trouble) (log : List ℕ) (had : Option (List ℕ)) → told ≡ trouble.NoMemory → IsWhyUntold told log had had
+no_memory told log had is = subst (λ (t : Trouble). IsWhyUntold t log had had) (sym is) (Keeps-refl had)
+
+-- what holds anyhow holds where the call ended well
+pub ok_anyhow : {A : Type 0} (came : Result A Trouble) (X : Type 0) → X → IfOk came (λ _. X)
+ok_anyhow (Ok a) X x = x
+ok_anyhow (Err told) X x = tt

@@ -1,5 +1,5 @@
 -- What serving by the options says of what it was served by.
-use Rattle.std.proofs.Common.{◌≡◌, ◌+◌, ℕ, Bool, List, length, subst, Option, Result, Ok, Err}
+use Rattle.std.proofs.Common.{◌≡◌, ◌+◌, ◌≤◌, ℕ, Bool, List, length, subst, sym, Option, Some, None, Result, Ok, Err, arith}
 use Rattle.std.specs.Prelude.{IfErr, IfOk, option_map}
 use Rattle.wh_grid.specs.Grids.{Floor}
 use Rattle.wh_event.specs.declared.entry.Entry.{Entry}
@@ -15,10 +15,12 @@ use Rattle.wh_serve.specs.Texts.{receipt_text}
 use Rattle.wh_serve.specs.declared.threads.Client.{Client}
 use Rattle.wh_serve.specs.declared.doors.WorkerEnd.{WorkerEnd}
 use Rattle.wh_host.specs.declared.pacing.Pacing.{Pacing}
+use Rattle.wh_host.specs.Pacing.{callers_of}
 use Rattle.wh_host.specs.Runs.{ServedFrom}
 use Rattle.wh_service.specs.Plays.{form_of}
 use Rattle.wh_service.proofs.Hosted.{unlived_by}
 use Rattle.wh_attend.specs.Attends.{ServesClients}
+use Rattle.wh_attend.specs.Guests.{HaveRoom}
 use Rattle.wh_attend.specs.Shares.{IsPacingOf}
 
 -- what came, told in the form and with the pace that the options name
@@ -45,3 +47,9 @@ boards_by (Err told) origin earlier history last had showed shows same boards = 
 pub unserved_by : {A D T : Type 0} (came : Result A Trouble) (display : Option D) (of : D → T) (screen : Option T) → option_map of display ≡ screen → IfErr came (IsWhyUnlived display) → IfErr came (IsWhyUnlived screen)
 unserved_by (Ok a) display of screen is why = tt
 unserved_by (Err told) display of screen is why = unlived_by display of screen told is why
+
+-- beside a worker there are no more than 64 callers either
+pub callers_few_by : {C : Type 0} (clients : List C) (every : Option ℕ) (options : AttendOptions) (earlier : List Entry) (pace : Option Pacing) → HaveRoom every (length clients) → IsPacingOf every options earlier pace → callers_of clients pace ≤ 64
+callers_few_by clients None options earlier pace few is = subst (λ (p : Option Pacing). callers_of clients p ≤ 64) (sym is) few
+callers_few_by clients (Some every) options earlier None few is = absurd is
+callers_few_by clients (Some every) options earlier (Some pace) few is = omega arith

@@ -3,7 +3,7 @@ use Rattle.std.specs.Prelude.{option_map}
 use Rattle.std.proofs.KnownBytes.{Keeps-refl}
 use Rattle.wh_desk.specs.Drafts.{Seen}
 use Rattle.wh_journal.specs.Surviving.{HoldsLog}
-use Rattle.wh_attend.proofs.Attended.{attends, leaves_as, opens_as, stands_at, stops, stops_aside, untold}
+use Rattle.wh_attend.proofs.Attended.{attends, leaves_as, ok_anyhow, opens_as, stands_at, stops, stops_aside, untold}
 use Rattle.wh_attend.proofs.attending.attend.Goals as goal
 
 pub keep_beside-requires : goal.keep_beside-requires
@@ -54,3 +54,6 @@ returns-in-Ok-serve_all-clause-fault g c =
     c.in-Ok-begin.warehouse.book ran.history.warehouse.book c.in-Ok-begin.ensures.book c.in-Ok-serve_all.ensures.origin c.in-Ok-serve_all.ensures.ok
     ran.last (option_map g.V.Screen.shown ran.screen) (ap (option_map g.V.Screen.shown) c.end_run.ensures.screen) c.in-Ok-serve_all.ensures.boards
     c.end_run.result _ _ c.end_run.ensures.fault
+
+pub returns-in-Ok-serve_all-clause-asked : goal.returns-in-Ok-serve_all-clause-asked
+returns-in-Ok-serve_all-clause-asked g c = ok_anyhow c.end_run.result _ c.in-Ok.ensures.asked

@@ -1,6 +1,6 @@
 use Rattle.std.proofs.Common.{ℕ, List, ◌∙◌, inl, inr, subst}
 use Rattle.std.specs.Io.KnownBytes.{Appends}
-use Rattle.wh_attend.proofs.Attended.{unkept, written_short}
+use Rattle.wh_attend.proofs.Attended.{no_memory, unkept, written_short}
 use Rattle.wh_attend.proofs.ending.end_run.Goals as goal
 
 pub returns-in-Err-clause-fault : goal.returns-in-Err-clause-fault
@@ -18,3 +18,6 @@ pub returns-clause-fault : goal.returns-clause-fault
 returns-clause-fault g c =
     let all = subst (λ (t : List ℕ). Appends (g.W.Write.contents c.args.output.now) (g.W.Write.contents c.write_text.new.output) t) (c.as_slice.ensures.value ∙ c.in-Ok-text_of.ensures.ok) c.in-Ok-write_text.ensures.ok in
     inr (_, c.in-Err-last.is, c.trouble_of_show.ensures.value, all)
+
+pub returns-in-Err-text_of-clause-fault : goal.returns-in-Err-text_of-clause-fault
+returns-in-Err-text_of-clause-fault g c = inl (no_memory _ _ _ c.in-Err-text_of.ensures.fault)
