@@ -150,14 +150,15 @@ said=$(refused "$scratch/small" --board '')
 judge 'a board without a name' "${said%%|*}|${said##*|}" '|2'
 
 # Reads the board again and again while it is shown, and tells how many differed, or what is wrong with one of them: each has
-# its first line, six counts, and a line for each of 20 agents, and no fewer entries than the one before.
+# its first line, six counts, and a line for each of 20 agents, and no fewer entries than the one before. It makes the third file once it looks.
 watched() {
-    python3 - "$1" "$2" << 'END'
+    python3 - "$1" "$2" "$3" << 'END'
 import os, re, sys, time
-path, ended = sys.argv[1:]
+path, ended, looks = sys.argv[1:]
 counts = ["entries", "clock", "open", "assigned", "carried", "done"]
 line = re.compile(r"\d+,\d+ \d+ (none|fetching \d+|carrying \d+ \d+)")
 shown, entries, limit = 0, -1, time.time() + 120
+open(looks, "w").close()
 while time.time() < limit:
     is_last = os.path.exists(ended)
     try:
@@ -183,7 +184,11 @@ END
 }
 cat -- "$scratch/shelves" "$scratch/three" > "$scratch/whole"
 rm -f -- "$scratch/board" "$scratch/ended"
-watched "$scratch/board" "$scratch/ended" > "$scratch/watched" &
+watched "$scratch/board" "$scratch/ended" "$scratch/looks" > "$scratch/watched" &
+for _ in {1..200}; do    # on a busy machine the run might end before anybody looks
+    [[ -e $scratch/looks ]] && break
+    sleep 0.05
+done
 "$warehouse" live --every 2 --journal 100000 --board "$scratch/board" --board-every 5 < "$scratch/whole" > "$scratch/log"
 : > "$scratch/ended"
 wait
