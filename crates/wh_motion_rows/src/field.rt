@@ -3,7 +3,9 @@
 
 use std::alloc::{AllocError, Global};
 use std::test::Fail;
-use wh_field::{Field, LazyField, NearestField, laws, route, route_to_nearest};
+use wh_field::{
+    Field, GrowingField, LazyField, NearestField, Sight, laws, route, route_to_nearest,
+};
 use wh_grid::{Cell, Grid};
 use wh_path::TimedPath;
 
@@ -115,6 +117,31 @@ fn nearer_of_two(rt: HostRuntime) -> Result<(), Fail> {
     let ends = [Cell { x: 0, y: 0 }, Cell { x: 8, y: 0 }];
     let field = NearestField::until(rt.alloc(), &grid, &ends, Cell { x: 3, y: 0 })?;
     assert!(rt; tells_nearer(&field));
+    Ok(())
+}
+
+/// Which of cell 3 of the row and those beside it are nearer to its left end than a number, by a field
+/// that is looked at as far as 4: below the row, where there is no walk, counts as 5.
+fn nearer_than(alloc: Global, than: u64) -> Result<[bool; 5], AllocError> {
+    let grid = row(alloc)?;
+    let mut field = GrowingField::from(alloc, &grid, Cell { x: 0, y: 0 })?;
+    field.fill_to(4);
+    Ok(Sight::new(&field, 4).below(Cell { x: 3, y: 0 }, than))
+}
+
+/// Numbers, and whether the cell, and what is to its left and right, above and below it, is nearer.
+const NEARER: [(u64, [bool; 5]); 4] = [
+    (0, [false, false, false, false, false]),
+    (4, [true, true, false, true, false]),
+    (5, [true, true, true, true, false]),
+    (6, [true, true, true, true, true]),
+];
+
+#[test]
+fn nearer_than_a_number(rt: HostRuntime) -> Result<(), Fail> {
+    for (than, are) in NEARER {
+        assert!(rt; nearer_than(rt.alloc(), than)? == are);
+    }
     Ok(())
 }
 

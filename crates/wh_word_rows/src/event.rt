@@ -3,7 +3,8 @@ use arrayvec::ArrayVec;
 use std::alloc::{AllocError, Global};
 use std::test::*;
 use wh_event::{
-    Command, Entry, Event, KeptStops, LineFault, Refusal, Reply, Stops, read_line, write_reply,
+    Command, Entry, Event, KeptStops, LineFault, Refusal, Reply, Stops, read_front_into, read_line,
+    write_reply,
 };
 use wh_path::TimedPath;
 use wh_text::Name;
@@ -80,6 +81,36 @@ fn agents_are_read() -> bool {
 #[test]
 fn commands(rt: HostRuntime) {
     assert!(rt; tasks_are_read() && agents_are_read() && ticks(b"tick") && closes(b"close "));
+}
+
+/// How long the line is with which a text begins, and whose request, where it is told to be one.
+fn front_of(text: &[u8]) -> Option<(usize, u32)> {
+    let mut command = Command::Tick;
+    let length = read_front_into(text, &mut command)?;
+    match command {
+        Command::Token { agent } => Some((length, agent)),
+        _ => None,
+    }
+}
+
+/// Texts, and what they begin with: a request of the usual form, in a text of 16 bytes or more.
+const FRONTS: [(&[u8], Option<(usize, u32)>); 9] = [
+    (b"token 12\ntoken 13\n", Some((9, 12))),
+    (b"token 0\nsubmit x A B", Some((8, 0))),
+    (b"token 123456789\n", Some((16, 123_456_789))),
+    (b"token 12\n", None),
+    (b"token  1\ntoken 13\n", None),
+    (b"token 1 \ntoken 13\n", None),
+    (b"token 1234567890\n", None),
+    (b"tick\ntoken 1\ntoken 13\n", None),
+    (b"replace 1\ntoken 13\n", None),
+];
+
+#[test]
+fn requests_in_front(rt: HostRuntime) {
+    for (text, front) in FRONTS {
+        assert!(rt; front_of(text) == front);
+    }
 }
 
 /// Lines that are no command, and no fault.
