@@ -35,16 +35,28 @@ inline void fill(uint32_t* table, uint32_t* queue, size_t sources, ptrdiff_t str
     }
 }
 
-// The same, by whole layers until a place is met.
-inline void fill_until(uint32_t* table, uint32_t* queue, size_t sources, ptrdiff_t stride, uint32_t place) {
-    uint32_t* head = queue;
-    uint32_t* tail = queue + sources;
-    for (uint32_t distance = 1; head != tail && table[place] == UNSEEN; ++distance) {
+// A table that is filled from several places at once, by whole layers, as far as asked.
+struct Filling {
+    uint32_t* table;
+    uint32_t* head;
+    uint32_t* tail;
+    ptrdiff_t stride;
+    uint32_t distance = 0;
+
+    void fill_layer() {
         uint32_t* const end = tail;
-        tail = spread(table, head, end, end, stride, distance);
+        tail = spread(table, head, end, end, stride, ++distance);
         head = end;
     }
-}
+
+    void until(uint32_t place) {
+        while (head != tail && table[place] == UNSEEN) fill_layer();
+    }
+
+    void rest() {
+        while (head != tail) fill_layer();
+    }
+};
 
 // How the way to a stop is estimated: by its field, in which all that is farther than a bound counts as the bound, also
 // a place that is blocked or that no walk leads from. So the estimates are the same however far others had it filled.
@@ -102,18 +114,17 @@ public:
         return {table, level + 1};
     }
 
-    // The steps to the nearest point that serves, no farther than to here. It is made anew each time: for another agent
-    // other points serve.
+    // The steps to the nearest point that serves, of which none is known yet. It is made anew each time: for another agent
+    // other points serve. It is good until the shared queue is used for another.
     template <typename Serves>
-    Bounded to_nearest(const std::vector<Point>& points, uint32_t here, Serves serves) {
+    Filling to_nearest(const std::vector<Point>& points, Serves serves) {
         if (!nearest_) nearest_.reset(new uint32_t[grid_.size()]);
         size_t count = 0;
         for (const Point& point : points)
             if (serves(point.cell)) queue_[count++] = point.cell;
         memcpy(nearest_.get(), grid_.places.data(), grid_.size() * sizeof(uint32_t));
         for (size_t source = 0; source < count; ++source) nearest_[queue_[source]] = 0;
-        fill_until(nearest_.get(), queue_.data(), count, grid_.stride, here);
-        return {nearest_.get(), nearest_[here] == UNSEEN ? UNSEEN : nearest_[here] + 1};
+        return {nearest_.get(), queue_.data(), queue_.data() + count, grid_.stride};
     }
 
 private:

@@ -50,11 +50,19 @@ public:
         return found;
     }
 
-    // A least path to a cell where the field is 0.
-    bool park(uint32_t self, uint32_t start, const Bounded& field) {
+    // A least path to a cell where the field is 0. It is filled as far as the start, and all of it where no path has so
+    // few steps: beyond what is filled all places are alike.
+    bool park(uint32_t self, uint32_t start, Filling field) {
         reservations_.look(self, NONE);
-        errand_.park(field, site_.grid.passable);
-        const bool found = run(start, nullptr, 0, nullptr);
+        field.until(start);
+        const uint32_t whole = field.table[start];
+        errand_.park({field.table, whole == UNSEEN ? UNSEEN : whole + 1}, site_.grid.passable);
+        bool found = whole <= errand_.limit();
+        if (found && !straight_.find(errand_, start, 0, whole, NONE, path)) {
+            field.rest();
+            errand_.park({field.table, UNSEEN}, site_.grid.passable);
+            found = intervals_.find(errand_, start, 0, whole + 1, path);
+        }
         if (!found) path.clear();
         CHECK_PATH(site_, timetable_, self, path, nullptr, 1, field.table);
         return found;

@@ -179,7 +179,7 @@ private:
     }
 
     void make_way(uint32_t self) {
-        const Bounded field = fields_.to_nearest(site_.points, agents_[self].here, [&](uint32_t cell) {
+        const Filling field = fields_.to_nearest(site_.points, [&](uint32_t cell) {
             return !tasks_.is_last_stop(cell) && !ends_.is_others(self, cell);
         });
         if (!search_.park(self, agents_[self].here, field)) return refuse_path(self);

@@ -87,7 +87,8 @@ fn deliver_beyond(
     if barred.contains(&true) {
         return deliver_without(alloc, memory, errand, paths, stops, sights, barred);
     }
-    match over_intervals(alloc, errand) {
+    let whole = errand.guide.estimate(errand.first, errand.loc);
+    match over_intervals(alloc, errand, whole.saturating_add(1)) {
         Ok(Some(path)) => Ok(path),
         Ok(None) => Err(Fault::NoPath),
         Err(_) => Err(Fault::NoMemory),

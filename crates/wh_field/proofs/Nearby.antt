@@ -6,14 +6,19 @@ use Rattle.wh_grid.specs.Grids.{Floor}
 use Rattle.wh_path.specs.Paths.{at, last_index}
 use Rattle.wh_field.specs.Distances.{IsDistance, IsNearestDistance, IsRoute, distance}
 use Rattle.wh_field.specs.Growing.{capped}
-use Rattle.wh_field.specs.Nearest.{nearest_capped, IsFilledTo}
-use Rattle.wh_field.specs.Places.{place, IsAllowed, IsSurveying}
+use Rattle.wh_field.specs.Nearest.{nearest_capped}
+use Rattle.wh_field.specs.Places.{place, IsAllowed, IsFalling, IsSurveying}
 use Rattle.wh_field.specs.Tables.{value, blocked, unseen, IsLevelled}
 use Rattle.wh_field.proofs.Tables.{Contains-none, Contains-first, Contains-later, Contains-cases, queue_ends}
 use Rattle.wh_field.proofs.Starts.{ground_walls}
 use Rattle.wh_field.proofs.Early.{met_early, surveying_falls}
 use Rattle.wh_field.proofs.Walks.{route_allowed, path_least, walk_route, comes_in, outside_none}
 use Rattle.wh_field.proofs.DistanceLaws.{distance_is, distance_one}
+
+-- a table's numbers fall to a source, and none is greater than the steps of a route from a source that has no more than the level
+pub record IsFilledTo (g : Floor) (sources : List Cell) (level : ℕ) (t : List ℕ) : Type 0 where
+  pub falling : IsFalling g [] sources t
+  pub least : (source to : Cell) (q : List Cell) → Contains sources source → IsRoute g source to [] q → last_index q ≤ level → (value t (place g to) ≤ last_index q) × (value t (place g to) < blocked)
 
 -- filled to a front, and to a level that is no farther, unless no layer is left
 pub filled_to : (g : Floor) (sources : List Cell) (level d head : ℕ) (t q : List ℕ) → g.width ≤ 4096 → g.height ≤ 4096 → IsSurveying g [] sources d t (drop head q) →
@@ -32,10 +37,10 @@ filled_to g sources level d head t q wide high s known = record {
       ];
 }
 
--- where a cell has its distance, or no layer is left, the level reaches it
-pub level_reaches : (g : Floor) (sources : List Cell) (to : Cell) (level d n : ℕ) (t layer : List ℕ) → g.width ≤ 4096 → g.height ≤ 4096 → IsSurveying g [] sources d t layer → d ≤ level →
-    (value t (place g to) ≡ unseen → IsLevelled (g.width + 1) t) → to.x < g.width → IsNearestDistance g sources to (Some n) → n ≤ level
-level_reaches g sources to level d n t layer wide high s far full w near =
+-- where a cell has its distance, or no layer is left, the front reaches it
+pub level_reaches : (g : Floor) (sources : List Cell) (to : Cell) (d n : ℕ) (t layer : List ℕ) → g.width ≤ 4096 → g.height ≤ 4096 → IsSurveying g [] sources d t layer →
+    (value t (place g to) ≡ unseen → IsLevelled (g.width + 1) t) → to.x < g.width → IsNearestDistance g sources to (Some n) → n ≤ d
+level_reaches g sources to d n t layer wide high s full w near =
     let source = near.0.0 in
     let walk = near.0.2.0 in
     let r : IsRoute g source to [] walk = walk_route g source to walk near.0.2.1.walk in

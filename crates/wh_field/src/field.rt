@@ -52,7 +52,7 @@ impl Field {
     pub fn from(alloc: Global, grid: &Grid, source: Cell) -> Result<Self, AllocError>
         ensures { IfOk result (λ f. f ≡ record { grid = grid.now; cell = source }) }
     {
-        let table = survey(alloc, grid, &[source], &[])?;
+        let table = survey(alloc, grid, source, &[])?;
         Ok(Field {
             grid: Snapshot::of(grid),
             source,

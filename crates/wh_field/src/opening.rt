@@ -126,31 +126,31 @@ pub fn begin(table: &mut [u32], queue: &mut Vec<u32>, grid: &Grid, sources: &[Ce
     }
 }
 
-/// Fills an open table with the distances from the nearest source.
-fn mark(table: &mut [u32], queue: &mut Vec<u32>, grid: &Grid, sources: &[Cell], avoid: &[Cell])
+/// Fills an open table with the distances from a cell.
+fn mark(table: &mut [u32], queue: &mut Vec<u32>, grid: &Grid, source: Cell, avoid: &[Cell])
     requires opened { IsOpen grid.now [] table.old }
     requires empty { queue.old.items ≡ [] }
     requires capacity { length table.old ≤ vec_capacity queue.old }
-    ensures { IsSurveyed grid.now avoid.now sources.now table.new }
+    ensures { IsSurveyed grid.now avoid.now (source ∷ []) table.new }
 {
     let width = grid.width();
     let _height = grid.height();
-    begin(table, queue, grid, sources, avoid);
+    begin(table, queue, grid, &[source], avoid);
     fill(table, queue, width as usize + 1);
 }
 
-/// How far each cell is from the nearest of some cells, by walks that avoid some others.
+/// How far each cell is from one cell, by walks that avoid some others.
 pub fn survey(
     alloc: Global,
     grid: &Grid,
-    sources: &[Cell],
+    source: Cell,
     avoid: &[Cell],
 ) -> Result<Vec<u32>, AllocError>
-    ensures { IfOk result (λ t. IsSurveyed grid.now avoid.now sources.now t.items) }
+    ensures { IfOk result (λ t. IsSurveyed grid.now avoid.now (source ∷ []) t.items) }
 {
     let mut table = open_table(alloc, grid)?;
     let mut queue = Vec::with_capacity(alloc, table.len())?;
-    mark(&mut table, &mut queue, grid, sources, avoid);
+    mark(&mut table, &mut queue, grid, source, avoid);
     Ok(table)
 }
 

@@ -149,7 +149,7 @@ pub fn route_to_nearest(
     ensures found { IfOk result (λ r. IfSome r (λ near. IsNearestRoute grid.now from targets.now avoid.now near.0 near.1)) }
     ensures none { IfOk result (λ r. IfNone r ((j : ℕ) (p : List Cell) → j < length targets.now → IsRoute grid.now from (cell_at targets.now j) avoid.now p → ⊥)) }
 {
-    let table = survey(alloc, grid, &[from], avoid)?;
+    let table = survey(alloc, grid, from, avoid)?;
     let near = nearest_of(grid, from, avoid, &table, targets);
     if near.steps < BLOCKED {
         let to = targets[near.index];

@@ -7,13 +7,17 @@ use Rattle.wh_field.specs.declared.sight.Sight.{Sight}
 use Rattle.wh_resv.specs.Others.{Others}
 use Rattle.wh_search.specs.declared.errand.Errand.{Errand}
 
--- it is for these stops, from this cell, on this grid beside these others
-pub record IsTaskOf (g : Floor) (others : Others) (loc : Cell) (stops : List Cell) (e : Errand) : Type 0 where
+-- it is from this cell through these stops to one of these ends, on this grid beside these others
+pub record IsErrandOf (g : Floor) (others : Others) (loc : Cell) (via ends : List Cell) (e : Errand) : Type 0 where
   pub grid_is : e.grid.now ≡ g
   pub others_are : e.others.now ≡ others
   pub from : e.loc ≡ loc
-  pub through : e.via.now ≡ take (length stops - 1) stops
-  pub to : e.ends.now ≡ drop (length stops - 1) stops
+  pub through : e.via.now ≡ via
+  pub to : e.ends.now ≡ ends
+
+-- it is for a task of these stops
+abbrev pub IsTaskOf : Floor → Others → Cell → List Cell → Errand → Type 0
+IsTaskOf g others loc stops e = IsErrandOf g others loc (take (length stops - 1) stops) (drop (length stops - 1) stops) e
 
 -- a sight of the stop's field over a grid on which all may be walked on that may be here
 pub record IsSightBeyond (g : Floor) (sight : Sight) (stop : Cell) : Type 0 where

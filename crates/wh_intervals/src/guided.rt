@@ -1,4 +1,4 @@
-//! The calls for a task of two to eight stops, and for parking.
+//! The calls for a task of two to eight stops by whole fields.
 #![tactic(auto)]
 
 ghost use Rattle.std.specs.Prelude.{◌≡◌, ℕ, ◌+◌, ◌-◌, ◌*◌, ◌<◌, ◌≤◌, ◌^◌, List, IfOk, IfSome, MatchOption};
@@ -10,12 +10,11 @@ ghost use Rattle.wh_search.specs.Deliveries.{IsDelivery, IsLawful, IsLeast, IfNo
 ghost use Rattle.wh_search.specs.Fields.{AreFieldsOf};
 ghost use Rattle.wh_search.specs.Guides.{IsOnward};
 ghost use Rattle.wh_intervals.specs.Efforts.{MovesAtMost, IsSearchOf, IsEffort, IsEnough};
-ghost use Rattle.wh_search.specs.Parkings.{IsParking, IsLeastParking};
 
 use crate::errand::{Errand, first_end};
 use crate::search::search;
 use std::alloc::{AllocError, Global};
-use wh_field::{Field, NearestField};
+use wh_field::Field;
 use wh_grid::{Cell, Grid};
 use wh_path::TimedPath;
 use wh_resv::Reservations;
@@ -118,79 +117,6 @@ pub fn guided_steps<'x>(
     let mut expanded = 0;
     match find(alloc, grid, others, loc, stops, fields, &mut expanded) {
         Ok(Some(_path)) => Ok(expanded),
-        Ok(None) => Err(Fault::NoPath),
-        Err(_) => Err(Fault::NoMemory),
-    }
-}
-
-/// A shortest path to one of the allowed cells, or none, by the field of them all; and how many arrivals were expanded.
-fn find_by<'x>(
-    alloc: Global,
-    grid: &'x Grid,
-    others: &'x Reservations<'x>,
-    loc: Cell,
-    allowed: &'x [Cell],
-    field: &'x NearestField,
-    expanded: &mut u64,
-) -> Result<Option<TimedPath>, AllocError>
-    requires inside { IsPassable grid.now loc }
-    requires clear { MayRest others.now loc 0 }
-    requires grid { field.now.grid ≡ grid.now }
-    requires ends { field.now.cells ≡ allowed.now }
-    ensures { IfOk result (λ found. MatchOption found
-        ((q : List Cell) → IsParking grid.now others.now loc allowed.now q → ⊥)
-        (λ p. IsLeastParking grid.now others.now loc allowed.now p)) }
-{
-    let horizon = others.horizon();
-    let errand = Errand {
-        grid,
-        others,
-        loc,
-        via: &[],
-        ends: allowed,
-        guide: Guide::Nearest { field },
-        first: 0,
-        limit: horizon + u64::from(grid.cells()),
-        base: 0,
-    };
-    search(alloc, &errand, expanded)
-}
-
-/// A shortest path to one of the allowed cells, or none; it makes the field of them all as far as loc.
-fn find_parking(
-    alloc: Global,
-    grid: &Grid,
-    others: &Reservations,
-    loc: Cell,
-    allowed: &[Cell],
-) -> Result<Option<TimedPath>, AllocError>
-    requires inside { IsPassable grid.now loc }
-    requires clear { MayRest others.now loc 0 }
-    ensures { IfOk result (λ found. MatchOption found
-        ((q : List Cell) → IsParking grid.now others.now loc allowed.now q → ⊥)
-        (λ p. IsLeastParking grid.now others.now loc allowed.now p)) }
-{
-    let field = NearestField::until(alloc, grid, allowed, loc)?;
-    let mut expanded = 0;
-    find_by(alloc, grid, others, loc, allowed, &field, &mut expanded)
-}
-
-/// A lawful path from loc to one of the allowed cells, with the least last index; it makes
-/// the field of them all as far as loc. `NoPath` exactly if no path parks, however long; `NoMemory` if memory ran out.
-pub fn park<'x>(
-    alloc: Global,
-    grid: &'x Grid,
-    others: &'x Reservations<'x>,
-    loc: Cell,
-    allowed: &'x [Cell],
-) -> Result<TimedPath, Fault>
-    requires inside { IsPassable grid.now loc }
-    requires clear { MayRest others.now loc 0 }
-    ensures least { IfOk result (λ p. IsLeastParking grid.now others.now loc allowed.now p) }
-    ensures none { IfNoPath result ((q : List Cell) → IsParking grid.now others.now loc allowed.now q → ⊥) }
-{
-    match find_parking(alloc, grid, others, loc, allowed) {
-        Ok(Some(path)) => Ok(path),
         Ok(None) => Err(Fault::NoPath),
         Err(_) => Err(Fault::NoMemory),
     }

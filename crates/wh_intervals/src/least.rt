@@ -6,7 +6,6 @@ ghost use Rattle.wh_grid.specs.declared.cell.Cell.{Cell};
 ghost use Rattle.wh_path.specs.Paths.{last_index};
 ghost use Rattle.wh_resv.specs.Others.{MayRest};
 ghost use Rattle.wh_search.specs.Frontiers.{IsErrand};
-ghost use Rattle.wh_search.specs.Guides.{guide_estimate};
 ghost use Rattle.wh_search.specs.Tours.{IsTour, IsLeastTour};
 
 use crate::errand::Errand;
@@ -16,17 +15,19 @@ use wh_path::TimedPath;
 use wh_search::errand::Errand as Task;
 use wh_search::{SearchMemory, find_straight};
 
-/// A shortest tour, or none where there is no tour, by a search over intervals. Each tour has more steps than are estimated
-/// at the start, as is known once the straight pass has found none.
-pub fn over_intervals(alloc: Global, errand: &Task) -> Result<Option<TimedPath>, AllocError>
+/// A shortest tour, or none where there is no tour, by a search over intervals. None has fewer steps than `least`.
+pub fn over_intervals(
+    alloc: Global,
+    errand: &Task,
+    least: u64,
+) -> Result<Option<TimedPath>, AllocError>
     requires errand { IsErrand errand.now }
     requires clear { MayRest errand.now.others.now errand.now.loc 0 }
-    requires late { (q : List Cell) → IsTour errand.now.grid.now errand.now.others.now errand.now.loc errand.now.via.now errand.now.ends.now q → guide_estimate errand.now.guide errand.now.first errand.now.loc < last_index q }
+    requires least { (q : List Cell) → IsTour errand.now.grid.now errand.now.others.now errand.now.loc errand.now.via.now errand.now.ends.now q → least ≤ last_index q }
     ensures { IfOk result (λ found. MatchOption found
         ((q : List Cell) → IsTour errand.now.grid.now errand.now.others.now errand.now.loc errand.now.via.now errand.now.ends.now q → ⊥)
         (λ p. IsLeastTour errand.now.grid.now errand.now.others.now errand.now.loc errand.now.via.now errand.now.ends.now p)) }
 {
-    let whole = errand.guide.estimate(errand.first, errand.loc);
     let task = Errand {
         grid: errand.grid,
         others: errand.others,
@@ -36,7 +37,7 @@ pub fn over_intervals(alloc: Global, errand: &Task) -> Result<Option<TimedPath>,
         guide: errand.guide,
         first: errand.first,
         limit: errand.limit,
-        base: errand.least.max(whole.saturating_add(1)),
+        base: errand.least.max(least),
     };
     let mut expanded = 0;
     search(alloc, &task, &mut expanded)
@@ -56,6 +57,9 @@ pub fn find_least(
 {
     match find_straight(alloc, memory, errand)? {
         Some(path) => Ok(Some(path)),
-        None => over_intervals(alloc, errand),
+        None => {
+            let whole = errand.guide.estimate(errand.first, errand.loc);
+            over_intervals(alloc, errand, whole.saturating_add(1))
+        }
     }
 }

@@ -1,14 +1,18 @@
-//! The call for parking.
+//! The calls for parking.
 #![tactic(auto)]
 
-ghost use Rattle.std.specs.Prelude.{◌≡◌, ℕ, ◌+◌, ◌*◌, ◌<◌, ◌≤◌, ◌^◌, List, IfOk, MatchOption};
+ghost use Rattle.std.specs.Prelude.{◌≡◌, ℕ, ◌+◌, ◌*◌, ◌<◌, ◌≤◌, ◌^◌, List, [], IfOk, MatchOption};
 ghost use Rattle.wh_grid.specs.declared.cell.Cell.{Cell};
 ghost use Rattle.wh_grid.specs.Grids.{IsPassable};
+ghost use Rattle.wh_path.specs.Paths.{last_index};
 ghost use Rattle.wh_resv.specs.Others.{MayRest};
 ghost use Rattle.wh_search.specs.Deliveries.{IfNoPath};
+ghost use Rattle.wh_search.specs.Frontiers.{IsErrand};
+ghost use Rattle.wh_search.specs.Guides.{guide_estimate, nearest_by};
 ghost use Rattle.wh_search.specs.Parkings.{IsParking, IsLeastParking};
+ghost use Rattle.wh_intervals.specs.Tasks.{IsErrandOf};
 
-use crate::least::find_least;
+use crate::least::over_intervals;
 use std::alloc::{AllocError, Global};
 use wh_field::NearestField;
 use wh_grid::{Cell, Grid};
@@ -16,16 +20,95 @@ use wh_path::TimedPath;
 use wh_resv::Reservations;
 use wh_search::errand::Errand;
 use wh_search::guide::Guide;
-use wh_search::{Fault, SearchMemory};
+use wh_search::{Fault, SearchMemory, find_straight};
 
-/// A shortest path to one of the allowed cells, or none.
-fn find_nearest<'x>(
-    alloc: Global,
-    memory: &mut SearchMemory,
+/// What is searched for: a path to one of the allowed cells, by their field.
+fn errand_to_nearest<'x>(
     grid: &'x Grid,
     others: &'x Reservations<'x>,
     loc: Cell,
     allowed: &'x [Cell],
+    field: &'x NearestField,
+) -> Errand<'x>
+    requires inside { IsPassable grid.now loc }
+    requires grid { field.now.grid ≡ grid.now }
+    requires ends { field.now.cells ≡ allowed.now }
+    ensures errand { IsErrand result }
+    ensures parks { IsErrandOf grid.now others.now loc [] allowed.now result }
+    ensures estimate { guide_estimate result.guide result.first result.loc ≡ nearest_by field.now loc }
+{
+    let horizon = others.horizon();
+    Errand {
+        grid,
+        others,
+        loc,
+        via: &[],
+        ends: allowed,
+        guide: Guide::Nearest { field },
+        first: 0,
+        horizon,
+        limit: horizon + u64::from(grid.cells()),
+        soonest: 0,
+        exact: false,
+        least: 0,
+    }
+}
+
+/// A shortest path to one of the allowed cells, of no more steps than their field estimates; or none, where each path
+/// has more.
+fn find_near(
+    alloc: Global,
+    memory: &mut SearchMemory,
+    grid: &Grid,
+    others: &Reservations,
+    loc: Cell,
+    allowed: &[Cell],
+    field: &NearestField,
+) -> Result<Option<TimedPath>, AllocError>
+    requires inside { IsPassable grid.now loc }
+    requires clear { MayRest others.now loc 0 }
+    requires grid { field.now.grid ≡ grid.now }
+    requires ends { field.now.cells ≡ allowed.now }
+    ensures { IfOk result (λ found. MatchOption found
+        ((q : List Cell) → IsParking grid.now others.now loc allowed.now q → nearest_by field.now loc < last_index q)
+        (λ p. IsLeastParking grid.now others.now loc allowed.now p)) }
+{
+    let errand = errand_to_nearest(grid, others, loc, allowed, field);
+    find_straight(alloc, memory, &errand)
+}
+
+/// A shortest path to one of the allowed cells, or none, by their field; none has fewer steps than `least`.
+fn find_far(
+    alloc: Global,
+    grid: &Grid,
+    others: &Reservations,
+    loc: Cell,
+    allowed: &[Cell],
+    field: &NearestField,
+    least: u64,
+) -> Result<Option<TimedPath>, AllocError>
+    requires inside { IsPassable grid.now loc }
+    requires clear { MayRest others.now loc 0 }
+    requires grid { field.now.grid ≡ grid.now }
+    requires ends { field.now.cells ≡ allowed.now }
+    requires least { (q : List Cell) → IsParking grid.now others.now loc allowed.now q → least ≤ last_index q }
+    ensures { IfOk result (λ found. MatchOption found
+        ((q : List Cell) → IsParking grid.now others.now loc allowed.now q → ⊥)
+        (λ p. IsLeastParking grid.now others.now loc allowed.now p)) }
+{
+    let errand = errand_to_nearest(grid, others, loc, allowed, field);
+    over_intervals(alloc, &errand, least)
+}
+
+/// A shortest path to one of the allowed cells, or none. Their field is filled as far as loc, and all of it where no path
+/// has so few steps: beyond what is filled all cells are alike, and the search would look at too many.
+fn find_nearest(
+    alloc: Global,
+    memory: &mut SearchMemory,
+    grid: &Grid,
+    others: &Reservations,
+    loc: Cell,
+    allowed: &[Cell],
 ) -> Result<Option<TimedPath>, AllocError>
     requires inside { IsPassable grid.now loc }
     requires clear { MayRest others.now loc 0 }
@@ -33,35 +116,25 @@ fn find_nearest<'x>(
         ((q : List Cell) → IsParking grid.now others.now loc allowed.now q → ⊥)
         (λ p. IsLeastParking grid.now others.now loc allowed.now p)) }
 {
-    let field = NearestField::until(alloc, grid, allowed, loc)?;
-    let horizon = others.horizon();
-    let errand = Errand {
-        grid,
-        others,
-        loc,
-        via: &[],
-        ends: allowed,
-        guide: Guide::Nearest { field: &field },
-        first: 0,
-        horizon,
-        limit: horizon + u64::from(grid.cells()),
-        soonest: 0,
-        exact: false,
-        least: 0,
-    };
-    find_least(alloc, memory, &errand)
+    let mut field = NearestField::until(alloc, grid, allowed, loc)?;
+    if let Some(path) = find_near(alloc, memory, grid, others, loc, allowed, &field)? {
+        return Ok(Some(path));
+    }
+    let least = u64::from(field.estimate(loc)) + 1;
+    field.fill();
+    find_far(alloc, grid, others, loc, allowed, &field, least)
 }
 
-/// A lawful path from loc to one of the allowed cells, with the least last index; it makes the field of them all as far as
-/// loc, in memory that is kept from one search to the next. `NoPath` exactly if no path parks, however long; `NoMemory` if
-/// memory ran out.
-pub fn park_in<'x>(
+/// A lawful path from loc to one of the allowed cells, with the least last index; it makes the field of them all, as far as
+/// it must, in memory that is kept from one search to the next. `NoPath` exactly if no path parks, however long; `NoMemory`
+/// if memory ran out.
+pub fn park_in(
     alloc: Global,
     memory: &mut SearchMemory,
-    grid: &'x Grid,
-    others: &'x Reservations<'x>,
+    grid: &Grid,
+    others: &Reservations,
     loc: Cell,
-    allowed: &'x [Cell],
+    allowed: &[Cell],
 ) -> Result<TimedPath, Fault>
     requires inside { IsPassable grid.now loc }
     requires clear { MayRest others.now loc 0 }
@@ -73,4 +146,21 @@ pub fn park_in<'x>(
         Ok(None) => Err(Fault::NoPath),
         Err(_) => Err(Fault::NoMemory),
     }
+}
+
+/// As `park_in`, in memory of its own.
+pub fn park(
+    alloc: Global,
+    grid: &Grid,
+    others: &Reservations,
+    loc: Cell,
+    allowed: &[Cell],
+) -> Result<TimedPath, Fault>
+    requires inside { IsPassable grid.now loc }
+    requires clear { MayRest others.now loc 0 }
+    ensures least { IfOk result (λ p. IsLeastParking grid.now others.now loc allowed.now p) }
+    ensures none { IfNoPath result ((q : List Cell) → IsParking grid.now others.now loc allowed.now q → ⊥) }
+{
+    let mut memory = SearchMemory::empty(alloc);
+    park_in(alloc, &mut memory, grid, others, loc, allowed)
 }

@@ -120,6 +120,21 @@ fn nearer_of_two(rt: HostRuntime) -> Result<(), Fail> {
     Ok(())
 }
 
+/// Filled as far as cell 1 of the row, and then whole: each cell up to the wall has its distance from the left end.
+#[test]
+fn filled_to_its_end(rt: HostRuntime) -> Result<(), Fail> {
+    let grid = row(rt.alloc())?;
+    let ends = [Cell { x: 0, y: 0 }];
+    let mut field = NearestField::until(rt.alloc(), &grid, &ends, Cell { x: 1, y: 0 })?;
+    assert!(rt; field.estimate(Cell { x: 1, y: 0 }) == 1);
+    field.fill();
+    for x in 0..9 {
+        assert!(rt; field.estimate(Cell { x, y: 0 }) == u32::from(x));
+    }
+    assert!(rt; field.estimate(Cell { x: 10, y: 0 }) > 1_000_000);
+    Ok(())
+}
+
 /// Which of cell 3 of the row and those beside it are nearer to its left end than a number, by a field
 /// that is looked at as far as 4: below the row, where there is no walk, counts as 5.
 fn nearer_than(alloc: Global, than: u64) -> Result<[bool; 5], AllocError> {

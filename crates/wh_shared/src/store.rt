@@ -97,7 +97,9 @@ impl SharedFields {
     }
 }
 
-/// Fills a field until it has met a cell, and some steps farther, and returns how far.
+/// Fills a field until it has met a cell, and some steps farther, and returns how far. It is always inlined: a field that
+/// was just made is then filled as a local variable, whose queue's length the compiler keeps in a register.
+#[inline(always)]
 fn extend(field: &mut GrowingField, cell: Cell, farther: u32) -> u32
     ensures grid { field.new.grid ≡ field.old.grid }
     ensures source { field.new.cell ≡ field.old.cell }

@@ -1,6 +1,9 @@
-use Rattle.std.proofs.Common.{Some, None}
+use Rattle.std.proofs.Common.{Some, None, arith}
 use Rattle.wh_intervals.proofs.Tasks.{task_found}
 use Rattle.wh_detours.proofs.round.deliver_beyond.Goals as goal
+
+pub over_intervals-requires-clause-least : goal.over_intervals-requires-clause-least
+over_intervals-requires-clause-least c = λ q t. omega (arith, c.requires.late q t, c.saturating_add.ensures, c.estimate-whole.ensures)
 
 pub returns-in-Ok-Some-clause-lawful : goal.returns-in-Ok-Some-clause-lawful
 returns-in-Ok-Some-clause-lawful c =

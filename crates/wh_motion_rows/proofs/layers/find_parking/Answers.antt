@@ -14,4 +14,4 @@ returns c =
     ok_weaker c.search.result
     (λ found. MatchOption found ((q : List Cell) → IsTour g o c.args.loc [] ends q → ⊥) (λ p. IsLeastTour g o c.args.loc [] ends p))
     (λ found. MatchOption found ((q : List Cell) → IsParking g o c.args.loc ends q → ⊥) (λ p. IsLeastParking g o c.args.loc ends p))
-    (λ found h. parking_weaker g o c.args.loc ends found h) c.search.ensures
+    (λ found h. parking_weaker g o c.args.loc ends (λ q. ⊥) found h) c.search.ensures

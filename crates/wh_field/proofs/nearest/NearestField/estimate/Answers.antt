@@ -4,7 +4,7 @@ use Rattle.wh_field.specs.Fields.{Sources}
 use Rattle.wh_field.specs.Nearest.{nearest_capped}
 use Rattle.wh_field.specs.Tables.{value}
 use Rattle.wh_field.specs.Places.{place}
-use Rattle.wh_field.proofs.Nearby.{nearest_at, nearest_outside}
+use Rattle.wh_field.proofs.Nearby.{filled_to, nearest_at, nearest_outside}
 use Rattle.wh_field.proofs.Places.{row_ends}
 use Rattle.wh_field.proofs.nearest.NearestField.estimate.Goals as goal
 
@@ -24,11 +24,12 @@ returns-in-Some c =
     let wy = e.1 in
     let here : c.in-Some.place ≡ place g cell = e.2 ∙ ap (λ (w : ℕ). (cell.y + 1) * (w + 1) + cell.x) v in
     let ends = row_ends g cell (omega arith) (omega arith) in
-    let size = i.filled.falling.ground.size in
+    let filled = filled_to g f.sources.items f.level f.front.distance f.front.head t f.queue.items (omega (arith, i.narrow)) (omega (arith, i.low)) i.surveying i.known in
+    let size = i.surveying.ground.size in
     let read : n ≡ value t c.in-Some.place = get_or_read t c.in-Some.place n (omega arith) c.index.ensures 4294967294 in
     let at_cell : value t (place g cell) ≡ n = sym (read ∙ ap (λ k. value t k) here) in
     let P : Sources → Type 0 = λ x. min n (f.level + 1) ≡ nearest_capped x.grid x.cells x.level cell in
-    c.min.ensures ∙ subst P c.self.view_is (nearest_at g f.sources.items cell f.level n t i.filled (omega arith) (omega arith) at_cell)
+    c.min.ensures ∙ subst P c.self.view_is (nearest_at g f.sources.items cell f.level n t filled (omega arith) (omega arith) at_cell)
 
 pub returns-in-None : goal.returns-in-None
 returns-in-None c =
