@@ -2,27 +2,11 @@
 use Rattle.std.proofs.Common.{◌≡◌, ℕ, ◌+◌, ◌<◌, ◌≤◌, ◌⊎◌, inl, inr, List, [], ◌∷◌, ◌++◌, length, take, Contains, subst, arith, length-append}
 use Rattle.std.proofs.Math.Seq.{take-append_seam, get_or-append_seam}
 use Rattle.std.proofs.lemmas.List.{get_or_append_left}
-use Rattle.std.proofs.lemmas.List.Elements.{All-nil, All-contains, Contains-append_left, Contains-append_right, Contains-push, Contains-push_cases, Contains-append_cases}
+use Rattle.wh_field.proofs.Tables.{Contains-none}
 use Rattle.wh_search.specs.Frontiers.{Problem, node_at}
 use Rattle.wh_search.specs.declared.noted.Node.{Node}
 use Rattle.wh_search.specs.States.{State, Steps}
 use Rattle.wh_search.specs.Ways.{state_number, IsHopeless, AreHopeless}
-
-pub Contains-first : {X : Type 0} (x : X) (xs : List X) → Contains (x ∷ xs) x
-Contains-first x xs = Contains-append_left (x ∷ []) xs x (Contains-push [] x)
-
-pub Contains-later : {X : Type 0} (x y : X) (xs : List X) → Contains xs x → Contains (y ∷ xs) x
-Contains-later x y xs h = Contains-append_right (y ∷ []) xs x h
-
-Contains-none : {X : Type 0} (x : X) → Contains [] x → ⊥
-Contains-none x n = All-contains (λ _. ⊥) [] x (All-nil (λ _. ⊥)) n
-
-pub Contains-cases : {X : Type 0} (x y : X) (xs : List X) → Contains (y ∷ xs) x → (y ≡ x) ⊎ Contains xs x
-Contains-cases x y xs h =
-    elim (Contains-append_cases (y ∷ []) xs x h) [
-      | inr c ↦ inr c
-      | inl c ↦ elim (Contains-push_cases [] y x c) [ inl n ↦ absurd (Contains-none x n) | inr e ↦ inl e ]
-    ]
 
 -- nodes stay where they are
 pub old_node : (nodes : List Node) (n : Node) (i : ℕ) → i < length nodes → node_at (nodes ++ n ∷ []) i ≡ node_at nodes i

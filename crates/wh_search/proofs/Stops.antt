@@ -9,7 +9,7 @@ use Rattle.wh_grid.specs.Grids.{Floor, IsPassable, IsMove, passable_cells}
 use Rattle.wh_resv.specs.Others.{Others, MayRest}
 use Rattle.wh_path.specs.Paths.{at, end, last_index, cell_at}
 use Rattle.wh_path.proofs.AtLemmas.{at-beyond, at-rests}
-use Rattle.wh_search.proofs.Kept.{Contains-first, Contains-cases}
+use Rattle.wh_field.proofs.Tables.{Contains-first, Contains-cases}
 use Rattle.wh_search.specs.Deliveries.{IsDelivery, IsLeast}
 use Rattle.wh_field.specs.Fields.{Source}
 use Rattle.wh_field.specs.Distances.{distance}

@@ -1,8 +1,7 @@
 -- what a guide estimates
-use Rattle.std.specs.Prelude.{◌≡◌, ℕ, ◌+◌, ◌-◌, ◌<◌, ◌^◌, Option, Some, None, List, [], ◌∷◌, min, length, slice_index, slice_index_or}
+use Rattle.std.specs.Prelude.{◌≡◌, ℕ, ◌+◌, ◌<◌, Option, Some, None, List, length, slice_index, slice_index_or}
 use Rattle.std.specs.Borrow.{Bor}
 use Rattle.wh_grid.specs.declared.cell.Cell.{Cell}
-use Rattle.wh_grid.specs.Grids.{Floor}
 use Rattle.wh_search.specs.declared.guide.Guide.{Guide}
 use Rattle.wh_search.specs.declared.guide.Guide.TheVariants.{Nearest, Stops, Sights, Manhattan}
 use Rattle.wh_field.specs.Fields.{Source, Sources}

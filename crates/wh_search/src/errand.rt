@@ -81,28 +81,6 @@ impl<'a> Errand<'a> {
     {
         leg == self.via.len() && self.ends_at(cell) && self.rests(cell, k)
     }
-
-    /// The estimate for an agent at a cell with the given number of stops behind it, where that for another
-    /// number of stops is known.
-    pub fn estimate_by(&self, known: u64, behind: usize, leg: usize, cell: Cell) -> u64
-        requires { known ≡ guide_estimate self.now.guide behind cell }
-        ensures { result ≡ guide_estimate self.now.guide leg cell }
-    {
-        if leg == behind {
-            return known;
-        }
-        self.guide.estimate(leg, cell)
-    }
-
-    /// Up to which bound the states are met to which a node leads: only those of its own time
-    /// and estimate at first, and then all.
-    pub fn upto(&self, own: u64, bound: u64) -> u64
-        requires { bound ≤ self.now.limit }
-        ensures bound { bound ≤ result }
-        ensures limit { result ≤ self.now.limit }
-    {
-        if own < bound { self.limit } else { bound }
-    }
 }
 
 /// A time before which no path ends at a cell where one may rest from `soonest` on, and not before. Under the rule that

@@ -168,13 +168,6 @@ impl TaskSet {
         }
     }
 
-    /// Whether any task is open. It takes constant time.
-    pub fn has_open(&self) -> bool
-        ensures { IsTrue result ↔ ((n : ℕ) × (task : Job) × IsTask self.now.tasks n task × IsOpen task) }
-    {
-        self.counts.open_tasks > 0
-    }
-
     /// Whether an open task is to be delivered at the cell. It looks at the open tasks that stop there, as far as the first
     /// that ends there.
     pub fn delivers_at(&self, cell: Cell) -> bool
