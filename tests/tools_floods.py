@@ -117,7 +117,7 @@ def bounded_too(*words: object) -> None:
     """The last request is answered within the bounds."""
     lines = replayed(made(*words))
     answer = lines[lines.index('%%') - 1].split()[0]
-    assert answer in ('took', 'refused'), answer
+    assert answer in ('took', 'parked', 'refused'), answer
 
 
 def test_the_last_stop_is_free_late() -> None:
@@ -156,9 +156,16 @@ def test_another_ends_beside_the_start() -> None:
     told('beside', 30, 3)
 
 
+def test_the_near_parking_is_shut_off() -> None:
+    # from (n / 2 - 2, n / 2) to A at (1, n - 1), which is nearer than the parkings that are left
+    for n in (20, 60):
+        lines = replayed(made('shut', n))
+        assert lines[lines.index('%%') - 1] == f'parked A end {n // 2 - 3 + n - 1 - n // 2}', n
+
+
 def test_none_floods() -> None:
     for words in (('door', 128, 4), ('hall', 200, 150), ('late', 100, 7, 1), ('ring', 401, 201), ('stops', 128, 8, 2),
-                  ('unreachable', 64, 8), ('beside', 400, 7)):
+                  ('unreachable', 64, 8), ('beside', 400, 7), ('shut', 400)):
         bounded_too(*words)
 
 

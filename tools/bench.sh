@@ -236,7 +236,7 @@ floods() {
     local words
     for words in 'stops 64 5 2' 'stops 64 8 2' 'stops 128 5 2' 'stops 256 8 2' 'unreachable 64 5' 'unreachable 256 5' 'door 64 4' \
         'door 128 4' 'door 256 4' 'door 512 4' 'hall 100 80' 'hall 200 150' 'hall 400 300' 'hall 800 600' 'late 40 3 1' 'late 60 7 1' \
-        'late 100 7 1' 'late 200 7 1' 'late 100 7 0' 'beside 100 7' 'beside 800 7' 'beside 1600 7' 'ring 201 101' 'ring 401 201' \
+        'late 100 7 1' 'late 200 7 1' 'late 100 7 0' 'beside 100 7' 'beside 800 7' 'beside 1600 7' 'shut 400' 'ring 201 101' 'ring 401 201' \
         'ring 1001 301' 'ring 2001 601' 'ring 4096 4094' 'blocked 1000 20' 'blocked 4000 20' 'blocked 16000 20' 'wide 512 16' \
         'wide 1024 16' 'wide 2048 16'; do
         # shellcheck disable=SC2086

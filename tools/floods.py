@@ -15,12 +15,14 @@ Families, and their numbers:
                      come to rest there only then; where SHUT is 1, agent 2 comes to rest in the way there later, so that
                      no path leads to it
   beside N LEGS      agent 0 walks LEGS stops to and fro on an open map and ends beside agent 1, whose way is straight on
+  shut N             an open map of N by N, cut by a wall, in whose only door an agent is at rest; another is to make way, and the
+                     nearest cell where it may park is close, but beyond the door, and the next one is far
   blocked T A        A agents, T open tasks, none of which can be done for where an agent rests
   rests T A N        the same tasks, and then N requests by turns, which all find that nothing can be done
   wide N A           an open map of N by N, A agents, one far task each: distance fields of whole maps
   maze N A T         a maze of N by N with its points in dead ends, A agents, T tasks, one a tick, and each agent asks at each tick
 
-All but `unreachable` and `late` are well-formed where the numbers are large enough: `warehouse check` tells.
+All but `unreachable`, `late` and `shut` are well-formed where the numbers are large enough: `warehouse check` tells.
 The last request of an instance is the dear one; of `rests`, `wide` and `maze` none is by itself.
 """
 import os
@@ -150,6 +152,18 @@ def beside(n, legs):
     put(open_rows(n, n), points, ['submit x ' + ' '.join(walk + ['E']), 'token 0', 'submit y S T', 'token 1'])
 
 
+def shut(n):
+    rows, wall, middle = open_rows(n, n), n // 2, n // 2
+    for y in range(n):
+        if y != middle:
+            rows[y][wall] = '@'
+    points = ['parking FAR 0 0', f'parking DOOR {wall} {middle}', f'parking LOW 0 {n - 1}', f'parking NEAR {wall + 2} {middle}',
+              f'station C {wall - 3} {middle}', f'station HERE {wall - 2} {middle}', f'station A 1 {n - 1}', f'station AWAY 2 {n - 1}',
+              'agent FAR', 'agent DOOR', 'agent LOW']
+    script = ['submit c A AWAY', 'token 2', 'submit c C HERE', 'token 0'] + ['tick'] * n
+    put(rows, points, script + ['submit c AWAY C', 'submit c AWAY HERE', 'token 0'])
+
+
 def blocked(tasks, agents, asks=None):
     n = 2 * agents + 4
     points = [f'station H{i} {2 * i} 0' for i in range(agents)] + [f'station G {n - 1} 4', f'station F {n - 1} 6']
@@ -204,8 +218,8 @@ def maze(n, agents, tasks):
 
 
 FAMILIES = {'stops': (stops, 3), 'unreachable': (lambda n, k: stops(n, k, 0, True), 2), 'ring': (ring, 2), 'door': (door, 2),
-            'hall': (hall, 2), 'late': (late, 3), 'beside': (beside, 2), 'blocked': (blocked, 2), 'rests': (blocked, 3), 'wide': (wide, 2),
-            'maze': (maze, 3)}
+            'hall': (hall, 2), 'late': (late, 3), 'beside': (beside, 2), 'shut': (shut, 1), 'blocked': (blocked, 2),
+            'rests': (blocked, 3), 'wide': (wide, 2), 'maze': (maze, 3)}
 
 
 def main(words):
