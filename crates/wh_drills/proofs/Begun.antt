@@ -1,5 +1,5 @@
 -- What a run that is found in a journal starts from, and how few callers one client and a worker are.
-use Rattle.std.proofs.Common.{◌≡◌, ◌≤◌, ℕ, List, [], length, sym, subst, arith, Option, None, Some}
+use Rattle.std.proofs.Common.{◌≡◌, ◌≤◌, ℕ, List, length, sym, subst, arith, Option, None, Some}
 use Rattle.wh_points.specs.Points.{Site}
 use Rattle.wh_continue.specs.Starting.{StartsByFile, StartsIn}
 use Rattle.wh_continue.specs.Running.{IsStartOf}

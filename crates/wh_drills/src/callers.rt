@@ -3,14 +3,14 @@
 
 ghost use Rattle.std.specs.Prelude.{◌≡◌};
 
-use super::parts::{finish_two, task};
+use super::desks::submits;
+use super::parts::finish_two;
 use super::stage::{Drill, drilled};
 use std::alloc::Global;
-use std::process::Abort;
 use std::sync::Wait;
 use std::test::*;
 use std::thread::{Threads, join};
-use wh_desk::{Desk, DeskName, Pass};
+use wh_desk::{Desk, DeskName, Pass, Receipt};
 use wh_event::{Entry, Reply};
 use wh_planner::Planner;
 
@@ -26,29 +26,41 @@ pub fn two_hundred<
     N: DeskName + Send + Sync,
     H: Wait + Send + Sync + Drop,
     P: Planner,
-    R: Threads + Wait + Sync + Abort,
->(rt: &R, alloc: Global, desk: Desk<N, H, P>, mut passes: Vec<Pass<N>>) -> Result<(), Fail>
+    R: Threads + Wait + Sync,
+>(rt: &R, alloc: Global, desk: Desk<N, H, P>, zero: Pass<N>, one: Pass<N>) -> bool
     requires { N.callers ≡ 2 }
 {
-    let one = passes.pop().ok_or("pass 1")?;
-    let zero = passes.pop().ok_or("pass 0")?;
-    let (left, right) = in_two_threads(rt, alloc, &desk, zero, one);
-    let (zero, by_zero) = left;
-    let (one, by_one) = right;
-    assert!(rt; rises(&by_zero) && rises(&by_one));
-    each_once(rt, &by_zero, &by_one);
-    let Ok(met) = desk.meet(rt, &zero, &one) else {
-        return Err("both are current".into());
+    let ((zero, by_zero), (one, by_one)) = in_two_threads(rt, alloc, &desk, zero, one);
+    let is_told = are_two_hundred(by_zero, by_one);
+    let is_met = meet(rt, &desk, &zero, &one);
+    let is_whole = match finish_two(alloc, desk, zero, one) {
+        Some(history) => {
+            let are_hundred = are_hundred_each(history.warehouse.history());
+            drop(history);
+            are_hundred
+        }
+        None => false,
     };
-    assert_eq!(rt; met.length, 200);
-    let history = finish_two(alloc, desk, zero, one)?;
-    hundred_each(rt, history.warehouse.history());
-    Ok(())
+    is_told && is_met && is_whole
+}
+
+/// Whether the receipts of both stand in a history of 200 entries.
+fn meet<N: DeskName, H: Wait + Drop, P: Planner, R: Wait>(
+    rt: &R,
+    desk: &Desk<N, H, P>,
+    zero: &Pass<N>,
+    one: &Pass<N>,
+) -> bool {
+    match desk.meet(rt, zero, one) {
+        Ok(met) => met.length == 200,
+        Err(_) => false,
+    }
 }
 
 #[test]
 fn two_callers(rt: HostRuntime) -> Result<(), Fail> {
-    drilled(&rt, rt.alloc(), Drill::TwoHundred, 200, 2)
+    assert!(rt; drilled(&rt, rt.alloc(), Drill::TwoHundred, 200, 2)?);
+    Ok(())
 }
 
 /// Each thread submits 100 times.
@@ -66,13 +78,13 @@ fn in_two_threads<
 ) -> ((Pass<N>, Vec<Seen>), (Pass<N>, Vec<Seen>)) {
     join(
         rt,
-        || submits(rt, alloc, desk, zero),
-        || submits(rt, alloc, desk, one),
+        || submits_often(rt, alloc, desk, zero),
+        || submits_often(rt, alloc, desk, one),
     )
 }
 
 /// Submits 100 times.
-fn submits<N: DeskName, H: Wait + Drop, P: Planner, R: Wait>(
+fn submits_often<N: DeskName, H: Wait + Drop, P: Planner, R: Wait>(
     rt: &R,
     alloc: Global,
     desk: &Desk<N, H, P>,
@@ -95,8 +107,13 @@ fn submit<N: DeskName, H: Wait + Drop, P: Planner, R: Wait>(
     desk: &Desk<N, H, P>,
     pass: &mut Pass<N>,
 ) -> Option<Seen> {
-    let (client, stops) = task()?;
-    let receipt = desk.submit(rt, alloc, pass, client, stops).ok()?;
+    match submits(rt, alloc, desk, pass) {
+        Some(Ok(receipt)) => seen_in(&receipt),
+        _ => None,
+    }
+}
+
+fn seen_in(receipt: &Receipt) -> Option<Seen> {
     match &receipt.entry.reply {
         Reply::Accepted { task } => Some(Seen {
             position: receipt.position,
@@ -118,14 +135,26 @@ fn rises(seen: &[Seen]) -> bool {
     true
 }
 
-/// The positions 0 to 199 and the tasks 0 to 199, each once.
-fn each_once<R: Abort>(rt: &R, by_zero: &[Seen], by_one: &[Seen]) {
-    assert_eq!(rt; (by_zero.len(), by_one.len()), (100, 100));
+/// Whether each had 100 receipts, in order, and the positions 0 to 199 and the tasks 0 to 199 stand in them, each once.
+fn are_two_hundred(by_zero: Vec<Seen>, by_one: Vec<Seen>) -> bool {
+    let (by_zero, by_one) = (by_zero.as_slice(), by_one.as_slice());
+    by_zero.len() == 100
+        && by_one.len() == 100
+        && rises(by_zero)
+        && rises(by_one)
+        && each_once(by_zero, by_one)
+}
+
+/// Whether the positions 0 to 199 and the tasks 0 to 199 stand in them, each once.
+fn each_once(by_zero: &[Seen], by_one: &[Seen]) -> bool {
     for k in 0..200u32 {
         let positions = at_position(by_zero, k).saturating_add(at_position(by_one, k));
         let tasks = of_task(by_zero, k).saturating_add(of_task(by_one, k));
-        assert_eq!(rt; (positions, tasks), (1, 1));
+        if positions != 1 || tasks != 1 {
+            return false;
+        }
     }
+    true
 }
 
 fn at_position(seen: &[Seen], k: u32) -> usize {
@@ -138,13 +167,9 @@ fn of_task(seen: &[Seen], k: u32) -> usize {
     seen.iter().filter(|one| one.task == k).count()
 }
 
-/// The history has 200 entries, 100 for each caller.
-fn hundred_each<R: Abort>(rt: &R, entries: &[Entry]) {
-    assert_eq!(rt; entries.len(), 200);
-    assert_eq!(rt;
-        (entries_by(entries, 0), entries_by(entries, 1)),
-        (100, 100)
-    );
+/// Whether the history has 200 entries, 100 for each caller.
+fn are_hundred_each(entries: &[Entry]) -> bool {
+    entries.len() == 200 && entries_by(entries, 0) == 100 && entries_by(entries, 1) == 100
 }
 
 fn entries_by(entries: &[Entry], caller: u32) -> usize {

@@ -1,24 +1,23 @@
 //! Crews at a desk, beside a thread that looks at its board.
 #![tactic(auto)]
 
-ghost use Rattle.std.specs.Prelude.{◌≡◌, [], length};
+ghost use Rattle.std.specs.Prelude.{◌≡◌, [], IfOk, length};
 ghost use Rattle.wh_board.specs.Pasts.{origin_of, past_of};
 ghost use Rattle.wh_desk.specs.Calls.{InOrder};
 
 use super::gates::{Open, Together, Turns, Watched, hold};
-use super::parts::{Parts, staffed};
+use super::parts::{Outfit, Parts, fit_out, staffed};
 use arrayvec::ArrayVec;
 use std::alloc::{AllocError, Global};
 use std::marker::Brand;
-use std::process::Abort;
 use std::sync::Wait;
 use std::sync::atomic::AtomicU64;
 use std::sync::atomic::Ordering::SeqCst;
 use std::test::*;
-use std::thread::{Threads, join, yield_now};
-use wh_board::{Publisher, Viewer};
+use std::thread::{Threads, join};
+use wh_board::Viewer;
 use wh_crew::{CrewFault, Crewed, Gate, Missed, crew};
-use wh_desk::{Cells, Desk, DeskName, Warehouse};
+use wh_desk::{Desk, DeskName, Pass};
 use wh_edge::{Work, agent_work, client_work, clock_work};
 use wh_event::{Entry, Reply};
 use wh_planner::Planner;
@@ -35,16 +34,18 @@ enum Chore {
     Clock(u32),
 }
 
-/// What a crew left: its history, how many calls of each worker were refused, and what was seen of the board.
-#[derive(Drop)]
-struct Left {
-    entries: Vec<Entry>,
-    missed: Vec<Missed>,
-    seen: ArrayVec<Glimpse, 16>,
+/// Which test it is, and so what is looked at when its crew is through.
+#[derive(Clone, Copy)]
+enum Case {
+    InTurn,
+    TwoBegin,
+    EightBegin,
+    TenPlaces,
+    Fronts,
 }
 
 /// A board in short.
-#[derive(Clone, Copy, PartialEq, Eq, Debug, Default)]
+#[derive(Clone, Copy, PartialEq, Eq, Default)]
 struct Glimpse {
     entries: u64,
     clock: u32,
@@ -62,21 +63,18 @@ fn work<P: Planner>(alloc: Global, chore: Chore) -> Result<Work<P>, Fail> {
     }
 }
 
-fn works<P: Planner>(alloc: Global, chores: &[Chore]) -> Result<Vec<Work<P>>, Fail> {
-    let mut works = Vec::with_capacity(alloc, chores.len())?;
+/// The works of a crew, and how many they are.
+fn works<P: Planner>(alloc: Global, chores: &[Chore]) -> Result<(Vec<Work<P>>, u32), Fail>
+    ensures { IfOk result (λ r. r.1 ≡ length r.0.items) }
+{
+    let mut works = Vec::new(alloc);
     for chore in chores {
         works.push(work(alloc, *chore)?)?;
     }
-    Ok(works)
-}
-
-/// The same entries.
-fn copies(alloc: Global, entries: &[Entry]) -> Result<Vec<Entry>, Fail> {
-    let mut copies = Vec::with_capacity(alloc, entries.len())?;
-    for entry in entries {
-        copies.push(entry.copy(alloc)?)?;
+    match u32::try_from(works.len()) {
+        Ok(callers) => Ok((works, callers)),
+        Err(_) => Err("at most 64 workers".into()),
     }
-    Ok(copies)
 }
 
 /// Looks once more, and keeps what is seen where it is not what was seen before. How many entries it has.
@@ -104,8 +102,7 @@ fn looks(mut viewer: Viewer, watch: &Watched, often: u64) -> (Viewer, ArrayVec<G
     (viewer, seen)
 }
 
-/// Opens a desk with as many callers as works, and has the crew work, while another thread looks. It looks once more when the desk
-/// is gone.
+/// Opens a desk with as many callers as works, and has the crew work there. Whether all went as the case has it.
 fn run<
     N: DeskName + Send + Sync,
     H: Wait + Send + Sync + Drop,
@@ -115,28 +112,60 @@ fn run<
 >(
     rt: &R,
     alloc: Global,
-    warehouse: Warehouse<P>,
-    cells: Cells,
-    publisher: Publisher<H>,
+    outfit: Outfit<H, P>,
+    works: Vec<Work<P>>,
+    callers: u32,
+    gate: &G,
+    watch: &Watched,
+    often: u64,
+    case: Case,
+) -> bool
+    requires origin { origin_of outfit.warehouse.book ≡ N.origin }
+    requires history { outfit.warehouse.book.history ≡ [] }
+    requires cells { outfit.cells ≡ N.cells }
+    requires book { outfit.publisher.book ≡ N.book }
+    requires added { outfit.publisher.added ≡ past_of outfit.warehouse.book }
+    requires shown { outfit.publisher.shown ≡ past_of outfit.warehouse.book }
+    requires callers { N.callers ≡ callers }
+    requires works { callers ≡ length works.items }
+{
+    let Outfit {
+        warehouse,
+        cells,
+        publisher,
+    } = outfit;
+    match Desk::<N, H, P>::open(alloc, warehouse, cells, publisher, callers) {
+        Ok((desk, passes)) => {
+            beside_looks(rt, alloc, desk, passes, works, gate, watch, often, case)
+        }
+        Err(_) => false,
+    }
+}
+
+/// Has the crew work at the desk, while another thread looks. It looks once more when the desk is gone.
+fn beside_looks<
+    N: DeskName + Send + Sync,
+    H: Wait + Send + Sync + Drop,
+    P: Planner,
+    R: Threads + Wait + Sync,
+    G: Gate,
+>(
+    rt: &R,
+    alloc: Global,
+    desk: Desk<N, H, P>,
+    passes: Vec<Pass<N>>,
     works: Vec<Work<P>>,
     gate: &G,
     watch: &Watched,
     often: u64,
-) -> Result<Left, Fail>
-    requires origin { origin_of warehouse.book ≡ N.origin }
-    requires history { warehouse.book.history ≡ [] }
-    requires cells { cells ≡ N.cells }
-    requires book { publisher.book ≡ N.book }
-    requires added { publisher.added ≡ past_of warehouse.book }
-    requires shown { publisher.shown ≡ past_of warehouse.book }
-    requires callers { N.callers ≡ length works.items }
+    case: Case,
+) -> bool
+    requires order { InOrder N.callers passes.items }
+    requires works { length works.items ≡ length passes.items }
 {
-    let Ok(callers) = u32::try_from(works.len()) else {
-        return Err("at most 64 workers".into());
-    };
-    let (desk, passes) = Desk::<N, H, P>::open(alloc, warehouse, cells, publisher, callers)?;
     let Ok(viewer) = desk.viewer(rt) else {
-        return Err("a viewer".into());
+        drop(desk);
+        return false;
     };
     let (looked, done) = join(
         rt,
@@ -145,17 +174,33 @@ fn run<
             requires { InOrder N.callers passes.items × (length works.items ≡ length passes.items) }
         { crew(rt, alloc, desk, passes, works, gate) },
     );
+    let seen = look_again(looked);
+    match done {
+        Ok(done) => {
+            let entries = done.history.warehouse.history();
+            let is_well = went(case, entries, done.missed.as_slice(), seen.as_slice());
+            drop(done);
+            is_well
+        }
+        Err(_) => false,
+    }
+}
+
+/// What is seen with one look more.
+fn look_again(looked: (Viewer, ArrayVec<Glimpse, 16>)) -> ArrayVec<Glimpse, 16> {
     let (mut viewer, mut seen) = looked;
     look(&mut viewer, &mut seen);
-    match done {
-        Ok(done) => Ok(Left {
-            entries: copies(alloc, done.history.warehouse.history())?,
-            missed: done.missed,
-            seen,
-        }),
-        Err(CrewFault::NoThread) => Err("a thread for each worker".into()),
-        Err(CrewFault::NoMemory) => Err("memory".into()),
-        Err(CrewFault::Stale) => Err("each pass has all".into()),
+    seen
+}
+
+/// Whether the history is as the case has it, and how many calls of each worker were refused, and what was seen of the board.
+fn went(case: Case, entries: &[Entry], missed: &[Missed], seen: &[Glimpse]) -> bool {
+    match case {
+        Case::InTurn => missed == [NONE, NONE].as_slice() && are_in_turn(entries),
+        Case::TwoBegin => missed == [NONE, NONE].as_slice() && entries.len() == 4,
+        Case::EightBegin => missed == [NONE; 8].as_slice() && entries.len() == 8,
+        Case::TenPlaces => entries.len() == 10 && found_full(missed) == 17,
+        Case::Fronts => entries.len() == 4 && sees_fronts(entries, seen),
     }
 }
 
@@ -168,17 +213,22 @@ fn run_made<P: Planner, F: Fn(Parts) -> Result<P, AllocError>, R: Threads + Wait
     gate: &G,
     watch: &Watched,
     often: u64,
+    case: Case,
     make: &F,
-) -> Result<Left, Fail>
+) -> Result<bool, Fail>
     requires { F.IsAlwaysCallable make.now }
 {
     let warehouse = staffed(alloc, make)?;
-    let cells = Cells::new(alloc, capacity)?;
-    let publisher = Publisher::new(alloc, rt, warehouse.book())?;
-    let works = works(alloc, chores)?;
-    run::<Brand, _, _, _, _>(
-        rt, alloc, warehouse, cells, publisher, works, gate, watch, often,
-    )
+    let outfit = fit_out(rt, alloc, warehouse, capacity)?;
+    match works(alloc, chores) {
+        Ok((works, callers)) => Ok(run::<Brand, _, _, _, _>(
+            rt, alloc, outfit, works, callers, gate, watch, often, case,
+        )),
+        Err(fault) => {
+            drop(outfit);
+            Err(fault)
+        }
+    }
 }
 
 /// The same with boxed planners.
@@ -190,24 +240,25 @@ fn watched<R: Threads + Wait + Sync, G: Gate>(
     gate: &G,
     watch: &Watched,
     often: u64,
-) -> Result<Left, Fail> {
+    case: Case,
+) -> Result<bool, Fail> {
     let make = |parts: Parts| -> Result<Box<dyn Planner>, AllocError> {
         let patient = Patient::new(parts.grid, parts.claim);
         let planner: Box<dyn Planner> = Box::new(alloc, patient)?;
         Ok(planner)
     };
-    run_made(rt, alloc, capacity, chores, gate, watch, often, &make)
+    run_made(rt, alloc, capacity, chores, gate, watch, often, case, &make)
 }
 
-/// The same, and the other thread looks once.
+/// The same over a journal of ten, and the other thread looks once.
 fn crewed<R: Threads + Wait + Sync, G: Gate>(
     rt: &R,
     alloc: Global,
-    capacity: u64,
     chores: &[Chore],
     gate: &G,
-) -> Result<Left, Fail> {
-    watched(rt, alloc, capacity, chores, gate, &Watched::new(), 0)
+    case: Case,
+) -> Result<bool, Fail> {
+    watched(rt, alloc, 10, chores, gate, &Watched::new(), 0, case)
 }
 
 /// No call was refused.
@@ -230,21 +281,20 @@ fn gate_orders_workers(rt: HostRuntime) -> Result<(), Fail> {
         one: AtomicU64::new(0),
         limits: AtomicU64::new(0),
     };
-    let left = crewed(&rt, rt.alloc(), 10, &TWO, &gate)?;
-    assert_eq!(rt; gate.limits.load(SeqCst), 0);
-    assert_eq!(rt; left.missed.as_slice(), [NONE, NONE].as_slice());
-    in_turn(&rt, left.entries.as_slice());
+    let went = crewed(&rt, rt.alloc(), &TWO, &gate, Case::InTurn)?;
+    assert!(rt; went && gate.limits.load(SeqCst) == 0);
     Ok(())
 }
 
 /// Worker 1 submits, then worker 0, then each ticks.
-fn in_turn<R: Abort>(rt: &R, entries: &[Entry]) {
-    assert_eq!(rt; entries.len(), 4);
-    assert_eq!(rt; (entries[0].caller, entries[1].caller), (1, 0));
-    assert!(rt; matches!(entries[0].reply, Reply::Accepted { task: 0 }));
-    assert!(rt; matches!(entries[1].reply, Reply::Accepted { task: 1 }));
-    assert!(rt; matches!(entries[2].reply, Reply::Clock { now: 1, .. }));
-    assert!(rt; matches!(entries[3].reply, Reply::Clock { now: 2, .. }));
+fn are_in_turn(entries: &[Entry]) -> bool {
+    entries.len() == 4
+        && entries[0].caller == 1
+        && entries[1].caller == 0
+        && matches!(entries[0].reply, Reply::Accepted { task: 0 })
+        && matches!(entries[1].reply, Reply::Accepted { task: 1 })
+        && matches!(entries[2].reply, Reply::Clock { now: 1, .. })
+        && matches!(entries[3].reply, Reply::Clock { now: 2, .. })
 }
 
 /// A gate at which each worker waits until all have begun.
@@ -259,47 +309,42 @@ fn together(workers: u64) -> Together {
 #[test]
 fn both_begin(rt: HostRuntime) -> Result<(), Fail> {
     let gate = together(2);
-    let left = crewed(&rt, rt.alloc(), 10, &TWO, &gate)?;
-    assert_eq!(rt; gate.limits.load(SeqCst), 0);
-    assert_eq!(rt; left.missed.as_slice(), [NONE, NONE].as_slice());
-    assert_eq!(rt; left.entries.len(), 4);
+    let went = crewed(&rt, rt.alloc(), &TWO, &gate, Case::TwoBegin)?;
+    assert!(rt; went && gate.limits.load(SeqCst) == 0);
     Ok(())
 }
 
 #[test]
 fn eight_begin(rt: HostRuntime) -> Result<(), Fail> {
     let gate = together(8);
-    let left = crewed(&rt, rt.alloc(), 10, &[Chore::Clock(1); 8], &gate)?;
-    assert_eq!(rt; gate.limits.load(SeqCst), 0);
-    assert_eq!(rt; left.missed.as_slice(), [NONE; 8].as_slice());
-    assert_eq!(rt; left.entries.len(), 8);
+    let chores = [Chore::Clock(1); 8];
+    let went = crewed(&rt, rt.alloc(), &chores, &gate, Case::EightBegin)?;
+    assert!(rt; went && gate.limits.load(SeqCst) == 0);
     Ok(())
 }
 
-fn open() -> Open {
-    Open {
-        begun: AtomicU64::new(0),
-        ended: AtomicU64::new(0),
-    }
+/// Five workers of 27 calls.
+const FIVE: [Chore; 5] = [
+    Chore::Client("submit x A B\nsubmit x B A\n"),
+    Chore::Client("submit y C D\n"),
+    Chore::Agent(0, 8),
+    Chore::Agent(1, 8),
+    Chore::Clock(8),
+];
+
+/// How many calls found the journal full.
+fn found_full(missed: &[Missed]) -> u64 {
+    missed.iter().fold(0, |sum, n| sum.saturating_add(n.full))
 }
 
 #[test]
 fn journal_of_ten(rt: HostRuntime) -> Result<(), Fail> {
-    let gate = open();
-    let chores = [
-        Chore::Client("submit x A B\nsubmit x B A\n"),
-        Chore::Client("submit y C D\n"),
-        Chore::Agent(0, 8),
-        Chore::Agent(1, 8),
-        Chore::Clock(8),
-    ];
-    let left = crewed(&rt, rt.alloc(), 10, &chores, &gate)?;
-    let missed = (left.missed.iter()).fold(0u64, |sum, n| sum.saturating_add(n.full));
-    assert_eq!(rt; (left.entries.len(), missed), (10, 17));
-    assert_eq!(rt;
-        (gate.begun.load(SeqCst), gate.ended.load(SeqCst)),
-        (27, 27)
-    );
+    let gate = Open {
+        begun: AtomicU64::new(0),
+        ended: AtomicU64::new(0),
+    };
+    let went = crewed(&rt, rt.alloc(), &FIVE, &gate, Case::TenPlaces)?;
+    assert!(rt; went && gate.begun.load(SeqCst) == 27 && gate.ended.load(SeqCst) == 27);
     Ok(())
 }
 
@@ -320,21 +365,28 @@ fn front(entries: &[Entry], count: u64) -> Glimpse {
     board
 }
 
+/// Whether each glimpse is the board of a front of the four entries, later than the one before, and the last that of all.
+fn are_fronts(entries: &[Entry], seen: &[Glimpse]) -> bool {
+    let mut before = None;
+    for glimpse in seen {
+        if *glimpse != front(entries, glimpse.entries) || before >= Some(glimpse.entries) {
+            return false;
+        }
+        before = Some(glimpse.entries);
+    }
+    before == Some(4)
+}
+
+/// The same, and no call came second before the display had seen one that came first.
+fn sees_fronts(entries: &[Entry], seen: &[Glimpse]) -> bool {
+    let between = |glimpse: &Glimpse| glimpse.entries == 1 || glimpse.entries == 2;
+    are_fronts(entries, seen) && seen.iter().any(between)
+}
+
 #[test]
 fn looks_see_fronts_of_the_history(rt: HostRuntime) -> Result<(), Fail> {
     let gate = Watched::new();
-    let left = watched(&rt, rt.alloc(), 10, &TWO, &gate, &gate, 4)?;
-    assert_eq!(rt; gate.limits.load(SeqCst), 0);
-    assert_eq!(rt; left.entries.len(), 4);
-    let mut before = None;
-    for glimpse in left.seen.as_slice() {
-        assert_eq!(rt; *glimpse, front(left.entries.as_slice(), glimpse.entries));
-        assert!(rt; before < Some(glimpse.entries));
-        before = Some(glimpse.entries);
-    }
-    assert_eq!(rt; before, Some(4));
-    // No call came second before the display had seen one that came first.
-    let between = |glimpse: &Glimpse| glimpse.entries == 1 || glimpse.entries == 2;
-    assert!(rt; left.seen.as_slice().iter().any(between));
+    let went = watched(&rt, rt.alloc(), 10, &TWO, &gate, &gate, 4, Case::Fronts)?;
+    assert!(rt; went && gate.limits.load(SeqCst) == 0);
     Ok(())
 }

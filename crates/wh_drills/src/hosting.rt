@@ -1,19 +1,19 @@
 //! A client over bytes, with a worker for agents and clock and a screen beside it.
 #![tactic(auto)]
 
-use super::houses::House;
-use super::joining::{one, resumed};
+use super::houses::{Counts, House, Notes};
+use super::joining::{begun, closes_it, comes_to_nothing};
 use super::screens::TextScreen;
 use std::alloc::Global;
 use std::sync::Wait;
 use std::sync::atomic::AtomicU64;
-use std::sync::atomic::Ordering::SeqCst;
 use std::test::*;
 use std::thread::Threads;
 use std::time::{Clock, Duration};
 use wh_board::Board;
 use wh_desk::DeskFault;
 use wh_display::{ShowFault, text_of_board};
+use wh_edge::Trouble;
 use wh_event::{Entry, Event, Reply};
 use wh_host::{Display, Pacing, Ran, run_clients};
 use wh_journal::MemoryJournal;
@@ -29,21 +29,40 @@ const FIRST: &[u8] =
     b"wboard 1\nentries 0\nclock 0\nopen 0\nassigned 0\ncarried 0\ndone 0\n0,1 0 none\n4,1 0 none\n";
 
 /// What these runs leave.
-type Left<'a> = Ran<MemoryJournal, TextScreen<'a>, Patient>;
+pub type Left<'a> = Ran<MemoryJournal, TextScreen<'a>, Patient>;
 
-/// How a run is hosted: how many entries its journal may have, how many of them the client, and how many the worker, where one is
-/// beside it; whether there is a screen; and whether the journal has failed before anybody comes.
+/// Which test it is, and so what is looked at when its run has ended.
 #[derive(Clone, Copy)]
-struct Plan {
-    entries: u32,
-    share: u64,
-    worker: Option<u64>,
-    has_screen: bool,
-    has_failed: bool,
+pub enum Case {
+    TasksDone,
+    JournalFull,
+    ShareLeft,
+    ShareUsed,
+    Fault,
+    GoesOn,
+    Nobodys,
 }
 
-/// With a worker and a screen, and with room for all that the worker does until the client closes.
+/// How a run is hosted: what its journal holds before; what the client sends over its connections, and how many of these come at
+/// once; how many entries more the journal may have, how many the client, and how many the worker, where one is beside it; whether
+/// there is a screen; and whether the journal has failed before anybody comes.
+#[derive(Clone, Copy)]
+pub struct Plan {
+    pub before: &'static [u8],
+    pub sends: &'static [&'static [u8]],
+    pub at_once: u64,
+    pub entries: u32,
+    pub share: u64,
+    pub worker: Option<u64>,
+    pub has_screen: bool,
+    pub has_failed: bool,
+}
+
+/// A run that begins, with a worker and a screen, and with room for all that the worker does until the client closes.
 const PLAN: Plan = Plan {
+    before: b"",
+    sends: &[],
+    at_once: 0,
     entries: 100_000,
     share: 3,
     worker: Some(100_000),
@@ -55,7 +74,7 @@ const PLAN: Plan = Plan {
 const PAUSE: u64 = 1;
 
 /// The pace of the worker, if there is one: each turn has an entry at least, so it may fill the journal and find it full.
-fn pace_of(plan: Plan) -> Option<Pacing> {
+fn pace_of(plan: &Plan) -> Option<Pacing> {
     match plan.worker {
         Some(entries) => Some(Pacing {
             turns: plan.entries.saturating_add(1),
@@ -67,28 +86,31 @@ fn pace_of(plan: Plan) -> Option<Pacing> {
 }
 
 /// The display, if there is one.
-fn display_of(alloc: Global, cues: &AtomicU64, plan: Plan) -> Option<Display<TextScreen<'_>>> {
+fn display_of<'a>(
+    alloc: Global,
+    cues: &'a AtomicU64,
+    plan: &Plan,
+) -> Option<Display<TextScreen<'a>>> {
     plan.has_screen.then_some(Display {
         screen: TextScreen::new(alloc, cues),
         pause: Duration::from_millis(PAUSE),
     })
 }
 
-/// Hosts the one client in a run that begins.
+/// Hosts the one client.
 #[tactic(auto, using(crate::proofs::Begun::few_callers))]
 fn host<'a, X: Threads + Wait + Clock + Sync>(
     rt: &X,
     alloc: Global,
-    house: &House<'a, X>,
-    plan: Plan,
-) -> Result<Left<'a>, Fail> {
+    house: &'a House<'a, X>,
+    plan: &Plan,
+) -> Result<Result<Left<'a>, Trouble>, Fail> {
     let mut journal = MemoryJournal::new(alloc);
-    let warehouse = resumed(alloc, &mut journal)?;
-    journal.has_failed = plan.has_failed;
-    let clients = one(alloc, plan.share)?;
+    let mut clients = Vec::new(alloc);
+    let warehouse = begun(alloc, &mut journal, &mut clients, plan)?;
     let pace = pace_of(plan);
-    let display = display_of(alloc, house.cues, plan);
-    match run_clients::<_, _, _, &'static [u8], Vec<u8>, _, _>(
+    let display = display_of(alloc, &house.cues, plan);
+    Ok(run_clients::<_, _, _, &'static [u8], Vec<u8>, _, _>(
         rt,
         alloc,
         Form::Short,
@@ -99,19 +121,68 @@ fn host<'a, X: Threads + Wait + Clock + Sync>(
         house,
         pace,
         display,
-    ) {
-        Ok(ran) => Ok(ran),
-        Err(_) => Err("threads, and memory".into()),
+    ))
+}
+
+/// Hosts the client at the house, and tells whether all went as the case has it. What the run leaves ends in here.
+fn hosts_at<'a, X: Threads + Wait + Clock + Sync>(
+    rt: &X,
+    alloc: Global,
+    house: &'a House<'a, X>,
+    case: Case,
+    plan: &Plan,
+) -> Result<bool, Fail> {
+    let outcome = host(rt, alloc, house, plan)?;
+    let counts = house.counts();
+    let notes = house.notes.lock(rt);
+    let is_well = went(alloc, case, &outcome, &notes, counts);
+    drop(outcome);
+    Ok(is_well)
+}
+
+/// Hosts the plan's client, and tells whether all went as the case has it.
+pub fn hosts<X: Threads + Wait + Clock + Sync>(
+    rt: &X,
+    alloc: Global,
+    case: Case,
+    plan: &Plan,
+) -> Result<bool, Fail> {
+    let house = House::new(rt, alloc, plan.sends, plan.at_once);
+    hosts_at(rt, alloc, &house, case, plan)
+}
+
+/// Whether it came out as the case has it, and no limit was met.
+fn went(
+    alloc: Global,
+    case: Case,
+    outcome: &Result<Left, Trouble>,
+    notes: &Notes,
+    counts: Counts,
+) -> bool {
+    if counts.limits > 0 {
+        return false;
+    }
+    match (case, outcome) {
+        (Case::Nobodys, Err(trouble)) => comes_to_nothing(*trouble, notes, counts.opened),
+        (Case::TasksDone, Ok(ran)) => is_done(alloc, ran, notes),
+        (Case::JournalFull, Ok(ran)) => is_filled(ran, notes),
+        (Case::ShareLeft, Ok(ran)) => leaves_a_share(ran, notes),
+        (Case::ShareUsed, Ok(ran)) => has_used_its_share(ran, notes),
+        (Case::Fault, Ok(ran)) => stops_at_the_fault(ran, notes, counts.over),
+        (Case::GoesOn, Ok(ran)) => closes_it(ran, notes),
+        _ => false,
     }
 }
 
 /// Whether the journal is the log of the history, except for its end line, and all of it was synced.
-fn is_log(alloc: Global, ran: &Left) -> Result<bool, Fail> {
-    let Ok(lines) = entries_text(alloc, ran.history.warehouse.history()) else {
-        return Err("there is memory".into());
-    };
+fn is_log(alloc: Global, ran: &Left) -> bool {
     let held = ran.journal.held.as_slice();
-    Ok(held.strip_prefix(HEAD) == Some(lines.as_slice()) && ran.journal.safe == held.len())
+    match entries_text(alloc, ran.history.warehouse.history()) {
+        Ok(lines) => {
+            held.strip_prefix(HEAD) == Some(lines.as_slice()) && ran.journal.safe == held.len()
+        }
+        Err(_) => false,
+    }
 }
 
 /// Whether all but the client's are requests for the token and ticks of the caller behind it.
@@ -155,48 +226,68 @@ fn entries_in(text: &[u8]) -> u64 {
     entries
 }
 
-/// Whether the board of the run's beginning was shown first, that of the whole last, and each of more entries than the one before.
-fn shows_all(alloc: Global, ran: &Left) -> Result<bool, Fail> {
-    let texts = ran.screen.as_ref().ok_or("a screen")?.texts.as_slice();
-    let whole = text_of_board(alloc, &Board::of(ran.history.warehouse.book()))?;
+/// Whether each text has more entries than the one before, and the last this many.
+fn rises_to(texts: &[Vec<u8>], count: u64) -> bool {
     let mut before = None;
     for text in texts {
         let entries = Some(entries_in(text.as_slice()));
         if entries <= before {
-            return Ok(false);
+            return false;
         }
         before = entries;
     }
-    Ok(
-        texts.first().is_some_and(|text| text.as_slice() == FIRST)
-            && texts
-                .last()
-                .is_some_and(|text| text.as_slice() == whole.as_slice())
-            && before == Some(ran.history.warehouse.history().len() as u64),
-    )
+    before == Some(count)
+}
+
+/// Whether the board of the run's beginning was shown first.
+fn begins(texts: &[Vec<u8>]) -> bool {
+    texts.first().is_some_and(|text| text.as_slice() == FIRST)
+}
+
+/// Whether the board of the run's beginning was shown first, that of the whole last, and each of more entries than the one before.
+fn shows_all(alloc: Global, ran: &Left) -> bool {
+    let Some(screen) = &ran.screen else {
+        return false;
+    };
+    let texts = screen.texts.as_slice();
+    let whole = Board::of(ran.history.warehouse.book());
+    match text_of_board(alloc, &whole) {
+        Ok(whole) => {
+            begins(texts)
+                && rises_to(texts, ran.history.warehouse.history().len() as u64)
+                && texts
+                    .last()
+                    .is_some_and(|text| text.as_slice() == whole.as_slice())
+        }
+        Err(_) => false,
+    }
+}
+
+/// Whether the client's two tasks were carried beside it, kept and shown, and it was told its replies.
+fn is_done(alloc: Global, ran: &Left, notes: &Notes) -> bool {
+    let entries = ran.history.warehouse.history();
+    let told = b"entries 0\naccepted 0\naccepted 1\nentries 2\nclosed\n";
+    is_paced(entries)
+        && carried(entries) == (2, 2)
+        && ran.is_whole
+        && is_log(alloc, ran)
+        && ran.last.is_ok()
+        && shows_all(alloc, ran)
+        && ran.worker.is_none()
+        && ran.connections.as_slice() == [2].as_slice()
+        && notes.told.as_slice() == told.as_slice()
+        && notes.fulls.is_empty()
+        && notes.ended.is_none()
 }
 
 #[test]
 fn tasks_are_done_beside_a_client(rt: HostRuntime) -> Result<(), Fail> {
-    let alloc = rt.alloc();
-    let cues = AtomicU64::new(0);
-    let sends: &'static [&'static [u8]] = &[b"submit x A B\nsubmit y C D\n", b"close\n"];
-    let house = House::new(&rt, alloc, sends, 1, &cues);
-    let ran = host(&rt, alloc, &house, PLAN)?;
-    assert_eq!(rt; house.limits.load(SeqCst), 0);
-    let entries = ran.history.warehouse.history();
-    assert!(rt; is_paced(entries));
-    assert_eq!(rt; carried(entries), (2, 2));
-    assert!(rt; ran.is_whole && is_log(alloc, &ran)?);
-    assert!(rt; ran.last.is_ok() && shows_all(alloc, &ran)?);
-    assert_eq!(rt;
-        (ran.worker, ran.connections.as_slice()),
-        (None, [2].as_slice())
-    );
-    let notes = house.notes.lock(&rt);
-    let told = b"entries 0\naccepted 0\naccepted 1\nentries 2\nclosed\n";
-    assert!(rt; notes.told.as_slice() == told.as_slice());
-    assert!(rt; notes.fulls.is_empty() && notes.ended.is_none());
+    let plan = Plan {
+        sends: &[b"submit x A B\nsubmit y C D\n", b"close\n"],
+        at_once: 1,
+        ..PLAN
+    };
+    assert!(rt; hosts(&rt, rt.alloc(), Case::TasksDone, &plan)?);
     Ok(())
 }
 
@@ -204,27 +295,29 @@ fn tasks_are_done_beside_a_client(rt: HostRuntime) -> Result<(), Fail> {
 const FOUR: &[u8] =
     b"wlog 2\nstart 0 slots 4 4\n1 tick = clock 1 picked 0 dropped 0\n1 tick = clock 2 picked 0 dropped 0\n1 tick = clock 3 picked 0 dropped 0\n1 tick = clock 4 picked 0 dropped 0\n";
 
+/// Whether the worker filled the journal, and the client was refused twice.
+fn is_filled(ran: &Left, notes: &Notes) -> bool {
+    let full = Some(WorkerEnd::Untold(CallFault::Refused(DeskFault::Full)));
+    let twice = [(0, Full::Journal), (0, Full::Journal)];
+    ran.worker == full
+        && ran.is_whole
+        && ran.journal.held.as_slice() == FOUR
+        && ran.screen.is_none()
+        && ran.last.is_ok()
+        && notes.ended == full
+        && notes.fulls.as_slice() == twice.as_slice()
+        && notes.told.as_slice() == b"entries 0\nrefused E11\nrefused E11\n".as_slice()
+}
+
 #[test]
 fn a_worker_fills_the_journal(rt: HostRuntime) -> Result<(), Fail> {
-    let alloc = rt.alloc();
-    let cues = AtomicU64::new(0);
-    let house = House::new(&rt, alloc, &[b"tick\n# nothing\nclose\n"], 0, &cues);
     let plan = Plan {
+        sends: &[b"tick\n# nothing\nclose\n"],
         entries: 4,
         has_screen: false,
         ..PLAN
     };
-    let ran = host(&rt, alloc, &house, plan)?;
-    assert_eq!(rt; house.limits.load(SeqCst), 0);
-    let full = Some(WorkerEnd::Untold(CallFault::Refused(DeskFault::Full)));
-    assert_eq!(rt; ran.worker, full);
-    assert!(rt; ran.is_whole && ran.journal.held.as_slice() == FOUR);
-    assert!(rt; ran.screen.is_none() && ran.last.is_ok());
-    let notes = house.notes.lock(&rt);
-    assert_eq!(rt; notes.ended, full);
-    let twice = [(0, Full::Journal), (0, Full::Journal)];
-    assert_eq!(rt; notes.fulls.as_slice(), twice.as_slice());
-    assert!(rt; notes.told.as_slice() == b"entries 0\nrefused E11\nrefused E11\n".as_slice());
+    assert!(rt; hosts(&rt, rt.alloc(), Case::JournalFull, &plan)?);
     Ok(())
 }
 
@@ -232,79 +325,85 @@ fn a_worker_fills_the_journal(rt: HostRuntime) -> Result<(), Fail> {
 const TWO: &[u8] =
     b"wlog 2\nstart 0 slots 4 4\n1 tick = clock 1 picked 0 dropped 0\n1 tick = clock 2 picked 0 dropped 0\n0 close = closed\n";
 
+/// Whether the worker ended at its share, and the client closed behind it.
+fn leaves_a_share(ran: &Left, notes: &Notes) -> bool {
+    ran.worker == Some(WorkerEnd::ShareUsed)
+        && ran.is_whole
+        && ran.journal.held.as_slice() == TWO
+        && notes.ended == Some(WorkerEnd::ShareUsed)
+        && notes.fulls.is_empty()
+        && notes.told.as_slice() == b"entries 0\nclosed\n".as_slice()
+}
+
 #[test]
 fn a_worker_leaves_a_client_its_share(rt: HostRuntime) -> Result<(), Fail> {
-    let alloc = rt.alloc();
-    let cues = AtomicU64::new(0);
-    let house = House::new(&rt, alloc, &[b"close\n"], 0, &cues);
     let plan = Plan {
+        sends: &[b"close\n"],
         entries: 3,
         share: 1,
         worker: Some(2),
         has_screen: false,
         ..PLAN
     };
-    let ran = host(&rt, alloc, &house, plan)?;
-    assert_eq!(rt; house.limits.load(SeqCst), 0);
-    assert_eq!(rt; ran.worker, Some(WorkerEnd::ShareUsed));
-    assert!(rt; ran.is_whole && ran.journal.held.as_slice() == TWO);
-    let notes = house.notes.lock(&rt);
-    assert_eq!(rt; notes.ended, Some(WorkerEnd::ShareUsed));
-    assert!(rt; notes.fulls.is_empty());
-    assert!(rt; notes.told.as_slice() == b"entries 0\nclosed\n".as_slice());
+    assert!(rt; hosts(&rt, rt.alloc(), Case::ShareLeft, &plan)?);
     Ok(())
+}
+
+/// Whether the client's second tick was refused, since its share was used.
+fn has_used_its_share(ran: &Left, notes: &Notes) -> bool {
+    let told = b"entries 0\nclock 1 picked 0 dropped 0\nrefused E11\n";
+    notes.fulls.as_slice() == [(0, Full::Share)].as_slice()
+        && notes.told.as_slice() == told.as_slice()
+        && notes.ended.is_none()
+        && ran.worker.is_none()
+        && ran.history.warehouse.history().len() == 1
 }
 
 #[test]
 fn a_share_is_used(rt: HostRuntime) -> Result<(), Fail> {
-    let alloc = rt.alloc();
-    let cues = AtomicU64::new(0);
-    let house = House::new(&rt, alloc, &[b"tick\ntick\n"], 2, &cues);
     let plan = Plan {
+        sends: &[b"tick\ntick\n"],
+        at_once: 2,
         entries: 2,
         share: 1,
         worker: None,
         has_screen: false,
         ..PLAN
     };
-    let ran = host(&rt, alloc, &house, plan)?;
-    assert_eq!(rt; house.limits.load(SeqCst), 0);
-    let notes = house.notes.lock(&rt);
-    assert_eq!(rt; notes.fulls.as_slice(), [(0, Full::Share)].as_slice());
-    let told = b"entries 0\nclock 1 picked 0 dropped 0\nrefused E11\n";
-    assert!(rt; notes.told.as_slice() == told.as_slice());
-    assert!(rt; notes.ended.is_none() && ran.worker.is_none());
-    assert_eq!(rt; ran.history.warehouse.history().len(), 1);
+    assert!(rt; hosts(&rt, rt.alloc(), Case::ShareUsed, &plan)?);
     Ok(())
+}
+
+/// Whether one board was shown, that of the run's beginning.
+fn shows_the_first(ran: &Left) -> bool {
+    match &ran.screen {
+        Some(screen) => screen.texts.len() == 1 && begins(screen.texts.as_slice()),
+        None => false,
+    }
+}
+
+/// Whether nothing was kept, told or shown of the one call that was made, and the service ended once.
+fn stops_at_the_fault(ran: &Left, notes: &Notes, over: u64) -> bool {
+    let unkept = Some(WorkerEnd::Untold(CallFault::Unkept));
+    shows_the_first(ran)
+        && ran.last == Err(ShowFault::Unshown)
+        && ran.worker == unkept
+        && ran.history.warehouse.history().len() == 1
+        && !ran.is_whole
+        && ran.journal.held.as_slice() == HEAD
+        && notes.ended == unkept
+        && notes.outcome == Some(Err(ServeFault::Unjournaled))
+        && notes.told.as_slice() == b"entries 0\n".as_slice()
+        && over == 1
 }
 
 #[test]
 fn nothing_is_told_or_shown_behind_a_fault(rt: HostRuntime) -> Result<(), Fail> {
-    let alloc = rt.alloc();
-    let cues = AtomicU64::new(0);
-    let house = House::new(&rt, alloc, &[b"submit x A B\n", b"tick\n"], 0, &cues);
     let plan = Plan {
+        sends: &[b"submit x A B\n", b"tick\n"],
         has_failed: true,
         ..PLAN
     };
-    let ran = host(&rt, alloc, &house, plan)?;
-    assert_eq!(rt; house.limits.load(SeqCst), 0);
-    let screen = ran.screen.as_ref().ok_or("a screen")?;
-    assert_eq!(rt; screen.texts.len(), 1, "one board is shown");
-    assert!(rt;
-        screen
-            .texts
-            .first()
-            .is_some_and(|text| text.as_slice() == FIRST)
-    );
-    let unkept = Some(WorkerEnd::Untold(CallFault::Unkept));
-    assert_eq!(rt; (ran.last, ran.worker), (Err(ShowFault::Unshown), unkept));
-    assert_eq!(rt; ran.history.warehouse.history().len(), 1);
-    assert!(rt; !ran.is_whole && ran.journal.held.as_slice() == HEAD);
-    let notes = house.notes.lock(&rt);
-    assert_eq!(rt; notes.ended, unkept);
-    assert_eq!(rt; notes.outcome, Some(Err(ServeFault::Unjournaled)));
-    assert!(rt; notes.told.as_slice() == b"entries 0\n".as_slice());
-    assert_eq!(rt; house.over.load(SeqCst), 1);
+    assert!(rt; hosts(&rt, rt.alloc(), Case::Fault, &plan)?);
     Ok(())
 }

@@ -17,6 +17,14 @@ pub struct Notes {
     pub ended: Option<WorkerEnd>,
 }
 
+/// How often a connection was asked for, how often the service ended, and how often a limit was met.
+#[derive(Clone, Copy)]
+pub struct Counts {
+    pub opened: u64,
+    pub over: u64,
+    pub limits: u64,
+}
+
 /// The doors of one client, with what it sends over its connections. This many of these come at once, and the next one behind a
 /// cue: that a worker has ended is one, and others may give more.
 #[derive(Drop)]
@@ -25,10 +33,10 @@ pub struct House<'a, X: Wait> {
     alloc: Global,
     sends: &'static [&'static [u8]],
     at_once: u64,
-    pub cues: &'a AtomicU64,
+    pub cues: AtomicU64,
     opened: AtomicU64,
-    pub over: AtomicU64,
-    pub limits: AtomicU64,
+    over: AtomicU64,
+    limits: AtomicU64,
     pub notes: Mutex<Notes>,
 }
 
@@ -39,14 +47,13 @@ impl<'a, X: Wait> House<'a, X> {
         alloc: Global,
         sends: &'static [&'static [u8]],
         at_once: u64,
-        cues: &'a AtomicU64,
     ) -> House<'a, X> {
         House {
             rt,
             alloc,
             sends,
             at_once,
-            cues,
+            cues: AtomicU64::new(0),
             opened: AtomicU64::new(0),
             over: AtomicU64::new(0),
             limits: AtomicU64::new(0),
@@ -58,13 +65,21 @@ impl<'a, X: Wait> House<'a, X> {
             }),
         }
     }
+
+    pub fn counts(&self) -> Counts {
+        Counts {
+            opened: self.opened.load(SeqCst),
+            over: self.over.load(SeqCst),
+            limits: self.limits.load(SeqCst),
+        }
+    }
 }
 
 impl<'a, X: Wait + Sync> Doors<&'static [u8], Vec<u8>> for House<'a, X> {
     fn open(&self, _client: u32) -> Option<Connection<&'static [u8], Vec<u8>>> {
         let opened = self.opened.fetch_add(1, SeqCst);
         if opened == self.at_once {
-            hold(self.cues, 1, &self.limits);
+            hold(&self.cues, 1, &self.limits);
         }
         let reader = *self.sends.get(usize::try_from(opened).ok()?)?;
         Some(Connection {

@@ -1,16 +1,18 @@
 //! What the tests are made of: map A with its points, and planners for it.
 #![tactic(auto)]
 
-ghost use Rattle.std.specs.Prelude.{◌≡◌, ◌≤◌, ◌+◌, [], IfOk, length};
+ghost use Rattle.std.specs.Prelude.{◌≡◌, ◌≤◌, ◌+◌, [], IfOk, IfSome, length};
 ghost use Rattle.wh_points.specs.Points.{IsLayout};
 ghost use Rattle.wh_claims.specs.Claim.{claim_amount};
+ghost use Rattle.wh_board.specs.Pasts.{past_of};
 ghost use Rattle.wh_desk.specs.Lists.{AllAt};
 
 use std::alloc::{AllocError, Global};
 use std::sync::{Arc, Wait};
 use std::test::*;
+use wh_board::Publisher;
 use wh_claims::{Bank, Claim};
-use wh_desk::{Desk, DeskName, History, Pass, Warehouse};
+use wh_desk::{Cells, Desk, DeskName, History, Pass, Warehouse};
 use wh_event::{Command, Stops, read_line};
 use wh_grid::Grid;
 use wh_planner::Planner;
@@ -68,7 +70,7 @@ pub fn planner<P: Planner, F: Fn(Parts) -> Result<P, AllocError>>(
 }
 
 /// Two planners of 4 slots, made by `make`.
-pub fn pair<P: Planner, F: Fn(Parts) -> Result<P, AllocError>>(
+fn pair<P: Planner, F: Fn(Parts) -> Result<P, AllocError>>(
     alloc: Global,
     grid: &Arc<Grid>,
     make: &F,
@@ -102,7 +104,22 @@ pub fn opened<P: Planner>(
     }
 }
 
-/// The warehouse at clock 0, with planners that are made by `make`.
+/// The warehouse at clock 0 on this floor, with planners that are made by `make`.
+pub fn staffed_on<P: Planner, F: Fn(Parts) -> Result<P, AllocError>>(
+    alloc: Global,
+    grid: Arc<Grid>,
+    points: Points,
+    make: &F,
+) -> Result<Warehouse<P>, Fail>
+    requires layout { IsLayout grid.value points }
+    requires callable { F.IsAlwaysCallable make.now }
+    ensures { IfOk result (λ w. w.book.history ≡ []) }
+{
+    let planners = pair(alloc, &grid, make)?;
+    opened(alloc, grid, points, planners)
+}
+
+/// The same on map A.
 pub fn staffed<P: Planner, F: Fn(Parts) -> Result<P, AllocError>>(
     alloc: Global,
     make: &F,
@@ -111,8 +128,55 @@ pub fn staffed<P: Planner, F: Fn(Parts) -> Result<P, AllocError>>(
     ensures { IfOk result (λ w. w.book.history ≡ []) }
 {
     let (grid, points) = floor(alloc)?;
-    let planners = pair(alloc, &grid, make)?;
-    opened(alloc, grid, points, planners)
+    staffed_on(alloc, grid, points, make)
+}
+
+/// What a desk is opened over: a warehouse, the cells of its receipts and the publisher of its board.
+#[derive(Drop)]
+pub struct Outfit<H: Wait + Drop, P: Planner> {
+    pub warehouse: Warehouse<P>,
+    pub cells: Cells,
+    pub publisher: Publisher<H>,
+}
+
+/// The cells, of the given number, and the publisher.
+fn cells_and_publisher<'a, P: Planner, R: Wait>(
+    rt: &'a R,
+    alloc: Global,
+    warehouse: &Warehouse<P>,
+    capacity: u64,
+) -> Result<(Cells, Publisher<&'a R>), AllocError>
+    ensures added { IfOk result (λ r. r.1.added ≡ past_of warehouse.now.book) }
+    ensures shown { IfOk result (λ r. r.1.shown ≡ past_of warehouse.now.book) }
+{
+    let cells = Cells::new(alloc, capacity)?;
+    let publisher = Publisher::new(alloc, rt, warehouse.book())?;
+    Ok((cells, publisher))
+}
+
+/// The outfit of a warehouse with no entry. What may fail borrows the warehouse, as each exit beside it would drop it.
+pub fn fit_out<'a, P: Planner, R: Wait>(
+    rt: &'a R,
+    alloc: Global,
+    warehouse: Warehouse<P>,
+    capacity: u64,
+) -> Result<Outfit<&'a R, P>, Fail>
+    requires { warehouse.book.history ≡ [] }
+    ensures history { IfOk result (λ o. o.warehouse.book.history ≡ []) }
+    ensures added { IfOk result (λ o. o.publisher.added ≡ past_of o.warehouse.book) }
+    ensures shown { IfOk result (λ o. o.publisher.shown ≡ past_of o.warehouse.book) }
+{
+    match cells_and_publisher(rt, alloc, &warehouse, capacity) {
+        Ok((cells, publisher)) => Ok(Outfit {
+            warehouse,
+            cells,
+            publisher,
+        }),
+        Err(_) => {
+            drop(warehouse);
+            Err("cells and a publisher".into())
+        }
+    }
 }
 
 /// The client and the stops of a line that submits.
@@ -139,22 +203,59 @@ fn put_back<N: DeskName>(passes: &mut Vec<Pass<N>>, pass: Pass<N>) -> Result<(),
     Ok(())
 }
 
+/// The pass of the last caller.
+pub fn last_pass<N: DeskName>(mut passes: Vec<Pass<N>>) -> Option<Pass<N>> {
+    passes.pop()
+}
+
+/// The passes of callers 0 and 1, where there are two.
+pub fn two_passes<N: DeskName>(mut passes: Vec<Pass<N>>) -> Option<(Pass<N>, Pass<N>)> {
+    let one = passes.pop()?;
+    let zero = passes.pop()?;
+    Some((zero, one))
+}
+
+/// The pass of caller 0, as a desk of one caller wants it.
+fn of_one<N: DeskName>(alloc: Global, zero: Pass<N>) -> Option<Vec<Pass<N>>>
+    ensures count { IfSome result (λ passes. length passes.items ≡ 1) }
+    ensures order { IfSome result (λ passes. AllAt (λ k p. p.caller ≡ k) passes.items) }
+{
+    if zero.caller() != 0 {
+        return None;
+    }
+    let mut passes = Vec::new(alloc);
+    match put_back(&mut passes, zero) {
+        Ok(()) => Some(passes),
+        Err(_) => None,
+    }
+}
+
 /// Ends a desk of one caller.
 pub fn finish_one<N: DeskName, H: Wait + Drop, P: Planner>(
     alloc: Global,
     desk: Desk<N, H, P>,
     zero: Pass<N>,
-) -> Result<History<P>, Fail>
+) -> Option<History<P>>
     requires { N.callers ≡ 1 }
 {
-    if zero.caller() != 0 {
-        return Err("the pass of caller 0".into());
+    match of_one(alloc, zero) {
+        Some(passes) => desk.finish(passes).ok(),
+        None => None,
     }
-    let mut passes = Vec::new(alloc);
-    put_back(&mut passes, zero)?;
-    match desk.finish(passes) {
-        Ok(history) => Ok(history),
-        Err(_) => Err("the pass has all".into()),
+}
+
+/// The passes of callers 0 and 1, as a desk of two callers wants them.
+fn of_two<N: DeskName>(alloc: Global, zero: Pass<N>, one: Pass<N>) -> Option<Vec<Pass<N>>>
+    ensures count { IfSome result (λ passes. length passes.items ≡ 2) }
+    ensures order { IfSome result (λ passes. AllAt (λ k p. p.caller ≡ k) passes.items) }
+{
+    if one.caller() != 1 {
+        return None;
+    }
+    let mut passes = of_one(alloc, zero)?;
+    match put_back(&mut passes, one) {
+        Ok(()) => Some(passes),
+        Err(_) => None,
     }
 }
 
@@ -164,21 +265,12 @@ pub fn finish_two<N: DeskName, H: Wait + Drop, P: Planner>(
     desk: Desk<N, H, P>,
     zero: Pass<N>,
     one: Pass<N>,
-) -> Result<History<P>, Fail>
+) -> Option<History<P>>
     requires { N.callers ≡ 2 }
-    ensures { IfOk result (λ h. h.front.book ≡ N.book) }
+    ensures { IfSome result (λ h. h.front.book ≡ N.book) }
 {
-    if zero.caller() != 0 {
-        return Err("the pass of caller 0".into());
-    }
-    if one.caller() != 1 {
-        return Err("the pass of caller 1".into());
-    }
-    let mut passes = Vec::new(alloc);
-    put_back(&mut passes, zero)?;
-    put_back(&mut passes, one)?;
-    match desk.finish(passes) {
-        Ok(history) => Ok(history),
-        Err(_) => Err("each pass has all".into()),
+    match of_two(alloc, zero, one) {
+        Some(passes) => desk.finish(passes).ok(),
+        None => None,
     }
 }

@@ -5,7 +5,7 @@ ghost use Rattle.std.specs.Prelude.{◌≡◌, [], IfOk, Some, length};
 ghost use Rattle.wh_board.specs.Pasts.{origin_of, past_of};
 
 use super::gates::hold;
-use super::parts::{Parts, staffed};
+use super::parts::{Outfit, Parts, fit_out, staffed};
 use std::alloc::{AllocError, Global};
 use std::io::{Read, Write};
 use std::marker::Brand;
@@ -14,8 +14,7 @@ use std::sync::atomic::Ordering::SeqCst;
 use std::sync::{Mutex, Wait};
 use std::test::*;
 use std::thread::Threads;
-use wh_board::Publisher;
-use wh_desk::{Cells, Desk, DeskName, Warehouse};
+use wh_desk::{Desk, DeskName};
 use wh_journal::MemoryJournal;
 use wh_planner::Planner;
 use wh_planners::Patient;
@@ -158,47 +157,64 @@ fn serve<
 >(
     rt: &X,
     alloc: Global,
-    warehouse: Warehouse<P>,
-    cells: Cells,
-    publisher: Publisher<H>,
+    outfit: Outfit<H, P>,
     journal: MemoryJournal,
     clients: Vec<Client<P>>,
     doors: &D,
-) -> Result<Kept, Fail>
-    requires origin { origin_of warehouse.book ≡ N.origin }
-    requires history { warehouse.book.history ≡ [] }
-    requires cells { cells ≡ N.cells }
-    requires book { publisher.book ≡ N.book }
-    requires added { publisher.added ≡ past_of warehouse.book }
-    requires shown { publisher.shown ≡ past_of warehouse.book }
+) -> Option<Kept>
+    requires origin { origin_of outfit.warehouse.book ≡ N.origin }
+    requires history { outfit.warehouse.book.history ≡ [] }
+    requires cells { outfit.cells ≡ N.cells }
+    requires book { outfit.publisher.book ≡ N.book }
+    requires added { outfit.publisher.added ≡ past_of outfit.warehouse.book }
+    requires shown { outfit.publisher.shown ≡ past_of outfit.warehouse.book }
     requires start { Some journal.held.items ≡ S.start }
     requires bare { journal.held.items ≡ [] }
     requires unsynced { journal.safe ≡ 0 }
     requires callers { N.callers ≡ length clients.items }
     requires two { length clients.items ≡ 2 }
 {
+    let Outfit {
+        warehouse,
+        cells,
+        publisher,
+    } = outfit;
     let front = publisher.front().again();
-    let (desk, passes) = Desk::<N, H, P>::open(alloc, warehouse, cells, publisher, 2)?;
-    let scribe = Scribe::<N, S, MemoryJournal>::new(alloc, journal, &front, 0);
-    match serve_clients::<_, _, _, _, _, _, R, W, _>(
-        rt,
-        alloc,
-        Form::Short,
-        &desk,
-        &scribe,
-        passes,
-        clients,
-        doors,
-    ) {
-        Ok(reports) => Ok(Kept {
-            journal: scribe.into_journal().journal,
-            connections: reports.connections,
-        }),
-        Err(_) => Err("two threads, and memory".into()),
+    match Desk::<N, H, P>::open(alloc, warehouse, cells, publisher, 2) {
+        Ok((desk, passes)) => {
+            let scribe = Scribe::<N, S, MemoryJournal>::new(alloc, journal, &front, 0);
+            match serve_clients::<_, _, _, _, _, _, R, W, _>(
+                rt,
+                alloc,
+                Form::Short,
+                &desk,
+                &scribe,
+                passes,
+                clients,
+                doors,
+            ) {
+                Ok(reports) => Some(Kept {
+                    journal: scribe.into_journal().journal,
+                    connections: reports.connections,
+                }),
+                Err(_) => None,
+            }
+        }
+        Err(_) => None,
     }
 }
 
-/// The same with planners that are made by `make`.
+/// A journal with nothing in it, which may have failed.
+fn bare_journal(alloc: Global, has_failed: bool) -> MemoryJournal
+    ensures bare { result.held.items ≡ [] }
+    ensures unsynced { result.safe ≡ 0 }
+{
+    let mut journal = MemoryJournal::new(alloc);
+    journal.has_failed = has_failed;
+    journal
+}
+
+/// The same with planners that are made by `make`, and with a journal that may have failed.
 fn serve_made<
     P: Planner,
     F: Fn(Parts) -> Result<P, AllocError>,
@@ -206,18 +222,21 @@ fn serve_made<
     R: Read + Send + Drop,
     W: Write + Send + Drop,
     D: Doors<R, W>,
->(rt: &X, alloc: Global, journal: MemoryJournal, doors: &D, make: &F) -> Result<Kept, Fail>
-    requires callable { F.IsAlwaysCallable make.now }
-    requires bare { journal.held.items ≡ [] }
-    requires unsynced { journal.safe ≡ 0 }
+>(rt: &X, alloc: Global, has_failed: bool, doors: &D, make: &F) -> Result<Option<Kept>, Fail>
+    requires { F.IsAlwaysCallable make.now }
 {
     let warehouse = staffed(alloc, make)?;
-    let cells = Cells::new(alloc, 10)?;
-    let publisher = Publisher::new(alloc, rt, warehouse.book())?;
-    let clients = clients(alloc)?;
-    serve::<Brand, Brand, _, _, _, R, W, _>(
-        rt, alloc, warehouse, cells, publisher, journal, clients, doors,
-    )
+    let outfit = fit_out(rt, alloc, warehouse, 10)?;
+    match clients(alloc) {
+        Ok(clients) => {
+            let journal = bare_journal(alloc, has_failed);
+            Ok(serve::<Brand, Brand, _, _, _, R, W, _>(rt, alloc, outfit, journal, clients, doors))
+        }
+        Err(fault) => {
+            drop(outfit);
+            Err(fault)
+        }
+    }
 }
 
 /// The same with patient planners.
@@ -226,14 +245,11 @@ fn serve_two<
     R: Read + Send + Drop,
     W: Write + Send + Drop,
     D: Doors<R, W>,
->(rt: &X, alloc: Global, journal: MemoryJournal, doors: &D) -> Result<Kept, Fail>
-    requires bare { journal.held.items ≡ [] }
-    requires unsynced { journal.safe ≡ 0 }
-{
+>(rt: &X, alloc: Global, has_failed: bool, doors: &D) -> Result<Option<Kept>, Fail> {
     let make = |parts: Parts| -> Result<Patient, AllocError> {
         Ok(Patient::new(parts.grid, parts.claim))
     };
-    serve_made::<_, _, _, R, W, _>(rt, alloc, journal, doors, &make)
+    serve_made::<_, _, _, R, W, _>(rt, alloc, has_failed, doors, &make)
 }
 
 /// What is told over each connection, in the order in which they are left.
@@ -291,23 +307,55 @@ fn shut<'a, X: Wait>(rt: &'a X, alloc: Global) -> Bytes<'a, X> {
     }
 }
 
+/// How often the doors were asked, were asked in vain, and were ended.
+#[derive(Clone, Copy, PartialEq, Eq)]
+struct Counts {
+    opened: u64,
+    refused: u64,
+    over: u64,
+}
+
+impl<'a, X: Wait> Bytes<'a, X> {
+    /// The counts, if no limit was met and nothing odd was told.
+    fn counts(&self) -> Option<Counts> {
+        if self.limits.load(SeqCst) > 0 || self.odd.load(SeqCst) > 0 {
+            return None;
+        }
+        Some(Counts {
+            opened: self.opened.load(SeqCst),
+            refused: self.refused.load(SeqCst),
+            over: self.over.load(SeqCst),
+        })
+    }
+}
+
+/// Client 0 was asked for twice and client 1 twice, in vain once; and the close ended it, once.
+const FOUR_TIMES: Counts = Counts {
+    opened: 4,
+    refused: 1,
+    over: 1,
+};
+
+/// Whether the two left what they were to leave.
+fn comes_again(kept: &Option<Kept>, left: &[Left], counts: Option<Counts>) -> bool {
+    match kept {
+        Some(kept) => {
+            counts == Some(FOUR_TIMES)
+                && as_told(left)
+                && kept.connections.as_slice() == [2, 1].as_slice()
+                && kept.journal.held.as_slice() == KEPT
+                && kept.journal.safe == KEPT.len()
+        }
+        None => false,
+    }
+}
+
 #[test]
 fn client_comes_again(rt: HostRuntime) -> Result<(), Fail> {
     let doors = shut(&rt, rt.alloc());
-    let journal = MemoryJournal::new(rt.alloc());
-    let kept = serve_two::<_, &'static [u8], Vec<u8>, _>(&rt, rt.alloc(), journal, &doors)?;
-    assert_eq!(rt; (doors.limits.load(SeqCst), doors.odd.load(SeqCst)), (0, 0));
-    assert!(rt; as_told(doors.left.lock(&rt).as_slice()));
-    // Client 0 was asked for twice and client 1 twice, in vain once; and the close ended it, once.
-    let counts = (
-        doors.opened.load(SeqCst),
-        doors.refused.load(SeqCst),
-        doors.over.load(SeqCst),
-    );
-    assert_eq!(rt; counts, (4, 1, 1));
-    assert_eq!(rt; kept.connections.as_slice(), [2, 1].as_slice());
-    assert_eq!(rt; kept.journal.held.as_slice(), KEPT);
-    assert_eq!(rt; kept.journal.safe, KEPT.len());
+    let kept = serve_two::<_, &'static [u8], Vec<u8>, _>(&rt, rt.alloc(), false, &doors)?;
+    let left = doors.left.lock(&rt);
+    assert!(rt; comes_again(&kept, left.as_slice(), doors.counts()));
     Ok(())
 }
 
@@ -322,15 +370,21 @@ fn nobody_told(left: &[Left]) -> bool {
             .all(|left| left.told.as_slice() == b"entries 0\n".as_slice())
 }
 
+/// Whether the service ended once, and nothing was told or kept.
+fn tells_nothing(kept: &Option<Kept>, left: &[Left], counts: Option<Counts>) -> bool {
+    match (kept, counts) {
+        (Some(kept), Some(counts)) => {
+            counts.over == 1 && nobody_told(left) && kept.journal.held.is_empty()
+        }
+        _ => false,
+    }
+}
+
 #[test]
 fn journal_has_failed(rt: HostRuntime) -> Result<(), Fail> {
     let doors = shut(&rt, rt.alloc());
-    let mut journal = MemoryJournal::new(rt.alloc());
-    journal.has_failed = true;
-    let kept = serve_two::<_, &'static [u8], Vec<u8>, _>(&rt, rt.alloc(), journal, &doors)?;
-    assert_eq!(rt; (doors.limits.load(SeqCst), doors.odd.load(SeqCst)), (0, 0));
-    assert_eq!(rt; doors.over.load(SeqCst), 1);
-    assert!(rt; nobody_told(doors.left.lock(&rt).as_slice()));
-    assert!(rt; kept.journal.held.is_empty());
+    let kept = serve_two::<_, &'static [u8], Vec<u8>, _>(&rt, rt.alloc(), true, &doors)?;
+    let left = doors.left.lock(&rt);
+    assert!(rt; tells_nothing(&kept, left.as_slice(), doors.counts()));
     Ok(())
 }

@@ -1,6 +1,6 @@
 use Rattle.wh_board.specs.Pasts.{origin_of}
 use Rattle.wh_drills.proofs.swaps.swap_made.Given as goal
 
--- the cells, the publisher and the warehouse that were just made
+-- those of the outfit
 abbrev pub ghosts-swap : goal.ghosts-swap
-ghosts-swap g a = record { cells = a.cells; book = a.publisher.book; origin = origin_of a.warehouse.book; callers = 1 }
+ghosts-swap g a = record { cells = a.outfit.cells; book = a.outfit.publisher.book; origin = origin_of a.outfit.warehouse.book; callers = 1 }

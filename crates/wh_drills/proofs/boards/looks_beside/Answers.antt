@@ -1,10 +1,10 @@
 use Rattle.std.proofs.Crossing.{crosses}
 use denote.Param.Send.{sendable, given_send}
 use Rattle.wh_desk.proofs.Sharing.{desk_sync, pass_send}
-use Rattle.wh_drills.proofs.boards.looked.Goals as goal
+use Rattle.wh_drills.proofs.boards.looks_beside.Goals as goal
 
-pub join-requires-send-F : goal.join-requires-send-F
-join-requires-send-F g c κs within =
+pub join-met-requires-send-F : goal.join-met-requires-send-F
+join-met-requires-send-F g c κs within =
     let n = c.type_bounds.send-N in
     let m = c.type_bounds.sync-N in
     let h = c.type_bounds.send-H in

@@ -1,6 +1,0 @@
-use Rattle.wh_board.specs.Pasts.{origin_of}
-use Rattle.wh_drills.proofs.boards.look_under_lock.Given as goal
-
--- the cells, the publisher and the warehouse that were just made
-abbrev pub ghosts-looked : goal.ghosts-looked
-ghosts-looked g a = record { cells = a.cells; book = a.publisher.book; origin = origin_of a.warehouse.book; callers = 1 }
