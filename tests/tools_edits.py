@@ -1,29 +1,116 @@
 #!/usr/bin/env python3
-"""tools/edits over a made repository with a stand-in for rt: which edits of which crates it is given, and the statuses."""
+"""tools/edits: which functions an edit changes, what a round says of it, which crates are due; and, by the toolchain itself over a
+repository of two small crates, what is refused, what is not, and when a stamp is written."""
+import glob
 import os
+import shutil
 import subprocess
 import sys
 import tempfile
 
+import counting
+
 ROOT = os.path.dirname(os.path.dirname(os.path.abspath(__file__)))
-RT = """#!/usr/bin/env bash
-echo "$@"
-find crates -name '*.edit' | sort
-cat crates.txt HANDLES
-[[ -e crates/low/out ]] && echo 'an out/ was copied'
-echo "$SAID"
-exit "$STATUS"
+SCRATCH = tempfile.TemporaryDirectory()
+sys.path.insert(0, f"{ROOT}/tools")
+sys.dont_write_bytecode = True
+import edit_rounds as rounds
+
+LOW = """//! Sums.
+#![tactic(auto)]
+
+ghost use Rattle.std.specs.Prelude.{◌≡◌, ◌<◌, ◌+◌};
+
+const STEP: u64 = 1;
+
+/// One more.
+pub fn next(a: u64) -> u64
+    requires { a < 100 }
+    ensures { result ≡ a + 1 }
+{
+    a + STEP
+}
+
+/// Two more.
+pub fn second(a: u64) -> u64
+    requires { a < 99 }
+    ensures { result ≡ a + 2 }
+{
+    next(next(a))
+}
+"""
+HIGH = """//! Sums of sums.
+#![tactic(auto)]
+
+ghost use Rattle.std.specs.Prelude.{◌≡◌, ◌<◌, ◌+◌};
+
+use low::second;
+
+/// Four more.
+pub fn fourth(a: u64) -> u64
+    requires { a < 97 }
+    ensures { result ≡ a + 4 }
+{
+    second(second(a))
+}
 """
 FILES = {
-    "crates.txt": "low:\nhigh: low\n",
+    "crates.txt": "# crates\nlow:\nhigh: low # the upper one\n",
     "HANDLES": "Handles allowed: none.\n",
-    "crates/low/src/lib.rt": "",
-    "crates/low/out/kept": "",
-    "crates/low/must-fail/first.edit": "",
-    "crates/high/must-fail/second.edit": "",
-    "tests/edits/low/third.edit": "",
-    "tests/edits/high/fourth.edit": "",
+    "crates/low/src/lib.rt": LOW,
+    "crates/high/src/lib.rt": HIGH,
+    "crates/low/must-fail/no_step.edit": "file: src/lib.rt\nold: a + STEP\nnew: a\n",
+    "tests/edits/low/second_is_next.edit": "file: src/lib.rt\nold: next(next(a))\nnew: next(a)\n",
+    "tests/edits/low/second_is_first.edit": "file: src/lib.rt\nold: next(next(a))\nnew: a\n",
+    "tests/edits/low/step_of_two.edit": "file: src/lib.rt\nold: STEP: u64 = 1\nnew: STEP: u64 = 2\n",
+    "tests/edits/high/fourth_is_second.edit": "file: src/lib.rt\nold: second(second(a))\nnew: second(a)\n",
 }
+PARTS = """pub struct Line<'a> {
+    rest: &'a [u8],
+}
+
+impl<'a> Line<'a> {
+    /// Takes one.
+    pub fn take(&mut self) -> u8
+        ensures { result ≡ 1 }
+    {
+        fn inner() -> u8 {
+            1
+        }
+        inner()
+    }
+
+    fn none(&self) {}
+}
+
+impl<'a, R: Read<u8>> Source<u8> for &'a [R] {
+    fn give(&self) -> u8 {
+        2
+    }
+}
+
+impl Drop for Line<'_> {
+    fn drop(&mut self) {
+        self.rest = &[];
+    }
+}
+
+trait Opens {
+    fn opens(&self) -> bool
+        ensures { result ≡ true };
+}
+"""
+SAID = """fn a::one::first: proved
+note: src/one.rt:3:1: it is not proved that ..
+fn a::one::second: no proof: expected answers in ./proofs/one/second/Answers.antt; `search` did not prove `returns`; it calls `a::one::third`, which is not proved
+fn a::one::fn::third::map: no proof: `search` did not prove `x`
+fn a::one::Row::fourth: not proved; it calls `a::one::fn::third::map`, which is not proved
+./proofs/one/Row/fifth/Answers.antt:7:75: error: `returns`: the two types differ
+fn a::one::Row::fifth: not proved
+./proofs/one/sixth/Answers.antt:7:75: error: `returns`: module `m` has no field `x`
+fn a::one::sixth: not proved
+only=6 proved=1
+"""
 
 
 def write(path, text, mode=0o644):
@@ -33,40 +120,131 @@ def write(path, text, mode=0o644):
     os.chmod(path, mode)
 
 
-def run(room, *words, said="1 passed, 0 failed", status=0):
-    env = {**os.environ, "PATH": f"{room}/bin:{os.environ['PATH']}", "SAID": said, "STATUS": str(status)}
-    ran = subprocess.run([f"{room}/repo/tools/edits", *words], capture_output=True, text=True, check=False, env=env)
+def repository(name, changes=()):
+    """A repository of two crates with the tool, and these files changed or (None) left out."""
+    top = f"{SCRATCH.name}/{name}"
+    for path, text in {**FILES, **dict(changes)}.items():
+        if text is not None:
+            write(f"{top}/{path}", text)
+    for tool in ("edits", "edit_rounds.py", "lanes.py"):
+        os.makedirs(f"{top}/tools", exist_ok=True)
+        shutil.copy(f"{ROOT}/tools/{tool}", f"{top}/tools/{tool}")
+    return top
+
+
+def edits(top, *words):
+    ran = subprocess.run([f"{top}/tools/edits", *words], capture_output=True, text=True, check=False)
     return ran.returncode, ran.stdout.splitlines()
 
 
-def main():
-    with tempfile.TemporaryDirectory() as room:
-        for path, text in FILES.items():
-            write(f"{room}/repo/{path}", text)
-        with open(f"{ROOT}/tools/edits", encoding="utf-8") as it:
-            write(f"{room}/repo/tools/edits", it.read(), 0o755)
-        write(f"{room}/bin/rt", RT, 0o755)
-        tail = ["low:", "high: low", "Handles allowed: none."]
-        low = ["crates/low/must-fail/first.edit", "crates/low/must-fail/third.edit"]
-        high = ["crates/high/must-fail/fourth.edit", "crates/high/must-fail/second.edit"]
-        good = "1 passed, 0 failed"
-        checks = {
-            "one crate": run(room, "low") == (0, ["ci low", *low, *tail, good]),
-            "two crates": run(room, "high", "low") == (0, ["ci high low", *high, *low, *tail, good]),
-            "all crates": run(room, "--all") == (0, ["ci high low", *high, *low, *tail, good]),
-            "one is not refused": run(room, "low", said="0 passed, 1 failed", status=1)[0] == 1,
-            "a bad edit": run(room, "low", said="must-fail low/first.edit: BAD EDIT: it changes nothing")[0] == 1,
-            "no such crate": run(room, "middle")[0] == 1,
-            "no crate": run(room)[0] == 1,
-            "nothing is written": sorted(os.listdir(f"{room}/repo")) == ["HANDLES", "crates", "crates.txt", "tests", "tools"],
-        }
-    for name, holds in checks.items():
-        if not holds:
-            print(f"{name}: failed")
-    passed = sum(checks.values())
-    print(f"{passed} passed, {len(checks) - passed} failed")
-    sys.exit(passed < len(checks))
+def stamps(top):
+    return {os.path.basename(os.path.dirname(it)): open(it, encoding="utf-8").read().split() for it in glob.glob(f"{top}/tests/edits/*/STAMP")}
+
+
+def of(text, old, new, file="src/one.rt"):
+    """The edit that puts one text for another in a file."""
+    assert text.count(old) == 1
+    return rounds.Edit.of("a", f"{old}.edit", {file: (text, text.replace(old, new))}, {"Line": ["two"]})
+
+
+# Without the toolchain
+
+
+def test_parts_of_a_file():
+    parts = rounds.pieces(PARTS)
+    assert "\n".join(it.text for it in parts) == PARTS
+    names = ["Line::take", "Line::none", "RefSliceSource::give", "Line::drop", "Opens::opens"]
+    assert [it.name for it in parts if it.name] == [it.replace("SliceSource", "SliceSourceU8") for it in names], [it.name for it in parts]
+    without = rounds.without_bodies(PARTS)
+    assert "inner" not in without and "self.rest" not in without and "ensures { result ≡ true };" in without
+
+
+def test_functions_that_an_edit_changes():
+    assert of(PARTS, "        inner()", "        2").functions == ("a::two::Line::take",)
+    assert of(PARTS, "        2\n", "        3\n").functions == ("a::one::RefSliceSourceU8::give",)
+    assert of(PARTS, "self.rest = &[]", "return").functions == ("a::two::Line::drop",)
+    assert of(PARTS, "rest: &'a [u8],", "rest: &'a [u16],").functions == ()
+    assert of(LOW, "a + STEP", "a", "src/lib.rt").functions == ("a::next",)
+
+
+def test_edits_of_one_round():
+    take, give = of(PARTS, "        inner()", "        2"), of(PARTS, "        2\n", "        3\n")
+    again = of(PARTS, "            1\n", "            0\n")
+    assert rounds.chosen([take, give, again]) == [take, give]
+    text = rounds.merged([take, give])["src/one.rt"]
+    assert text == PARTS.replace("        2\n", "        3\n").replace("        inner()", "        2")
+
+
+def test_what_a_round_says():
+    told = rounds.told_by("a", SAID)
+    refusal = lambda name: rounds.refusal(rounds.Edit("", (), (name,)), told)
+    assert rounds.came_to_an_end(SAID) and not rounds.came_to_an_end("error: no such name\n")
+    assert refusal("a::one::first") is None
+    assert refusal("a::one::Row::fourth") is None    # its own goals hold
+    assert refusal("a::one::second") == "`search` did not prove `returns`"
+    assert refusal("a::one::third") == "`search` did not prove `x`"
+    assert refusal("a::one::Row::fifth") == "`returns`: the two types differ"
+    assert refusal("a::one::sixth").startswith("(only because its proof names what the edit took away")
+    every = [rounds.Edit("", (), (name,)) for name in ("a::one::second", "a::one::third", "a::one::Row::fifth", "a::one::sixth")]
+    assert rounds.is_sound(every, told) and not rounds.is_sound(every[1:], told)
+
+
+def test_uses():
+    uses = rounds.uses_of("# a: b\nlow: std\nhigh may_wait=3: low std # low: no\ntop: high\n")
+    assert uses == {"low": ["std"], "high": ["low", "std"], "top": ["high"]} and rounds.below(uses, "top") == ["high", "low"]
+
+
+def test_words_that_are_not_taken():
+    top = repository("words")
+    assert edits(top)[0] == 2 and edits(top, "middle")[0] == 2 and edits(top, "--all", "low")[0] == 2
+
+
+# By the toolchain
+
+
+def test_all_are_refused_and_stamped():
+    top = repository("refused")
+    assert edits(top, "--list") == (0, ["stamps missing or old: low high", "besides: none"])
+    status, said = edits(top, "--all")
+    assert (status, said[-1]) == (0, "5 passed, 0 failed"), said
+    assert len([it for it in said if ": refused" in it]) == 5, said
+    assert {name: words[2:4] for name, words in stamps(top).items()} == {"low": ["refused", "4"], "high": ["refused", "1"]}
+    status, said = edits(top, "--list")
+    assert said[0] == "stamps missing or old: none" and said[1] in ("besides: low", "besides: high"), said
+    due = lambda: edits(top, "--list")[1][0].partition(": ")[2]
+    for path, old, new, wanted in (
+        ("crates/low/src/lib.rt", "/// One more.", "/// A comment.", "none"),
+        ("crates/low/src/lib.rt", "a + STEP", "STEP + a", "low"),
+        ("crates/low/src/lib.rt", "a < 99", "a < 98", "low high"),
+        ("crates/high/src/lib.rt", "second(second(a))", "second(second(a)) + 0", "high"),
+        ("tests/edits/high/fourth_is_second.edit", "new: second(a)", "new: a", "high"),
+    ):
+        text = open(f"{top}/{path}", encoding="utf-8").read()
+        write(f"{top}/{path}", text.replace(old, new))
+        assert due() == wanted, (new, due())
+        write(f"{top}/{path}", text)
+    assert due() == "none"
+
+
+def test_what_is_not_refused():
+    top = repository("missed", {
+        "tests/edits/high/same.edit": "file: src/lib.rt\nold: second(second(a))\nnew: second(second(a + 0))\n",
+        "tests/edits/high/no_such_text.edit": "file: src/lib.rt\nold: third(a)\nnew: a\n",
+        "tests/edits/high/no_such_name.edit": "file: src/lib.rt\nold: second(second(a))\nnew: third(a)\n",
+    })
+    status, said = edits(top, "high")
+    told = {it.split(":")[0]: it.partition(": ")[2] for it in said}
+    assert (status, said[-1]) == (1, "1 passed, 3 failed"), said
+    assert told["high/fourth_is_second.edit"].startswith("refused") and told["high/same.edit"].startswith("NOT REFUSED"), said
+    assert told["high/no_such_text.edit"].startswith("BAD EDIT") and told["high/no_such_name.edit"].startswith("BAD EDIT"), said
+    assert stamps(top) == {}
+
+
+def test_too_much_is_due():
+    top = repository("much", {f"tests/edits/low/more_{it}.edit": "" for it in range(1000)})
+    status, said = edits(top, "--due")
+    assert (status, said[-2:]) == (1, ["more than 20 minutes are due: run tools/edits low high", "0 passed, 2 failed"]), said
 
 
 if __name__ == "__main__":
-    main()
+    counting.main(globals(), (), SCRATCH)

@@ -1,31 +1,36 @@
 #!/usr/bin/env python3
-"""Runs a command and tells how much processor time the prover took in it, crate by crate.
+"""What the test command costs: processor seconds and memory of each crate's proof, tests and edits, and the time of each script.
 
-    tools/gate_cpu.py rt ci
+    tools/gate_cpu.py run ROWS COMMAND..   runs the command, and adds to the file ROWS what its provers took
+    tools/gate_cpu.py table ROWS           prints the rows as tables, the dearest crates first
 
-The command's output goes through. When it has ended, standard error has the table, the dearest first: of each crate the seconds
-of its proof, of its tests, of its must-fail edits (with the check that they begin with), and how many edits were tried; then
-the sums and how long it all took. The processes are looked at each second, so what one took in its last second is left
-out: about half a second a process. It reads /proc, so it wants Linux.
+The processes are looked at each second, so what one took in its last second is left out. It reads /proc, so it wants Linux. A row is
+`KIND NAME SECONDS MB`: of a crate its `proof`, `tests` or `edits`, with the most memory of one of its provers; of a `step` (a
+command) its time by the clock; of a `script` the time by the clock, and its processor seconds in the last place.
 """
 import collections
 import os
+import re
 import subprocess
 import sys
 import time
 
+import edit_rounds
+
 TICKS = os.sysconf("SC_CLK_TCK")
+KINDS = ("proof", "tests", "edits")
+SHOWN = 20  # crates that have a line of their own
+ROOT = os.path.dirname(os.path.dirname(os.path.abspath(__file__)))
 
 
-def words_of(pid):
-    with open(f"/proc/{pid}/cmdline", "rb") as it:
-        return it.read().decode(errors="replace").split("\0")
+def text_of(path):
+    with open(path, encoding="utf-8", errors="replace") as it:
+        return it.read()
 
 
 def state_of(pid):
     """The parent, the start and the processor seconds of a process."""
-    with open(f"/proc/{pid}/stat", encoding="utf-8", errors="replace") as it:
-        fields = it.read().rpartition(")")[2].split()
+    fields = text_of(f"/proc/{pid}/stat").rpartition(")")[2].split()
     return int(fields[1]), fields[19], (int(fields[11]) + int(fields[12])) / TICKS
 
 
@@ -46,50 +51,95 @@ def kind_of(words, folder):
 
 def look(top, seen):
     """Notes what each prover under the process has taken so far."""
-    for name in os.listdir("/proc"):
-        if not name.isdigit():
-            continue
+    for name in filter(str.isdigit, os.listdir("/proc")):
         try:
-            words = words_of(name)
+            words = text_of(f"/proc/{name}/cmdline").split("\0")
             if "--crate-name" not in words or not is_below(int(name), top):
                 continue
             crate = words[words.index("--crate-name") + 1]
             _, start, seconds = state_of(name)
-            seen[name, start] = crate, kind_of(words, os.readlink(f"/proc/{name}/cwd")), seconds
-        except (OSError, ValueError, IndexError):
+            most = re.search(r"VmHWM:\s+(\d+)", text_of(f"/proc/{name}/status"))
+            seen[name, start] = kind_of(words, os.readlink(f"/proc/{name}/cwd")), crate, seconds, int(most[1]) // 1000
+        except (OSError, ValueError, IndexError, TypeError):
             continue  # it has ended
 
 
-def table(seen):
-    """By crate: seconds of proof, tests and edits, and the processes of edits."""
-    rows = collections.defaultdict(lambda: {"proof": 0.0, "tests": 0.0, "edits": 0.0, "tried": 0})
-    for crate, kind, seconds in seen.values():
-        rows[crate][kind] += seconds
-        rows[crate]["tried"] += kind == "edits"
-    return rows
+def run(rows, command):
+    """Runs the command, and returns its status."""
+    begun, seen = time.time(), {}
+    with subprocess.Popen(command) as running:
+        while running.poll() is None:
+            look(running.pid, seen)
+            time.sleep(1)
+    with open(rows, "a", encoding="utf-8") as it:
+        it.writelines(f"{kind} {crate} {seconds:.1f} {most}\n" for kind, crate, seconds, most in seen.values())
+        it.write(f"step {os.path.basename(command[0])} {time.time() - begun:.0f} 0\n")
+    return running.returncode
 
 
-def tell(rows, minutes):
-    total = lambda row: row["proof"] + row["tests"] + row["edits"]
-    line = "{:24}{:>8}{:>8}{:>8}{:>8}".format
-    print(line("crate", "proof", "tests", "edits", "tried"), file=sys.stderr)
-    for crate, row in sorted(rows.items(), key=lambda it: -total(it[1])):
-        print(line(crate, *[round(row[it]) for it in ("proof", "tests", "edits", "tried")]), file=sys.stderr)
-    sums = [round(sum(row[it] for row in rows.values())) for it in ("proof", "tests", "edits", "tried")]
-    print(line("all", *sums), file=sys.stderr)
-    print(f"{sum(sums[:3])} processor seconds in {minutes:.1f} minutes", file=sys.stderr)
+def read(path):
+    """The rows of a file."""
+    found = [line.split() for line in text_of(path).splitlines()]
+    return [(kind, name, float(seconds), float(last)) for kind, name, seconds, last in found]
+
+
+def of_crates(rows):
+    """By crate: the seconds of each kind, and the most memory of one prover in GB."""
+    found = collections.defaultdict(lambda: {**dict.fromkeys(KINDS, 0.0), "GB": 0.0})
+    for kind, name, seconds, last in rows:
+        if kind in KINDS:
+            found[name][kind] += seconds
+            found[name]["GB"] = max(found[name]["GB"], last / 1000)
+    return found
+
+
+def longest_chain(uses, seconds):
+    """The crates of the longest chain of proofs, each on the one before it, and its seconds."""
+    best = {}
+
+    def way(name):
+        if name not in best:
+            under = max((way(it) for it in uses[name] if it in uses), key=lambda it: it[1], default=([], 0))
+            best[name] = [*under[0], name], under[1] + seconds.get(name, 0)
+        return best[name]
+
+    return max((way(it) for it in uses), key=lambda it: it[1], default=([], 0))
+
+
+def tables(rows, uses):
+    """The lines of the tables."""
+    crates = of_crates(rows)
+    total = lambda name: sum(crates[name][kind] for kind in KINDS)
+    names = sorted(crates, key=total, reverse=True)
+    sums = lambda some: [sum(crates[it][kind] for it in some) for kind in KINDS] + [max((crates[it]["GB"] for it in some), default=0)]
+    line = lambda name, values: f"| {name} | " + " | ".join([*(f"{it:.0f}" for it in values[:-1]), f"{values[-1]:.1f}"]) + " |"
+    yield "| Crate | Proof, s | Tests, s | Edits, s | Most memory of one check, GB |\n|---|---|---|---|---|"
+    for name in names[:SHOWN]:
+        yield line(f"`{name}`", [*crates[name].values()])
+    if names[SHOWN:]:
+        yield line(f"{len(names) - SHOWN} others", sums(names[SHOWN:]))
+    yield line("all", sums(names))
+    chain, seconds = longest_chain(uses, {it: crates[it]["proof"] for it in crates})
+    yield f"\nThe longest chain of proofs, {seconds:.0f} s: {', '.join(f'`{it}`' for it in chain)}.\n"
+    yield "| Step | By the clock | Of processors |\n|---|---|---|"
+    for kind, name, taken, last in rows:
+        if kind == "step":
+            yield f"| `{name}` | {taken / 60:.1f} min | |"
+    for kind, name, taken, last in rows:
+        if kind == "script":
+            yield f"| `{name}` | {taken:.0f} s | {last:.0f} s |"
+    scripts = [(taken, last) for kind, _, taken, last in rows if kind == "script"]
+    yield f"| all scripts | {sum(it for it, _ in scripts):.0f} s | {sum(it for _, it in scripts):.0f} s |"
 
 
 def main():
-    if len(sys.argv) < 2:
-        sys.exit(__doc__)
-    begun, seen = time.time(), {}
-    with subprocess.Popen(sys.argv[1:]) as command:
-        while command.poll() is None:
-            look(command.pid, seen)
-            time.sleep(1)
-    tell(table(seen), (time.time() - begun) / 60)
-    sys.exit(command.returncode)
+    words = sys.argv[1:]
+    if words[:1] == ["run"] and len(words) > 2:
+        sys.exit(run(words[1], words[2:]))
+    if words[:1] == ["table"] and len(words) == 2:
+        print("\n".join(tables(read(words[1]), edit_rounds.uses_of(text_of(f"{ROOT}/crates.txt")))))
+        return
+    sys.exit(__doc__)
 
 
 if __name__ == "__main__":
