@@ -14,8 +14,8 @@ use Rattle.wh_event.specs.declared.reply.Reply.{Reply}
 use Rattle.wh_core.specs.States.{State}
 use Rattle.wh_core.specs.Steps.{Answers, Step, Run}
 use Rattle.wh_core.specs.Laws.{IsOpening, IsReached}
-use Rattle.wh_core.proofs.Seats.{seats-opening, seats-reached}
-use Rattle.wh_core.proofs.Limits.{limits_hold}
+use Rattle.wh_core.proofs.Seats.{seats-opening}
+use Rattle.wh_core.proofs.Sound.{opening-begins, opening-reached, sound-reached, ways-reached}
 use Rattle.wh_core.proofs.Traffic.{none_share}
 use Rattle.wh_book.specs.Drafts.{Seen}
 use Rattle.wh_drive.specs.declared.vehicle.Vehicle.{Vehicle}
@@ -95,7 +95,7 @@ pub carried-out : (book : Seen) (ahead : ℕ) (entries : List Entry) (fleet : Fl
     IsCarriedOut book.site entries fleet
 carried-out book ahead entries fleet o some h =
     let first : Fleet = record { state = book.opening; drive = opened book.site.layout.nofollow ahead (places book.opening) } in
-    let opens : plans.IsOpening book.site first = record { ahead = ahead; some = some; state = o; drive = refl } in
+    let opens : plans.IsOpening book.site first = record { ahead = ahead; some = some; state = (opening-begins book.site book.opening o).0; drive = refl } in
     subst (λ (es : List Entry). IsCarriedOut book.site es fleet) h.entries_are (each_run_is_a_plan book.site first h.happenings fleet opens h.all)
 
 -- ---- one step
@@ -173,7 +173,7 @@ differ-opening book o = subst (λ (row : List Cell). AllPairs (λ a b. a ≢ b) 
     s = book.opening
 
     reached : IsReached book.site [] s
-    reached = record { opening = s; is_opening = o; run = refl }
+    reached = (opening-reached book.site s [] s o refl).reached
 
     differ : AllPairs (λ a b. a ≢ b) (places s)
     differ i j a below within e =
@@ -198,7 +198,7 @@ walked-start book ahead steps cells paths o is run all cells_are paths_are repre
     let size-first : length (places book.opening) ≡ length book.opening.paths = size book.opening in
     let size-same : length cells ≡ length (places book.opening) = ap (λ (cs : List Cell). length cs) first in
     let seats = (seats-opening book.site book.opening is).paths in
-    let seats-now = (seats-reached book.site book.history book.state (record { opening = book.opening; is_opening = is; run = run })).paths in
+    let seats-now = (sound-reached book.site book.history book.state (opening-reached book.site book.opening book.history book.state is run).reached).seats.paths in
     record {
       state = book.opening;
       drive = d;
@@ -260,7 +260,7 @@ due book ahead steps before entry after paths new row o is some w new_is ticks r
     let new_are : new ≡ next.paths = new_is ∙ ap (paths_after entry.reply entry.event) w.paths_are ∙ s.paths in
     let there : row ≡ places next = row_is ∙ ap (map (λ (path : List Cell). at path 0)) new_are in
     let may = each_step_may_be_taken book.site before w.state entry next w.drive carried.state w.rest.1 carried.come in
-    let most : w.state.clock ≤ 1000000000 = (limits_hold book.site before w.state carried.state).1 in
+    let most : w.state.clock ≤ 1000000000 = (sound-reached book.site before w.state carried.state).clock_fits in
     let time = w.time in
     let now = w.represents.time in
     let here : MayTick w.drive row = subst (λ (cs : List Cell). MayTick w.drive cs) (sym there) may in
@@ -297,9 +297,9 @@ walked-tick book ahead steps before entry after paths new row o then w d goes cl
       stand = stand;
     }
 
-pub walked-all : (book : Seen) (ahead : ℕ) (steps : List ℕ) (paths : List (List Cell)) (o : Order) → IsOpening book.site book.opening → 1 ≤ ahead →
-    Walked book ahead steps book.history [] paths o → Stand book ahead steps o
-walked-all book ahead steps paths o is some w =
+pub walked-all : (book : Seen) (ahead : ℕ) (steps : List ℕ) (paths : List (List Cell)) (o : Order) → IsOpening book.site book.opening →
+    Run book.site book.opening book.history book.state → 1 ≤ ahead → Walked book ahead steps book.history [] paths o → Stand book ahead steps o
+walked-all book ahead steps paths o is run some w =
     let same : book.state ≡ w.state = w.rest in
     let happened : MayHaveHappened book ahead book.history (record { state = book.state; drive = w.drive }) =
     subst (λ (s : State). MayHaveHappened book ahead book.history (record { state = s; drive = w.drive })) (sym same) w.happened in
@@ -309,6 +309,7 @@ walked-all book ahead steps paths o is some w =
       happened = happened;
       carried = carried-out book ahead book.history (record { state = book.state; drive = w.drive }) is some happened;
       time = w.time ∙ ap (λ (s : State). s.clock) (sym same);
+      ways = ways-reached book.site book.history book.state (opening-reached book.site book.opening book.history book.state is run);
       stand = subst (λ n. StandBy n steps w.drive.vehicles) w.represents.time (subst (λ (vs : List Vehicle). StandBy o.clock steps vs) w.represents.vehicles w.stand);
     }
 

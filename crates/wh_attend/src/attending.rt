@@ -42,7 +42,11 @@ fn begin<L: LogFile, P: Planner>(
 {
     match begin_log(alloc, file, &start) {
         Ok(()) => {}
-        Err(fault) => return Err(keep_trouble(fault)),
+        Err(fault) => {
+            drop(start);
+            drop(planners);
+            return Err(keep_trouble(fault));
+        }
     }
     let Start { book, .. } = start;
     match Warehouse::resume(alloc, book, planners) {
@@ -98,7 +102,10 @@ pub fn attend<
 {
     let ready = match prepare(alloc, lines, options, &mut file, beside, doors, &make) {
         Ok(ready) => ready,
-        Err(trouble) => return Err(trouble),
+        Err(trouble) => {
+            drop(file);
+            return Err(trouble);
+        }
     };
     let Ready {
         text,
@@ -109,12 +116,23 @@ pub fn attend<
     } = ready;
     match keep_beside(beside, text.as_slice(), found) {
         Ok(()) => {}
-        Err(_) => return Err(Trouble::Unkept),
+        Err(_) => {
+            drop(clients);
+            drop(planners);
+            drop(start);
+            drop(text);
+            drop(file);
+            return Err(Trouble::Unkept);
+        }
     }
     drop(text);
     let warehouse = match begin(alloc, &mut file, start, planners) {
         Ok(warehouse) => warehouse,
-        Err(trouble) => return Err(trouble),
+        Err(trouble) => {
+            drop(clients);
+            drop(file);
+            return Err(trouble);
+        }
     };
     if warehouse.closed() {
         // nobody could be told anything more than that

@@ -53,23 +53,42 @@ pub(crate) fn end_run<L: LogFile + Drop, W: Write, P: Planner, V: Drop>(
     } = ran;
     *screen = given;
     if !is_whole {
+        drop(history);
+        drop(journal);
         return Err(Trouble::Unkept);
     }
     let warehouse = &history.warehouse;
     match end_log(alloc, &mut journal, warehouse.history().len() as u64) {
         Ok(()) => {}
-        Err(fault) => return Err(keep_trouble(fault)),
+        Err(fault) => {
+            drop(history);
+            drop(journal);
+            return Err(keep_trouble(fault));
+        }
     }
     let text = match text_of(alloc, warehouse) {
         Ok(text) => text,
-        Err(trouble) => return Err(trouble),
+        Err(trouble) => {
+            drop(history);
+            drop(journal);
+            return Err(trouble);
+        }
     };
-    match write_text(output, text.as_slice()) {
+    drop(history);
+    let written = write_text(output, text.as_slice());
+    drop(text);
+    match written {
         Ok(()) => {}
-        Err(trouble) => return Err(trouble),
+        Err(trouble) => {
+            drop(journal);
+            return Err(trouble);
+        }
     }
     match last {
         Ok(()) => Ok(journal),
-        Err(fault) => Err(trouble_of_show(fault)),
+        Err(fault) => {
+            drop(journal);
+            Err(trouble_of_show(fault))
+        }
     }
 }

@@ -93,20 +93,38 @@ pub(crate) fn prepare<
     let fleet = &options.fleet;
     let (start, found) = match start_aside(alloc, file, beside, bytes, &grid, points, fleet, None) {
         Ok(started) => started,
-        Err(trouble) => return Err(trouble),
+        Err(trouble) => {
+            drop(text);
+            drop(grid);
+            return Err(trouble);
+        }
     };
     let Staff { planners, clients } = match make_staff(alloc, options, &grid, &start, make) {
         Ok(staff) => staff,
-        Err(trouble) => return Err(trouble),
+        Err(trouble) => {
+            drop(start);
+            drop(text);
+            drop(grid);
+            return Err(trouble);
+        }
     };
-    match hall.first_without(alloc)? {
-        Some(client) => Err(Trouble::NoPipes { client }),
-        None => Ok(Ready {
-            text,
-            found,
-            start,
-            planners,
-            clients,
-        }),
-    }
+    drop(grid);
+    let trouble = match hall.first_without(alloc) {
+        Ok(None) => {
+            return Ok(Ready {
+                text,
+                found,
+                start,
+                planners,
+                clients,
+            });
+        }
+        Ok(Some(client)) => Trouble::NoPipes { client },
+        Err(AllocError) => Trouble::NoMemory,
+    };
+    drop(clients);
+    drop(planners);
+    drop(start);
+    drop(text);
+    Err(trouble)
 }

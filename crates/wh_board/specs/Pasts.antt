@@ -46,6 +46,7 @@ abbrev pub nowhere : Site
 nowhere = record {
   grid = record { width = 0; height = 0; walkable = [] };
   layout = record { points = []; agents = []; nofollow = false };
+  homes = false;
 }
 
 abbrev pub last_of : Past → List Past → Past

@@ -1,40 +1,54 @@
 -- what is ready for the book, and what the laws give where it is prepared
 use Rattle.std.proofs.Common.{◌≡◌, ◌≢◌, ℕ, ◌+◌, ◌<◌, ◌≤◌, ◌∙◌, List, [], ◌∷◌, ◌++◌, length, sym, subst, refl, ap, arith}
 use Prim.Native.Nat.{suc}
-use Rattle.std.specs.Prelude.{Some, slice_get, All, false}
+use Rattle.std.specs.Prelude.{Some, slice_get, All, Contains, false}
 use Rattle.std.proofs.lemmas.Option.{same_Some, slice_get-get_or}
 use Rattle.wh_grid.specs.declared.cell.Cell.{Cell}
-use Rattle.wh_path.specs.Paths.{AllFree}
-use Rattle.wh_points.specs.Points.{Site, IsLayout}
+use Rattle.wh_path.specs.Paths.{AllFree, IsWalk, path_of, end}
+use Rattle.wh_points.specs.declared.points.Point.{Point}
+use Rattle.wh_points.specs.Points.{Layout, Site, IsLayout, IsPoint}
 use Rattle.wh_tasks.specs.declared.task.Task.{Task}
 use Rattle.wh_tasks.specs.declared.task.Load.{Load}
-use Rattle.wh_planner.specs.Duties.{IsLawful, Delivers}
+use Rattle.wh_planner.specs.Duties.{IsLawful, Delivers, ParksAt}
 use Rattle.wh_core.specs.States.{State, opened, arrived, adopted, assigned, moved, picked, dropped}
-use Rattle.wh_core.specs.Steps.{Step, Run, Answers, IsDue, IsNext, last_clock}
-use Rattle.wh_core.specs.Laws.{IsReached, IsOpening}
+use Rattle.wh_core.specs.Steps.{Step, Run, Answers, last_clock}
+use Rattle.wh_core.specs.Ordinary.{IsDue, IsNext, IsAllowed, MakesWay}
+use Rattle.wh_core.specs.Ordinary as plain
+use Rattle.wh_core.specs.Laws.{IsReached, IsReachedOnTheirWays, IsBeginning, AllOnTheirWays, IsOpening}
 use Rattle.wh_event.specs.declared.entry.Entry.{Entry}
 use Rattle.wh_event.specs.declared.event.Event.{Event}
 use Rattle.wh_event.specs.declared.reply.Reply.{Reply}
 use Rattle.wh_core.proofs.StepKinds.{run-join}
-use Rattle.wh_core.proofs.Opening.{orderly-reached}
-use Rattle.wh_core.proofs.Settled.{no_load_at_rest}
-use Rattle.wh_core.proofs.Seats.{seats-reached}
+use Rattle.wh_core.proofs.Sound.{opening-reached, sound-reached, beginning-reached, ways-reached, no_load_at_rest}
+use Rattle.wh_core.proofs.Same.{ordinary_steps}
 use Rattle.wh_core.proofs.Ways.{none_is_refused_a_path}
 use Rattle.wh_event.specs.declared.reply.Refusal.{Refusal}
 use Rattle.wh_points.specs.Formed.{IsFormed}
 use Rattle.std.proofs.lemmas.List.Elements.{Contains-push}
 use Rattle.wh_book.specs.declared.draft.Change.{Change}
+use Rattle.wh_book.specs.Settings.{IsPlaced}
 use Rattle.wh_book.specs.Drafts.{Seen, IsKept, Drafts, Changes, CanChange, AllServed, ticked}
 
 -- what a book keeps is what the laws are about
+pub kept-ways : (site : Site) (opening : State) (history : List Entry) (state : State) → IsKept site opening history state → IsReachedOnTheirWays site history state
+kept-ways site opening history state kept = opening-reached site opening history state kept.is_opening kept.run
+
 pub kept-reached : (site : Site) (opening : State) (history : List Entry) (state : State) → IsKept site opening history state → IsReached site history state
-kept-reached site opening history state kept = record { opening = opening; is_opening = kept.is_opening; run = kept.run }
+kept-reached site opening history state kept = (kept-ways site opening history state kept).reached
+
+-- where a book goes on all are on their ways
+pub kept-begins : (site : Site) (opening : State) (history : List Entry) (state : State) → IsKept site opening history state → IsBeginning site state × AllOnTheirWays site state
+kept-begins site opening history state kept = (
+  beginning-reached site history state (kept-reached site opening history state kept),
+  ways-reached site history state (kept-ways site opening history state kept),
+)
 
 -- a book with no entry is kept
-pub kept-opened : (site : Site) (clock : ℕ) (slots first : List ℕ) (history : List Entry) (state : State) → IsLayout site.grid site.layout →
+pub kept-opened : (site : Site) (clock : ℕ) (slots first : List ℕ) (history : List Entry) (state : State) → site.homes ≡ false → IsLayout site.grid site.layout →
     clock ≤ last_clock → length slots ≡ length site.layout.agents → first ≡ slots → history ≡ [] → state ≡ opened site.layout clock slots →
     IsKept site (opened site.layout clock first) history state
-kept-opened site clock slots first history state layout fits seats same none stands = record {
+kept-opened site clock slots first history state off layout fits seats same none stands = record {
+  ends_at_stops = off;
   is_opening = record {
     layout = layout;
     clock = clock;
@@ -53,14 +67,19 @@ run-more site old entries mid entry new run step = run-join site old entries mid
 
 -- the paths are free of each other, so that a planner may be asked
 pub kept-free : (site : Site) (opening : State) (history : List Entry) (state : State) → IsKept site opening history state → AllFree site.layout.nofollow state.paths
-kept-free site opening history state kept = (orderly-reached site history state (kept-reached site opening history state kept)).free
+kept-free site opening history state kept = (sound-reached site history state (kept-reached site opening history state kept)).free
+
+-- and each agent goes by a walk
+pub kept-walks : (site : Site) (opening : State) (history : List Entry) (state : State) → IsKept site opening history state →
+    (agent : ℕ) → agent < length state.paths → IsWalk site.grid (path_of state.paths agent)
+kept-walks site opening history state kept = (sound-reached site history state (kept-reached site opening history state kept)).walks
 
 -- an agent that may be given something to do has no load
 pub kept-idle : (site : Site) (opening : State) (history : List Entry) (state : State) (agent : ℕ) → IsKept site opening history state → IsDue state agent →
     slice_get state.loads agent ≡ Some Load.None
 kept-idle site opening history state agent kept due =
-    let reached = kept-reached site opening history state kept in
-    let seats = seats-reached site history state reached in
+    let reached = kept-ways site opening history state kept in
+    let seats = (sound-reached site history state reached.reached).seats in
     let lt : agent < length state.loads = rw (seats.loads, ← seats.paths) due.known.known in
     slice_get-get_or state.loads agent Load.None lt ∙ ap (λ l. Some l) (no_load_at_rest site history state agent reached due.known.known due.resting)
 
@@ -75,6 +94,8 @@ took-drafts book caller agent n path task kept due next lawful room =
     let step : (new : State) → Changes (Change.Take agent n path) book.state new → Step book.site book.state entry new =
     λ new changes.
     let same : changes.0 ≡ task = same_Some changes.0 task (sym changes.1 ∙ next.eligible.there) in
+    let begins = kept-begins book.site book.opening book.history book.state kept in
+    (ordinary_steps book.site book.state (Reply.Took n path) (Event.Request agent) new kept.ends_at_stops begins.0 begins.1).1
     (due, (task, next, lawful, changes.2 ∙ ap (λ t. arrived (adopted agent path (assigned agent n t book.state))) same)) in
     let can : CanChange (Change.Take agent n path) (record { state = book.state; room = book.task_room }) =
     (due.known.known, kept-idle book.site book.opening book.history book.state agent kept due, (task, next.eligible.there, next.eligible.is_open)) in
@@ -82,6 +103,54 @@ took-drafts book caller agent n path task kept due next lawful room =
       caller_is = refl;
       event_is = refl;
       ready = record { step = step; can = can; room = room };
+    }
+
+-- an answer of Token Passing that changes nothing is a step
+pub answer-drafts : (book : Seen) (caller : ℕ) (event : Event) (reply : Reply) → IsKept book.site book.opening book.history book.state →
+    plain.Answers book.site book.state reply event book.state → 1 ≤ book.entry_room →
+    Drafts book caller event (record { entry = record { caller = caller; event = event; reply = reply }; change = Change.Nothing })
+answer-drafts book caller event reply kept answers room =
+    let begins = kept-begins book.site book.opening book.history book.state kept in
+    let step = (ordinary_steps book.site book.state reply event book.state kept.ends_at_stops begins.0 begins.1).1 answers in
+    record {
+      caller_is = refl;
+      event_is = refl;
+      ready = record {
+        step = λ new changes. subst (λ t. Step book.site book.state (record { caller = caller; event = event; reply = reply }) t) (sym changes) step;
+        can = tt;
+        room = room;
+      };
+    }
+
+pub answer-step : (site : Site) (opening : State) (history : List Entry) (state : State) (reply : Reply) (event : Event) → IsKept site opening history state →
+    plain.Answers site state reply event state → Answers site state reply event state
+answer-step site opening history state reply event kept answers =
+    let begins = kept-begins site opening history state kept in
+    (ordinary_steps site state reply event state kept.ends_at_stops begins.0 begins.1).1 answers
+
+-- the name of a point that stands where a path ends
+pub placed-point : (layout : Layout) (cell : Cell) (point : Point) → IsPlaced layout.points cell point → IsPoint layout point.name cell
+placed-point layout cell point placed =
+    (point.kind, subst (λ (c : Cell). Contains layout.points (record { name = point.name; cell = c; kind = point.kind })) placed.cell_is placed.there)
+
+-- a path by which an agent makes way
+pub parked-drafts : (book : Seen) (caller agent : ℕ) (point : List ℕ) (path : List Cell) → IsKept book.site book.opening book.history book.state →
+    IsDue book.state agent → MakesWay book.state agent →
+    IsLawful book.site.grid book.site.layout.nofollow book.state.paths agent 2 (ParksAt (IsAllowed book.site book.state agent)) path →
+    IsPoint book.site.layout point (end path) → 1 ≤ book.entry_room →
+    Drafts book caller (Event.Request agent)
+    (record { entry = record { caller = caller; event = Event.Request agent; reply = Reply.Parked point path }; change = Change.Park agent path })
+parked-drafts book caller agent point path kept due way lawful there room =
+    let begins = kept-begins book.site book.opening book.history book.state kept in
+    record {
+      caller_is = refl;
+      event_is = refl;
+      ready = record {
+        step = λ new changes.
+            (ordinary_steps book.site book.state (Reply.Parked point path) (Event.Request agent) new kept.ends_at_stops begins.0 begins.1).1 (due, way, lawful, there, changes);
+        can = due.known.known;
+        room = room;
+      };
     }
 
 -- a tick is a step
@@ -106,6 +175,7 @@ tick-drafts book caller clock first last not_closed early clock_is first_is last
 pub kept-more : (site : Site) (opening : State) (history : List Entry) (state : State) (entry : Entry) (new : State) → IsKept site opening history state →
     Step site state entry new → IsKept site opening (history ++ entry ∷ []) new
 kept-more site opening history state entry new kept step = record {
+  ends_at_stops = kept.ends_at_stops;
   is_opening = kept.is_opening;
   run = run-more site opening history state entry new kept.run step;
 }
@@ -115,10 +185,10 @@ pub kept-seats : (site : Site) (opening : State) (history : List Entry) (state :
     Step site state entry new → length new.paths ≡ length state.paths
 kept-seats site opening history state entry new kept step =
     let next = kept-more site opening history state entry new kept step in
-    (seats-reached site _ new (kept-reached site opening _ new next)).paths ∙ sym (seats-reached site _ state (kept-reached site opening history state kept)).paths
+    (sound-reached site _ new (kept-reached site opening _ new next)).seats.paths ∙ sym (sound-reached site _ state (kept-reached site opening history state kept)).seats.paths
 
 pub kept-served : (site : Site) (opening : State) (history : List Entry) (state : State) → IsKept site opening history state → IsFormed site → AllServed history
-kept-served site opening history state kept formed = none_is_refused_a_path site history state formed (kept-reached site opening history state kept)
+kept-served site opening history state kept formed = none_is_refused_a_path site history state formed (kept-ways site opening history state kept)
 
 -- on a well-formed instance no entry that is added is a refusal for lack of a path
 pub step-served : (site : Site) (opening : State) (history : List Entry) (state : State) (entry : Entry) (new : State) → IsKept site opening history state →
@@ -137,5 +207,5 @@ pub run-served : (site : Site) (opening : State) (history : List Entry) (state :
     Run site opening history state → Run site state added new → IsFormed site → AllServed added
 run-served site opening history state added new is_opening run more formed =
     let joined = run-join site opening history state added new run more in
-    let all = none_is_refused_a_path site (history ++ added) new formed (record { opening = opening; is_opening = is_opening; run = joined }) in
+    let all = none_is_refused_a_path site (history ++ added) new formed (opening-reached site opening (history ++ added) new is_opening joined) in
     all-right (λ (entry : Entry). entry.reply ≢ Reply.Refused Refusal.NoPath) history added all

@@ -1,4 +1,4 @@
-use Rattle.std.specs.Prelude.{◌≡◌, ◌≢◌, ℕ, ◌+◌, ◌<◌, ◌≤◌, List, Some, length, slice_get, All, Contains}
+use Rattle.std.specs.Prelude.{false, ◌≡◌, ◌≢◌, ℕ, ◌+◌, ◌<◌, ◌≤◌, List, Some, length, slice_get, All, Contains}
 use Rattle.wh_points.specs.Points.{Layout, Site, IsPointCell}
 use Rattle.wh_tasks.specs.declared.task.Task.{Task}
 use Rattle.wh_tasks.specs.declared.task.Load.{Load}
@@ -50,6 +50,7 @@ pub record Seen : Type 0 where
 
 -- what a book keeps: the history is a run from the opening state to the state
 pub record IsKept (site : Site) (opening : State) (history : List Entry) (state : State) : Type 0 where
+  pub ends_at_stops : site.homes ≡ false
   pub is_opening : IsOpening site opening
   pub run : Run site opening history state
 

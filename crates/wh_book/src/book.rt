@@ -2,13 +2,14 @@
 #![tactic(auto)]
 
 ghost use Rattle.std.specs.Prelude.{◌≡◌, ◌≢◌, ℕ, ◌+◌, ◌-◌, ◌<◌, ◌≤◌, ◌↔◌, List, [], ◌∷◌, ◌++◌, true, false, Some, length, slice_get, IfOk, IfNone, IfSome, OnOk, OnErr, IsTrue, Contains};
-ghost use Rattle.wh_path.specs.Paths.{AllFree, place_of};
+ghost use Rattle.wh_path.specs.Paths.{AllFree, IsWalk, path_of, place_of};
 ghost use Rattle.wh_points.specs.Points.{Site};
 ghost use Rattle.wh_tasks.specs.declared.task.Task.{Task as Job};
 ghost use Rattle.wh_tasks.specs.Tasks.{IsTask};
 ghost use Rattle.wh_planner.specs.Duties.{IsLawful, Delivers, ParksAt};
 ghost use Rattle.wh_core.specs.States.{State, opened, arrived, moved};
-ghost use Rattle.wh_core.specs.Steps.{Step, Run, Answers, Refuses, IsDue, IsNext, NoneIsNext, MakesWay, IsAllowed, last_clock, IsDeliveryCell};
+ghost use Rattle.wh_core.specs.Steps.{Step, Run, last_clock, IsDeliveryCell};
+ghost use Rattle.wh_core.specs.Ordinary.{Answers, Refuses, IsDue, IsNext, NoneIsNext, MakesWay, IsAllowed};
 ghost use Rattle.wh_core.specs.Laws.{IsOpening};
 ghost use Rattle.wh_event.specs.declared.event.Event.{Event as Asked};
 ghost use Rattle.wh_grid.specs.declared.cell.Cell.{Cell as Place};
@@ -162,6 +163,7 @@ impl Book {
     /// The paths, any two of them free of each other, for planners.
     pub fn timetable(&self) -> &Timetable
         ensures value { result.now ≡ self.now.state.paths }
+        ensures walks { (agent : ℕ) → agent < length self.now.state.paths → IsWalk self.now.site.grid (path_of self.now.state.paths agent) }
         ensures free { AllFree self.now.site.layout.nofollow self.now.state.paths }
         ensures few { length result.now ≤ 256 }
     {
@@ -247,6 +249,7 @@ impl Book {
         ensures site { self.new.site ≡ self.old.site }
         ensures opening { self.new.opening ≡ self.old.opening }
         ensures state { self.new.state ≡ self.old.state }
+        ensures step { Step self.old.site self.old.state (record { caller = caller; event = event; reply = reply }) self.old.state }
         ensures history { self.new.history ≡ self.old.history ++ record { caller = caller; event = event; reply = reply } ∷ [] }
     {
         self.history.push_reserved(Entry {
@@ -286,6 +289,7 @@ impl Book {
         requires room { 1 ≤ self.now.entry_room }
         ensures { Drafts self.now caller event result }
     {
+        let _setting = &self.setting;
         let entry = Entry {
             caller,
             event,

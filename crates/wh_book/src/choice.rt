@@ -5,7 +5,8 @@ ghost use Rattle.std.specs.Prelude.{◌≡◌, ◌<◌, IfNone, IfSome, IsTrue, 
 ghost use Rattle.wh_path.specs.Paths.{place_of};
 ghost use Rattle.wh_tasks.specs.Choice.{IsNearest};
 ghost use Rattle.wh_tasks.specs.declared.task.Task.{Task as Job};
-ghost use Rattle.wh_core.specs.Steps.{IsDue, IsDeliveryCell, NoneIsNext, other_ends};
+ghost use Rattle.wh_core.specs.Steps.{IsDeliveryCell, other_ends};
+ghost use Rattle.wh_core.specs.Ordinary.{IsDue, NoneIsNext};
 
 use wh_field::LazyField;
 use wh_state::FleetState;

@@ -1,7 +1,7 @@
 //! The grid and the points on which a warehouse stands.
 #![tactic(auto)]
 
-ghost use Rattle.std.specs.Prelude.{◌≡◌, ◌≢◌, ℕ, ◌<◌, ◌≤◌, ◌↔◌, IfOk, IfErr, IfNone, IfSome, All, Contains, length, map};
+ghost use Rattle.std.specs.Prelude.{false, ◌≡◌, ◌≢◌, ℕ, ◌<◌, ◌≤◌, ◌↔◌, IfOk, IfErr, IfNone, IfSome, All, Contains, length, map};
 ghost use Rattle.wh_points.specs.declared.points.Point.{Point as Spot};
 ghost use Rattle.std.specs.List.{AllZip};
 ghost use Rattle.wh_points.specs.Points.{Layout, Site, IsLayout, IsStation, IsPoint, IsPointCell, starts, point_at};
@@ -26,15 +26,15 @@ pub struct Setting {
 }
 
 impl Model for Setting {
-    ghost use Rattle.std.specs.Prelude.{◌≤◌, length};
+    ghost use Rattle.std.specs.Prelude.{◌≤◌, false, length};
     ghost use Rattle.wh_points.specs.Points.{Site};
     ghost use Rattle.wh_book.specs.Settings.{IsSite};
 
     ghost Value = { Site };
 
-    ghost view = { λ s. record { grid = s.grid.value; layout = s.points } };
+    ghost view = { λ s. record { grid = s.grid.value; layout = s.points; homes = false } };
 
-    ghost invariant = { λ s. IsSite (record { grid = s.grid.value; layout = s.points }) };
+    ghost invariant = { λ s. IsSite (record { grid = s.grid.value; layout = s.points; homes = false }) };
 }
 
 /// Why a stop is no station.
@@ -50,7 +50,7 @@ impl Setting {
     /// The grid with its points.
     pub fn new(grid: Arc<Grid>, points: Points) -> Setting
         requires layout { IsLayout grid.value points }
-        ensures { result ≡ record { grid = grid.value; layout = points } }
+        ensures { result ≡ record { grid = grid.value; layout = points; homes = false } }
     {
         let _agents = points.agents();
         Setting { grid, points }
@@ -88,6 +88,7 @@ impl Setting {
     pub fn agents(&self) -> usize
         ensures value { result ≡ length self.now.layout.agents }
         ensures few { result ≤ 256 }
+        ensures ends_at_stops { self.now.homes ≡ false }
         ensures layout { IsLayout self.now.grid self.now.layout }
     {
         self.points.agents().len()

@@ -8,13 +8,15 @@ use Rattle.std.proofs.lemmas.List.{get_or_default}
 use Rattle.wh_grid.specs.declared.cell.Cell.{Cell}
 use Rattle.wh_points.specs.declared.points.Kind.{Kind}
 use Rattle.wh_points.specs.declared.points.Point.{Point}
-use Rattle.wh_path.specs.Paths.{place_of, steps_left}
+use Rattle.wh_path.specs.Paths.{place_of, end_of}
 use Rattle.wh_points.specs.Points.{Layout, Site, IsLayout, IsStation, point_at}
 use Rattle.wh_tasks.specs.declared.task.Task.{Task}
+use Rattle.wh_tasks.specs.declared.task.Load.{Load}
 use Rattle.wh_tasks.proofs.Nearest.{nearest_one}
-use Rattle.wh_core.specs.States.{State, moved, picked, dropped}
-use Rattle.wh_core.specs.Steps.{Answers, IsKnown, IsDue, IsNext, NoneIsNext, IsDeliveryCell, MakesWay, IsStationName, IsParkingName, IsUnknownName, IsFirstFault, most_tasks, last_clock}
-use Rattle.wh_core.specs.Laws.{AgreeButForPath}
+use Rattle.wh_core.specs.States.{State, load_of, moved, picked, dropped}
+use Rattle.wh_core.specs.Steps.{Answers, IsKnown, IsIdleIn, IsDue, IsNext, IsNextBy, NoneIsNext, IsRestCell, IsStray, MakesWay, IsStationName, IsParkingName, IsUnknownName, IsFirstFault, most_tasks, last_clock}
+use Rattle.wh_core.specs.Laws.{AgreeButForPath, AsksNoStray}
+use Rattle.wh_core.proofs.Idle.{idle-one, idle-none}
 use Rattle.wh_event.specs.declared.event.Spare.{Spare}
 use Rattle.wh_event.specs.declared.event.Event.{Event}
 use Rattle.wh_event.specs.declared.reply.Refusal.{Refusal}
@@ -147,17 +149,17 @@ submits-agree site s stops r q layout (taken o g h e) (taken p i j f) = agree-sa
 
 -- the replies to a due request
 data Asked (site : Site) (s : State) (agent : ℕ) (r : Reply) : Type 0 where
-  pathless : ((n : ℕ) × (task : Task) × IsNext site s agent n task) ⊎ MakesWay s agent → r ≡ Reply.Refused Refusal.NoPath → Asked site s agent r
+  pathless : ((n : ℕ) × (task : Task) × IsNext site s agent n task) ⊎ MakesWay site s agent → r ≡ Reply.Refused Refusal.NoPath → Asked site s agent r
   took : (n : ℕ) (task : Task) (path : List Cell) → IsNext site s agent n task → r ≡ Reply.Took n path → Asked site s agent r
-  rested : NoneIsNext s agent → ¬ IsDeliveryCell s (place_of s.paths agent) → r ≡ Reply.Rested → Asked site s agent r
-  parked : (point : List ℕ) (path : List Cell) → MakesWay s agent → r ≡ Reply.Parked point path → Asked site s agent r
+  rested : NoneIsNext s agent → IsRestCell site s agent (end_of s.paths agent) → r ≡ Reply.Rested → Asked site s agent r
+  parked : (point : List ℕ) (path : List Cell) → MakesWay site s agent → r ≡ Reply.Parked point path → Asked site s agent r
 
 -- the replies to a request
 data Requested (site : Site) (s : State) (agent : ℕ) (r : Reply) : Type 0 where
   shut : s.closed ≡ true → r ≡ Reply.Refused Refusal.Closed → Requested site s agent r
   stranger : s.closed ≡ false → length s.paths ≤ agent → r ≡ Reply.Refused (Refusal.UnknownAgent agent) → Requested site s agent r
-  moving : IsKnown s agent → steps_left s.paths agent ≢ 0 → r ≡ Reply.Refused (Refusal.Moving (steps_left s.paths agent)) → Requested site s agent r
-  due : IsDue s agent → Asked site s agent r → Requested site s agent r
+  moving : (left : ℕ) → IsKnown s agent → IsIdleIn site s agent left → left ≢ 0 → r ≡ Reply.Refused (Refusal.Moving left) → Requested site s agent r
+  due : IsDue site s agent → Asked site s agent r → Requested site s agent r
 
 requested : (site : Site) (s : State) (agent : ℕ) (r : Reply) (new : State) → Answers site s r (Event.Request agent) new → Requested site s agent r
 requested site s agent (Reply.Refused Refusal.Closed) new step = shut step.0 refl
@@ -165,7 +167,7 @@ requested site s agent (Reply.Refused (Refusal.UnknownAgent told)) new step =
     stranger step.0.0 step.0.1 (ap (λ k. Reply.Refused (Refusal.UnknownAgent k)) step.0.2)
 requested site s agent (Reply.Refused (Refusal.Moving left)) new step =
     let why = step.0 in
-    moving why.0 (λ z. why.2 (why.1 ∙ z)) (ap (λ k. Reply.Refused (Refusal.Moving k)) why.1)
+    moving left why.0 why.1 why.2 refl
 requested site s agent (Reply.Refused Refusal.NoPath) new step =
     due step.0.0 (pathless (elim step.0.1 [ inl w ↦ inl (w.0, w.1, w.2) | inr w ↦ inr w.0 ]) refl)
 requested site s agent (Reply.Refused refusal) new step = absurd step.0
@@ -174,47 +176,69 @@ requested site s agent Reply.Rested new step = due step.0 (rested step.1 step.2 
 requested site s agent (Reply.Parked point path) new step = due step.0 (parked point path step.1 refl)
 requested site s agent r new step = absurd step
 
+-- of two tasks that are next both are one
+next-one : (site : Site) (s : State) (agent : ℕ) (load : Load) (n m : ℕ) (t u : Task) → IsNextBy load site s agent n t → IsNextBy load site s agent m u → n ≡ m
+next-one site s agent Load.None n m t u next other = nearest_one site.grid s.tasks _ (place_of s.paths agent) n m t u next other
+next-one site s agent (Load.Fetching k) n m t u next other = next.0 ∙ sym other.0
+next-one site s agent (Load.Carrying k seen) n m t u next other = next.0 ∙ sym other.0
+
+-- one is next, or none is
+next-none : {A : Type 0} (site : Site) (s : State) (agent n : ℕ) (task : Task) → NoneIsNext s agent → IsNext site s agent n task → A
+next-none site s agent n task none next = absurd (none.1 n task (subst (λ l. IsNextBy l site s agent n task) none.0 next).eligible)
+
+-- an agent that is no stray and makes way has no next task
+way-none : {A : Type 0} (site : Site) (s : State) (agent n : ℕ) (task : Task) → (¬ IsStray site s agent) → MakesWay site s agent → IsNext site s agent n task → A
+way-none site s agent n task settled way next = elim way.no_work [ inl none ↦ next-none site s agent n task none next | inr barred ↦ absurd (settled barred.stray) ]
+
+-- an agent that makes way may not rest
+way-no_rest : {A : Type 0} (site : Site) (s : State) (agent : ℕ) → MakesWay site s agent → IsRestCell site s agent (end_of s.paths agent) → A
+way-no_rest site s agent way rest = absurd (elim way.in_the_way [ inl wanted ↦ rest.not_wanted wanted | inr off ↦ off rest.berth ])
+
 -- a task is next, or the agent makes way, and it may rest: not both
-not-rested : {A : Type 0} (site : Site) (s : State) (agent : ℕ) → ((n : ℕ) × (task : Task) × IsNext site s agent n task) ⊎ MakesWay s agent →
-    NoneIsNext s agent → ¬ IsDeliveryCell s (place_of s.paths agent) → A
-not-rested site s agent work none off = absurd (elim work [ inl w ↦ none w.0 w.1 w.2.eligible | inr w ↦ off w.in_the_way ])
+not-rested : {A : Type 0} (site : Site) (s : State) (agent : ℕ) → ((n : ℕ) × (task : Task) × IsNext site s agent n task) ⊎ MakesWay site s agent →
+    NoneIsNext s agent → IsRestCell site s agent (end_of s.paths agent) → A
+not-rested site s agent work none rest = elim work [
+  | inl w ↦ next-none site s agent w.0 w.1 none w.2
+  | inr way ↦ way-no_rest site s agent way rest
+]
 
-asked-agree : (site : Site) (s : State) (agent : ℕ) (r q : Reply) → Asked site s agent r → Asked site s agent q → AgreeButForPath r q
-asked-agree site s agent r q (pathless w e) (pathless v f) = agree-same r q _ e f
-asked-agree site s agent r q (pathless w e) (took m t p next f) = agree-by r q _ _ e f tt
-asked-agree site s agent r q (pathless w e) (rested none off f) = not-rested site s agent w none off
-asked-agree site s agent r q (pathless w e) (parked a p way f) = agree-by r q _ _ e f tt
-asked-agree site s agent r q (took n t p next e) (pathless v f) = agree-by r q _ _ e f tt
-asked-agree site s agent r q (took n t p next e) (took m u o other f) =
-    agree-by r q _ _ e f (nearest_one site.grid s.tasks _ (place_of s.paths agent) n m t u next other)
-asked-agree site s agent r q (took n t p next e) (rested none off f) = absurd (none n t next.eligible)
-asked-agree site s agent r q (took n t p next e) (parked a o way f) = absurd (way.none n t next.eligible)
-asked-agree site s agent r q (rested none off e) (pathless v f) = not-rested site s agent v none off
-asked-agree site s agent r q (rested none off e) (took m t p next f) = absurd (none m t next.eligible)
-asked-agree site s agent r q (rested none off e) (rested more away f) = agree-same r q _ e f
-asked-agree site s agent r q (rested none off e) (parked a p way f) = absurd (off way.in_the_way)
-asked-agree site s agent r q (parked a p way e) (pathless v f) = agree-by r q _ _ e f tt
-asked-agree site s agent r q (parked a p way e) (took m t o next f) = absurd (way.none m t next.eligible)
-asked-agree site s agent r q (parked a p way e) (rested none off f) = absurd (off way.in_the_way)
-asked-agree site s agent r q (parked a p way e) (parked b o more f) = agree-by r q _ _ e f tt
+asked-agree : (site : Site) (s : State) (agent : ℕ) (r q : Reply) → (¬ IsStray site s agent) → Asked site s agent r → Asked site s agent q → AgreeButForPath r q
+asked-agree site s agent r q settled (pathless w e) (pathless v f) = agree-same r q _ e f
+asked-agree site s agent r q settled (pathless w e) (took m t p next f) = agree-by r q _ _ e f tt
+asked-agree site s agent r q settled (pathless w e) (rested none off f) = not-rested site s agent w none off
+asked-agree site s agent r q settled (pathless w e) (parked a p way f) = agree-by r q _ _ e f tt
+asked-agree site s agent r q settled (took n t p next e) (pathless v f) = agree-by r q _ _ e f tt
+asked-agree site s agent r q settled (took n t p next e) (took m u o other f) =
+    agree-by r q _ _ e f (next-one site s agent (load_of s agent) n m t u next other)
+asked-agree site s agent r q settled (took n t p next e) (rested none off f) = next-none site s agent n t none next
+asked-agree site s agent r q settled (took n t p next e) (parked a o way f) = way-none site s agent n t settled way next
+asked-agree site s agent r q settled (rested none off e) (pathless v f) = not-rested site s agent v none off
+asked-agree site s agent r q settled (rested none off e) (took m t p next f) = next-none site s agent m t none next
+asked-agree site s agent r q settled (rested none off e) (rested more away f) = agree-same r q _ e f
+asked-agree site s agent r q settled (rested none off e) (parked a p way f) = way-no_rest site s agent way off
+asked-agree site s agent r q settled (parked a p way e) (pathless v f) = agree-by r q _ _ e f tt
+asked-agree site s agent r q settled (parked a p way e) (took m t o next f) = way-none site s agent m t settled way next
+asked-agree site s agent r q settled (parked a p way e) (rested none off f) = way-no_rest site s agent way off
+asked-agree site s agent r q settled (parked a p way e) (parked b o more f) = agree-by r q _ _ e f tt
 
-requests-agree : (site : Site) (s : State) (agent : ℕ) (r q : Reply) → Requested site s agent r → Requested site s agent q → AgreeButForPath r q
-requests-agree site s agent r q (shut c e) (shut d f) = agree-same r q _ e f
-requests-agree site s agent r q (shut c e) (stranger o l f) = both s.closed c o
-requests-agree site s agent r q (shut c e) (moving k l f) = both s.closed c k.not_closed
-requests-agree site s agent r q (shut c e) (due d a) = both s.closed c d.known.not_closed
-requests-agree site s agent r q (stranger o l e) (shut c f) = both s.closed c o
-requests-agree site s agent r q (stranger o l e) (stranger p m f) = agree-same r q _ e f
-requests-agree site s agent r q (stranger o l e) (moving k m f) = absurd (let h = k.known in omega arith)
-requests-agree site s agent r q (stranger o l e) (due d a) = absurd (let h = d.known.known in omega arith)
-requests-agree site s agent r q (moving k m e) (shut c f) = both s.closed c k.not_closed
-requests-agree site s agent r q (moving k m e) (stranger o l f) = absurd (let h = k.known in omega arith)
-requests-agree site s agent r q (moving k m e) (moving l n f) = agree-same r q _ e f
-requests-agree site s agent r q (moving k m e) (due d a) = absurd (m d.resting)
-requests-agree site s agent r q (due d a) (shut c f) = both s.closed c d.known.not_closed
-requests-agree site s agent r q (due d a) (stranger o l f) = absurd (let h = d.known.known in omega arith)
-requests-agree site s agent r q (due d a) (moving k m f) = absurd (m d.resting)
-requests-agree site s agent r q (due d a) (due e b) = asked-agree site s agent r q a b
+requests-agree : (site : Site) (s : State) (agent : ℕ) (r q : Reply) → (IsDue site s agent → ¬ IsStray site s agent) → Requested site s agent r → Requested site s agent q → AgreeButForPath r q
+requests-agree site s agent r q settled (shut c e) (shut d f) = agree-same r q _ e f
+requests-agree site s agent r q settled (shut c e) (stranger o l f) = both s.closed c o
+requests-agree site s agent r q settled (shut c e) (moving left k l n f) = both s.closed c k.not_closed
+requests-agree site s agent r q settled (shut c e) (due d a) = both s.closed c d.known.not_closed
+requests-agree site s agent r q settled (stranger o l e) (shut c f) = both s.closed c o
+requests-agree site s agent r q settled (stranger o l e) (stranger p m f) = agree-same r q _ e f
+requests-agree site s agent r q settled (stranger o l e) (moving left k m n f) = absurd (let h = k.known in omega arith)
+requests-agree site s agent r q settled (stranger o l e) (due d a) = absurd (let h = d.known.known in omega arith)
+requests-agree site s agent r q settled (moving left k m n e) (shut c f) = both s.closed c k.not_closed
+requests-agree site s agent r q settled (moving left k m n e) (stranger o l f) = absurd (let h = k.known in omega arith)
+requests-agree site s agent r q settled (moving left k m n e) (moving more l o p f) =
+    agree-same r q _ e (f ∙ sym (ap (λ j. Reply.Refused (Refusal.Moving j)) (idle-one site s agent left more m o)))
+requests-agree site s agent r q settled (moving left k m n e) (due d a) = absurd (n (idle-none site s agent left d.idle m))
+requests-agree site s agent r q settled (due d a) (shut c f) = both s.closed c d.known.not_closed
+requests-agree site s agent r q settled (due d a) (stranger o l f) = absurd (let h = d.known.known in omega arith)
+requests-agree site s agent r q settled (due d a) (moving left k m n f) = absurd (n (idle-none site s agent left d.idle m))
+requests-agree site s agent r q settled (due d a) (due e b) = asked-agree site s agent r q (settled d) a b
 
 -- a tick, a replacement, a close
 data Ticked (s : State) (r : Reply) : Type 0 where
@@ -287,13 +311,13 @@ closes-agree s r q (again c e) (once o f) = both s.closed c o
 closes-agree s r q (once o e) (again c f) = both s.closed c o
 closes-agree s r q (once o e) (once p f) = agree-same r q _ e f
 
-pub replies_agree : (site : Site) (old : State) (event : Event) (one other : Reply) (a b : State) → IsLayout site.grid site.layout →
+pub replies_agree : (site : Site) (old : State) (event : Event) (one other : Reply) (a b : State) → IsLayout site.grid site.layout → AsksNoStray site old event →
     Answers site old one event a → Answers site old other event b → AgreeButForPath one other
-replies_agree site old (Event.Submit client stops) one other a b layout x y =
+replies_agree site old (Event.Submit client stops) one other a b layout asks x y =
     submits-agree site old stops one other layout (submitted site old client stops one a x) (submitted site old client stops other b y)
-replies_agree site old (Event.Request agent) one other a b layout x y =
-    requests-agree site old agent one other (requested site old agent one a x) (requested site old agent other b y)
-replies_agree site old Event.Tick one other a b layout x y = ticks-agree old one other (ticked site old one a x) (ticked site old other b y)
-replies_agree site old (Event.Replace agent spare) one other a b layout x y =
+replies_agree site old (Event.Request agent) one other a b layout asks x y =
+    requests-agree site old agent one other (λ due. asks agent refl due) (requested site old agent one a x) (requested site old agent other b y)
+replies_agree site old Event.Tick one other a b layout asks x y = ticks-agree old one other (ticked site old one a x) (ticked site old other b y)
+replies_agree site old (Event.Replace agent spare) one other a b layout asks x y =
     replaces-agree old agent spare one other (replacing site old agent spare one a x) (replacing site old agent spare other b y)
-replies_agree site old Event.Close one other a b layout x y = closes-agree old one other (closing site old one a x) (closing site old other b y)
+replies_agree site old Event.Close one other a b layout asks x y = closes-agree old one other (closing site old one a x) (closing site old other b y)

@@ -11,13 +11,14 @@ use Rattle.wh_event.specs.declared.event.Event.{Event}
 use Rattle.wh_event.specs.declared.reply.Refusal.{Refusal}
 use Rattle.wh_event.specs.declared.reply.Reply.{Reply}
 use Rattle.wh_event.specs.declared.entry.Entry.{Entry}
-use Rattle.wh_core.proofs.StepKinds.{Moves, stays, adds, takes, parks, ticks, step-moves}
+use Rattle.wh_core.proofs.StepKinds.{Moves, stays, adds, takes, continues, parks, ticks, step-moves}
 
 pub clock-moves : (site : Site) (old new : State) → Moves site old new → old.clock ≤ new.clock
 clock-moves site old new m = elim m [
   | stays c p l t z ↦ omega arith
   | adds client names cells room few many stations e ↦ (let c = ap (λ s. s.clock) e in omega arith)
-  | takes agent n task path due next lawful e ↦ (let c = ap (λ s. s.clock) e in omega arith)
+  | continues agent n task path due own lawful e ↦ (let c = ap (λ s. s.clock) e in omega arith)
+  | takes agent n task path due none next lawful e ↦ (let c = ap (λ s. s.clock) e in omega arith)
   | parks agent path due way lawful e ↦ (let c = ap (λ s. s.clock) e in omega arith)
   | ticks fits e ↦ (let c = ap (λ s. s.clock) e in omega arith)
 ]

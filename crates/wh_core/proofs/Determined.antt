@@ -8,9 +8,12 @@ use Rattle.wh_grid.specs.declared.cell.Cell.{Cell}
 use Rattle.wh_points.specs.declared.points.Kind.{Kind}
 use Rattle.wh_points.specs.declared.points.Point.{Point}
 use Rattle.wh_points.specs.Points.{Site, IsLayout, IsStation, point_at}
-use Rattle.wh_core.specs.States.{State, arrived, submitted, adopted, assigned}
-use Rattle.wh_core.specs.Steps.{Answers, Run}
-use Rattle.wh_core.specs.Laws.{IsOpening}
+use Rattle.wh_tasks.specs.declared.task.Task.{Task}
+use Rattle.wh_tasks.specs.declared.task.Load.{Load}
+use Rattle.wh_tasks.specs.Tasks.{IsTask}
+use Rattle.wh_core.specs.States.{State, load_of, arrived, submitted, adopted, assigned}
+use Rattle.wh_core.specs.Steps.{Answers, Run, IsNextBy}
+use Rattle.wh_core.specs.Laws.{IsBeginning}
 use Rattle.wh_event.specs.declared.event.Spare.{Spare}
 use Rattle.wh_event.specs.declared.event.Event.{Event}
 use Rattle.wh_event.specs.declared.reply.Reply.{Reply}
@@ -39,13 +42,20 @@ stations-one site layout (n ∷ ns) (c ∷ cs) [] a b = absurd b
 stations-one site layout (n ∷ ns) (c ∷ cs) (d ∷ ds) a b =
     ap (λ x. x ∷ cs) (station-one site n c d layout a.0 b.0) ∙ ap (λ xs. d ∷ xs) (stations-one site layout ns cs ds a.1 b.1)
 
+-- a task that is next stands among the tasks
+pub next-there : (site : Site) (s : State) (agent n : ℕ) (task : Task) (load : Load) → IsNextBy load site s agent n task → IsTask s.tasks n task
+next-there site s agent n task Load.None next = next.eligible.there
+next-there site s agent n task (Load.Fetching m) next = next.1.there
+next-there site s agent n task (Load.Carrying m seen) next = next.1.there
+
 answers-one : (site : Site) (old : State) (reply : Reply) (event : Event) (a b : State) → IsLayout site.grid site.layout →
     Answers site old reply event a → Answers site old reply event b → a ≡ b
 answers-one site old (Reply.Refused refusal) event a b layout x y = x.1 ∙ sym y.1
 answers-one site old (Reply.Accepted n) (Event.Submit client stops) a b layout x y =
     x.5.2 ∙ ap (λ cells. submitted client cells old) (stations-one site layout stops x.5.0 y.5.0 x.5.1 y.5.1) ∙ sym y.5.2
 answers-one site old (Reply.Took n path) (Event.Request agent) a b layout x y =
-    let same : x.1.0 ≡ y.1.0 = same_Some x.1.0 y.1.0 (sym x.1.1.eligible.there ∙ y.1.1.eligible.there) in
+    let same : x.1.0 ≡ y.1.0 = same_Some x.1.0 y.1.0
+    (sym (next-there site old agent n x.1.0 (load_of old agent) x.1.1) ∙ next-there site old agent n y.1.0 (load_of old agent) y.1.1) in
     x.1.3 ∙ ap (λ task. arrived (adopted agent path (assigned agent n task old))) same ∙ sym y.1.3
 answers-one site old Reply.Rested (Event.Request agent) a b layout x y = x.3 ∙ sym y.3
 answers-one site old (Reply.Parked point path) (Event.Request agent) a b layout x y = x.4 ∙ sym y.4
@@ -60,6 +70,6 @@ run-one site old (entry ∷ entries) a b layout x y =
     let same : y.0 ≡ x.0 = answers-one site old entry.reply entry.event y.0 x.0 layout y.1 x.1 in
     run-one site x.0 entries a b layout x.2 (subst (λ s. Run site s entries b) same y.2)
 
-pub history_tells : (site : Site) (opening : State) (entries : List Entry) (one other : State) → IsOpening site opening → Run site opening entries one →
+pub history_tells : (site : Site) (opening : State) (entries : List Entry) (one other : State) → IsBeginning site opening → Run site opening entries one →
     Run site opening entries other → one ≡ other
 history_tells site opening entries one other o x y = run-one site opening entries one other o.layout x y

@@ -16,7 +16,7 @@ use Rattle.wh_core.specs.States.{State}
 use Rattle.wh_core.specs.Steps.{Run}
 use Rattle.wh_core.specs.Laws.{IsForward, IsLater}
 use Rattle.wh_event.specs.declared.entry.Entry.{Entry}
-use Rattle.wh_core.proofs.StepKinds.{Moves, stays, adds, takes, parks, ticks, step-moves}
+use Rattle.wh_core.proofs.StepKinds.{Moves, stays, adds, takes, continues, parks, ticks, step-moves}
 use Rattle.wh_core.proofs.Lists.{slice_get-append, slice_get-set_same, slice_get-set_other, map-at}
 
 forward-carried : (b c : Bool) → (b ≡ false → c ≡ false) → IsForward (carried_or_done b) (carried_or_done c)
@@ -109,7 +109,8 @@ later-moves site old new m = elim m [
   | stays c p l t z ↦ all_later-same old.tasks new.tasks t
   | adds client names cells room few many stations e ↦
       subst (λ s. AllLater old.tasks s.tasks) (sym e) (λ n task is. (task, slice_get-append old.tasks _ n task is, later-refl task))
-  | takes agent n task path due next lawful e ↦
+  | continues agent n task path due own lawful e ↦ subst (λ s. AllLater old.tasks s.tasks) (sym e) (all_later-arrived _ _ _)
+  | takes agent n task path due none next lawful e ↦
       subst (λ s. AllLater old.tasks s.tasks) (sym e)
       (all_later-trans old.tasks (set old.tasks n (record task { agent = Some agent })) _
       (all_later-assigned agent n task old.tasks next.eligible.there next.eligible.is_open)

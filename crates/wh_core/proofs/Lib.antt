@@ -12,10 +12,15 @@ pub mod Settled
 pub mod Timed
 pub mod Made
 pub mod Seats
+pub mod Limits
+pub mod Sound
+pub mod Idle
 pub mod Ways
+pub mod GoingHome
 pub mod Determined
 pub mod WorkedRows
 pub mod WrongRows
 pub mod Agreeing
-pub mod Limits
 pub mod Answering
+pub mod Same
+pub mod Stopped

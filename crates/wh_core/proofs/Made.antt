@@ -1,5 +1,5 @@
 -- each visit was made in a state of the run, by the task's agent, at its stop
-use Rattle.std.proofs.Common.{◌≡◌, ℕ, ◌+◌, ◌-◌, ◌<◌, ◌≤◌, ◌∙◌, inl, inr, List, [], ◌∷◌, cond, ltb, Option, Some, None, get_or, sym, subst, refl, ap, arith}
+use Rattle.std.proofs.Common.{◌≡◌, ℕ, ◌+◌, ◌-◌, ◌<◌, ◌≤◌, ◌∙◌, inl, inr, List, [], ◌∷◌, cond, ltb, Option, Some, get_or, sym, subst, refl, ap, arith}
 use Prim.Native.Nat.{suc}
 use Rattle.std.specs.Prelude.{slice_get}
 use Rattle.std.proofs.Math.ListN.{get_or-append}
@@ -16,24 +16,19 @@ use Rattle.wh_tasks.proofs.Visiting.{option_cases, stops_here-at, arrived-open, 
 use Rattle.wh_tasks.proofs.Loads.{lt-ltb, ge-ltb}
 use Rattle.wh_core.specs.States.{State, arrived, submitted, adopted, assigned, moved}
 use Rattle.wh_core.specs.Steps.{Step, Run}
-use Rattle.wh_core.specs.Laws.{IsOpening, WasAt, VisitsWereMade}
+use Rattle.wh_core.specs.Laws.{WasAt, VisitsWereMade, visits_of}
 use Rattle.wh_event.specs.declared.entry.Entry.{Entry}
-use Rattle.wh_core.proofs.StepKinds.{Moves, stays, adds, takes, parks, ticks, step-moves}
+use Rattle.wh_core.proofs.StepKinds.{Moves, stays, adds, takes, continues, parks, ticks, step-moves}
 use Rattle.wh_core.proofs.Lists.{map_from}
 use Rattle.wh_core.proofs.Later.{later-run}
 use Rattle.wh_core.proofs.Work.{set-from, added-from}
 use Rattle.wh_core.proofs.Timed.{visit-cases}
 
--- how many visits the task of a number has; none where there is no such task
-abbrev seen_of : Option Task → ℕ
-seen_of None = 0
-seen_of (Some task) = visited task
-
 abbrev seen_at : List Task → ℕ → ℕ
-seen_at tasks n = seen_of (slice_get tasks n)
+seen_at tasks n = visits_of (slice_get tasks n)
 
 seen-is : (tasks : List Task) (n : ℕ) (task : Task) → IsTask tasks n task → seen_at tasks n ≡ visited task
-seen-is tasks n task is = ap seen_of is
+seen-is tasks n task is = ap visits_of is
 
 -- the visit of this number is made now, by the task's agent at its stop
 record IsMadeNow (s : State) (task : Task) (i : ℕ) : Type 0 where
@@ -97,7 +92,9 @@ made-moves site old new m = elim m [
         | inl last ↦ (let none : 0 ≡ visited task = ap (λ (t : Task). visited t) last in omega arith)
         | inr there ↦ seen-least old.tasks n task there
       ]))
-  | takes agent n task path due next lawful e ↦
+  | continues agent n task path due own lawful e ↦
+      subst (λ s. MadeBy old s) (sym e) (made-by-arrivals old (adopted agent path old) (λ k t is. seen-least old.tasks k t is))
+  | takes agent n task path due none next lawful e ↦
       let there = next.eligible.there in
       subst (λ s. MadeBy old s) (sym e) (made-by-arrivals old (adopted agent path (assigned agent n task old)) (λ k t is.
       elim (set-from old.tasks n (record task { agent = Some agent }) k t (slice_get_within old.tasks n task there) is) [
@@ -147,7 +144,7 @@ was_at-first : (site : Site) (old : State) (entry : Entry) (entries : List Entry
     Step site old entry mid → Run site mid entries new → IsTask new.tasks n task → seen_at old.tasks n ≤ i → i < seen_at mid.tasks n →
     WasAt site old (entry ∷ entries) new 1 task.agent (cell_at task.stops i) (get_or task.visits i 0)
 was_at-first site old entry entries mid new n task i step run is low high = elim (option_cases (slice_get mid.tasks n)) [
-  | inl none ↦ absurd (let e = ap seen_of none in omega arith)
+  | inl none ↦ absurd (let e = ap visits_of none in omega arith)
   | inr e ↦
       let was = e.0 in
       let there : IsTask mid.tasks n was = e.1 in
@@ -198,13 +195,8 @@ were_made site old (entry ∷ entries) new n task run is =
           ]);
     }
 
-pub visits_were_made : (site : Site) (old : State) (entries : List Entry) (new : State) (n : ℕ) (task : Task) → IsOpening site old →
-    Run site old entries new → IsTask new.tasks n task → VisitsWereMade site old entries new task
-visits_were_made site old entries new n task opening run is =
+pub visits_were_made : (site : Site) (old : State) (entries : List Entry) (new : State) (n : ℕ) (task : Task) → Run site old entries new →
+    IsTask new.tasks n task → VisitsWereMade site old entries new task (seen_at old.tasks n)
+visits_were_made site old entries new n task run is =
     let made = were_made site old entries new n task run is in
-    let none : seen_at old.tasks n ≡ 0 = ap (λ s. seen_at s.tasks n) opening.is_opened in
-    record {
-      when = made.when;
-      in_order = made.in_order;
-      there = λ i h. made.there i (omega arith) h;
-    }
+    record { when = made.when; in_order = made.in_order; there = made.there }

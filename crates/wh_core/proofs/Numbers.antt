@@ -5,16 +5,11 @@ use Rattle.std.proofs.lemmas.List.{length-set, length-map}
 use Rattle.wh_points.specs.Points.{Site}
 use Rattle.wh_core.specs.States.{State}
 use Rattle.wh_core.specs.Steps.{Answers, Run}
-use Rattle.wh_core.specs.Laws.{accepted, accepted_by, CountUp, IsReached}
+use Rattle.wh_core.specs.Laws.{accepted, accepted_by, CountFrom, IsReached}
 use Rattle.wh_event.specs.declared.event.Spare.{Spare}
 use Rattle.wh_event.specs.declared.event.Event.{Event}
 use Rattle.wh_event.specs.declared.reply.Reply.{Reply}
 use Rattle.wh_event.specs.declared.entry.Entry.{Entry}
-
--- the numbers go on from a first one up to a last one
-pub record CountFrom (first : ℕ) (numbers : List ℕ) (last : ℕ) : Type 0 where
-  pub count : first + length numbers ≡ last
-  pub each : (k : ℕ) → k < length numbers → get_or numbers k 0 ≡ first + k
 
 count-same : (a b last : ℕ) (numbers : List ℕ) → b ≡ a → CountFrom b numbers last → CountFrom a numbers last
 count-same a b last numbers e counts = subst (λ n. CountFrom n numbers last) e counts
@@ -58,12 +53,6 @@ numbers-run site old [] new run = record {
 numbers-run site old (entry ∷ entries) new run =
     numbers-step site old entry.reply entry.event run.0 (accepted entries) (length new.tasks) run.1 (numbers-run site run.0 entries new run.2)
 
-pub numbers_count_up : (site : Site) (entries : List Entry) (s : State) → IsReached site entries s → CountUp (accepted entries) (length s.tasks)
-numbers_count_up site entries s r =
-    let counts = numbers-run site r.opening entries s r.run in
-    let none : length r.opening.tasks ≡ 0 = ap (λ t. length t.tasks) r.is_opening.is_opened in
-    let count = counts.count in
-    record {
-      count_is = omega arith;
-      each = λ k h. (let e = counts.each k (omega arith) in omega arith);
-    }
+pub numbers_count_up : (site : Site) (entries : List Entry) (s : State) (r : IsReached site entries s) →
+    CountFrom (length r.opening.tasks) (accepted entries) (length s.tasks)
+numbers_count_up site entries s r = numbers-run site r.opening entries s r.run

@@ -5,15 +5,14 @@ use Rattle.std.proofs.lemmas.List.Elements.{Contains-get_or}
 use Rattle.wh_grid.specs.declared.cell.Cell.{Cell}
 use Rattle.wh_points.specs.declared.points.Kind.{Kind}
 use Rattle.wh_grid.specs.Grids.{Floor, IsPassable}
-use Rattle.wh_path.specs.Paths.{path_of, IsWalk, last_index}
-use Rattle.wh_points.specs.Points.{Layout, Site, IsLayout, IsPointCell, point_at, starts}
+use Rattle.wh_path.specs.Paths.{end, end_of, path_of, IsWalk, last_index}
+use Rattle.wh_points.specs.Points.{Layout, Site, IsLayout, IsPointCell, point_at, starts, home_of}
 use Rattle.wh_path.proofs.AtLemmas.{at-one}
 use Rattle.wh_path.proofs.Freedom.{free-resting}
 use Rattle.wh_core.specs.States.{State, opened}
-use Rattle.wh_core.specs.Laws.{IsOpening, IsReached}
-use Rattle.wh_event.specs.declared.entry.Entry.{Entry}
-use Rattle.wh_core.proofs.StepKinds.{run-keeps}
-use Rattle.wh_core.proofs.Motion.{IsCourse, IsOrderly, orderly-moves}
+use Rattle.wh_core.specs.Steps.{IsBerth}
+use Rattle.wh_core.specs.Laws.{IsOpening}
+use Rattle.wh_core.proofs.Motion.{IsOrderly}
 
 pub walk-one : (g : Floor) (c : Cell) → IsPassable g c → IsWalk g (c ∷ [])
 walk-one g c passable = record {
@@ -27,7 +26,7 @@ point-cell layout n h =
     let p = point_at layout.points n in
     (p.name, (p.kind, Contains-get_or layout.points n (record { name = []; cell = record { x = 0; y = 0 }; kind = Kind.Parking }) h))
 
-opened-path : (layout : Layout) (i : ℕ) → i < length layout.agents →
+pub opened-path : (layout : Layout) (i : ℕ) → i < length layout.agents →
     path_of (map (λ cell. cell ∷ []) (starts layout)) i ≡ (point_at layout.points (get_or layout.agents i 0)).cell ∷ []
 opened-path layout i h =
     let one : Cell → List Cell = λ cell. cell ∷ [] in
@@ -36,7 +35,7 @@ opened-path layout i h =
     get_or-map one (starts layout) i (record { x = 0; y = 0 }) [] l
     ∙ ap one (get_or-map start layout.agents i 0 (record { x = 0; y = 0 }) h)
 
-opened-count : (layout : Layout) (i : ℕ) → i < length (map (λ (cell : Cell). cell ∷ []) (starts layout)) → i < length layout.agents
+pub opened-count : (layout : Layout) (i : ℕ) → i < length (map (λ (cell : Cell). cell ∷ []) (starts layout)) → i < length layout.agents
 opened-count layout i h =
     let e = length-map (starts layout) (λ (cell : Cell). cell ∷ []) in
     let f = length-map layout.agents (λ n. (point_at layout.points n).cell) in
@@ -51,22 +50,36 @@ orderly-opened site clock slots layout = record {
         rw (opened-path site.layout i i_in, opened-path site.layout j j_in) (free-resting site.layout.nofollow _ _
         (layout.cells _ _ (layout.known i 0 i_in) (layout.known j 0 j_in) (layout.distinct i j i_in j_in ne)));
   };
-  course = λ i h.
+  walks = λ i h.
       let i_in = opened-count site.layout i h in
       let n = get_or site.layout.agents i 0 in
       let known = layout.known i 0 i_in in
-      let c = (point_at site.layout.points n).cell in
-      let course : IsCourse site (c ∷ []) = record {
-        walk = walk-one site.grid c (layout.passable n _ known);
-        point = subst (λ d. IsPointCell site.layout d) (sym (at-one c (last_index (c ∷ [])))) (point-cell site.layout n known);
-      } in
-      subst (λ p. IsCourse site p) (sym (opened-path site.layout i i_in)) course;
+      subst (λ p. IsWalk site.grid p) (sym (opened-path site.layout i i_in))
+      (walk-one site.grid (point_at site.layout.points n).cell (layout.passable n _ known));
   stops = λ n task is. absurd (let e : None ≡ Some task = is in cc);
 }
 
 pub orderly-opening : (site : Site) (s : State) → IsOpening site s → IsOrderly site s
 orderly-opening site s o = subst (λ t. IsOrderly site t) (sym o.is_opened) (orderly-opened site o.clock o.slots o.layout)
 
-pub orderly-reached : (site : Site) (entries : List Entry) (s : State) → IsReached site entries s → IsOrderly site s
-orderly-reached site entries s r =
-    run-keeps site (λ t. IsOrderly site t) (orderly-moves site) r.opening entries s (orderly-opening site r.opening r.is_opening) r.run
+-- the home of an agent is the point where it starts
+pub home-start : (layout : Layout) (i : ℕ) → i < length layout.agents → home_of layout i ≡ (point_at layout.points (get_or layout.agents i 0)).cell
+home-start layout i h = get_or-map (λ n. (point_at layout.points n).cell) layout.agents i 0 (record { x = 0; y = 0 }) h
+
+pub home-point : (site : Site) (i : ℕ) → IsLayout site.grid site.layout → i < length site.layout.agents → IsPointCell site.layout (home_of site.layout i)
+home-point site i layout h =
+    subst (λ c. IsPointCell site.layout c) (sym (home-start site.layout i h))
+    (point-cell site.layout (get_or site.layout.agents i 0) (layout.known i 0 h))
+
+-- and each agent stands at its home
+pub berths-opened : (site : Site) (clock : ℕ) (slots : List ℕ) → IsLayout site.grid site.layout → (i : ℕ) → i < length (opened site.layout clock slots).paths →
+    IsBerth site i (end_of (opened site.layout clock slots).paths i)
+berths-opened site clock slots layout i h =
+    let i_in = opened-count site.layout i h in
+    let c = (point_at site.layout.points (get_or site.layout.agents i 0)).cell in
+    let is : end_of (opened site.layout clock slots).paths i ≡ home_of site.layout i =
+    ap end (opened-path site.layout i i_in) ∙ at-one c (last_index (c ∷ [])) ∙ sym (home-start site.layout i i_in) in
+    record {
+      point = subst (λ d. IsPointCell site.layout d) (sym is) (home-point site i layout i_in);
+      own = λ on. is;
+    }

@@ -1,13 +1,12 @@
 -- as many paths, loads and slots as agents
-use Rattle.std.proofs.Common.{◌∙◌, List, [], ◌∷◌, length, sym, subst, ap}
+use Rattle.std.proofs.Common.{◌∙◌, [], ◌∷◌, length, sym, subst, ap}
 use Rattle.std.proofs.lemmas.List.{length-map, length-set}
 use Rattle.wh_grid.specs.declared.cell.Cell.{Cell}
 use Rattle.wh_points.specs.Points.{Site, starts, point_at}
 use Rattle.wh_tasks.specs.declared.task.Load.{Load}
 use Rattle.wh_core.specs.States.{State}
-use Rattle.wh_core.specs.Laws.{IsReached, IsOpening, HasSeats}
-use Rattle.wh_event.specs.declared.entry.Entry.{Entry}
-use Rattle.wh_core.proofs.StepKinds.{Moves, stays, adds, takes, parks, ticks, run-keeps}
+use Rattle.wh_core.specs.Laws.{IsOpening, HasSeats}
+use Rattle.wh_core.proofs.StepKinds.{Moves, stays, adds, takes, continues, parks, ticks}
 
 pub seats-moves : (site : Site) (old new : State) → HasSeats site old → Moves site old new → HasSeats site new
 seats-moves site old new has m = elim m [
@@ -18,9 +17,14 @@ seats-moves site old new has m = elim m [
   }
   | adds client names cells room count few stations e ↦
       subst (λ s. HasSeats site s) (sym e) (record { paths = has.paths; loads = has.loads; slots = has.slots })
-  | takes agent n task path due next lawful e ↦ subst (λ s. HasSeats site s) (sym e) (record {
+  | takes agent n task path due none next lawful e ↦ subst (λ s. HasSeats site s) (sym e) (record {
     paths = length-set _ _ _ ∙ has.paths;
     loads = length-map _ _ ∙ length-set _ _ _ ∙ has.loads;
+    slots = has.slots;
+  })
+  | continues agent n task path due own lawful e ↦ subst (λ s. HasSeats site s) (sym e) (record {
+    paths = length-set _ _ _ ∙ has.paths;
+    loads = length-map _ _ ∙ has.loads;
     slots = has.slots;
   })
   | parks agent path due way lawful e ↦
@@ -40,7 +44,3 @@ seats-opening site s o =
       loads = length-map (starts site.layout) (λ (c : Cell). Load.None) ∙ cells;
       slots = o.seats;
     })
-
-pub seats-reached : (site : Site) (entries : List Entry) (s : State) → IsReached site entries s → HasSeats site s
-seats-reached site entries s r =
-    run-keeps site (λ t. HasSeats site t) (seats-moves site) r.opening entries s (seats-opening site r.opening r.is_opening) r.run

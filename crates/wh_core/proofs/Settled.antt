@@ -4,7 +4,7 @@ use Prim.Native.Nat.{suc}
 use Rattle.std.specs.Prelude.{slice_get}
 use Rattle.std.proofs.lemmas.Bool.{cases_lt}
 use Rattle.std.proofs.lemmas.Option.{slice_get_within, get_or_from_slice_get}
-use Rattle.wh_path.specs.Paths.{place_of, steps_left}
+use Rattle.wh_path.specs.Paths.{place_of}
 use Rattle.wh_points.specs.Points.{Site}
 use Rattle.wh_tasks.specs.declared.task.Task.{Task}
 use Rattle.wh_tasks.specs.declared.task.Load.{Load}
@@ -13,10 +13,9 @@ use Rattle.wh_tasks.specs.Tasks.{IsTask, visited, phase, load_for}
 use Rattle.wh_tasks.specs.Arrivals.{arrived_task, arrived_tasks, arrived_load}
 use Rattle.wh_tasks.proofs.Visiting.{arrived-twice, arrived-none, stops_left-over}
 use Rattle.wh_tasks.proofs.Loads.{is_open, is_assigned, is_carried, is_done, comes_to, IsUnderway, load_for-arrived, load-twice}
-use Rattle.wh_core.specs.States.{State, arrived}
-use Rattle.wh_core.specs.Laws.{IsReached, load_of, LoadsAgree}
-use Rattle.wh_event.specs.declared.entry.Entry.{Entry}
-use Rattle.wh_core.proofs.Work.{rest-unloaded, sound-reached}
+use Rattle.wh_core.specs.States.{State, load_of, arrived}
+use Rattle.wh_core.specs.Laws.{LoadsAgree}
+use Rattle.wh_core.proofs.Work.{IsKept}
 
 -- a map that changes no element changes nothing
 map-same : {X : Type 0} (f : X → X) (xs : List X) → ((n : ℕ) (x : X) → slice_get xs n ≡ Some x → f x ≡ x) → map f xs ≡ xs
@@ -39,9 +38,8 @@ arrived-again s =
     (map-twice (arrived_task s.clock (place_of s.paths)) s.tasks (arrived-twice s.clock (place_of s.paths)))
     (map-twice (arrived_load tasks) s.loads (load-twice tasks))
 
-pub arrived-reached : (site : Site) (entries : List Entry) (s : State) → IsReached site entries s → arrived s ≡ s
-arrived-reached site entries s r =
-    let sound = sound-reached site entries s r in
+pub arrived-kept : (site : Site) (s : State) → IsKept site s → arrived s ≡ s
+arrived-kept site s sound =
     arrived-parts s
     (map-same (arrived_task s.clock (place_of s.paths)) s.tasks (λ n task is.
     arrived-none s.clock (place_of s.paths) task (λ agent has.
@@ -104,9 +102,8 @@ done-visited task few e = elim (comes_to 0 task) [
   | is_done a o s u p l ↦ omega arith
 ]
 
-pub loads_agree : (site : Site) (entries : List Entry) (s : State) (agent : ℕ) → IsReached site entries s → agent < length s.paths → LoadsAgree s agent
-loads_agree site entries s agent r known =
-    let sound = sound-reached site entries s r in
+pub loads-kept : (site : Site) (s : State) (agent : ℕ) → IsKept site s → agent < length s.paths → LoadsAgree s agent
+loads-kept site s agent sound known =
     let w = sound.working in
     record {
       fetching = λ n. (
@@ -133,15 +130,3 @@ loads_agree site entries s agent r known =
             (w.busy n t.0 agent t.1 (record { agent_is = t.2; more = a.0 })).load ∙ a.1 ∙ ap (λ k. Load.Carrying n k) t.4,
       );
     }
-
-pub no_load_at_rest : (site : Site) (entries : List Entry) (s : State) (agent : ℕ) → IsReached site entries s → agent < length s.paths →
-    steps_left s.paths agent ≡ 0 → load_of s agent ≡ Load.None
-no_load_at_rest site entries s agent r known rests =
-    let sound = sound-reached site entries s r in
-    rest-unloaded s agent sound.working sound.settled known rests
-
-pub done_is_all_visited : (site : Site) (entries : List Entry) (s : State) (n : ℕ) (task : Task) → IsReached site entries s → IsTask s.tasks n task →
-    (visited task ≤ length task.stops) × (phase task ≡ Phase.Done → visited task ≡ length task.stops)
-done_is_all_visited site entries s n task r is =
-    let few = (sound-reached site entries s r).working.few n task is in
-    (few, done-visited task few)

@@ -13,9 +13,8 @@ use Rattle.wh_tasks.specs.Tasks.{IsTask}
 use Rattle.wh_tasks.specs.Arrivals.{arrived_task, arrived_tasks}
 use Rattle.wh_tasks.proofs.Visiting.{arrived-adds}
 use Rattle.wh_core.specs.States.{State}
-use Rattle.wh_core.specs.Laws.{IsReached, IsTimed}
-use Rattle.wh_event.specs.declared.entry.Entry.{Entry}
-use Rattle.wh_core.proofs.StepKinds.{Moves, stays, adds, takes, parks, ticks, run-keeps}
+use Rattle.wh_core.specs.Laws.{IsOpening, IsTimed}
+use Rattle.wh_core.proofs.StepKinds.{Moves, stays, adds, takes, continues, parks, ticks}
 use Rattle.wh_core.proofs.Lists.{map_from}
 use Rattle.wh_core.proofs.Work.{set-from, added-from, no-task}
 
@@ -65,7 +64,7 @@ timed-later clock later task le t = record {
 timed-assigned : (clock : ℕ) (agent : Option ℕ) (task : Task) → IsTimed clock task → IsTimed clock (record task { agent = agent })
 timed-assigned clock agent task t = record { submitted = t.submitted; first = t.first; in_order = t.in_order; last = t.last }
 
-abbrev AllTimed : ℕ → List Task → Type 0
+abbrev pub AllTimed : ℕ → List Task → Type 0
 AllTimed clock tasks = (n : ℕ) (task : Task) → IsTask tasks n task → IsTimed clock task
 
 timed-arrived : (clock : ℕ) (place : ℕ → Cell) (tasks : List Task) → AllTimed clock tasks → AllTimed clock (arrived_tasks clock place tasks)
@@ -74,7 +73,7 @@ timed-arrived clock place tasks all n task is =
     let added = arrived-adds clock place from.0 in
     subst (λ t. IsTimed clock t) (sym added.1 ∙ from.2) (timed-visited clock added.0 from.0 (all n from.0 from.1))
 
-timed-moves : (site : Site) (old new : State) → AllTimed old.clock old.tasks → Moves site old new → AllTimed new.clock new.tasks
+pub timed-moves : (site : Site) (old new : State) → AllTimed old.clock old.tasks → Moves site old new → AllTimed new.clock new.tasks
 timed-moves site old new all m = elim m [
   | stays c p l t z ↦
       subst (λ k. AllTimed k new.tasks) (sym c) (subst (λ ts. AllTimed old.clock ts) (sym t) all)
@@ -88,7 +87,8 @@ timed-moves site old new all m = elim m [
         })
         | inr there ↦ all n task there
       ])
-  | takes agent n task path due next lawful e ↦ subst (λ s. AllTimed s.clock s.tasks) (sym e) (timed-arrived old.clock _ _ (λ k t is.
+  | continues agent n task path due own lawful e ↦ subst (λ s. AllTimed s.clock s.tasks) (sym e) (timed-arrived old.clock _ _ all)
+  | takes agent n task path due none next lawful e ↦ subst (λ s. AllTimed s.clock s.tasks) (sym e) (timed-arrived old.clock _ _ (λ k t is.
       elim (set-from old.tasks n (record task { agent = Some agent }) k t (slice_get_within old.tasks n task next.eligible.there) is) [
         | inl new_one ↦ subst (λ u. IsTimed old.clock u) new_one.1 (timed-assigned old.clock (Some agent) task (all n task next.eligible.there))
         | inr before ↦ all k t before.1
@@ -98,8 +98,5 @@ timed-moves site old new all m = elim m [
       timed-later old.clock (old.clock + 1) t (omega arith) (all k t is)))
 ]
 
-pub timed-reached : (site : Site) (entries : List Entry) (s : State) (n : ℕ) (task : Task) → IsReached site entries s → IsTask s.tasks n task → IsTimed s.clock task
-timed-reached site entries s n task r is =
-    let opening : AllTimed r.opening.clock r.opening.tasks =
-    subst (λ t. AllTimed t.clock t.tasks) (sym r.is_opening.is_opened) (λ k t there. absurd (no-task k t there)) in
-    run-keeps site (λ t. AllTimed t.clock t.tasks) (timed-moves site) r.opening entries s opening r.run n task is
+pub timed-opening : (site : Site) (s : State) → IsOpening site s → AllTimed s.clock s.tasks
+timed-opening site s o = subst (λ t. AllTimed t.clock t.tasks) (sym o.is_opened) (λ k t there. absurd (no-task k t there))

@@ -10,14 +10,14 @@ use Rattle.wh_path.proofs.AtLemmas.{at-advanced}
 use Rattle.wh_path.proofs.Freedom.{free-ends}
 use Rattle.wh_core.specs.States.{State}
 use Rattle.wh_core.specs.Steps.{Step, Answers}
-use Rattle.wh_core.specs.Laws.{IsReached, AreTwo}
+use Rattle.wh_core.specs.Laws.{IsReached, IsReachedOnTheirWays, AreTwo}
 use Rattle.wh_grid.specs.Grids.{IsMove, IsPassable}
 use Rattle.wh_event.specs.declared.entry.Entry.{Entry}
 use Rattle.wh_event.specs.declared.event.Event.{Event}
 use Rattle.wh_event.specs.declared.event.Spare.{Spare}
 use Rattle.wh_event.specs.declared.reply.Reply.{Reply}
-use Rattle.wh_core.proofs.StepKinds.{Moves, stays, adds, takes, parks, ticks, step-moves}
-use Rattle.wh_core.proofs.Opening.{orderly-reached}
+use Rattle.wh_core.proofs.StepKinds.{Moves, stays, adds, takes, continues, parks, ticks, step-moves}
+use Rattle.wh_core.proofs.Sound.{orderly-reached, ways-reached}
 
 -- each agent is where it was
 abbrev AllStand : State → State → Type 0
@@ -38,7 +38,9 @@ stand-or-go : (site : Site) (old new : State) → Moves site old new → AllStan
 stand-or-go site old new m = elim m [
   | stays c p l t z ↦ inl (λ i h. ap (λ ps. place_of ps i) p)
   | adds client names cells room count few stations e ↦ inl (λ i h. ap (λ s. place_of s.paths i) e)
-  | takes agent n task path due next lawful e ↦
+  | continues agent n task path due own lawful e ↦
+      inl (λ i h. ap (λ s. place_of s.paths i) e ∙ place-set old.paths agent path due.known.known lawful.starts_here i h)
+  | takes agent n task path due none next lawful e ↦
       inl (λ i h. ap (λ s. place_of s.paths i) e ∙ place-set old.paths agent path due.known.known lawful.starts_here i h)
   | parks agent path due way lawful e ↦
       inl (λ i h. ap (λ s. place_of s.paths i) e ∙ place-set old.paths agent path due.known.known lawful.starts_here i h)
@@ -74,7 +76,7 @@ pub each_step_moves : (site : Site) (entries : List Entry) (old : State) (entry 
     IsReached site entries old → Step site old entry new → i < length old.paths →
     IsMove (place_of old.paths i) (place_of new.paths i) × IsPassable site.grid (place_of new.paths i)
 each_step_moves site entries old entry new i r step h =
-    let walk = ((orderly-reached site entries old r).course i h).walk in
+    let walk = (orderly-reached site entries old r).walks i h in
     let here = place_of old.paths i in
     elim (stand-or-go site old new (step-moves site old entry new step)) [
       | inl stand ↦ subst (λ c. IsMove here c × IsPassable site.grid c) (sym (stand i h)) (inl refl, walk.passable 0)
@@ -99,9 +101,9 @@ pub only_ticks_move : (site : Site) (old : State) (entry : Entry) (new : State) 
     i < length old.paths → place_of new.paths i ≡ place_of old.paths i
 only_ticks_move site old entry new i step differs h = stand site old entry.reply entry.event new step differs i h
 
-pub ends_are_points : (site : Site) (entries : List Entry) (s : State) (i : ℕ) → IsReached site entries s → i < length s.paths →
+pub ends_are_points : (site : Site) (entries : List Entry) (s : State) (i : ℕ) → IsReachedOnTheirWays site entries s → i < length s.paths →
     IsPointCell site.layout (end (path_of s.paths i))
-ends_are_points site entries s i r h = ((orderly-reached site entries s r).course i h).point
+ends_are_points site entries s i r h = (ways-reached site entries s r i h).berth.point
 
 pub ends_differ : (site : Site) (entries : List Entry) (s : State) (i j : ℕ) → IsReached site entries s → AreTwo s i j →
     end (path_of s.paths i) ≢ end (path_of s.paths j)

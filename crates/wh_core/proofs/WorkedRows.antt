@@ -1,11 +1,13 @@
 -- worked rows are runs
-use Rattle.std.proofs.Common.{◌≡◌, ◌≢◌, ℕ, ◌+◌, ◌*◌, ◌<◌, ◌≤◌, ◌∙◌, inl, inr, List, [], ◌∷◌, true, false, Option, Some, None, get_or, sym, subst, refl, ap, arith}
+use Rattle.std.proofs.Common.{◌≡◌, ◌≢◌, ℕ, ◌+◌, ◌*◌, ◌<◌, ◌≤◌, ◌∙◌, inl, inr, List, [], ◌∷◌, true, false, Option, Some, None, length, get_or, sym, subst, refl, ap, arith}
 use Prim.Native.Nat.{zero, suc}
 use Rattle.std.specs.Prelude.{All, Contains, slice_get}
 use Rattle.std.proofs.lemmas.List.Elements.{All-nil, All-cons, All-from_recursion}
 use Rattle.std.proofs.lemmas.Option.{same_Some}
 use Rattle.wh_grid.specs.declared.cell.Cell.{Cell}
+use Rattle.wh_points.specs.declared.points.Kind.{Kind}
 use Rattle.wh_points.specs.declared.points.Point.{Point}
+use Rattle.wh_points.specs.Points.{Site, IsPointCell}
 use Rattle.wh_grid.specs.Grids.{IsPassable, IsMove}
 use Rattle.wh_path.specs.Paths.{at, end, cell_at, last_index, others, ends, IsWalk, IsFree}
 use Rattle.wh_path.specs.Walks.{IsWalkBetween}
@@ -14,11 +16,13 @@ use Rattle.wh_field.proofs.DistanceLaws.{distance_one}
 use Rattle.wh_path.proofs.Freedom.{free-resting}
 use Rattle.wh_path.proofs.Chains.{chain-walk, all-at, free-beside}
 use Rattle.wh_tasks.specs.declared.task.Task.{Task}
+use Rattle.wh_tasks.specs.Tasks.{IsTask, visited}
 use Rattle.wh_tasks.specs.Choice.{IsAtMost}
 use Rattle.wh_planner.specs.Duties.{Delivers, IsLawful}
 use Rattle.wh_core.specs.States.{State, opened, arrived, submitted, adopted, assigned, moved}
-use Rattle.wh_core.specs.Steps.{IsDue, IsNext, IsStationName, IsUnknownName}
-use Rattle.wh_core.specs.Rows.{map_a, cell, points_a, site_a, name_a, name_z, name_p1, client_x, DeliveredAtOnce, SubmitRefusals, OneDelivery}
+use Rattle.wh_core.specs.Steps.{IsDue, IsNext, IsRestCell, IsStationName, IsUnknownName}
+use Rattle.wh_core.specs.Rows.{map_a, cell, points_a, site_a, name_a, name_b, name_z, name_p1, client_x, DeliveredAtOnce, SubmitRefusals, OneDelivery}
+use Rattle.wh_core.proofs.Idle.{steps-idle}
 use Rattle.wh_core.proofs.Opening.{walk-one}
 
 -- no point has the name Z: its first byte is that of no other
@@ -84,6 +88,27 @@ x-apart c d h e = (let x : c.x ≡ d.x = ap (λ (b : Cell). b.x) e in omega arit
 passable_a : IsPassable map_a (cell 1 0)
 passable_a = record { in_width = omega arith; in_height = omega arith; is_walkable = refl }
 
+pub only-task : (t : Task) (m : ℕ) (other : Task) → slice_get (t ∷ []) m ≡ Some other → (m ≡ 0) × (t ≡ other)
+only-task t zero other is = (refl, same_Some t other is)
+only-task t (suc m) other is = absurd (let e : None ≡ Some other = is in cc)
+
+-- where the only task is done, and an agent stands at a point, it may rest there
+done-rest : (site : Site) (s : State) (done : Task) (a : ℕ) (cell : Cell) → s.tasks ≡ done ∷ [] → done.agent ≡ Some a → length done.stops ≤ visited done →
+    site.homes ≡ false → IsPointCell site.layout cell → IsRestCell site s a cell
+done-rest site s done a cell tasks has over off point =
+    let only : (n : ℕ) (task : Task) → IsTask s.tasks n task → slice_get (done ∷ []) n ≡ Some task = λ n task is. sym (ap (λ ts. slice_get ts n) tasks) ∙ is in
+    record {
+      berth = record { point = point; own = λ on. absurd (let clash : false ≡ true = sym off ∙ on in cc) };
+      not_wanted = λ wanted. elim wanted.1 [
+        | inl at_it ↦ taken-closed done a at_it.0 at_it.1 has (only at_it.0 at_it.1 at_it.2) at_it.3
+        | inr awaited ↦
+            let own = awaited.2.own in
+            let same = only-task done awaited.0 awaited.1 (only awaited.0 awaited.1 own.there) in
+            let left : visited done < length done.stops = subst (λ (t : Task). visited t < length t.stops) (sym same.1) own.left in
+            omega arith
+      ];
+    }
+
 pub delivered_at_once : DeliveredAtOnce
 unfolding at
 delivered_at_once =
@@ -97,9 +122,9 @@ delivered_at_once =
     let s2 : State = arrived (adopted 0 path (assigned 0 0 task s1)) in
     let s3 : State = arrived (moved s2) in
     let done : Task = record { client = client_x; stops = stops; submitted = 0; agent = Some 0; visits = 0 ∷ 0 ∷ [] } in
-    let due1 : IsDue s1 0 = record { known = record { not_closed = refl; known = omega arith }; resting = refl } in
+    let due1 : IsDue site s1 0 = record { known = record { not_closed = refl; known = omega arith }; idle = inl refl } in
     let here : 0 < 2 = omega arith in
-    let due2 : IsDue s2 0 = record { known = record { not_closed = refl; known = here }; resting = refl } in
+    let due2 : IsDue site s2 0 = record { known = record { not_closed = refl; known = here }; idle = inl refl } in
     let apart : cell 4 1 ≢ a = x-apart (cell 4 1) a (omega arith) in
     let clear : Contains (cell 4 1 ∷ []) a → ⊥ = λ has. apart (contains-one (cell 4 1) a has) in
     let P : Cell → Type 0 = λ stop. ¬ Contains (ends (others s1.paths 0)) stop in
@@ -129,7 +154,7 @@ delivered_at_once =
           (due1, (task, next, lawful, refl)),
           (
             s2,
-            (due2, λ n t eligible. taken-closed done 0 n t refl eligible.there eligible.is_open, λ at_it. taken-closed done 0 at_it.0 at_it.1 refl at_it.2 at_it.3, refl),
+            (due2, (refl, λ n t eligible. taken-closed done 0 n t refl eligible.there eligible.is_open), done-rest site s2 done 0 a refl refl (omega arith) refl (name_a, (Kind.Station, (2, omega arith, refl))), refl),
             (s3, (refl, omega arith, refl, refl, refl, refl), refl),
           ),
         ),
@@ -263,9 +288,6 @@ stops_a-there (suc zero) h = refl
 stops_a-there (suc (suc i)) h = absurd (omega arith)
 
 -- with one open task the nearest is that one
-pub only-task : (t : Task) (m : ℕ) (other : Task) → slice_get (t ∷ []) m ≡ Some other → (m ≡ 0) × (t ≡ other)
-only-task t zero other is = (refl, same_Some t other is)
-only-task t (suc m) other is = absurd (let e : None ≡ Some other = is in cc)
 
 first-alone : (far : Option ℕ) (m : ℕ) → Some 2 ≡ far → m ≡ 0 → IsAtMost (Some 2) 0 far m
 first-alone far m e z = subst (λ f. IsAtMost (Some 2) 0 f m) e (inr (refl, omega arith))
@@ -283,9 +305,9 @@ task_ab = record { client = client_x; stops = stops_ab; submitted = 0; agent = N
 abbrev pub state_ab : State
 state_ab = submitted client_x stops_ab (opened (site_a 0 1).layout 0 (4 ∷ 4 ∷ []))
 
-pub due_ab : IsDue state_ab 0
+pub due_ab : IsDue (site_a 0 1) state_ab 0
 unfolding at
-due_ab = (let here : 0 < 2 = omega arith in record { known = record { not_closed = refl; known = here }; resting = refl })
+due_ab = (let here : 0 < 2 = omega arith in record { known = record { not_closed = refl; known = here }; idle = inl refl })
 
 pub next_ab : IsNext (site_a 0 1) state_ab 0 0 task_ab
 unfolding at
@@ -326,8 +348,8 @@ one_delivery =
     let t6 : State = arrived (moved t5) in
     let here : 0 < 2 = omega arith in
     let moving : (◌≡◌ {A = ℕ} 6 0) → ⊥ = six-not 6 refl in
-    let due1 : IsDue s1 0 = record { known = record { not_closed = refl; known = here }; resting = refl } in
-    let due6 : IsDue t6 0 = record { known = record { not_closed = refl; known = here }; resting = refl } in
+    let due1 : IsDue site s1 0 = record { known = record { not_closed = refl; known = here }; idle = inl refl } in
+    let due6 : IsDue site t6 0 = record { known = record { not_closed = refl; known = here }; idle = inl refl } in
     let next : IsNext site s1 0 0 task = next_ab in
     let F : List Cell → Type 0 = λ other. IsFree false path_a other in
     let lawful : IsLawful site.grid site.layout.nofollow s1.paths 0 2 (Delivers stops) path_a = record {
@@ -349,7 +371,7 @@ one_delivery =
           (due1, (task, next, lawful, refl)),
           (
             t0,
-            ((record { not_closed = refl; known = here }, refl, moving), refl),
+            ((record { not_closed = refl; known = here }, steps-idle 6 site t0 0 refl here refl, moving), refl),
             (
               t1,
               (refl, omega arith, refl, refl, refl, refl),
@@ -370,7 +392,7 @@ one_delivery =
                         (refl, omega arith, refl, refl, refl, refl),
                         (
                           t6,
-                          (due6, λ n t eligible. taken-closed done 0 n t refl eligible.there eligible.is_open, λ at_it. taken-closed done 0 at_it.0 at_it.1 refl at_it.2 at_it.3, refl),
+                          (due6, (refl, λ n t eligible. taken-closed done 0 n t refl eligible.there eligible.is_open), done-rest site t6 done 0 (cell 3 0) refl refl (omega arith) refl (name_b, (Kind.Station, (3, omega arith, refl))), refl),
                           refl,
                         ),
                       ),

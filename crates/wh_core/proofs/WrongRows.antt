@@ -1,5 +1,5 @@
 -- entries that are no run, and one at the edge that is
-use Rattle.std.proofs.Common.{◌≡◌, ◌≢◌, ℕ, ◌+◌, ◌*◌, ◌<◌, ◌≤◌, ◌∙◌, inl, inr, List, [], ◌∷◌, false, length, get_or, sym, subst, refl, ap, arith}
+use Rattle.std.proofs.Common.{◌≡◌, ◌≢◌, ℕ, ◌+◌, ◌*◌, ◌<◌, ◌≤◌, ◌∙◌, inl, inr, List, [], ◌∷◌, true, false, length, get_or, sym, subst, refl, ap, arith}
 use Prim.Native.Nat.{zero, suc}
 use Rattle.std.specs.Prelude.{All}
 use Rattle.std.specs.List.{AllZip}
@@ -12,6 +12,7 @@ use Rattle.wh_path.specs.Paths.{at, cell_at, IsWalk, IsFree}
 use Rattle.wh_points.specs.Points.{IsStation}
 use Rattle.wh_path.proofs.Chains.{Chain, chain-walk, all-at, free-beside}
 use Rattle.wh_tasks.specs.declared.task.Task.{Task}
+use Rattle.wh_tasks.specs.Tasks.{stops_left}
 use Rattle.wh_planner.specs.Duties.{Delivers, IsLawful, IsClearWay}
 use Rattle.wh_core.specs.States.{State, opened, arrived, submitted, adopted, assigned}
 use Rattle.wh_core.specs.Steps.{Step, Run}
@@ -64,7 +65,7 @@ after-submit last s run =
 pub no_rest_while_work_waits : NoRestWhileWorkWaits
 no_rest_while_work_waits s run =
     let step = after-submit (entry (Event.Request 0) Reply.Rested) s run in
-    step.1.1 0 task_ab next_ab.eligible
+    step.1.1.1 0 task_ab next_ab.eligible
 
 abbrev short_path : List Cell
 short_path = cell 0 1 ∷ cell 1 1 ∷ cell 2 1 ∷ cell 3 1 ∷ cell 3 0 ∷ []
@@ -77,7 +78,7 @@ no_path_past_the_pickup s run =
     let step = after-submit (entry (Event.Request 0) (Reply.Took 0 short_path)) s run in
     let took = step.1.1 in
     let same : task_ab ≡ took.0 = same_Some task_ab took.0 took.1.eligible.there in
-    let serves : Delivers stops_ab short_path = subst (λ (t : Task). Delivers t.stops short_path) (sym same) took.2.serves in
+    let serves : Delivers stops_ab short_path = subst (λ (t : Task). Delivers (stops_left t) short_path) (sym same) took.2.serves in
     let Not : Cell → Type 0 = λ c. c ≢ cell 1 0 in
     all-at Not short_path (omega arith) (All-from_recursion Not short_path (
       (λ e. x-apart (cell 1 0) (cell 0 1) (omega arith) (sym e)),
@@ -120,8 +121,8 @@ no_refusal_with_a_clear_way s run =
             clear = λ k has. path_a-beside k (sym (contains-one (cell 4 1) (at path_a k) has));
             serves = serves;
           } in
-          w.3 path_a (subst (λ (t : Task). IsClearWay map_a state_ab.paths 0 (Delivers t.stops) path_a) first.1 way)
-      | inr w ↦ w.0.none 0 task_ab next_ab.eligible
+          w.3 path_a (subst (λ (t : Task). IsClearWay map_a state_ab.paths 0 (Delivers (stops_left t)) path_a) first.1 way)
+      | inr w ↦ elim w.0.no_work [ inl none ↦ none.1 0 task_ab next_ab.eligible | inr shut ↦ elim shut.stray [ inl loaded ↦ loaded refl | inr off ↦ off (record { point = (80 ∷ 48 ∷ [], (Kind.Parking, (0, omega arith, refl))); own = λ on. absurd (let clash : false ≡ true = on in cc) }) ] ]
     ]
 
 one-zero : (n m : ℕ) → n ≡ 1 → m ≡ 0 → n ≡ m → ⊥

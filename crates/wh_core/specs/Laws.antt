@@ -1,17 +1,17 @@
 -- the laws of a warehouse, over all its runs
-use Rattle.std.specs.Prelude.{◌≡◌, ◌≢◌, ℕ, ◌<◌, ◌≤◌, ◌↔◌, List, [], ◌∷◌, ◌++◌, true, Option, Some, length, take, drop, slice_index, slice_index_or, All}
+use Rattle.std.specs.Prelude.{◌≡◌, ◌≢◌, ℕ, ◌+◌, ◌<◌, ◌≤◌, ◌↔◌, List, [], ◌∷◌, ◌++◌, true, Option, None, Some, length, take, drop, slice_get, slice_index, All}
 use Rattle.wh_grid.specs.declared.cell.Cell.{Cell}
 use Rattle.wh_grid.specs.Grids.{IsMove, IsPassable}
-use Rattle.wh_path.specs.Paths.{end, cell_at, path_of, place_of, steps_left, AllFree}
-use Rattle.wh_points.specs.Points.{Site, IsLayout, IsPointCell}
+use Rattle.wh_path.specs.Paths.{end, cell_at, path_of, place_of, end_of, steps_left, IsWalk, AllFree}
+use Rattle.wh_points.specs.Points.{Layout, Site, IsLayout, IsStation, IsPointCell}
 use Rattle.wh_points.specs.Formed.{IsFormed}
 use Rattle.wh_tasks.specs.declared.task.Load.{Load}
 use Rattle.wh_tasks.specs.declared.task.Phase.{Phase}
 use Rattle.wh_tasks.specs.declared.task.Task.{Task}
-use Rattle.wh_tasks.specs.Tasks.{IsTask, phase, visited}
-use Rattle.wh_core.specs.States.{State, opened, arrived}
+use Rattle.wh_tasks.specs.Tasks.{IsTask, IsOpen, phase, visited, stops_left}
+use Rattle.wh_core.specs.States.{State, load_of, opened, arrived}
 use Rattle.wh_planner.specs.Duties.{Delivers, ParksAt, IsLawful, IsClearWay}
-use Rattle.wh_core.specs.Steps.{Answers, Step, Run, last_clock, most_tasks, IsDue, IsNext, IsAllowed, MakesWay}
+use Rattle.wh_core.specs.Steps.{Answers, Step, Run, last_clock, most_tasks, IsDue, IsNext, IsAllowed, IsBerth, IsOwn, IsStray, MakesWay, tour}
 use Rattle.wh_event.specs.declared.event.Event.{Event}
 use Rattle.wh_event.specs.declared.entry.Entry.{Entry}
 use Rattle.wh_event.specs.declared.reply.Reply.{Reply}
@@ -26,17 +26,107 @@ pub record IsOpening (site : Site) (s : State) : Type 0 where
   pub seats : length slots ≡ length site.layout.agents
   pub is_opened : s ≡ opened site.layout clock slots
 
--- the entries lead from an opening state to the state
-pub record IsReached (site : Site) (entries : List Entry) (s : State) : Type 0 where
-  pub opening : State
-  pub is_opening : IsOpening site opening
-  pub run : Run site opening entries s
-
 -- There are as many paths, loads and slots as agents.
 pub record HasSeats (site : Site) (s : State) : Type 0 where
   pub paths : length s.paths ≡ length site.layout.agents
   pub loads : length s.loads ≡ length site.layout.agents
   pub slots : length s.slots ≡ length site.layout.agents
+
+-- some station stands at the cell
+abbrev pub IsStationCell : Layout → Cell → Type 0
+IsStationCell layout cell = (name : List ℕ) × IsStation layout name cell
+
+-- the stops of a task: 2 to 8, and each a station as long as one is left to visit
+pub record HasStops (layout : Layout) (task : Task) : Type 0 where
+  pub count : 2 ≤ length task.stops
+  pub few : length task.stops ≤ 8
+  pub stations : visited task < length task.stops → (i : ℕ) → i < length task.stops → IsStationCell layout (cell_at task.stops i)
+
+-- An agent fetches a task exactly where the task is assigned to it, and carries it with n visits exactly where it
+-- is carried by it and has n.
+pub record LoadsAgree (s : State) (agent : ℕ) : Type 0 where
+  pub fetching : (n : ℕ) → (load_of s agent ≡ Load.Fetching n)
+      ↔ ((task : Task) × IsTask s.tasks n task × (task.agent ≡ Some agent) × (phase task ≡ Phase.Assigned))
+  pub carrying : (n seen : ℕ) → (load_of s agent ≡ Load.Carrying n seen)
+      ↔ ((task : Task) × IsTask s.tasks n task × (task.agent ≡ Some agent) × (phase task ≡ Phase.Carried) × (visited task ≡ seen))
+
+-- The clocks of a task lie in order: its submission, its visits one after another, and the clock of the state.
+pub record IsTimed (clock : ℕ) (task : Task) : Type 0 where
+  pub submitted : task.submitted ≤ clock
+  pub first : (i : ℕ) → i < visited task → task.submitted ≤ slice_index task.visits i
+  pub in_order : (i j : ℕ) → i ≤ j → j < visited task → slice_index task.visits i ≤ slice_index task.visits j
+  pub last : (i : ℕ) → i < visited task → slice_index task.visits i ≤ clock
+
+-- a task of a warehouse: its stops are stations, no more are visited than there are, and none while no agent has it; its
+-- agent is known; and its clocks lie in order
+pub record IsSoundTask (site : Site) (s : State) (task : Task) : Type 0 where
+  pub stops : HasStops site.layout task
+  pub few : visited task ≤ length task.stops
+  pub fresh : IsOpen task → visited task ≡ 0
+  pub known : (agent : ℕ) → task.agent ≡ Some agent → agent < length s.paths
+  pub timed : IsTimed s.clock task
+
+-- A state with which a warehouse may go on. Each agent goes by a walk from where it is, and any two walks are free of each
+-- other for ever; tasks are as they should be, and loads tell what they tell; all arrivals have been made; and the limits
+-- hold. Nothing is said of where walks end, nor that an agent's walk does what its load asks.
+pub record IsSound (site : Site) (s : State) : Type 0 where
+  pub seats : HasSeats site s
+  pub few : length s.tasks ≤ most_tasks
+  pub clock_fits : s.clock ≤ last_clock
+  pub walks : (agent : ℕ) → agent < length s.paths → IsWalk site.grid (path_of s.paths agent)
+  pub free : AllFree site.layout.nofollow s.paths
+  pub tasks : (n : ℕ) (task : Task) → IsTask s.tasks n task → IsSoundTask site s task
+  pub loads : (agent : ℕ) → agent < length s.paths → LoadsAgree s agent
+  pub settled : arrived s ≡ s
+
+-- a state from which a run may begin
+pub record IsBeginning (site : Site) (s : State) : Type 0 where
+  pub layout : IsLayout site.grid site.layout
+  pub sound : IsSound site s
+
+-- The agent is on its way: its path ends at a berth, and leads it through the stops that are left of its task, if it has one.
+pub record IsOnItsWay (site : Site) (s : State) (agent : ℕ) : Type 0 where
+  pub berth : IsBerth site agent (end_of s.paths agent)
+  pub delivers : (n : ℕ) (task : Task) → IsOwn s agent n task → Delivers (tour site agent (stops_left task)) (path_of s.paths agent)
+
+-- all agents are
+abbrev pub AllOnTheirWays : Site → State → Type 0
+AllOnTheirWays site s = (agent : ℕ) → agent < length s.paths → IsOnItsWay site s agent
+
+-- the entries lead from a beginning to the state
+pub record IsReached (site : Site) (entries : List Entry) (s : State) : Type 0 where
+  pub opening : State
+  pub is_beginning : IsBeginning site opening
+  pub run : Run site opening entries s
+
+-- the entries lead to the state from a beginning at which all were on their ways
+pub record IsReachedOnTheirWays (site : Site) (entries : List Entry) (s : State) : Type 0 where
+  pub reached : IsReached site entries s
+  pub on_their_ways : AllOnTheirWays site reached.opening
+
+-- An opening state is a beginning, at which all are on their ways.
+abbrev pub OpeningsAreBeginnings : Type 0
+OpeningsAreBeginnings = (site : Site) (s : State) → IsOpening site s → IsBeginning site s × AllOnTheirWays site s
+
+-- Each state of a run is sound: from each state that is reached another run may begin.
+abbrev pub EachStateIsABeginning : Type 0
+EachStateIsABeginning = (site : Site) (entries : List Entry) (s : State) → IsReached site entries s → IsBeginning site s
+
+-- An agent that is on its way stays so, whatever the others do.
+abbrev pub WaysAreKept : Type 0
+WaysAreKept =
+    (site : Site) (entries : List Entry) (old : State) (entry : Entry) (new : State) (agent : ℕ) → IsReached site entries old →
+    Step site old entry new → agent < length old.paths → IsOnItsWay site old agent → IsOnItsWay site new agent
+
+-- An agent that is given a path for a task is on its way from then on.
+abbrev pub TakersAreOnTheirWays : Type 0
+TakersAreOnTheirWays =
+    (site : Site) (entries : List Entry) (old : State) (n : ℕ) (path : List Cell) (agent : ℕ) (new : State) → IsReached site entries old →
+    Answers site old (Reply.Took n path) (Event.Request agent) new → IsOnItsWay site new agent
+
+-- Once all are on their ways they stay so.
+abbrev pub AllStayOnTheirWays : Type 0
+AllStayOnTheirWays = (site : Site) (entries : List Entry) (s : State) → IsReachedOnTheirWays site entries s → AllOnTheirWays site s
 
 -- This holds in each state of a run.
 abbrev pub SeatsStay : Type 0
@@ -92,7 +182,7 @@ OnlyTicksMove =
 -- The cells where the paths end are points.
 abbrev pub EndsArePoints : Type 0
 EndsArePoints =
-    (site : Site) (entries : List Entry) (s : State) (i : ℕ) → IsReached site entries s → i < length s.paths →
+    (site : Site) (entries : List Entry) (s : State) (i : ℕ) → IsReachedOnTheirWays site entries s → i < length s.paths →
     IsPointCell site.layout (end (path_of s.paths i))
 
 -- The cells where two agents' paths end differ.
@@ -138,26 +228,24 @@ pub record WasAt (site : Site) (old : State) (entries : List Entry) (new : State
   pub agent_is : agent ≡ Some number
   pub place_is : place_of state.paths number ≡ cell
 
--- The visits of a task were made in order: each of them in a state of the run, at its clock, where the task's agent was
--- at that stop; and none in an earlier state than the one before.
-pub record VisitsWereMade (site : Site) (old : State) (entries : List Entry) (new : State) (task : Task) : Type 0 where
+-- how many visits the task of a number has; none where there is no such task
+abbrev pub visits_of : Option Task → ℕ
+visits_of None = 0
+visits_of (Some task) = visited task
+
+-- The visits of a task from this number on were made in order: each of them in a state of the run, at its clock, where the
+-- task's agent was at that stop; and none in an earlier state than the one before.
+pub record VisitsWereMade (site : Site) (old : State) (entries : List Entry) (new : State) (task : Task) (first : ℕ) : Type 0 where
   pub when : ℕ → ℕ
   pub in_order : (i j : ℕ) → i ≤ j → when i ≤ when j
-  pub there : (i : ℕ) → i < visited task →
+  pub there : (i : ℕ) → first ≤ i → i < visited task →
       WasAt site old entries new (when i) task.agent (cell_at task.stops i) (slice_index task.visits i)
 
--- In a run from an opening state the visits of each task were made.
+-- In a run the visits of each task were made, but for those that it had before.
 abbrev pub EachVisitWasMade : Type 0
 EachVisitWasMade =
-    (site : Site) (old : State) (entries : List Entry) (new : State) (n : ℕ) (task : Task) → IsOpening site old →
-    Run site old entries new → IsTask new.tasks n task → VisitsWereMade site old entries new task
-
--- The clocks of a task lie in order: its submission, its visits one after another, and the clock of the state.
-pub record IsTimed (clock : ℕ) (task : Task) : Type 0 where
-  pub submitted : task.submitted ≤ clock
-  pub first : (i : ℕ) → i < visited task → task.submitted ≤ slice_index task.visits i
-  pub in_order : (i j : ℕ) → i ≤ j → j < visited task → slice_index task.visits i ≤ slice_index task.visits j
-  pub last : (i : ℕ) → i < visited task → slice_index task.visits i ≤ clock
+    (site : Site) (old : State) (entries : List Entry) (new : State) (n : ℕ) (task : Task) → Run site old entries new →
+    IsTask new.tasks n task → VisitsWereMade site old entries new task (visits_of (slice_get old.tasks n))
 
 -- This holds for each task, in each state of a run.
 abbrev pub ClocksLieInOrder : Type 0
@@ -171,23 +259,11 @@ DoneIsAllVisited =
     (site : Site) (entries : List Entry) (s : State) (n : ℕ) (task : Task) → IsReached site entries s → IsTask s.tasks n task →
     (visited task ≤ length task.stops) × (phase task ≡ Phase.Done → visited task ≡ length task.stops)
 
--- the load of an agent
-abbrev pub load_of : State → ℕ → Load
-load_of s agent = slice_index_or s.loads agent Load.None
-
 -- An agent with no steps left has no load.
 abbrev pub NoLoadAtRest : Type 0
 NoLoadAtRest =
-    (site : Site) (entries : List Entry) (s : State) (agent : ℕ) → IsReached site entries s → agent < length s.paths →
+    (site : Site) (entries : List Entry) (s : State) (agent : ℕ) → IsReachedOnTheirWays site entries s → agent < length s.paths →
     steps_left s.paths agent ≡ 0 → load_of s agent ≡ Load.None
-
--- An agent fetches a task exactly where the task is assigned to it, and carries it with n visits exactly where it
--- is carried by it and has n.
-pub record LoadsAgree (s : State) (agent : ℕ) : Type 0 where
-  pub fetching : (n : ℕ) → (load_of s agent ≡ Load.Fetching n)
-      ↔ ((task : Task) × IsTask s.tasks n task × (task.agent ≡ Some agent) × (phase task ≡ Phase.Assigned))
-  pub carrying : (n seen : ℕ) → (load_of s agent ≡ Load.Carrying n seen)
-      ↔ ((task : Task) × IsTask s.tasks n task × (task.agent ≡ Some agent) × (phase task ≡ Phase.Carried) × (visited task ≡ seen))
 
 -- Loads and tasks tell the same of each agent, in each state of a run.
 abbrev pub LoadsAndTasksAgree : Type 0
@@ -213,20 +289,20 @@ abbrev pub accepted : List Entry → List ℕ
 accepted [] = []
 accepted (entry ∷ entries) = accepted_by entry.reply (accepted entries)
 
--- The numbers are 0, 1, 2 and so on, up to a given count.
-pub record CountUp (numbers : List ℕ) (count : ℕ) : Type 0 where
-  pub count_is : length numbers ≡ count
-  pub each : (k : ℕ) → k < count → slice_index numbers k ≡ k
+-- The numbers go on from a first one, one by one, up to a last one, which is not among them.
+pub record CountFrom (first : ℕ) (numbers : List ℕ) (last : ℕ) : Type 0 where
+  pub count : first + length numbers ≡ last
+  pub each : (k : ℕ) → k < length numbers → slice_index numbers k ≡ first + k
 
--- The tasks are numbered from 0 in the order in which they were accepted.
+-- Tasks are numbered in the order in which they are accepted, from the number of those that were there at the beginning.
 abbrev pub TaskNumbersCountUp : Type 0
 TaskNumbersCountUp =
-    (site : Site) (entries : List Entry) (s : State) → IsReached site entries s → CountUp (accepted entries) (length s.tasks)
+    (site : Site) (entries : List Entry) (s : State) (r : IsReached site entries s) → CountFrom (length r.opening.tasks) (accepted entries) (length s.tasks)
 
--- Requests and replies determine the state: two runs of the same entries from one opening state lead to one state.
+-- Requests and replies determine the state: two runs of the same entries from one beginning lead to one state.
 abbrev pub HistoryTellsTheState : Type 0
 HistoryTellsTheState =
-    (site : Site) (opening : State) (entries : List Entry) (one other : State) → IsOpening site opening → Run site opening entries one →
+    (site : Site) (opening : State) (entries : List Entry) (one other : State) → IsBeginning site opening → Run site opening entries one →
     Run site opening entries other → one ≡ other
 
 -- The replies differ at most in what the planner gave: the path, or that it found none.
@@ -239,10 +315,14 @@ AgreeButForPath (Reply.Parked point path) (Reply.Refused Refusal.NoPath) = Unit 
 AgreeButForPath (Reply.Refused Refusal.NoPath) (Reply.Parked point path) = Unit {0}
 AgreeButForPath one other = one ≡ other
 
--- In a state there is one reply to an event, except for the path.
+-- The event is no request by a stray, which may go on or make way as its planner finds.
+abbrev pub AsksNoStray : Site → State → Event → Type 0
+AsksNoStray site s event = (agent : ℕ) → event ≡ Event.Request agent → IsDue site s agent → ¬ IsStray site s agent
+
+-- In a state there is one reply to such an event, except for the path.
 abbrev pub RepliesAgree : Type 0
 RepliesAgree =
-    (site : Site) (old : State) (event : Event) (one other : Reply) (a b : State) → IsLayout site.grid site.layout →
+    (site : Site) (old : State) (event : Event) (one other : Reply) (a b : State) → IsLayout site.grid site.layout → AsksNoStray site old event →
     Answers site old one event a → Answers site old other event b → AgreeButForPath one other
 
 -- A submit has 2 to 8 stops.
@@ -253,7 +333,7 @@ HasFitStops event = Unit {0}
 -- On a well-formed instance, in each state of a run, each event has an answer.
 abbrev pub EveryEventIsAnswered : Type 0
 EveryEventIsAnswered =
-    (site : Site) (entries : List Entry) (s : State) (event : Event) → IsFormed site → IsReached site entries s → HasFitStops event →
+    (site : Site) (entries : List Entry) (s : State) (event : Event) → IsFormed site → IsReachedOnTheirWays site entries s → HasFitStops event →
     (reply : Reply) × (new : State) × Answers site s reply event new
 
 -- The clock never falls.
@@ -268,32 +348,32 @@ ClosedForGood =
 
 -- The duty of a due agent: to deliver the task that comes next for it, or else to make way.
 pub record HasWays (site : Site) (s : State) (agent : ℕ) : Type 0 where
-  pub delivery : (n : ℕ) (task : Task) → IsNext site s agent n task → (way : List Cell) × IsClearWay site.grid s.paths agent (Delivers task.stops) way
-  pub parking : MakesWay s agent → (way : List Cell) × IsClearWay site.grid s.paths agent (ParksAt (IsAllowed site s agent)) way
+  pub delivery : (n : ℕ) (task : Task) → IsNext site s agent n task → (way : List Cell) × IsClearWay site.grid s.paths agent (Delivers (tour site agent (stops_left task))) way
+  pub parking : MakesWay site s agent → (way : List Cell) × IsClearWay site.grid s.paths agent (ParksAt (IsAllowed site s agent)) way
 
 -- On a well-formed instance each due agent has a clear way for its duty, whichever it is.
 abbrev pub DutiesHaveClearWays : Type 0
 DutiesHaveClearWays =
-    (site : Site) (entries : List Entry) (s : State) (agent : ℕ) → IsFormed site → IsReached site entries s → IsDue s agent →
+    (site : Site) (entries : List Entry) (s : State) (agent : ℕ) → IsFormed site → IsReachedOnTheirWays site entries s → IsDue site s agent →
     HasWays site s agent
 
 -- So on a well-formed instance no event of a run is refused for lack of a path.
 abbrev pub NoneIsRefusedAPath : Type 0
 NoneIsRefusedAPath =
-    (site : Site) (entries : List Entry) (s : State) → IsFormed site → IsReached site entries s →
+    (site : Site) (entries : List Entry) (s : State) → IsFormed site → IsReachedOnTheirWays site entries s →
     All (λ entry. entry.reply ≢ Reply.Refused Refusal.NoPath) entries
 
--- Where a due agent has a clear way for a delivery, it has a lawful path: it waits until the others rest, and then goes the
--- clear way, with each leg cut short.
+-- Where a due agent has a clear way for a delivery, it has a lawful path: it goes on by its own until the others rest, and then
+-- the clear way, with each leg cut short.
 abbrev pub ClearDeliveriesAreLawful : Type 0
 ClearDeliveriesAreLawful =
-    (site : Site) (entries : List Entry) (s : State) (agent : ℕ) (stops way : List Cell) → IsReached site entries s → IsDue s agent →
+    (site : Site) (entries : List Entry) (s : State) (agent : ℕ) (stops way : List Cell) → IsReached site entries s → IsDue site s agent →
     1 ≤ length stops → IsClearWay site.grid s.paths agent (Delivers stops) way →
     (path : List Cell) × IsLawful site.grid site.layout.nofollow s.paths agent (length stops) (Delivers stops) path
 
 -- The same for parking.
 abbrev pub ClearParkingsAreLawful : Type 0
 ClearParkingsAreLawful =
-    (site : Site) (entries : List Entry) (s : State) (agent : ℕ) (way : List Cell) → IsReached site entries s → IsDue s agent →
+    (site : Site) (entries : List Entry) (s : State) (agent : ℕ) (way : List Cell) → IsReached site entries s → IsDue site s agent →
     IsClearWay site.grid s.paths agent (ParksAt (IsAllowed site s agent)) way →
     (path : List Cell) × IsLawful site.grid site.layout.nofollow s.paths agent 2 (ParksAt (IsAllowed site s agent)) path

@@ -60,7 +60,7 @@ points_a =
 -- the map with its points, and agents that start at two of them
 abbrev pub site_a : ℕ → ℕ → Site
 site_a first second =
-    record { grid = map_a; layout = record { points = points_a; agents = first ∷ second ∷ []; nofollow = false } }
+    record { grid = map_a; layout = record { points = points_a; agents = first ∷ second ∷ []; nofollow = false }; homes = false }
 
 -- an entry of caller 0
 abbrev pub entry : Event → Reply → Entry

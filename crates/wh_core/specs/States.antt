@@ -1,5 +1,5 @@
 -- the state of a warehouse, and the changes that its steps make
-use Rattle.std.specs.Prelude.{ℕ, ◌+◌, List, [], ◌∷◌, ◌++◌, Bool, true, false, Some, None, map, slice_set}
+use Rattle.std.specs.Prelude.{ℕ, ◌+◌, List, [], ◌∷◌, ◌++◌, Bool, true, false, Some, None, map, slice_index_or, slice_set}
 use Rattle.wh_grid.specs.declared.cell.Cell.{Cell}
 use Rattle.wh_path.specs.Paths.{place_of, advanced}
 use Rattle.wh_points.specs.Points.{Layout, starts}
@@ -16,6 +16,10 @@ pub record State : Type 0 where
   pub loads : List Load
   pub slots : List ℕ
   pub tasks : List Task
+
+-- the load of an agent
+abbrev pub load_of : State → ℕ → Load
+load_of s agent = slice_index_or s.loads agent Load.None
 
 -- The opening state: each agent stands at its start and has no load, and there are no tasks.
 abbrev pub opened : Layout → ℕ → List ℕ → State
@@ -51,7 +55,7 @@ submitted client stops s =
 abbrev pub adopted : ℕ → List Cell → State → State
 adopted agent path s = record s { paths = slice_set s.paths agent path }
 
--- the agent fetches the task of this number
+-- The agent has the task of this number. (If it had it before, the arrivals that follow tell its load again.)
 abbrev pub assigned : ℕ → ℕ → Task → State → State
 assigned agent n task s = record s {
   loads = slice_set s.loads agent (Load.Fetching n);

@@ -1,10 +1,58 @@
-//! Laws over all runs from an opening state. Each function is a law: it does nothing, and its contract is the law.
+//! Laws over all runs from a sound state. Each function is a law: it does nothing, and its contract is the law.
 
 ghost use Rattle.wh_core.specs.Laws.{PathsAreFree, NoneShareACell, NoneExchangeCells, NoneFollow, EachStepIsAMove, OnlyTicksMove, EndsArePoints, EndsDiffer};
+ghost use Rattle.wh_core.specs.Laws.{OpeningsAreBeginnings, EachStateIsABeginning, WaysAreKept, TakersAreOnTheirWays, AllStayOnTheirWays};
+ghost use Rattle.wh_core.specs.Stopping.{StoppedMayGoOn, LoadsAreTold};
+ghost use Rattle.wh_core.specs.Ordinary.{OrdinarySteps, OrdinaryRuns};
 ghost use Rattle.wh_core.specs.Laws.{TasksGoForward, EachVisitWasMade, ClocksLieInOrder, DoneIsAllVisited};
 ghost use Rattle.wh_core.specs.Laws.{NoLoadAtRest, LoadsAndTasksAgree, ArrivalsAreDoneAtOnce, NoneIsLeftToArrive};
 ghost use Rattle.wh_core.specs.Laws.{SeatsStay, LimitsHold, HistoryTellsTheState, RepliesAgree, EveryEventIsAnswered, TaskNumbersCountUp, ClockNeverFalls, ClosedForGood};
 ghost use Rattle.wh_core.specs.Laws.{DutiesHaveClearWays, NoneIsRefusedAPath, ClearDeliveriesAreLawful, ClearParkingsAreLawful};
+
+/// An opening state is a beginning, at which all are on their ways.
+pub fn openings_are_beginnings()
+    ensures { OpeningsAreBeginnings }
+{}
+
+/// Each state of a run is sound: from each state that is reached another run may begin.
+pub fn each_state_is_a_beginning()
+    ensures { EachStateIsABeginning }
+{}
+
+/// An agent that is on its way stays so, whatever the others do.
+pub fn ways_are_kept()
+    ensures { WaysAreKept }
+{}
+
+/// An agent that is given a path for a task is on its way from then on.
+pub fn takers_are_on_their_ways()
+    ensures { TakersAreOnTheirWays }
+{}
+
+/// Once all agents are on their ways they stay so.
+pub fn all_stay_on_their_ways()
+    ensures { AllStayOnTheirWays }
+{}
+
+/// Where all agents are on their ways the steps are those of Token Passing (AAMAS 2017).
+pub fn ordinary_steps()
+    ensures { OrdinarySteps }
+{}
+
+/// The runs from an opening state are those of Token Passing (AAMAS 2017).
+pub fn ordinary_runs()
+    ensures { OrdinaryRuns }
+{}
+
+/// A warehouse that was stopped may go on from where its vehicles stand.
+pub fn stopped_may_go_on()
+    ensures { StoppedMayGoOn }
+{}
+
+/// A sound state is told by all but its loads.
+pub fn loads_are_told()
+    ensures { LoadsAreTold }
+{}
 
 /// In each state of a run any two agents' paths are free of each other, for ever.
 pub fn paths_are_free()

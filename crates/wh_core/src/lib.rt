@@ -2,6 +2,7 @@
 #![tactic(auto)]
 
 mod bounds;
+pub mod homes;
 pub mod laws;
 pub mod rows;
 

@@ -222,9 +222,16 @@ pub fn crew_at_pace<
     ensures past { IfOk result (λ c. c.history.front.past ≡ past_of c.history.warehouse.book) }
 {
     let Ok(viewer) = desk.viewer(rt) else {
+        drop(desk);
+        drop(passes);
+        drop(works);
         return Err(CrewFault::NoMemory);
     };
     let Ok(room) = make_room(alloc, passes.len()) else {
+        drop(viewer);
+        drop(desk);
+        drop(passes);
+        drop(works);
         return Err(CrewFault::NoMemory);
     };
     let Room {
@@ -240,24 +247,40 @@ pub fn crew_at_pace<
         pass,
         viewer,
         taken,
-    } = run_beside(
+    } = match run_beside(
         rt, alloc, &desk, passes, works, reports, own, viewer, turns, pause,
-    )?;
+    ) {
+        Ok(shift) => shift,
+        Err(fault) => {
+            drop(ended);
+            drop(missed);
+            drop(desk);
+            return Err(fault);
+        }
+    };
     let (mut ended, missed) = take_apart(reports, ended, missed);
     ended.push_reserved(pass);
     match desk.finish(ended) {
         Ok(history) => {
             if is_sound(&history, missed.as_slice(), &viewer, &taken) {
+                drop(viewer);
                 Ok(PacedCrew {
                     history,
                     missed,
                     taken,
                 })
             } else {
+                drop(viewer);
+                drop(history);
+                drop(missed);
                 Err(CrewFault::Stale)
             }
         }
-        Err(_) => Err(CrewFault::Stale),
+        Err(_) => {
+            drop(viewer);
+            drop(missed);
+            Err(CrewFault::Stale)
+        }
     }
 }
 

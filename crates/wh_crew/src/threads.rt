@@ -266,6 +266,9 @@ pub fn crew<
     ensures past { IfOk result (λ c. c.history.front.past ≡ past_of c.history.warehouse.book) }
 {
     let Ok(room) = make_room(alloc, passes.len()) else {
+        drop(desk);
+        drop(passes);
+        drop(works);
         return Err(CrewFault::NoMemory);
     };
     let Room {
@@ -273,17 +276,30 @@ pub fn crew<
         passes: ended,
         missed,
     } = room;
-    let reports = run_all(rt, alloc, &desk, passes, works, reports, gate)?;
+    let reports = match run_all(rt, alloc, &desk, passes, works, reports, gate) {
+        Ok(reports) => reports,
+        Err(fault) => {
+            drop(ended);
+            drop(missed);
+            drop(desk);
+            return Err(fault);
+        }
+    };
     let (ended, missed) = take_apart(reports, ended, missed);
     match desk.finish(ended) {
         Ok(history) => {
             if none_other(missed.as_slice()) {
                 Ok(Crewed { history, missed })
             } else {
+                drop(history);
+                drop(missed);
                 Err(CrewFault::Stale)
             }
         }
-        Err(_) => Err(CrewFault::Stale),
+        Err(_) => {
+            drop(missed);
+            Err(CrewFault::Stale)
+        }
     }
 }
 

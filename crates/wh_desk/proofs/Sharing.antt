@@ -21,7 +21,7 @@ use Rattle.wh_event.specs.contracts.entry.Entry as entry
 use Rattle.wh_board.specs.contracts.front.Front as front
 use Rattle.wh_board.specs.contracts.page.Page as page
 use Rattle.wh_board.specs.contracts.publisher.Publisher as publisher
-use Rattle.wh_planner.specs.declared.planner.Planner.{Ghosts as Planning}
+use Rattle.wh_planner.specs.declared.planner.Plans.{Ghosts as Planning}
 use Rattle.wh_desk.specs.declared.naming.DeskName.{Ghosts}
 use Rattle.wh_desk.specs.contracts.cells.Cells as cells
 use Rattle.wh_desk.specs.contracts.cells.CellRow as cell_row

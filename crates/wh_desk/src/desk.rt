@@ -88,9 +88,36 @@ impl<N: DeskName, H: Wait + Drop, P: Planner> Desk<N, H, P> {
         let capacity = cells.len();
         let history = warehouse.history();
         let known = history.len() as u64;
-        let Earlier { cells, notes, owns } = recall(alloc, history, cells, callers)?;
-        let rows = rows_of(alloc, owns.as_slice())?;
-        let passes = passes_of(alloc, owns, publisher.front(), known, callers)?;
+        let Earlier { cells, notes, owns } = match recall(alloc, history, cells, callers) {
+            Ok(earlier) => earlier,
+            Err(fault) => {
+                drop(warehouse);
+                drop(publisher);
+                return Err(fault);
+            }
+        };
+        let rows = match rows_of(alloc, owns.as_slice()) {
+            Ok(rows) => rows,
+            Err(AllocError) => {
+                drop(warehouse);
+                drop(publisher);
+                drop(cells);
+                drop(notes);
+                drop(owns);
+                return Err(Unopened::NoMemory);
+            }
+        };
+        let passes = match passes_of(alloc, owns, publisher.front(), known, callers) {
+            Ok(passes) => passes,
+            Err(AllocError) => {
+                drop(warehouse);
+                drop(publisher);
+                drop(cells);
+                drop(notes);
+                drop(rows);
+                return Err(Unopened::NoMemory);
+            }
+        };
         let journal = Journal::over(warehouse, capacity, rows, notes, cells, publisher);
         let desk = Desk {
             journal: Mutex::new(journal),

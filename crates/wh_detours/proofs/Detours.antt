@@ -3,7 +3,8 @@ use Rattle.std.proofs.Common.{ℕ, List, length, get_or, All, Option, Some, None
 use Rattle.std.proofs.lemmas.Nat.{mul-le}
 use Rattle.wh_grid.specs.declared.cell.Cell.{Cell}
 use Rattle.wh_grid.specs.Grids.{Floor, IsPassable, passable_cells}
-use Rattle.wh_resv.specs.Others.{Others, MayRest}
+use Rattle.wh_resv.specs.Others.{Others}
+use Rattle.wh_resv.specs.Calls.{IsVacant}
 use Rattle.wh_path.specs.Paths.{at, cell_at, IsFree}
 use Rattle.wh_search.specs.Deliveries.{IsDelivery, IsLawful, IfNoPath}
 use Rattle.wh_search.specs.declared.errand.Errand.{Errand}
@@ -64,8 +65,8 @@ all_least_there g without others paths loc stops p w l =
     }
 
 -- who may rest somewhere is at no cell that is taken
-pub start_left : (g : Floor) (others : Others) (paths : List (List Cell)) (n : ℕ) (loc : Cell) → IsPassable g loc → MayRest others loc 0 → IsLeft g others paths n loc
-start_left g others paths n loc inside clear = record { passable = inside; free = λ taken s. taken 0 (λ i q b. (clear i q b).away 0 (omega arith)) }
+pub start_left : (g : Floor) (others : Others) (paths : List (List Cell)) (n : ℕ) (loc : Cell) → IsPassable g loc → IsVacant others.paths loc 0 → IsLeft g others paths n loc
+start_left g others paths n loc inside clear = record { passable = inside; free = λ taken s. taken 0 clear }
 
 pub no_path_weaker : {T : Type 0} (r : Result T Fault) (P Q : Type 0) → (P → Q) → IfNoPath r P → IfNoPath r Q
 no_path_weaker (Ok x) P Q f h = h

@@ -79,13 +79,13 @@ pub fn barred_ways(
     loc: Cell,
     stops: &[Cell],
     sights: &[Option<Sight>],
-) -> [bool; 8]
-    requires few { length stops.now ≤ 8 }
+) -> [bool; 9]
+    requires few { length stops.now ≤ 9 }
     requires sights { AreSightsOf grid.now stops.now sights.now }
-    ensures size { length result ≡ 8 }
+    ensures size { length result ≡ 9 }
     ensures each { AreBarred grid.now others.now loc stops.now sights.now result (length stops.now) }
 {
-    let mut barred = [false; 8];
+    let mut barred = [false; 9];
     let mut from = loc;
     for i in 0..stops.len() {
         barred[i] = is_way_barred(grid, others, sights[i], from, stops[i]);

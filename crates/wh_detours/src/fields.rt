@@ -50,9 +50,9 @@ pub fn fields_over(
     grid: &Grid,
     loc: Cell,
     stops: &[Cell],
-    wanted: [bool; 8],
+    wanted: [bool; 9],
 ) -> Result<Vec<Option<Filled>>, AllocError>
-    requires { length stops.now ≤ 8 }
+    requires { length stops.now ≤ 9 }
     ensures { IfOk result (λ kept. AreFilled grid.now loc stops.now wanted (length stops.now) kept.items) }
 {
     let mut kept = Vec::new(alloc);
@@ -89,20 +89,20 @@ pub fn sights_over<'a>(
     grid: &Grid,
     loc: Cell,
     stops: &[Cell],
-    wanted: [bool; 8],
+    wanted: [bool; 9],
     kept: &'a [Option<Filled>],
     sights: &'a [Option<Sight<'a>>],
-) -> [Option<Sight<'a>>; 8]
-    requires few { length stops.now ≤ 8 }
+) -> [Option<Sight<'a>>; 9]
+    requires few { length stops.now ≤ 9 }
     requires filled { AreFilled grid.now loc stops.now wanted (length stops.now) kept.now }
     requires sights { AreSightsOver grid.now stops.now sights.now }
-    ensures size { length result ≡ 8 }
+    ensures size { length result ≡ 9 }
     ensures each { (l : ℕ) → l < length stops.now → IsSightOver grid.now (slice_index_or result l None) (cell_at stops.now l) }
     ensures which { (l : ℕ) → l < length stops.now → IsSightFor (slice_index_or kept.now l None) (slice_index_or sights.now l None) (slice_index_or result l None) }
 {
     let _ = loc;
     let _ = wanted;
-    let mut all = [None; 8];
+    let mut all = [None; 9];
     for i in 0..stops.len() {
         all[i] = sight_or(grid, stops[i], &kept[i], sights[i]);
     }

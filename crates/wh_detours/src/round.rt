@@ -5,7 +5,7 @@ ghost use Rattle.std.specs.Prelude.{◌≡◌, ℕ, ◌+◌, ◌-◌, ◌<◌, �
 ghost use Rattle.wh_grid.specs.declared.cell.Cell.{Cell};
 ghost use Rattle.wh_grid.specs.Grids.{IsPassable};
 ghost use Rattle.wh_path.specs.Paths.{last_index};
-ghost use Rattle.wh_resv.specs.Others.{MayRest};
+ghost use Rattle.wh_resv.specs.Calls.{IsVacant};
 ghost use Rattle.wh_search.specs.Deliveries.{IsDelivery, IsLawful, IfNoPath, AreStops};
 ghost use Rattle.wh_search.specs.Frontiers.{IsErrand};
 ghost use Rattle.wh_search.specs.Guides.{guide_estimate};
@@ -35,10 +35,10 @@ fn deliver_without(
     paths: &[TimedPath],
     stops: &[Cell],
     sights: &[Option<Sight>],
-    barred: [bool; 8],
+    barred: [bool; 9],
 ) -> Result<TimedPath, Fault>
     requires inside { IsPassable errand.now.grid.now errand.now.loc }
-    requires clear { MayRest errand.now.others.now errand.now.loc 0 }
+    requires clear { IsVacant errand.now.others.now.paths errand.now.loc 0 }
     requires stops { AreStops stops.now }
     requires sights { AreSightsOf errand.now.grid.now stops.now sights.now }
     ensures lawful { IfOk result (λ p. IsLawful errand.now.grid.now errand.now.others.now errand.now.loc stops.now p) }
@@ -75,7 +75,7 @@ fn deliver_beyond(
 ) -> Result<TimedPath, Fault>
     requires errand { IsErrand errand.now }
     requires task { IsTaskOf errand.now.grid.now errand.now.others.now errand.now.loc stops.now errand.now }
-    requires clear { MayRest errand.now.others.now errand.now.loc 0 }
+    requires clear { IsVacant errand.now.others.now.paths errand.now.loc 0 }
     requires stops { AreStops stops.now }
     requires sights { AreSightsOf errand.now.grid.now stops.now sights.now }
     requires late { (q : List Cell) → IsTour errand.now.grid.now errand.now.others.now errand.now.loc errand.now.via.now errand.now.ends.now q → guide_estimate errand.now.guide errand.now.first errand.now.loc < last_index q }
@@ -111,7 +111,7 @@ pub fn deliver_round<'x>(
     sights: &'x [Option<Sight<'x>>],
 ) -> Result<TimedPath, Fault>
     requires inside { IsPassable grid.now loc }
-    requires clear { MayRest others.now loc 0 }
+    requires clear { IsVacant others.now.paths loc 0 }
     requires stops { AreStops stops.now }
     requires sights { AreSightsOf grid.now stops.now sights.now }
     ensures lawful { IfOk result (λ p. IsLawful grid.now others.now loc stops.now p) }

@@ -9,7 +9,8 @@ use Rattle.wh_grid.specs.declared.cell.Cell.{Cell}
 use Rattle.wh_path.specs.Paths.{cell_at, place_of}
 use Rattle.wh_path.proofs.AtLemmas.{origin}
 use Rattle.wh_core.specs.States.{State}
-use Rattle.wh_core.specs.Laws.{IsOpening as IsOpeningState, IsReached as IsReachedState}
+use Rattle.wh_core.specs.Laws.{AllOnTheirWays, IsOpening as IsOpeningState, IsReached as IsReachedState}
+use Rattle.wh_core.proofs.Sound.{opening-begins, opening-reached}
 use Rattle.wh_core.proofs.Traffic.{none_share}
 use Rattle.wh_core.specs.Steps.{Run}
 use Rattle.wh_book.specs.Drafts.{Seen}
@@ -69,7 +70,7 @@ opening_fleet : (book : Seen) (ahead : ℕ) → IsOpeningState book.site book.op
 opening_fleet book ahead o same some = record {
   ahead = ahead;
   some = some;
-  state = subst (λ (s : State). IsOpeningState book.site s) (sym same) o;
+  state = (opening-begins book.site book.state (subst (λ (s : State). IsOpeningState book.site s) (sym same) o)).0;
   drive = refl;
 }
 
@@ -78,7 +79,7 @@ pub differ_opened : (book : Seen) → IsOpeningState book.site book.opening → 
 differ_opened book o same =
     let s = book.state in
     let cells = size s in
-    let reached : IsReachedState book.site [] s = record { opening = s; is_opening = subst (λ (t : State). IsOpeningState book.site t) (sym same) o; run = refl } in
+    let reached : IsReachedState book.site [] s = (opening-reached book.site s [] s (subst (λ (t : State). IsOpeningState book.site t) (sym same) o) refl).reached in
     λ i j a below within e.
     let l : j < length s.paths = omega arith in
     let l' : i < length s.paths = omega arith in
@@ -97,6 +98,7 @@ manned_opened book crew ahead o same none some empty r = record {
     carried = subst (λ es. IsCarriedOut book.site es (record { state = book.state; drive = opened book.site.layout.nofollow ahead (places book.state) })) (sym none)
         (carried-opening book.site _ (opening_fleet book ahead o same some));
     time = (let here : book.state.clock ≡ book.opening.clock = ap (λ (s : State). s.clock) same in omega arith);
+    ways = subst (λ (s : State). AllOnTheirWays book.site s) (sym same) (opening-begins book.site book.opening o).1;
   };
   quiet = quiet_opened book.site.layout.nofollow ahead (places book.state);
   watched = subst (λ (ps : List Pending). AreWatched book.state (HasMade book.opening.clock (record { state = book.state; drive = opened book.site.layout.nofollow ahead (places book.state) })) ps) (sym empty) (record {

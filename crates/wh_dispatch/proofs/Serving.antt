@@ -47,14 +47,15 @@ use Rattle.wh_dispatch.specs.Scripts.{TellsAll, TellsSome, Serves, Begins, Serve
 use Rattle.wh_dispatch.proofs.Texts.{text_one, all_then, until_then, unwritten}
 use Rattle.wh_dispatch.proofs.Happening.{fleet, Leads, go_leads, settle_goes, report_leads, ran_leads, asked_few, happens_join, entries_join, clock_kept}
 use Rattle.wh_dispatch.proofs.Steps.{Turns, stays, goes, turns, ticks_now}
-use Rattle.wh_core.specs.Laws.{IsTimed}
-use Rattle.wh_core.proofs.Timed.{timed-reached}
-use Rattle.wh_core.proofs.Work.{IsWorking, sound-reached}
+use Rattle.wh_core.specs.Laws.{AllOnTheirWays, IsTimed}
+use Rattle.wh_core.proofs.Sound.{beginning-reached, kept-reached, sound-reached}
+use Rattle.wh_core.proofs.Work.{IsWorking}
 use Rattle.wh_tasks.specs.declared.task.Task.{Task}
 use Rattle.wh_tasks.specs.Tasks.{IsTask}
 use Rattle.std.proofs.lemmas.Option.{same_Some}
 use Rattle.wh_dispatch.proofs.Members.{none_in, pairs_nil}
 use Rattle.wh_dispatch.proofs.Watching.{visit, watched_as, each_due, due_in_turn, all_due, watched_after, standing}
+use Rattle.wh_dispatch.proofs.Ways.{unloaded, ways_happen}
 use Rattle.wh_dispatch.proofs.Staying.{made_stays}
 use Rattle.wh_dispatch.proofs.Taking.{takes_ran, before_ran, none_by_tick, watched_on}
 
@@ -85,6 +86,7 @@ pub goes_in_step : (old new : Seen) (o p : Order) (d e : Drive) (entries : List 
 goes_in_step old new o p d e entries r l g rep =
     let at_old : IsCarriedOut old.site (old.history ++ entries_of l.happenings) (fleet new.state e) =
     carried old.site old.history (fleet old.state d) l.happenings (fleet new.state e) r.carried l.all in
+    let begins = beginning-reached old.site old.history old.state r.carried.state in
     let grown : IsCarriedOut old.site new.history (fleet new.state e) =
     subst (λ es. IsCarriedOut old.site es (fleet new.state e)) (ap (λ es. old.history ++ es) l.entries_are ∙ sym g.history) at_old in
     record {
@@ -92,6 +94,8 @@ goes_in_step old new o p d e entries r l g rep =
       carried = subst (λ (site : Site). IsCarriedOut site new.history (fleet new.state e)) (sym g.site) grown;
       time = subst (λ (s : State). clock e + s.clock ≡ new.state.clock) (sym g.opening)
           (clock_kept old.site (fleet old.state d) l.happenings (fleet new.state e) old.opening.clock l.all r.represents.sound.plan.some r.time);
+      ways = subst (λ (site : Site). AllOnTheirWays site new.state) (sym g.site)
+          (ways_happen old.site (fleet old.state d) l.happenings (fleet new.state e) begins.layout begins.sound r.ways l.all);
     }
 
 -- ---- the clock waits
@@ -237,8 +241,8 @@ module _ {X : Type 0} (fits : X → Floor → Bool) (count : X → ℕ) (text : 
         record {
           opens = did.grows.opening;
           stays = λ v. made_stays old.opening.clock old.site (fleet old.state d) did.leads.happenings (fleet new.state e) v did.leads.all;
-          timed = λ n task is. timed-reached old.site (old.history ++ entries_of did.leads.happenings) new.state n task at.state is;
-          working = (sound-reached old.site (old.history ++ entries_of did.leads.happenings) new.state at.state).working;
+          timed = λ n task is. ((sound-reached old.site (old.history ++ entries_of did.leads.happenings) new.state at.state).tasks n task is).timed;
+          working = (kept-reached old.site (old.history ++ entries_of did.leads.happenings) new.state at.state).working;
           all = at.come.all;
           step = λ p rep. goes_in_step old new o.order p d e did.entries m.in_step did.leads did.grows rep;
         }
@@ -349,6 +353,7 @@ module _ {X : Type 0} (fits : X → Floor → Bool) (count : X → ℕ) (text : 
           (record { sound = r.sound; ahead = r.ahead; time = r.time; vehicles = r.vehicles; left = r.left; steps = r.steps; latest = r.latest });
       carried = m.in_step.carried;
       time = m.in_step.time;
+      ways = m.in_step.ways;
     };
     quiet = m.quiet;
     watched = subst (λ (ps : List Pending). AreWatched book.state (HasMade book.opening.clock (fleet book.state d)) ps) (sym kept) m.watched;
@@ -377,7 +382,8 @@ module _ {X : Type 0} (fits : X → Floor → Bool) (count : X → ℕ) (text : 
           AreWatched new.state (HasMade old.opening.clock (fleet old.state d)) (o.pending ++ kept_first (runs.entries_of g.outcomes) new.state.tasks)
       watched_by replies g d m =
           watched_on old.state new.state (HasMade old.opening.clock (fleet old.state d)) o.pending (kept_first (runs.entries_of g.outcomes) new.state.tasks) m.watched
-          (takes_ran fits count old.site c g.outcomes old.state spares new.state rest g.ran) (open_untold old d)
+          (takes_ran fits count old.site c g.outcomes old.state spares new.state rest
+          (unloaded old.site old.state (beginning-reached old.site old.history old.state m.in_step.carried.state) m.in_step.ways) g.ran) (open_untold old d)
 
       -- its reply was not written to the end
       pub from_unwritten : ((d : Drive) → IsManned old o d → AsksToGoOn old.state (Ok (Some c)) → AllKeepUp d bound) →
@@ -634,7 +640,7 @@ standing_now book crew some =
       drive = d;
       represents = m.in_step.represents;
       stand = standing book.opening.clock book.state d (HasMade book.opening.clock (fleet book.state d)) crew.pending m.watched (length d.vehicles) c.come.all
-          (sound-reached book.site book.history book.state c.state).working (λ v told. told);
+          (kept-reached book.site book.history book.state c.state).working (λ v told. told);
     }
 
 pub none_late : (found : Option Notice) (A : Type 0) → IfNone found A → ((notice : Notice) → found ≡ Some notice → ⊥) → A

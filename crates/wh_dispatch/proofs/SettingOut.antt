@@ -8,8 +8,7 @@ use Rattle.std.proofs.lemmas.List.Elements.{Contains-append_left, Contains-appen
 use Rattle.wh_tasks.specs.declared.task.Task.{Task}
 use Rattle.wh_tasks.specs.Tasks.{IsTask}
 use Rattle.wh_core.specs.States.{State}
-use Rattle.wh_core.proofs.Timed.{timed-reached}
-use Rattle.wh_core.proofs.Work.{sound-reached}
+use Rattle.wh_core.proofs.Sound.{kept-reached, sound-reached}
 use Rattle.wh_book.specs.Drafts.{Seen}
 use Rattle.wh_drive.specs.Drives.{Drive}
 use Rattle.wh_order.specs.Orders.{Represents}
@@ -142,7 +141,7 @@ module _ (book : Seen) (crew : Crew) (untold : AreWatched book.state NoneIsTold 
         drive = d;
         represents = some.1.represents;
         stand = standing book.opening.clock book.state d NoneIsTold crew.pending untold (length d.vehicles) c.come.all
-            (sound-reached book.site book.history book.state c.state).working (λ v told. absurd told);
+            (kept-reached book.site book.history book.state c.state).working (λ v told. absurd told);
       }
 
   pub sets_out : (next : Crew) (d e : Drive) (had has : Option (List ℕ)) → IsInStep book crew.order d → Represents next.order e → TellsAll book crew.pending next.pending d e had has →
@@ -151,8 +150,8 @@ module _ (book : Seen) (crew : Crew) (untold : AreWatched book.state NoneIsTold 
       let step = goes_in_step book book crew.order next.order d e [] in_step (go_leads book.site book.state d t.events e (settle_goes d t.events t.only) t.run) (grows_none book book refl) rep in
       let c = step.carried in
       let opening = book.opening.clock in
-      let few = (sound-reached book.site book.history book.state c.state).working.few in
-      let timed = λ (n : ℕ) (task : Task) (is : IsTask book.state.tasks n task). timed-reached book.site book.history book.state n task c.state is in
+      let few = (kept-reached book.site book.history book.state c.state).working.few in
+      let timed = λ (n : ℕ) (task : Task) (is : IsTask book.state.tasks n task). ((sound-reached book.site book.history book.state c.state).tasks n task is).timed in
       let visits = due_visits opening book.state.tasks e.vehicles crew.pending in
       let all = all_due opening book.state e NoneIsTold crew.pending untold book.state.clock timed few (λ v told. absurd told) in (
         record {

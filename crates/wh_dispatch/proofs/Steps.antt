@@ -10,7 +10,7 @@ use Rattle.wh_event.specs.declared.entry.Entry.{Entry}
 use Rattle.wh_event.specs.declared.reply.Reply.{Reply}
 use Rattle.wh_core.specs.States.{State}
 use Rattle.wh_core.specs.Steps.{Answers, Step}
-use Rattle.wh_core.proofs.Limits.{limits_hold}
+use Rattle.wh_core.proofs.Sound.{sound-reached}
 use Rattle.wh_book.specs.Drafts.{Seen}
 use Rattle.wh_token.specs.Commands.{event_of}
 use Rattle.wh_token.specs.Runs.{Ran}
@@ -72,7 +72,7 @@ ticks_now old o d new c after m (goes later is asks entry step) moved =
     let r = m.in_step in
     let may = each_step_may_be_taken old.site old.history old.state entry new d r.carried.state step r.carried.come in
     let cells = size new in
-    let most : old.state.clock ≤ 1000000000 = (limits_hold old.site old.history old.state r.carried.state).1 in
+    let most : old.state.clock ≤ 1000000000 = (sound-reached old.site old.history old.state r.carried.state).clock_fits in
     let time = r.time in
     let here = r.represents.time in
     let count = vehicles-size o.order d r.represents in

@@ -9,6 +9,7 @@ use Rattle.std.proofs.lemmas.List.Elements.{Contains-append_left, Contains-appen
 use Rattle.wh_grid.specs.declared.cell.Cell.{Cell}
 use Rattle.wh_grid.specs.Grids.{Floor}
 use Rattle.wh_points.specs.Points.{Site}
+use Rattle.wh_tasks.specs.declared.task.Load.{Load}
 use Rattle.wh_tasks.specs.declared.task.Task.{Task}
 use Rattle.wh_tasks.specs.Tasks.{IsTask}
 use Rattle.wh_tasks.specs.Arrivals.{arrived_task, arrived_tasks}
@@ -20,7 +21,9 @@ use Rattle.wh_event.specs.declared.event.Spare.{Spare}
 use Rattle.wh_event.specs.declared.entry.Entry.{Entry}
 use Rattle.wh_event.specs.declared.reply.Reply.{Reply}
 use Rattle.wh_core.specs.States.{State}
-use Rattle.wh_core.specs.Steps.{Answers, Step, Run}
+use Rattle.wh_core.specs.Steps.{Answers, IsNextBy, Step, Run}
+use Rattle.wh_core.specs.Laws.{IsOpening}
+use Rattle.wh_core.proofs.Sound.{beginning-reached, opening-reached, ways-reached}
 use Rattle.wh_core.proofs.Later.{AllLater, later-run, all_later-same}
 use Rattle.wh_core.proofs.Lists.{slice_get-set_same, map-at, map_from}
 use Rattle.wh_core.proofs.Work.{set-from, added-from}
@@ -33,6 +36,7 @@ use Rattle.wh_dispatch.specs.Crews.{IsWatched, IsKept, AreWatched}
 use Rattle.wh_dispatch.specs.Visiting.{stops_of, taken_in, with_stops, kept_by, kept_first, listed}
 use Rattle.wh_dispatch.proofs.Members.{in_cons, none_in, first_in, pairs_nil, pairs_join}
 use Rattle.wh_dispatch.proofs.Watching.{visit}
+use Rattle.wh_dispatch.proofs.Ways.{AreUnloaded, unloaded}
 
 -- the agent had the task before, with this many stops
 pub record HadTask (old : List Task) (n agent : ℕ) (task : Task) : Type 0 where
@@ -127,35 +131,35 @@ takes_one old n agent task clock place new later there is_open e =
           ];
     }
 
-takes_by : (site : Site) (old : State) (reply : Reply) (event : Event) (new : State) → Answers site old reply event new → Takes old.tasks new.tasks (kept_by reply event new.tasks)
-takes_by site old (Reply.Refused refusal) event new step = takes_same old.tasks new.tasks (ap (λ (s : State). s.tasks) step.1)
-takes_by site old (Reply.Accepted n) (Event.Submit client stops) new step =
+takes_by : (site : Site) (old : State) (reply : Reply) (event : Event) (new : State) → AreUnloaded site old → Answers site old reply event new → Takes old.tasks new.tasks (kept_by reply event new.tasks)
+takes_by site old (Reply.Refused refusal) event new free step = takes_same old.tasks new.tasks (ap (λ (s : State). s.tasks) step.1)
+takes_by site old (Reply.Accepted n) (Event.Submit client stops) new free step =
     takes_none old.tasks new.tasks (later-step site old (Reply.Accepted n) (Event.Submit client stops) new step) (λ k agent task is has.
     elim (added-from old.tasks _ k task (subst (λ (s : State). IsTask s.tasks k task) step.5.2 is)) [
       | inl last ↦ absurd (let clash : None ≡ Some agent = ap (λ (t : Task). t.agent) last ∙ has in cc)
       | inr there ↦ record { before = task; is_task = there; agent_is = has; stops = refl }
     ])
-takes_by site old (Reply.Took n path) (Event.Request agent) new step =
+takes_by site old (Reply.Took n path) (Event.Request agent) new free step =
     let task : Task = step.1.0 in
-    let next = step.1.1 in
+    let next = subst (λ (load : Load). IsNextBy load site old agent n task) (free agent step.0) step.1.1 in
     takes_one old.tasks n agent task _ _ new.tasks (later-step site old (Reply.Took n path) (Event.Request agent) new step) next.eligible.there next.eligible.is_open (ap (λ (s : State). s.tasks) step.1.3)
-takes_by site old Reply.Rested (Event.Request agent) new step = takes_same old.tasks new.tasks (ap (λ (s : State). s.tasks) step.3)
-takes_by site old (Reply.Parked point path) (Event.Request agent) new step = takes_same old.tasks new.tasks (ap (λ (s : State). s.tasks) step.4)
-takes_by site old (Reply.Clock now first last) Event.Tick new step =
+takes_by site old Reply.Rested (Event.Request agent) new free step = takes_same old.tasks new.tasks (ap (λ (s : State). s.tasks) step.3)
+takes_by site old (Reply.Parked point path) (Event.Request agent) new free step = takes_same old.tasks new.tasks (ap (λ (s : State). s.tasks) step.4)
+takes_by site old (Reply.Clock now first last) Event.Tick new free step =
     takes_none old.tasks new.tasks (later-step site old (Reply.Clock now first last) Event.Tick new step) (λ k agent task is has.
     arrived_from _ _ old.tasks k agent task (subst (λ (s : State). IsTask s.tasks k task) step.5 is) has)
-takes_by site old (Reply.Replaced slots) (Event.Replace agent (Spare.Fits count)) new step = takes_same old.tasks new.tasks (ap (λ (s : State). s.tasks) step.2)
-takes_by site old Reply.Closed Event.Close new step = takes_same old.tasks new.tasks (ap (λ (s : State). s.tasks) step.1)
-takes_by site old reply event new step = absurd step
+takes_by site old (Reply.Replaced slots) (Event.Replace agent (Spare.Fits count)) new free step = takes_same old.tasks new.tasks (ap (λ (s : State). s.tasks) step.2)
+takes_by site old Reply.Closed Event.Close new free step = takes_same old.tasks new.tasks (ap (λ (s : State). s.tasks) step.1)
+takes_by site old reply event new free step = absurd step
 
 -- one command
 pub takes_ran : {X : Type 0} (fits : X → Floor → Bool) (count : X → ℕ) (site : Site) (c : Command) (os : List (Option Entry)) (s : State) (spares : List X) (new : State) (rest : List X) →
-    Ran fits count site 0 (c ∷ []) os s spares new rest → Takes s.tasks new.tasks (kept_first (runs.entries_of os) new.tasks)
-takes_ran fits count site c [] s spares new rest p = absurd p
-takes_ran fits count site c (None ∷ []) s spares new rest p = takes_same s.tasks new.tasks (ap (λ (t : State). t.tasks) (p.3.0 ∙ p.2.0))
-takes_ran fits count site c (Some entry ∷ []) s spares new rest p =
-    takes_by site s entry.reply entry.event new (subst (λ (t : State). Answers site s entry.reply entry.event t) (sym p.3.0) p.2.1)
-takes_ran fits count site c (o ∷ more ∷ os) s spares new rest p = absurd p.3
+    AreUnloaded site s → Ran fits count site 0 (c ∷ []) os s spares new rest → Takes s.tasks new.tasks (kept_first (runs.entries_of os) new.tasks)
+takes_ran fits count site c [] s spares new rest free p = absurd p
+takes_ran fits count site c (None ∷ []) s spares new rest free p = takes_same s.tasks new.tasks (ap (λ (t : State). t.tasks) (p.3.0 ∙ p.2.0))
+takes_ran fits count site c (Some entry ∷ []) s spares new rest free p =
+    takes_by site s entry.reply entry.event new free (subst (λ (t : State). Answers site s entry.reply entry.event t) (sym p.3.0) p.2.1)
+takes_ran fits count site c (o ∷ more ∷ os) s spares new rest free p = absurd p.3
 
 -- each task of an agent was the agent's before, with the same visits
 abbrev pub AreAsBefore : List Task → List Task → Type 0
@@ -212,9 +216,10 @@ none_by_tick fits count site c (Some entry ∷ []) s spares new rest p e =
 none_by_tick fits count site c (o ∷ more ∷ os) s spares new rest p e = absurd p.3
 
 -- the last step of a run
-run_last : (site : Site) (old : State) (front : List Entry) (entry : Entry) (new : State) → Run site old (front ++ entry ∷ []) new → (mid : State) × Step site mid entry new
-run_last site old [] entry new run = (old, subst (λ (s : State). Step site old entry s) (sym run.2) run.1)
-run_last site old (first ∷ front) entry new run = run_last site run.0 front entry new run.2
+run_last : (site : Site) (old : State) (front : List Entry) (entry : Entry) (new : State) → Run site old (front ++ entry ∷ []) new →
+    (mid : State) × Run site old front mid × Step site mid entry new
+run_last site old [] entry new run = (old, refl, subst (λ (s : State). Step site old entry s) (sym run.2) run.1)
+run_last site old (first ∷ front) entry new run = (let last = run_last site run.0 front entry new run.2 in (last.0, (run.0, run.1, last.1), last.2))
 
 last_split : {X : Type 0} (xs : List X) → 0 < length xs → (front : List X) × (x : X) × (xs ≡ front ++ x ∷ [])
 last_split [] h = absurd (omega arith)
@@ -222,14 +227,16 @@ last_split (x ∷ []) h = ([], x, refl)
 last_split (x ∷ y ∷ xs) h = (let r = last_split (y ∷ xs) (omega arith) in (x ∷ r.0, r.1, ap (λ zs. x ∷ zs) r.2))
 
 -- a task that was taken by the last entry stands
-pub taken_stands : (site : Site) (old : State) (history : List Entry) (new : State) (p : Pending) → Run site old history new → 0 < length history →
+pub taken_stands : (site : Site) (old : State) (history : List Entry) (new : State) (p : Pending) → IsOpening site old → Run site old history new → 0 < length history →
     ((front : List Entry) (entry : Entry) → history ≡ front ++ entry ∷ [] → Some p ≡ taken_in entry.reply entry.event) → p.task < length new.tasks
-taken_stands site old history new p run some is =
+taken_stands site old history new p opening run some is =
     let at = last_split history some in
     let entry = at.1 in
     let step = run_last site old at.0 entry new (subst (λ (es : List Entry). Run site old es new) at.2 run) in
+    let reached = opening-reached site old at.0 step.0 opening step.1 in
+    let free = unloaded site step.0 (beginning-reached site at.0 step.0 reached.reached) (ways-reached site at.0 step.0 reached) in
     let t : Takes step.0.tasks new.tasks (with_stops new.tasks (Some p)) =
-    subst (λ (o : Option Pending). Takes step.0.tasks new.tasks (with_stops new.tasks o)) (sym (is at.0 entry at.2)) (takes_by site step.0 entry.reply entry.event new step.1) in
+    subst (λ (o : Option Pending). Takes step.0.tasks new.tasks (with_stops new.tasks o)) (sym (is at.0 entry at.2)) (takes_by site step.0 entry.reply entry.event new free step.2) in
     let taken = t.taken (record p { stops = stops_of (slice_get new.tasks p.task) }) (first_in _ []) in
     slice_get_within new.tasks p.task taken.task taken.is_task
 

@@ -11,7 +11,7 @@ use Rattle.std.proofs.lemmas.Bool.{cases_lt}
 use Rattle.std.proofs.lemmas.Option.{same_Some}
 use Rattle.std.proofs.lemmas.List.Elements.{Contains-append_left, Contains-append_right, Contains-append_cases}
 use Rattle.wh_tasks.specs.declared.task.Task.{Task}
-use Rattle.wh_core.proofs.Timed.{timed-reached}
+use Rattle.wh_core.proofs.Sound.{sound-reached}
 use Rattle.wh_vehicles.specs.Visits.{Visit, HasMade}
 use Rattle.wh_vehicles.proofs.Planning.{carried}
 use Rattle.wh_dispatch.specs.Lines.{Depot, Heard, heard, fleet_of, TakesLine, InTurn}
@@ -80,7 +80,7 @@ behind opening site entries mid new u v c made not later stays same =
       | inl l ↦ l
       | inr g ↦
           let says = made_tells opening mid.state mid.drive u made.task made made.is_task in
-          let timed = timed-reached site entries mid.state u.task made.task c.state made.is_task in
+          let timed = ((sound-reached site entries mid.state c.state).tasks u.task made.task made.is_task).timed in
           let before = timed.in_order v.number u.number g says.within in
           let within = says.within in
           let over = says.over in

@@ -25,7 +25,7 @@ use std::marker::Model;
 use wh_event::{Entry, Event, Reply};
 use wh_grid::Cell;
 use wh_order::{Told, VisitOrder};
-use wh_planner::Planner;
+use wh_planner::Plans;
 use wh_replay::Warehouse;
 use wh_tasks::Task;
 use wh_vehicles::{Notice, Report, answer_report, late};
@@ -62,7 +62,7 @@ impl Model for Vehicles {
 }
 
 /// Where the agents are.
-fn row_of<P: Planner>(alloc: Global, warehouse: &Warehouse<P>) -> Result<Vec<Cell>, AllocError>
+fn row_of<P: Plans>(alloc: Global, warehouse: &Warehouse<P>) -> Result<Vec<Cell>, AllocError>
     ensures { IfOk result (λ row. row.items ≡ places warehouse.now.book.state) }
 {
     let mut row = Vec::new(alloc);
@@ -73,7 +73,7 @@ fn row_of<P: Planner>(alloc: Global, warehouse: &Warehouse<P>) -> Result<Vec<Cel
 }
 
 /// Writes over a row where the agents are.
-fn write_row<P: Planner>(row: &mut Vec<Cell>, warehouse: &Warehouse<P>)
+fn write_row<P: Plans>(row: &mut Vec<Cell>, warehouse: &Warehouse<P>)
     requires { length row.old.items ≡ length warehouse.now.book.state.paths }
     ensures { row.new.items ≡ places warehouse.now.book.state }
 {
@@ -108,17 +108,14 @@ fn add_untold(row: &mut Vec<Pending>, n: u32, task: &Task) -> Result<(), AllocEr
 }
 
 /// How many tasks there are.
-fn task_count<P: Planner>(warehouse: &Warehouse<P>) -> u32
+fn task_count<P: Plans>(warehouse: &Warehouse<P>) -> u32
     ensures { result ≡ length warehouse.now.book.state.tasks }
 {
     warehouse.book().tasks().len()
 }
 
 /// All tasks that agents have, to be kept as if no visit had been told.
-fn all_untold<P: Planner>(
-    alloc: Global,
-    warehouse: &Warehouse<P>,
-) -> Result<Vec<Pending>, AllocError>
+fn all_untold<P: Plans>(alloc: Global, warehouse: &Warehouse<P>) -> Result<Vec<Pending>, AllocError>
     ensures { IfOk result (λ row. AreWatched warehouse.now.book.state NoneIsTold row.items) }
 {
     let mut row = Vec::new(alloc);
@@ -157,7 +154,7 @@ fn taken_last(history: &[Entry]) -> Option<Pending>
 }
 
 /// The task that an agent took by the last of the warehouse's entries, to be kept, if there are more than before.
-fn taken_behind<P: Planner>(warehouse: &Warehouse<P>, before: usize) -> Option<Pending>
+fn taken_behind<P: Plans>(warehouse: &Warehouse<P>, before: usize) -> Option<Pending>
     ensures { (front more : List Line) → warehouse.now.book.history ≡ front ++ more → length front ≡ before → length more ≤ 1 → kept_first more warehouse.now.book.state.tasks ≡ listed result }
 {
     let history = warehouse.history();
@@ -176,7 +173,7 @@ fn taken_behind<P: Planner>(warehouse: &Warehouse<P>, before: usize) -> Option<P
 impl Vehicles {
     /// A vehicle for each agent of a warehouse at its opening, where the agent stands. The clock waits while one is `behind`
     /// steps or more behind; each may be told `ahead` cells ahead.
-    pub fn open<P: Planner>(
+    pub fn open<P: Plans>(
         alloc: Global,
         warehouse: &Warehouse<P>,
         behind: u64,
@@ -205,7 +202,7 @@ impl Vehicles {
 
     /// The vehicles of a warehouse that goes on, by the order of their visits, as if none had been told. The clock waits while one
     /// is `bound` steps or more behind.
-    pub fn stand<P: Planner>(
+    pub fn stand<P: Plans>(
         alloc: Global,
         warehouse: &Warehouse<P>,
         order: VisitOrder,
@@ -252,7 +249,7 @@ impl Vehicles {
     }
 
     /// Makes room for the next tick, which then cannot fail.
-    pub(crate) fn reserve<P: Planner>(
+    pub(crate) fn reserve<P: Plans>(
         &mut self,
         alloc: Global,
         warehouse: &Warehouse<P>,
@@ -268,7 +265,7 @@ impl Vehicles {
     }
 
     /// The plan has gone on to where the agents are.
-    pub(crate) fn tick<P: Planner>(&mut self, warehouse: &Warehouse<P>)
+    pub(crate) fn tick<P: Plans>(&mut self, warehouse: &Warehouse<P>)
         requires ready { self.old.order.ready ≡ true }
         requires fits { self.old.order.clock + 1 < 2 ^ 64 }
         requires row { length self.old.row ≡ length warehouse.now.book.state.paths }
@@ -331,7 +328,7 @@ impl Vehicles {
 
     /// The task is kept that an agent took by the last of the warehouse's entries, if there are more than before. Whether one
     /// is.
-    pub(crate) fn keep_taken<P: Planner>(&mut self, warehouse: &Warehouse<P>, before: usize) -> bool
+    pub(crate) fn keep_taken<P: Plans>(&mut self, warehouse: &Warehouse<P>, before: usize) -> bool
         requires room { length self.old.pending < self.old.room }
         ensures pending { (front more : List Line) → warehouse.now.book.history ≡ front ++ more → length front ≡ before → length more ≤ 1 → self.new.pending ≡ self.old.pending ++ kept_first more warehouse.now.book.state.tasks }
         ensures same { self.new ≡ record self.old { pending = self.new.pending } }
@@ -347,7 +344,7 @@ impl Vehicles {
     }
 
     /// Tells the visits that vehicles have made and that were not told, and forgets the tasks of which none is left.
-    pub(crate) fn tell_visits<W: Write, P: Planner>(
+    pub(crate) fn tell_visits<W: Write, P: Plans>(
         &mut self,
         writer: &mut W,
         warehouse: &Warehouse<P>,

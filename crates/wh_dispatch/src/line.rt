@@ -25,7 +25,7 @@ use wh_core::LAST_CLOCK;
 use wh_event::{Command, LineFault};
 use wh_lines::CommandLine;
 use wh_log::Form;
-use wh_planner::Planner;
+use wh_planner::Plans;
 use wh_replay::{Warehouse, obey, read_kept};
 use wh_vehicles::{Report, read_report};
 
@@ -40,7 +40,7 @@ fn reported(line: &CommandLine) -> Option<Report>
 }
 
 /// The visits are told that vehicles have made by now, and then the steps that they were told to make.
-fn tell_gone<W: Write, P: Planner>(
+fn tell_gone<W: Write, P: Plans>(
     writer: &mut W,
     vehicles: &mut Vehicles,
     warehouse: &Warehouse<P>,
@@ -57,7 +57,7 @@ fn tell_gone<W: Write, P: Planner>(
 }
 
 /// Vehicles go on as far as they may, and are told so.
-fn go_on<W: Write, P: Planner>(
+fn go_on<W: Write, P: Plans>(
     writer: &mut W,
     vehicles: &mut Vehicles,
     warehouse: &Warehouse<P>,
@@ -75,7 +75,7 @@ fn go_on<W: Write, P: Planner>(
 
 /// Has vehicles that stand as their order says, and of which nothing was told, go on as far as they may. All visits that they have
 /// made by then are told, and then the steps that they are to make.
-pub fn set_out<W: Write, P: Planner>(
+pub fn set_out<W: Write, P: Plans>(
     writer: &mut W,
     vehicles: &mut Vehicles,
     warehouse: &Warehouse<P>,
@@ -90,7 +90,7 @@ pub fn set_out<W: Write, P: Planner>(
 }
 
 /// Runs a tick for which room is made, and has the vehicles go on.
-fn tick<W: Write, P: Planner>(
+fn tick<W: Write, P: Plans>(
     command: &Command,
     alloc: Global,
     form: Form,
@@ -121,7 +121,7 @@ fn tick<W: Write, P: Planner>(
 }
 
 /// Runs a tick, unless the clock waits for a vehicle, or memory runs out.
-fn tick_in_time<W: Write, P: Planner>(
+fn tick_in_time<W: Write, P: Plans>(
     command: &Command,
     alloc: Global,
     form: Form,
@@ -146,7 +146,7 @@ fn tick_in_time<W: Write, P: Planner>(
 }
 
 /// Runs a command at which the clock stays, where there is room for a task that is taken, and has the vehicles go on then.
-fn run_roomy<W: Write, P: Planner>(
+fn run_roomy<W: Write, P: Plans>(
     command: &Command,
     alloc: Global,
     form: Form,
@@ -175,7 +175,7 @@ fn run_roomy<W: Write, P: Planner>(
 }
 
 /// Runs a command at which the clock stays, unless memory runs out.
-fn run_still<W: Write, P: Planner>(
+fn run_still<W: Write, P: Plans>(
     command: &Command,
     alloc: Global,
     form: Form,
@@ -197,7 +197,7 @@ fn run_still<W: Write, P: Planner>(
 }
 
 /// Whether the clock is to go on, and may.
-fn asks_to_go_on<P: Planner>(command: &Command, warehouse: &Warehouse<P>) -> bool
+fn asks_to_go_on<P: Plans>(command: &Command, warehouse: &Warehouse<P>) -> bool
     ensures { IsTrue result ↔ AsksToGoOn warehouse.now.book.state (Ok (Some command.now)) }
 {
     let is_tick = match command {
@@ -208,7 +208,7 @@ fn asks_to_go_on<P: Planner>(command: &Command, warehouse: &Warehouse<P>) -> boo
 }
 
 /// Runs a command.
-fn run<W: Write, P: Planner>(
+fn run<W: Write, P: Plans>(
     command: &Command,
     alloc: Global,
     form: Form,
@@ -230,7 +230,7 @@ fn run<W: Write, P: Planner>(
 }
 
 /// Answers a report, and has the vehicles go on.
-fn hear<W: Write, P: Planner>(
+fn hear<W: Write, P: Plans>(
     report: Report,
     writer: &mut W,
     warehouse: &Warehouse<P>,
@@ -249,7 +249,7 @@ fn hear<W: Write, P: Planner>(
 }
 
 /// Answers a line that is no report, of which only a front is kept.
-fn serve_command<W: Write, P: Planner>(
+fn serve_command<W: Write, P: Plans>(
     line: &CommandLine,
     command: &mut Command,
     alloc: Global,
@@ -274,7 +274,7 @@ fn serve_command<W: Write, P: Planner>(
 
 /// Serves a line, of which only a front is kept. The command is a room for what it asks. What the line is told is written at once,
 /// and nothing is flushed.
-pub fn serve<W: Write, P: Planner>(
+pub fn serve<W: Write, P: Plans>(
     line: &CommandLine,
     command: &mut Command,
     alloc: Global,

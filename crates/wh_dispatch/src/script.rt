@@ -12,7 +12,7 @@ use std::io::{Read, Write};
 use wh_event::Command;
 use wh_lines::{CommandLine, LineFault, Lines, Next, ReadFault};
 use wh_log::Form;
-use wh_planner::Planner;
+use wh_planner::Plans;
 use wh_replay::Warehouse;
 
 /// Why a script was not served to its end.
@@ -38,7 +38,7 @@ fn fault_of(fault: LineFault) -> DispatchFault
     }
 }
 
-fn serve_all<R: Read, W: Write, P: Planner>(
+fn serve_all<R: Read, W: Write, P: Plans>(
     lines: &mut Lines<R>,
     alloc: Global,
     form: Form,
@@ -89,7 +89,7 @@ fn serve_all<R: Read, W: Write, P: Planner>(
 /// other line is what it is in a script without vehicles, and is answered so; but a tick is refused while a vehicle is the
 /// bound or more steps behind. After the reply to a line come the steps that it lets vehicles make, one line for each
 /// that leads away. The writer is flushed before each read, and at the end.
-pub fn dispatch<R: Read, W: Write, P: Planner>(
+pub fn dispatch<R: Read, W: Write, P: Plans>(
     lines: &mut Lines<R>,
     alloc: Global,
     form: Form,

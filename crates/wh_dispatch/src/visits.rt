@@ -12,7 +12,7 @@ use crate::script::DispatchFault;
 use crate::telling::tell_notice;
 use std::io::Write;
 use wh_order::VisitOrder;
-use wh_planner::Planner;
+use wh_planner::Plans;
 use wh_replay::Warehouse;
 use wh_vehicles::Notice;
 
@@ -42,7 +42,7 @@ fn made_from(clocks: &[u32], opening: u32, reached: u64, before: u32) -> u32
 }
 
 /// How many visits of a task are made.
-fn made_of<P: Planner>(one: &Pending, warehouse: &Warehouse<P>, order: &VisitOrder) -> u32
+fn made_of<P: Plans>(one: &Pending, warehouse: &Warehouse<P>, order: &VisitOrder) -> u32
     requires { IsStanding warehouse.now.book.state.tasks (length order.now.vehicles) one.now }
     ensures value { result ≡ made_in warehouse.now.book.opening.clock warehouse.now.book.state.tasks order.now.vehicles one.now }
     ensures no_less { one.now.told ≤ result }
@@ -77,7 +77,7 @@ fn tell_from<W: Write>(
 }
 
 /// Tells the visits that are made and were not told, task by task.
-pub(crate) fn tell_due<W: Write, P: Planner>(
+pub(crate) fn tell_due<W: Write, P: Plans>(
     writer: &mut W,
     pending: &[Pending],
     warehouse: &Warehouse<P>,
@@ -96,7 +96,7 @@ pub(crate) fn tell_due<W: Write, P: Planner>(
 }
 
 /// All visits that are made have been told.
-fn mark_told<P: Planner>(pending: &mut Vec<Pending>, warehouse: &Warehouse<P>, order: &VisitOrder)
+fn mark_told<P: Plans>(pending: &mut Vec<Pending>, warehouse: &Warehouse<P>, order: &VisitOrder)
     requires stand { (p : Watched) → Contains pending.old.items p → IsStanding warehouse.now.book.state.tasks (length order.now.vehicles) p }
     ensures { pending.new.items ≡ map (told_of warehouse.now.book.opening.clock warehouse.now.book.state.tasks order.now.vehicles) pending.old.items }
 {
@@ -107,7 +107,7 @@ fn mark_told<P: Planner>(pending: &mut Vec<Pending>, warehouse: &Warehouse<P>, o
 }
 
 /// All visits that are made have been told, and the tasks are forgotten of which no visit is left.
-pub(crate) fn keep_left<P: Planner>(
+pub(crate) fn keep_left<P: Plans>(
     pending: &mut Vec<Pending>,
     warehouse: &Warehouse<P>,
     order: &VisitOrder,

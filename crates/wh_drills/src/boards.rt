@@ -20,7 +20,7 @@ use wh_desk::{Desk, DeskFault, DeskName, Pass, Warehouse};
 use wh_event::Reply;
 use wh_grid::Grid;
 use wh_path::TimedPath;
-use wh_planner::{Duty, PlanFault, Planner, Scene};
+use wh_planner::{Duty, PlanFault, Planner, Plans, Scene};
 use wh_planners::Patient;
 use wh_shared::SharedFields;
 
@@ -39,7 +39,7 @@ struct Watched<'a> {
     inner: Patient,
 }
 
-impl<'a> Planner for Watched<'a> {
+impl<'a> Plans for Watched<'a> {
     ghost use Rattle.wh_grid.specs.Grids.{same_floor};
     ghost use Rattle.wh_claims.specs.Claim.{claim_amount};
 
@@ -67,6 +67,8 @@ impl<'a> Planner for Watched<'a> {
         self.inner.plan(alloc, fields, scene, duty)
     }
 }
+
+impl<'a> Planner for Watched<'a> {}
 
 /// Two planners that wait.
 fn waiting<'a>(

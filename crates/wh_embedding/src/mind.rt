@@ -4,7 +4,7 @@ ghost use Rattle.wh_embedding.specs.Minds.{fits, slots};
 use std::alloc::Global;
 use wh_grid::Grid;
 use wh_path::TimedPath;
-use wh_planner::{Duty, PlanFault, Planner, Scene};
+use wh_planner::{Duty, PlanFault, Planner, Plans, Scene};
 use wh_planners::{Patient, Sharing};
 use wh_shared::SharedFields;
 
@@ -17,7 +17,7 @@ pub enum Mind {
     Patient(Patient),
 }
 
-impl Planner for Mind {
+impl Plans for Mind {
     ghost fits_map = { fits };
 
     ghost slot_count = { slots };
@@ -49,3 +49,5 @@ impl Planner for Mind {
         }
     }
 }
+
+impl Planner for Mind {}

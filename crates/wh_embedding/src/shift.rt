@@ -11,7 +11,7 @@ use std::sync::Arc;
 use wh_event::{Command, read_line, write_reply};
 use wh_grid::Grid;
 use wh_path::TimedPath;
-use wh_planner::{Duty, PlanFault, Planner, Scene};
+use wh_planner::{Duty, PlanFault, Planner, Plans, Scene};
 use wh_planners::Patient;
 use wh_points::Points;
 use wh_shared::SharedFields;
@@ -45,7 +45,7 @@ struct Counting {
     lacks_memory: bool,
 }
 
-impl Planner for Counting {
+impl Plans for Counting {
     ghost use Rattle.wh_grid.specs.Grids.{same_floor};
     ghost use Rattle.wh_claims.specs.Claim.{claim_amount};
 
@@ -75,6 +75,8 @@ impl Planner for Counting {
         self.inner.plan(alloc, fields, scene, duty)
     }
 }
+
+impl Planner for Counting {}
 
 /// A planner that was not asked yet.
 fn unasked(parts: Parts, lacks_memory: bool) -> Counting {

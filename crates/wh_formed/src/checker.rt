@@ -1,7 +1,7 @@
 //! The check of an instance.
 #![tactic(auto)]
 
-ghost use Rattle.std.specs.Prelude.{◌≡◌, ◌<◌, ◌≤◌, ◌*◌, ◌^◌, IfOk, length};
+ghost use Rattle.std.specs.Prelude.{◌≡◌, ◌<◌, ◌≤◌, ◌*◌, ◌^◌, false, IfOk, length};
 ghost use Rattle.wh_formed.specs.declared.verdict.Verdict.{Verdict};
 ghost use Rattle.wh_path.specs.Paths.{cell_at};
 ghost use Rattle.wh_formed.specs.Cuts.{AreCuts, IsFirstFailing, cells_of};
@@ -53,7 +53,7 @@ fn cuts(
     grid: &Grid,
     points: &Points,
 ) -> Result<Vec<Option<u32>>, AllocError>
-    ensures cuts { IfOk result (λ v. AreCuts (record { grid = grid.now; layout = points.now }) v.items) }
+    ensures cuts { IfOk result (λ v. AreCuts (record { grid = grid.now; layout = points.now; homes = false }) v.items) }
     ensures bound { IfOk result (λ v. length v.items ≤ 4096) }
 {
     let list = cells_of(alloc, points)?;
@@ -89,9 +89,9 @@ pub fn check(
     points: &Points,
 ) -> Result<Verdict, NoMemory>
     // Which verdict it is.
-    ensures verdict { IfOk result (IsVerdict (record { grid = grid.now; layout = points.now })) }
+    ensures verdict { IfOk result (IsVerdict (record { grid = grid.now; layout = points.now; homes = false })) }
     // No other verdict holds.
-    ensures only { (v : Verdict) → IsVerdict (record { grid = grid.now; layout = points.now }) v → IfOk result (λ w. w ≡ v) }
+    ensures only { (v : Verdict) → IsVerdict (record { grid = grid.now; layout = points.now; homes = false }) v → IfOk result (λ w. w ≡ v) }
 {
     // The proof reads here that no cell has two points.
     points.are_apart();

@@ -208,17 +208,31 @@ fn host_paced<
     ensures past { IfOk result (λ c. c.history.front.past ≡ past_of c.history.warehouse.book) }
 {
     let Ok(viewer) = desk.viewer(rt) else {
+        drop(desk);
+        drop(passes);
+        drop(clients);
         return Err(CrewFault::NoMemory);
     };
     let Ok(room) = Vec::with_capacity(alloc, passes.len()) else {
+        drop(viewer);
+        drop(desk);
+        drop(passes);
+        drop(clients);
         return Err(CrewFault::NoMemory);
     };
     let Some(own) = passes.pop() else {
         unreachable!()
     };
-    let Shift { reports, paced } = serve_beside(
+    let Shift { reports, paced } = match serve_beside(
         rt, alloc, form, &desk, scribe, passes, clients, doors, own, viewer, pace,
-    )?;
+    ) {
+        Ok(shift) => shift,
+        Err(fault) => {
+            drop(room);
+            drop(desk);
+            return Err(fault);
+        }
+    };
     let Reports {
         passes: served,
         connections,
@@ -230,7 +244,11 @@ fn host_paced<
     } = paced;
     match desk.finish(gather(served, pass, room)) {
         Ok(history) => {
-            if history.front.is_before(viewer.front()) {
+            let is_stale = history.front.is_before(viewer.front());
+            drop(viewer);
+            if is_stale {
+                drop(history);
+                drop(connections);
                 return Err(CrewFault::Stale);
             }
             Ok(Hosted {
@@ -239,7 +257,11 @@ fn host_paced<
                 worker,
             })
         }
-        Err(_) => Err(CrewFault::Stale),
+        Err(_) => {
+            drop(viewer);
+            drop(connections);
+            Err(CrewFault::Stale)
+        }
     }
 }
 

@@ -4,7 +4,7 @@
 ghost use Rattle.std.specs.Prelude.{◌≡◌, ℕ, ◌<◌, ◌≤◌, List, IfOk, Some, None, length, slice_get, slice_index_or};
 ghost use Rattle.wh_grid.specs.declared.cell.Cell.{Cell};
 ghost use Rattle.wh_grid.specs.Grids.{IsPassable};
-ghost use Rattle.wh_resv.specs.Others.{MayRest};
+ghost use Rattle.wh_resv.specs.Calls.{IsVacant};
 ghost use Rattle.wh_path.specs.Paths.{last_index, cell_at};
 ghost use Rattle.wh_search.specs.Deliveries.{IsDelivery, IsLawful, IfNoPath, AreStops};
 ghost use Rattle.wh_search.specs.Fields.{IsFieldAt, AreMade};
@@ -29,15 +29,15 @@ fn fields_from(alloc: Global, grid: &Grid, stops: &[Cell]) -> Result<Vec<Field>,
 }
 
 /// These fields, each in its place.
-fn lent<'a>(grid: &Grid, stops: &[Cell], kept: &'a [Field]) -> [Option<&'a Field>; 8]
-    requires few { length stops.now ≤ 8 }
+fn lent<'a>(grid: &Grid, stops: &[Cell], kept: &'a [Field]) -> [Option<&'a Field>; 9]
+    requires few { length stops.now ≤ 9 }
     requires made { AreMade grid.now stops.now kept.now }
-    ensures size { length result ≡ 8 }
+    ensures size { length result ≡ 9 }
     ensures each { (l : ℕ) → l < length stops.now → IsFieldAt grid.now (slice_index_or result l None) (cell_at stops.now l) }
 {
     let _ = grid;
     let _ = stops;
-    let mut fields = [None; 8];
+    let mut fields = [None; 9];
     for i in 0..kept.len() {
         fields[i] = Some(&kept[i]);
     }
@@ -54,7 +54,7 @@ pub fn deliver<'x>(
     stops: &'x [Cell],
 ) -> Result<TimedPath, Fault>
     requires inside { IsPassable grid.now loc }
-    requires clear { MayRest others.now loc 0 }
+    requires clear { IsVacant others.now.paths loc 0 }
     requires stops { AreStops stops.now }
     ensures lawful { IfOk result (λ p. IsLawful grid.now others.now loc stops.now p) }
     ensures least { IfOk result (λ p. (q : List Cell) → IsDelivery grid.now others.now loc stops.now q → last_index p ≤ last_index q) }

@@ -5,7 +5,7 @@ ghost use Rattle.std.specs.Prelude.{◌≡◌, ℕ, ◌+◌, ◌-◌, ◌*◌, �
 ghost use Rattle.wh_grid.specs.declared.cell.Cell.{Cell};
 ghost use Rattle.wh_grid.specs.Grids.{IsPassable};
 ghost use Rattle.wh_path.specs.Paths.{last_index};
-ghost use Rattle.wh_resv.specs.Others.{MayRest};
+ghost use Rattle.wh_resv.specs.Calls.{IsVacant};
 ghost use Rattle.wh_search.specs.Deliveries.{IsDelivery, IsLawful, IsLeast, IfNoPath, AreStops};
 ghost use Rattle.wh_search.specs.Fields.{AreFieldsOf};
 ghost use Rattle.wh_search.specs.Guides.{IsOnward};
@@ -33,7 +33,7 @@ fn find<'x>(
     expanded: &mut u64,
 ) -> Result<Option<TimedPath>, AllocError>
     requires inside { IsPassable grid.now loc }
-    requires clear { MayRest others.now loc 0 }
+    requires clear { IsVacant others.now.paths loc 0 }
     requires stops { AreStops stops.now }
     requires fields { AreFieldsOf grid.now stops.now fields.now }
     ensures expanded { IfOk result (λ found. IfSome found (λ p. IsSearchOf grid.now others.now loc stops.now fields.now (last_index p) expanded.new)) }
@@ -78,7 +78,7 @@ pub fn deliver_guided<'x>(
     fields: &'x [Option<&'x Field>],
 ) -> Result<TimedPath, Fault>
     requires inside { IsPassable grid.now loc }
-    requires clear { MayRest others.now loc 0 }
+    requires clear { IsVacant others.now.paths loc 0 }
     requires stops { AreStops stops.now }
     requires fields { AreFieldsOf grid.now stops.now fields.now }
     ensures lawful { IfOk result (λ p. IsLawful grid.now others.now loc stops.now p) }
@@ -107,7 +107,7 @@ pub fn guided_steps<'x>(
     fields: &'x [Option<&'x Field>],
 ) -> Result<u64, Fault>
     requires inside { IsPassable grid.now loc }
-    requires clear { MayRest others.now loc 0 }
+    requires clear { IsVacant others.now.paths loc 0 }
     requires stops { AreStops stops.now }
     requires fields { AreFieldsOf grid.now stops.now fields.now }
     ensures effort { IfOk result (λ n. IsEffort grid.now others.now loc stops.now fields.now n) }

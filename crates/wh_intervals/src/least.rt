@@ -4,7 +4,7 @@
 ghost use Rattle.std.specs.Prelude.{◌≡◌, ℕ, ◌+◌, ◌<◌, ◌≤◌, ◌^◌, List, IfOk, MatchOption};
 ghost use Rattle.wh_grid.specs.declared.cell.Cell.{Cell};
 ghost use Rattle.wh_path.specs.Paths.{last_index};
-ghost use Rattle.wh_resv.specs.Others.{MayRest};
+ghost use Rattle.wh_resv.specs.Calls.{IsVacant};
 ghost use Rattle.wh_search.specs.Frontiers.{IsErrand};
 ghost use Rattle.wh_search.specs.Tours.{IsTour, IsLeastTour};
 
@@ -22,7 +22,7 @@ pub fn over_intervals(
     least: u64,
 ) -> Result<Option<TimedPath>, AllocError>
     requires errand { IsErrand errand.now }
-    requires clear { MayRest errand.now.others.now errand.now.loc 0 }
+    requires clear { IsVacant errand.now.others.now.paths errand.now.loc 0 }
     requires least { (q : List Cell) → IsTour errand.now.grid.now errand.now.others.now errand.now.loc errand.now.via.now errand.now.ends.now q → least ≤ last_index q }
     ensures { IfOk result (λ found. MatchOption found
         ((q : List Cell) → IsTour errand.now.grid.now errand.now.others.now errand.now.loc errand.now.via.now errand.now.ends.now q → ⊥)
@@ -50,7 +50,7 @@ pub fn find_least(
     errand: &Task,
 ) -> Result<Option<TimedPath>, AllocError>
     requires errand { IsErrand errand.now }
-    requires clear { MayRest errand.now.others.now errand.now.loc 0 }
+    requires clear { IsVacant errand.now.others.now.paths errand.now.loc 0 }
     ensures { IfOk result (λ found. MatchOption found
         ((q : List Cell) → IsTour errand.now.grid.now errand.now.others.now errand.now.loc errand.now.via.now errand.now.ends.now q → ⊥)
         (λ p. IsLeastTour errand.now.grid.now errand.now.others.now errand.now.loc errand.now.via.now errand.now.ends.now p)) }

@@ -5,7 +5,7 @@ ghost use Rattle.std.specs.Prelude.{◌≡◌, ℕ, ◌+◌, ◌*◌, ◌<◌, �
 ghost use Rattle.wh_grid.specs.declared.cell.Cell.{Cell};
 ghost use Rattle.wh_grid.specs.Grids.{IsPassable};
 ghost use Rattle.wh_path.specs.Paths.{last_index};
-ghost use Rattle.wh_resv.specs.Others.{MayRest};
+ghost use Rattle.wh_resv.specs.Calls.{IsVacant};
 ghost use Rattle.wh_search.specs.Deliveries.{IfNoPath};
 ghost use Rattle.wh_search.specs.Frontiers.{IsErrand};
 ghost use Rattle.wh_search.specs.Guides.{guide_estimate, nearest_by};
@@ -66,7 +66,7 @@ fn find_near(
     field: &NearestField,
 ) -> Result<Option<TimedPath>, AllocError>
     requires inside { IsPassable grid.now loc }
-    requires clear { MayRest others.now loc 0 }
+    requires clear { IsVacant others.now.paths loc 0 }
     requires grid { field.now.grid ≡ grid.now }
     requires ends { field.now.cells ≡ allowed.now }
     ensures { IfOk result (λ found. MatchOption found
@@ -88,7 +88,7 @@ fn find_far(
     least: u64,
 ) -> Result<Option<TimedPath>, AllocError>
     requires inside { IsPassable grid.now loc }
-    requires clear { MayRest others.now loc 0 }
+    requires clear { IsVacant others.now.paths loc 0 }
     requires grid { field.now.grid ≡ grid.now }
     requires ends { field.now.cells ≡ allowed.now }
     requires least { (q : List Cell) → IsParking grid.now others.now loc allowed.now q → least ≤ last_index q }
@@ -111,7 +111,7 @@ fn find_nearest(
     allowed: &[Cell],
 ) -> Result<Option<TimedPath>, AllocError>
     requires inside { IsPassable grid.now loc }
-    requires clear { MayRest others.now loc 0 }
+    requires clear { IsVacant others.now.paths loc 0 }
     ensures { IfOk result (λ found. MatchOption found
         ((q : List Cell) → IsParking grid.now others.now loc allowed.now q → ⊥)
         (λ p. IsLeastParking grid.now others.now loc allowed.now p)) }
@@ -137,7 +137,7 @@ pub fn park_in(
     allowed: &[Cell],
 ) -> Result<TimedPath, Fault>
     requires inside { IsPassable grid.now loc }
-    requires clear { MayRest others.now loc 0 }
+    requires clear { IsVacant others.now.paths loc 0 }
     ensures least { IfOk result (λ p. IsLeastParking grid.now others.now loc allowed.now p) }
     ensures none { IfNoPath result ((q : List Cell) → IsParking grid.now others.now loc allowed.now q → ⊥) }
 {
@@ -157,7 +157,7 @@ pub fn park(
     allowed: &[Cell],
 ) -> Result<TimedPath, Fault>
     requires inside { IsPassable grid.now loc }
-    requires clear { MayRest others.now loc 0 }
+    requires clear { IsVacant others.now.paths loc 0 }
     ensures least { IfOk result (λ p. IsLeastParking grid.now others.now loc allowed.now p) }
     ensures none { IfNoPath result ((q : List Cell) → IsParking grid.now others.now loc allowed.now q → ⊥) }
 {

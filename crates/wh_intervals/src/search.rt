@@ -3,7 +3,7 @@
 
 ghost use Rattle.std.specs.Prelude.{◌≡◌, ℕ, ◌+◌, ◌<◌, ◌≤◌, ◌^◌, List, OnOk, IfOk, IfSome, MatchOption, Option, Some, None, vec_len};
 ghost use Rattle.wh_grid.specs.declared.cell.Cell.{Cell};
-ghost use Rattle.wh_resv.specs.Others.{MayRest};
+ghost use Rattle.wh_resv.specs.Calls.{IsVacant};
 ghost use Rattle.wh_intervals.specs.Problems.{problem, IsProblem};
 ghost use Rattle.wh_search.specs.States.{IsEnd};
 ghost use Rattle.wh_search.specs.Tours.{IsTour, IsLeastTour};
@@ -64,7 +64,7 @@ pub fn search(
     expanded: &mut u64,
 ) -> Result<Option<TimedPath>, AllocError>
     requires errand { IsProblem (problem errand.now) }
-    requires clear { MayRest errand.now.others.now errand.now.loc 0 }
+    requires clear { IsVacant errand.now.others.now.paths errand.now.loc 0 }
     ensures expanded { IfOk result (λ found. IfSome found (λ p. IsExpandedOf errand.now.grid.now errand.now.others.now errand.now.via.now errand.now.loc (guide_estimate errand.now.guide) errand.now.base errand.now.limit (last_index p) expanded.new)) }
     ensures moves { IfOk result (λ found. IfSome found (λ p. MovesAtMost p expanded.new)) }
     ensures found { IfOk result (λ found. MatchOption found

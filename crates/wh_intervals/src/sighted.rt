@@ -5,6 +5,7 @@ ghost use Rattle.std.specs.Prelude.{◌≡◌, ℕ, ◌+◌, ◌-◌, ◌*◌, �
 ghost use Rattle.wh_grid.specs.declared.cell.Cell.{Cell};
 ghost use Rattle.wh_grid.specs.Grids.{IsPassable};
 ghost use Rattle.wh_resv.specs.Others.{MayRest};
+ghost use Rattle.wh_resv.specs.Calls.{IsVacant};
 ghost use Rattle.wh_path.specs.Paths.{last_index, cell_at};
 ghost use Rattle.wh_search.specs.Deliveries.{IsDelivery, IsLawful, IsLeast, IfNoPath, AreStops};
 ghost use Rattle.wh_search.specs.Frontiers.{IsErrand};
@@ -71,7 +72,7 @@ fn find_sighted<'x>(
     sights: &'x [Option<Sight<'x>>],
 ) -> Result<Option<TimedPath>, AllocError>
     requires inside { IsPassable grid.now loc }
-    requires clear { MayRest others.now loc 0 }
+    requires clear { IsVacant others.now.paths loc 0 }
     requires stops { AreStops stops.now }
     requires sights { AreSightsOver grid.now stops.now sights.now }
     ensures found { IfOk result (λ found. MatchOption found
@@ -97,7 +98,7 @@ pub fn deliver_over<'x>(
     sights: &'x [Option<Sight<'x>>],
 ) -> Result<TimedPath, Fault>
     requires inside { IsPassable grid.now loc }
-    requires clear { MayRest others.now loc 0 }
+    requires clear { IsVacant others.now.paths loc 0 }
     requires stops { AreStops stops.now }
     requires sights { AreSightsOver grid.now stops.now sights.now }
     ensures lawful { IfOk result (λ p. IsLawful grid.now others.now loc stops.now p) }
@@ -124,7 +125,7 @@ pub fn deliver_sighted<'x>(
     sights: &'x [Option<Sight<'x>>],
 ) -> Result<TimedPath, Fault>
     requires inside { IsPassable grid.now loc }
-    requires clear { MayRest others.now loc 0 }
+    requires clear { IsVacant others.now.paths loc 0 }
     requires stops { AreStops stops.now }
     requires sights { AreSightsOf grid.now stops.now sights.now }
     ensures lawful { IfOk result (λ p. IsLawful grid.now others.now loc stops.now p) }

@@ -6,6 +6,7 @@ ghost use Rattle.wh_grid.specs.declared.cell.Cell.{Cell};
 ghost use Rattle.wh_grid.specs.Grids.{IsPassable};
 ghost use Rattle.wh_path.specs.Paths.{cell_at, last_index};
 ghost use Rattle.wh_resv.specs.Others.{MayRest};
+ghost use Rattle.wh_resv.specs.Calls.{IsVacant};
 ghost use Rattle.wh_search.specs.Deliveries.{AreStops, IsDelivery, IsLawful};
 ghost use Rattle.wh_search.specs.Frontiers.{IsErrand};
 ghost use Rattle.wh_search.specs.Manhattan.{IsOnwardByManhattan};
@@ -73,7 +74,7 @@ pub fn deliver_unguided(
     stops: &[Cell],
 ) -> Result<Option<TimedPath>, AllocError>
     requires inside { IsPassable grid.now loc }
-    requires clear { MayRest others.now loc 0 }
+    requires clear { IsVacant others.now.paths loc 0 }
     requires stops { AreStops stops.now }
     ensures lawful { IfOk result (λ found. IfSome found (IsLawful grid.now others.now loc stops.now)) }
     ensures least { IfOk result (λ found. IfSome found (λ p. (q : List Cell) → IsDelivery grid.now others.now loc stops.now q → last_index p ≤ last_index q)) }

@@ -14,7 +14,7 @@ use std::alloc::Global;
 use wh_event::{Command, LineFault};
 use wh_lines::CommandLine;
 use wh_log::MOST_ENTRIES;
-use wh_planner::Planner;
+use wh_planner::Plans;
 use wh_replay::read_kept;
 use wh_token::Warehouse;
 
@@ -61,7 +61,7 @@ pub(crate) fn note(answers: &mut Answers, answer: Option<Answer>)
 }
 
 /// Runs a command, where the log has a number for its entry.
-fn run<P: Planner>(
+fn run<P: Plans>(
     command: &Command,
     alloc: Global,
     warehouse: &mut Warehouse<P>,
@@ -82,7 +82,7 @@ fn run<P: Planner>(
 }
 
 /// Answers a line, of which only a front is kept; one that is skipped gets no reply. The command is a room for what it asks.
-pub(crate) fn answer_line<P: Planner>(
+pub(crate) fn answer_line<P: Plans>(
     line: &CommandLine,
     command: &mut Command,
     alloc: Global,

@@ -13,7 +13,7 @@ use std::alloc::Global;
 use std::io::{Read, Write};
 use wh_event::Command;
 use wh_lines::{CommandLine, Lines, Next};
-use wh_planner::Planner;
+use wh_planner::Plans;
 use wh_token::Warehouse;
 use wh_words::whole_line;
 
@@ -37,7 +37,7 @@ fn has_line(bytes: &[u8]) -> bool
 
 /// Serves the next line, for which it may wait, and then each further whole line that waits, while there is room for what
 /// they are answered. That is gathered.
-pub(crate) fn gather<R: Read, W: Write, P: Planner>(
+pub(crate) fn gather<R: Read, W: Write, P: Plans>(
     lines: &mut Lines<R>,
     alloc: Global,
     writer: &mut W,

@@ -14,7 +14,7 @@ use std::alloc::Global;
 use std::io::{Read, Write};
 use wh_lines::Lines;
 use wh_log::Form;
-use wh_planner::Planner;
+use wh_planner::Plans;
 use wh_token::Warehouse;
 
 /// Serves the script that is left in the reader, to the reader's end, as `wh_replay::replay` does, except that what follows
@@ -25,7 +25,7 @@ use wh_token::Warehouse;
 ///
 /// Lack of memory stops nothing, and is no fault: a command that it refuses is answered `refused E90`, has no entry, and has
 /// changed nothing. So is one that would be entry number 1,000,000,000, for which a log has no number.
-pub fn replay_journaled<R: Read, W: Write, J: Journal, P: Planner>(
+pub fn replay_journaled<R: Read, W: Write, J: Journal, P: Plans>(
     lines: &mut Lines<R>,
     alloc: Global,
     form: Form,

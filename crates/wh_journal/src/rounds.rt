@@ -17,7 +17,7 @@ use std::alloc::Global;
 use std::io::{Read, Write};
 use wh_lines::Lines;
 use wh_log::Form;
-use wh_planner::Planner;
+use wh_planner::Plans;
 use wh_token::Warehouse;
 
 /// What a round came to.
@@ -31,7 +31,7 @@ pub enum Round {
 
 /// Serves as many of the lines as there is room for what they are answered, has the journal keep the entries, and tells the
 /// replies.
-fn serve_part<R: Read, W: Write, J: Journal, P: Planner>(
+fn serve_part<R: Read, W: Write, J: Journal, P: Plans>(
     lines: &mut Lines<R>,
     alloc: Global,
     form: Form,
@@ -67,7 +67,7 @@ fn serve_part<R: Read, W: Write, J: Journal, P: Planner>(
 }
 
 /// Serves the parts of a round one after another.
-fn serve_parts<R: Read, W: Write, J: Journal, P: Planner>(
+fn serve_parts<R: Read, W: Write, J: Journal, P: Plans>(
     lines: &mut Lines<R>,
     alloc: Global,
     form: Form,
@@ -95,7 +95,7 @@ fn serve_parts<R: Read, W: Write, J: Journal, P: Planner>(
 /// Serves the next line of a script, for which it may wait, and each further whole line that waits, has the journal keep
 /// the entries, and then tells the replies. So all is settled when the next line may have to be waited for. Only a command
 /// can run out of memory, and is answered so; whatever was served is kept and told without any.
-pub fn serve_round<R: Read, W: Write, J: Journal, P: Planner>(
+pub fn serve_round<R: Read, W: Write, J: Journal, P: Plans>(
     lines: &mut Lines<R>,
     alloc: Global,
     form: Form,

@@ -7,7 +7,8 @@ use Rattle.wh_path.specs.Paths.{place_of}
 use Rattle.wh_tasks.specs.declared.task.Task.{Task}
 use Rattle.wh_tasks.proofs.Nearest.{nearest_one}
 use Rattle.wh_core.specs.States.{State}
-use Rattle.wh_core.specs.Steps.{IsNext, NoneIsNext, other_ends}
+use Rattle.wh_core.specs.Steps.{other_ends}
+use Rattle.wh_core.specs.Ordinary.{IsNext, NoneIsNext}
 use Rattle.wh_judge.specs.Judged.{IsChoice}
 
 pub choice-by : (site : Site) (s : State) (agent : ℕ) (o : Option ℕ) → IfNone o (NoneIsNext s agent) → IfSome o (λ n. (task : Task) × IsNext site s agent n task) →

@@ -1,18 +1,21 @@
 -- the paths of a run: how many steps they have at most, and that a log can tell them
-use Rattle.std.proofs.Common.{◌≡◌, ℕ, ◌+◌, ◌*◌, ◌<◌, ◌≤◌, ◌∙◌, List, [], ◌∷◌, length, map, take, drop, get_or, sym, subst, ap, arith}
-use Prim.Native.Nat.{suc}
+use Rattle.std.proofs.Common.{◌≡◌, ◌≢◌, ℕ, ◌+◌, ◌*◌, ◌<◌, ◌≤◌, ◌∙◌, ◌⊎◌, inl, List, [], ◌∷◌, Bool, true, false, length, map, take, drop, get_or, sym, subst, ap, arith}
+use Prim.Native.Nat.{zero, suc}
 use Rattle.std.specs.List.{AllByRecursion, All}
 use Rattle.std.proofs.lemmas.List.Sums.{count_by-le-length}
 use Rattle.std.proofs.lemmas.List.Elements.{All-append, All-drop, All-head, All-map, All-set, All-tail, All-take, All-weaker}
+use Rattle.std.proofs.lemmas.List.{length-append, length-map}
 use Rattle.std.proofs.Math.Nat.{mul-le-mul_left}
 use Rattle.wh_grid.specs.declared.cell.Cell.{Cell}
 use Rattle.wh_grid.specs.Grids.{Floor, IsPassable, IsMove, passable_cells}
-use Rattle.wh_path.specs.Paths.{at, advanced, horizon, last_index, others, IsWalk}
+use Rattle.wh_path.specs.Paths.{at, advanced, horizon, last_index, others, steps_left, IsWalk}
 use Rattle.wh_path.proofs.AtLemmas.{at-within, origin}
 use Rattle.wh_points.specs.Points.{Site}
-use Rattle.wh_core.specs.States.{State}
+use Rattle.wh_core.specs.States.{State, arrived, moved}
+use Rattle.wh_core.specs.Steps.{IsIdleIn, homeward, tour}
+use Rattle.wh_core.proofs.Idle.{left-next}
 use Rattle.wh_core.proofs.Motion.{IsOrderly}
-use Rattle.wh_core.proofs.StepKinds.{Moves, stays, adds, takes, parks, ticks}
+use Rattle.wh_core.proofs.StepKinds.{Moves, stays, adds, takes, continues, parks, ticks}
 use Rattle.wh_log.specs.Ranges.{Follow, IsInside, IsPath}
 use Rattle.wh_judge.specs.Written.{IsInRange}
 
@@ -74,8 +77,13 @@ short_advanced most paths all =
     All-map (λ p. last_index p ≤ most) advanced paths
     (All-weaker (λ p. last_index p ≤ most) (λ p. last_index (advanced p) ≤ most) (λ p h. let less = less_advanced p in omega arith) paths all)
 
--- eight times over the map are at most 2 ^ 27 steps
-laps : (site : Site) (legs : ℕ) → IsInRange site → legs ≤ 8 → legs * passable_cells site.grid ≤ 134217728
+-- a tour has a leg for each stop, and one home
+tour_few : (homes : Bool) (home : Cell) (stops : List Cell) → length stops ≤ 8 → length (homeward homes home stops) ≤ 9
+tour_few false home stops few = omega arith
+tour_few true home stops few = let more = length-append stops (home ∷ []) in omega arith
+
+-- nine times over the map are at most so many steps
+laps : (site : Site) (legs : ℕ) → IsInRange site → legs ≤ 9 → legs * passable_cells site.grid ≤ 150994944
 laps site legs range few =
     let cells = passable_cells site.grid in
     let w = site.grid.width in
@@ -87,32 +95,46 @@ laps site legs range few =
     let rows : w * h ≤ w * 4096 = mul-le-mul_left w high in
     let columns : 4096 * w ≤ 4096 * 4096 = mul-le-mul_left 4096 wide in
     let cells_few : cells ≤ 16777216 = omega arith in
-    let turns : cells * legs ≤ cells * 8 = mul-le-mul_left cells few in
+    let turns : cells * legs ≤ cells * 9 = mul-le-mul_left cells few in
     omega arith
 
-adopts : (most : ℕ) (paths : List (List Cell)) (agent : ℕ) (path : List Cell) (lap : ℕ) → Short most paths → lap ≤ 134217728 →
-    last_index path ≤ horizon (others paths agent) + lap → last_index path ≤ most + 134217728
+adopts : (most : ℕ) (paths : List (List Cell)) (agent : ℕ) (path : List Cell) (lap : ℕ) → Short most paths → lap ≤ 150994944 →
+    last_index path ≤ horizon (others paths agent) + lap → last_index path ≤ most + 150994944
 adopts most paths agent path lap all few bounded = let far = short_others most paths agent all in omega arith
 
--- a step makes no path longer than one that was, by more than eight times over the map
+-- a step makes no path longer than one that was, by more than nine times over the map
 pub short_moves : (site : Site) (old new : State) (most : ℕ) → IsInRange site → IsOrderly site old → Short most old.paths → Moves site old new →
-    Short (most + 134217728) new.paths
+    Short (most + 150994944) new.paths
 short_moves site old new most range orderly all m =
-    let P : List Cell → Type 0 = λ q. last_index q ≤ most + 134217728 in
-    let more : Short (most + 134217728) old.paths = short_more most (most + 134217728) old.paths (omega arith) all in
+    let P : List Cell → Type 0 = λ q. last_index q ≤ most + 150994944 in
+    let more : Short (most + 150994944) old.paths = short_more most (most + 150994944) old.paths (omega arith) all in
     elim m [
-      | stays c p l t z ↦ subst (Short (most + 134217728)) (sym p) more
-      | adds client names cells room count few stations e ↦ subst (λ (s : State). Short (most + 134217728) s.paths) (sym e) more
-      | takes agent n task path due next lawful e ↦
-          let lap = laps site (length task.stops) range (orderly.stops n task next.eligible.there).few in
-          subst (λ (s : State). Short (most + 134217728) s.paths) (sym e)
+      | stays c p l t z ↦ subst (Short (most + 150994944)) (sym p) more
+      | adds client names cells room count few stations e ↦ subst (λ (s : State). Short (most + 150994944) s.paths) (sym e) more
+      | continues agent n task path due own lawful e ↦
+          let lap = laps site (length (tour site agent task.stops)) range (tour_few site.homes _ task.stops (orderly.stops n task own.there).few) in
+          subst (λ (s : State). Short (most + 150994944) s.paths) (sym e)
+          (All-set P old.paths agent path (adopts most old.paths agent path _ all lap lawful.bounded) more)
+      | takes agent n task path due none next lawful e ↦
+          let lap = laps site (length (tour site agent task.stops)) range (tour_few site.homes _ task.stops (orderly.stops n task next.eligible.there).few) in
+          subst (λ (s : State). Short (most + 150994944) s.paths) (sym e)
           (All-set P old.paths agent path (adopts most old.paths agent path _ all lap lawful.bounded) more)
       | parks agent path due way lawful e ↦
           let lap = laps site 2 range (omega arith) in
-          subst (λ (s : State). Short (most + 134217728) s.paths) (sym e)
+          subst (λ (s : State). Short (most + 150994944) s.paths) (sym e)
           (All-set P old.paths agent path (adopts most old.paths agent path _ all lap lawful.bounded) more)
-      | ticks fits e ↦ subst (λ (s : State). Short (most + 134217728) s.paths) (sym e) (short_advanced (most + 134217728) old.paths more)
+      | ticks fits e ↦ subst (λ (s : State). Short (most + 150994944) s.paths) (sym e) (short_advanced (most + 150994944) old.paths more)
     ]
+
+-- an agent is idle no later than it has no steps left
+pub idle_within : (site : Site) (s : State) (agent k : ℕ) → agent < length s.paths → IsIdleIn site s agent k → k ≤ steps_left s.paths agent
+idle_within site s agent zero known idle = omega arith
+idle_within site s agent (suc k) known idle =
+    let moves : steps_left s.paths agent ≢ 0 = λ rests. idle.0 (inl rests) in
+    let step = left-next s agent known in
+    let count = length-map s.paths advanced in
+    let next : agent < length (moved s).paths = omega arith in
+    let later : k ≤ steps_left (moved s).paths agent = idle_within site (arrived (moved s)) agent k next idle.1 in omega arith
 
 -- at first each agent stands at its start
 pub short_first : (cells : List Cell) → Short 0 (map (λ c. c ∷ []) cells)

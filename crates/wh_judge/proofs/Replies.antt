@@ -14,11 +14,12 @@ use Rattle.wh_event.specs.declared.event.Event.{Event}
 use Rattle.wh_event.specs.declared.event.Spare.{Spare}
 use Rattle.wh_event.specs.declared.reply.Refusal.{Refusal}
 use Rattle.wh_event.specs.declared.reply.Reply.{Reply}
-use Rattle.wh_core.specs.States.{State, moved}
+use Rattle.wh_core.specs.States.{State, load_of, moved}
+use Rattle.wh_core.proofs.Determined.{next-there}
 use Rattle.wh_core.specs.Steps.{Answers, Refuses, IsFirstFault, most_tasks}
 use Rattle.wh_log.specs.Ranges.{EventKeeps, RefusalKeeps, ReplyKeeps}
 use Rattle.wh_judge.specs.Written.{IsInRange}
-use Rattle.wh_judge.proofs.Paths.{Short, walk_path}
+use Rattle.wh_judge.proofs.Paths.{Short, idle_within, walk_path}
 
 between : (before after : List (List ℕ)) (name : List ℕ) → AllByRecursion IsName (before ++ name ∷ after) → IsName name
 between [] after name all = all.0
@@ -37,7 +38,7 @@ refusal_keeps site s (Refusal.UnknownAgent told) (Event.Request agent) most shor
 refusal_keeps site s (Refusal.UnknownAgent told) (Event.Replace agent spare) most short fits keeps why =
     let same = why.2 in let small = keeps.0 in omega arith
 refusal_keeps site s (Refusal.Moving left) (Event.Request agent) most short fits keeps why =
-    let same = why.1 in
+    let within = idle_within site s agent left why.0.known why.1 in
     let far = All-get_or (λ p. last_index p ≤ most) s.paths agent [] why.0.known short in omega arith
 refusal_keeps site s Refusal.NoPath event most short fits keeps why = tt
 refusal_keeps site s Refusal.ClockFull event most short fits keeps why = tt
@@ -52,7 +53,7 @@ pub reply_keeps : (site : Site) (old : State) (reply : Reply) (event : Event) (n
 reply_keeps site old (Reply.Refused refusal) event new most range few short fits keeps step = refusal_keeps site old refusal event most short fits keeps step.0
 reply_keeps site old (Reply.Accepted n) (Event.Submit client stops) new most range few short fits keeps step = let room = step.2 in omega arith
 reply_keeps site old (Reply.Took n path) (Event.Request agent) new most range few short fits keeps step =
-    let there = slice_get_within old.tasks n step.1.0 step.1.1.eligible.there in (
+    let there = slice_get_within old.tasks n step.1.0 (next-there site old agent n step.1.0 (load_of old agent) step.1.1) in (
       omega arith,
       walk_path site.grid path range.width range.height step.1.2.walk,
     )

@@ -1,5 +1,5 @@
 -- the want of a clear way
-use Rattle.std.proofs.Common.{◌≡◌, ℕ, ◌<◌, ◌≤◌, ◌∙◌, List, Bool, true, false, length, refl, sym, subst}
+use Rattle.std.proofs.Common.{◌≡◌, ℕ, ◌<◌, ◌≤◌, ◌∙◌, List, [], ◌∷◌, Bool, true, false, length, refl, sym, subst}
 use Rattle.std.specs.Prelude.{◌↔◌, IsTrue, not, Option, Some, None, IfSome, IfNone, is_some, Contains}
 use Rattle.std.proofs.lemmas.Bool.{false≢true}
 use Rattle.std.proofs.lemmas.Option.{same_Some}
@@ -8,12 +8,14 @@ use Rattle.wh_grid.specs.declared.cell.Cell.{Cell}
 use Rattle.wh_grid.specs.Grids.{Floor}
 use Rattle.wh_field.specs.Distances.{IsRoute, IsLeastRoute, IsNearestRoute}
 use Rattle.wh_points.specs.Points.{Site}
-use Rattle.wh_path.specs.Paths.{cell_at, place_of}
+use Rattle.wh_path.specs.Paths.{cell_at, last_index, place_of, end_of, others, ends}
 use Rattle.wh_tasks.specs.declared.task.Task.{Task}
 use Rattle.wh_tasks.specs.Tasks.{IsTask}
 use Rattle.wh_core.specs.States.{State}
-use Rattle.wh_planner.specs.Duties.{Delivers, HasRoute, HasRoutes, HasNoClearWay}
-use Rattle.wh_core.specs.Steps.{IsNext, other_ends}
+use Rattle.wh_planner.specs.Duties.{Delivers, HasRoute, HasRoutes}
+use Rattle.wh_core.specs.Steps.{other_ends}
+use Rattle.wh_core.specs.Ordinary.{IsNext, IsClearWay, HasNoClearWay}
+use Rattle.wh_path.proofs.AtLemmas.{at-one}
 use Rattle.wh_planner.proofs.Routes.{clear_ways_by_stops}
 use Rattle.wh_book.specs.Drafts.{MayPark}
 use Rattle.wh_book.proofs.Naming.{park-allowed}
@@ -24,10 +26,25 @@ not-iff : (b : Bool) (P Q : Type 0) → (IsTrue b ↔ P) → ((¬ P) → Q) → 
 not-iff true P Q iff to from = (λ e. absurd (false≢true e), λ q. absurd (from q (iff.0 refl)))
 not-iff false P Q iff to from = (λ e. to (λ p. false≢true (iff.1 p)), λ q. refl)
 
+-- there is a clear way from where the agent is exactly where routes go from there
+ways-by-stops : (g : Floor) (paths : List (List Cell)) (agent : ℕ) (stops : List Cell) → 1 ≤ length stops →
+    ((way : List Cell) × IsClearWay g paths agent (Delivers stops) way) ↔ HasRoutes g (ends (others paths agent)) (place_of paths agent) stops
+ways-by-stops g paths agent stops some =
+    let here = place_of paths agent in
+    let standing : List (List Cell) = (here ∷ []) ∷ others paths agent in
+    let by = clear_ways_by_stops g standing 0 stops some in
+    let is : end_of standing 0 ≡ here = at-one here (last_index (here ∷ [])) in (
+      λ way. subst (λ c. HasRoutes g (ends (others paths agent)) c stops) is
+          (by.0 (way.0, record { walk = way.1.walk; starts_here = way.1.starts_here ∙ sym is; clear = way.1.clear; serves = way.1.serves })),
+      λ routes.
+          let way = by.1 (subst (λ c. HasRoutes g (ends (others paths agent)) c stops) (sym is) routes) in
+          (way.0, record { walk = way.1.walk; starts_here = way.1.starts_here ∙ is; clear = way.1.clear; serves = way.1.serves }),
+    )
+
 pub lacks-delivery : (site : Site) (s : State) (agent n : ℕ) (task : Task) (b : Bool) → IsNext site s agent n task → 1 ≤ length task.stops →
     (IsTrue b ↔ HasRoutes site.grid (other_ends s agent) (place_of s.paths agent) task.stops) → IsTrue (not b) ↔ LacksDelivery site s agent
 lacks-delivery site s agent n task b next some iff =
-    let by = clear_ways_by_stops site.grid s.paths agent task.stops some in
+    let by = ways-by-stops site.grid s.paths agent task.stops some in
     not-iff b (HasRoutes site.grid (other_ends s agent) (place_of s.paths agent) task.stops) (LacksDelivery site s agent) iff
     (λ none. (n, task, next, λ way clear. none (by.0 (way, clear))))
     (λ lacks routes.

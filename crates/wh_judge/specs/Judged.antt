@@ -4,11 +4,12 @@ use Rattle.wh_points.specs.Points.{Site, IsLayout}
 use Rattle.wh_tasks.specs.declared.task.Task.{Task}
 use Rattle.wh_event.specs.declared.event.Event.{Event}
 use Rattle.wh_event.specs.declared.entry.Entry.{Entry}
-use Rattle.wh_core.specs.Laws.{IsReached}
+use Rattle.wh_core.specs.Laws.{IsReachedOnTheirWays}
 use Rattle.wh_event.specs.declared.reply.Reply.{Reply}
 use Rattle.wh_core.specs.States.{State}
-use Rattle.wh_core.specs.Steps.{Answers, Step, IsNext, NoneIsNext, MakesWay, IsAllowed, other_ends}
-use Rattle.wh_planner.specs.Duties.{Delivers, ParksAt, HasNoClearWay, HasRoute}
+use Rattle.wh_core.specs.Steps.{Step, other_ends}
+use Rattle.wh_core.specs.Ordinary.{Answers, IsNext, NoneIsNext, MakesWay, IsAllowed, HasNoClearWay}
+use Rattle.wh_planner.specs.Duties.{Delivers, ParksAt, HasRoute}
 use Rattle.wh_grid.specs.declared.cell.Cell.{Cell}
 use Rattle.wh_path.specs.Paths.{place_of}
 
@@ -26,9 +27,9 @@ abbrev pub IsChoice : Site → State → ℕ → Option ℕ → Type 0
 IsChoice site s agent None = NoneIsNext s agent
 IsChoice site s agent (Some n) = (task : Task) × IsNext site s agent n task
 
--- some run leads to the state
+-- some run leads to the state, without homes
 abbrev pub IsReachable : Site → State → Type 0
-IsReachable site s = (entries : List Entry) × IsReached site entries s
+IsReachable site s = (entries : List Entry) × IsReachedOnTheirWays site entries s × (site.homes ≡ false)
 
 -- the agent has a task before it, and no clear way to deliver it
 abbrev pub LacksDelivery : Site → State → ℕ → Type 0

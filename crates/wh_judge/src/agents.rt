@@ -3,7 +3,8 @@
 
 ghost use Rattle.std.specs.Prelude.{◌≡◌, ◌≢◌, ◌<◌, ◌≤◌, ◌↔◌, false, IsTrue, length};
 ghost use Rattle.wh_path.specs.Paths.{place_of, steps_left};
-ghost use Rattle.wh_core.specs.Steps.{IsKnown, IsDue, IsDeliveryCell};
+ghost use Rattle.wh_core.specs.Steps.{IsKnown, IsDeliveryCell};
+ghost use Rattle.wh_core.specs.Ordinary.{IsDue};
 
 use wh_book::FleetState;
 use wh_grid::Cell;

@@ -3,7 +3,7 @@
 
 ghost use Rattle.std.specs.Prelude.{◌≡◌, ◌<◌, ◌↔◌, IsTrue, length};
 ghost use Rattle.wh_tasks.specs.declared.task.Task.{Task as Job};
-ghost use Rattle.wh_core.specs.Steps.{IsNext, NoneIsNext};
+ghost use Rattle.wh_core.specs.Ordinary.{IsNext, NoneIsNext};
 ghost use Rattle.wh_judge.specs.Judged.{IsChoice};
 
 use crate::instance::Instance;

@@ -1,7 +1,7 @@
 //! What a log is judged over.
 #![tactic(auto)]
 
-ghost use Rattle.std.specs.Prelude.{◌≡◌, ◌≤◌, ◌↔◌, length, IsTrue, IfOk};
+ghost use Rattle.std.specs.Prelude.{◌≡◌, ◌≤◌, ◌↔◌, length, IsTrue, IfOk, false};
 ghost use Rattle.wh_points.specs.Points.{IsLayout, IsPoint, starts};
 
 use std::alloc::{AllocError, Global};
@@ -19,21 +19,22 @@ pub struct Instance<'a> {
 }
 
 impl<'a> Model for Instance<'a> {
+    ghost use Rattle.std.specs.Prelude.{false};
     ghost use Rattle.wh_points.specs.Points.{Site};
     ghost use Rattle.wh_book.specs.Settings.{IsSite};
 
     ghost Value = { Site };
 
-    ghost view = { λ i. record { grid = i.grid.now; layout = i.points.now } };
+    ghost view = { λ i. record { grid = i.grid.now; layout = i.points.now; homes = false } };
 
-    ghost invariant = { λ i. IsSite (record { grid = i.grid.now; layout = i.points.now }) };
+    ghost invariant = { λ i. IsSite (record { grid = i.grid.now; layout = i.points.now; homes = false }) };
 }
 
 impl<'a> Instance<'a> {
     /// The grid with its points.
     pub fn new(grid: &'a Grid, points: &'a Points) -> Instance<'a>
         requires { IsLayout grid.now points.now }
-        ensures { result ≡ record { grid = grid.now; layout = points.now } }
+        ensures { result ≡ record { grid = grid.now; layout = points.now; homes = false } }
     {
         let _agents = points.agents();
         Instance { grid, points }
@@ -42,6 +43,7 @@ impl<'a> Instance<'a> {
     /// The grid.
     pub fn grid(&self) -> &Grid
         ensures value { result.now ≡ self.now.grid }
+        ensures ends_at_stops { self.now.homes ≡ false }
         ensures layout { IsLayout self.now.grid self.now.layout }
     {
         self.grid

@@ -2,7 +2,8 @@
 #![tactic(auto)]
 
 ghost use Rattle.std.specs.Prelude.{◌≡◌, ◌⊎◌, ◌<◌, ◌↔◌, IsTrue, IfOk, length};
-ghost use Rattle.wh_core.specs.Steps.{NoneIsNext, IsDeliveryCell, MakesWay};
+ghost use Rattle.wh_core.specs.Steps.{IsDeliveryCell};
+ghost use Rattle.wh_core.specs.Ordinary.{NoneIsNext, MakesWay};
 ghost use Rattle.wh_path.specs.Paths.{place_of};
 ghost use Rattle.wh_judge.specs.Judged.{LacksDelivery, LacksParking, CanPark};
 

@@ -2,7 +2,7 @@
 #![tactic(auto)]
 
 ghost use Rattle.std.specs.Prelude.{◌≡◌, ◌↔◌, IsTrue, IfOk};
-ghost use Rattle.wh_core.specs.Steps.{Refuses};
+ghost use Rattle.wh_core.specs.Ordinary.{Refuses};
 ghost use Rattle.wh_judge.specs.Judged.{IsReachable};
 
 use crate::agents::{is_known, is_moving, is_stranger};

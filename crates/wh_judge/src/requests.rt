@@ -9,7 +9,7 @@ ghost use Rattle.wh_planner.specs.Duties.{Delivers, ParksAt, IsLawful};
 ghost use Rattle.wh_event.specs.declared.event.Event.TheVariants as events;
 ghost use Rattle.wh_event.specs.declared.reply.Reply.TheVariants as replies;
 ghost use Rattle.wh_event.specs.declared.reply.Refusal.TheVariants as refusals;
-ghost use Rattle.wh_core.specs.Steps.{Refuses, IsNext, IsAllowed};
+ghost use Rattle.wh_core.specs.Ordinary.{Refuses, IsNext, IsAllowed};
 ghost use Rattle.wh_judge.specs.Judged.{Decides, IsReachable};
 
 use crate::agents::is_due;

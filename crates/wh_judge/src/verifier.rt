@@ -1,7 +1,7 @@
 //! Verifies a log.
 #![tactic(auto)]
 
-ghost use Rattle.std.specs.Prelude.{◌≡◌, ◌≤◌, IfOk, length};
+ghost use Rattle.std.specs.Prelude.{◌≡◌, ◌≤◌, IfOk, length, false};
 ghost use Rattle.wh_points.specs.Points.{IsLayout};
 ghost use Rattle.wh_log.specs.Logs.{Content, IsLogText};
 ghost use Rattle.wh_judge.specs.Verifying.{Says, IsRunOf};
@@ -32,9 +32,9 @@ pub fn verify(alloc: Global, grid: &Grid, points: &Points, log: &[u8]) -> Result
     requires layout { IsLayout grid.now points.now }
     requires some { 1 ≤ length points.now.agents }
     // What is said of the text is so.
-    ensures says { IfOk result (Says (record { grid = grid.now; layout = points.now }) log.now) }
+    ensures says { IfOk result (Says (record { grid = grid.now; layout = points.now; homes = false }) log.now) }
     // A log whose entries are a run is told as one.
-    ensures run { (content : Content) → IsLogText content log.now → IsRunOf (record { grid = grid.now; layout = points.now }) content → IfOk result (λ told. told ≡ Verified.Run (length content.entries)) }
+    ensures run { (content : Content) → IsLogText content log.now → IsRunOf (record { grid = grid.now; layout = points.now; homes = false }) content → IfOk result (λ told. told ≡ Verified.Run (length content.entries)) }
 {
     let _agents = points.agents();
     let mut follower = Follower::new(alloc, Instance::new(grid, points))?;

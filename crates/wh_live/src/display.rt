@@ -176,7 +176,13 @@ pub(crate) fn work_shown<
     let Display { screen, pause } = display;
     let watcher = match set_up(alloc, &warehouse, &mut publisher, screen) {
         Ok(watcher) => watcher,
-        Err(trouble) => return Err(trouble),
+        Err(trouble) => {
+            drop(warehouse);
+            drop(cells);
+            drop(publisher);
+            drop(works);
+            return Err(trouble);
+        }
     };
     let bell = Bell::new();
     let (seen, came) = join(
@@ -192,10 +198,16 @@ pub(crate) fn work_shown<
     );
     let history = match came {
         Ok(history) => history,
-        Err(trouble) => return Err(trouble),
+        Err(trouble) => {
+            drop(seen);
+            return Err(trouble);
+        }
     };
     match show_whole(alloc, &history, seen) {
         Ok(shown) => Ok(Beside { history, shown }),
-        Err(trouble) => Err(trouble),
+        Err(trouble) => {
+            drop(history);
+            Err(trouble)
+        }
     }
 }

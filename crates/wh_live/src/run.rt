@@ -1,7 +1,7 @@
 //! The run: a warehouse behind a desk, and the crew over it.
 #![tactic(auto)]
 
-ghost use Rattle.std.specs.Prelude.{◌≡◌, ◌+◌, ◌<◌, ◌≤◌, ◌^◌, [], IfErr, IfOk, length, option_map};
+ghost use Rattle.std.specs.Prelude.{◌≡◌, ◌+◌, ◌<◌, ◌≤◌, ◌^◌, [], false, IfErr, IfOk, length, option_map};
 ghost use Rattle.wh_points.specs.Points.{IsLayout};
 ghost use Rattle.wh_crew.specs.Fleet.{AllFit};
 ghost use Rattle.wh_crew.specs.Pasts.{origin_of, past_of};
@@ -9,7 +9,7 @@ ghost use Rattle.wh_live.specs.Displays.{BoardsShown};
 ghost use Rattle.wh_live.specs.Lives.{IsWhyDead, IsWhyUnlived, LivesShown, PacedFrom, WorkedBy, WorkedFrom, trouble_of};
 
 use crate::display::{Beside, Display, work_shown};
-use std::alloc::Global;
+use std::alloc::{AllocError, Global};
 use std::marker::Brand;
 use std::sync::{Arc, Wait};
 use std::thread::Threads;
@@ -190,8 +190,25 @@ fn history_of<P: Planner, S: Screen + Send + Drop, T: Threads + Wait + Clock + S
     ensures boards { IfOk result (λ l. BoardsShown (origin_of warehouse.book) l.history.warehouse.book.history l.last (option_map (λ d. S.shown d.screen) display) (option_map S.shown l.screen)) }
     ensures fault { IfErr result (IsWhyUnlived display) }
 {
-    let cells = Cells::new(alloc, u64::from(journal))?;
-    let publisher = Publisher::new(alloc, rt, warehouse.book())?;
+    let cells = match Cells::new(alloc, u64::from(journal)) {
+        Ok(cells) => cells,
+        Err(AllocError) => {
+            drop(warehouse);
+            drop(works);
+            drop(display);
+            return Err(Trouble::NoMemory);
+        }
+    };
+    let publisher = match Publisher::new(alloc, rt, warehouse.book()) {
+        Ok(publisher) => publisher,
+        Err(AllocError) => {
+            drop(cells);
+            drop(warehouse);
+            drop(works);
+            drop(display);
+            return Err(Trouble::NoMemory);
+        }
+    };
     match display {
         Some(display) => {
             match work_shown(rt, alloc, warehouse, cells, publisher, works, pace, display) {
@@ -248,26 +265,50 @@ pub fn run_crew<P: Planner, S: Screen + Send + Drop, T: Threads + Wait + Clock +
     requires count { length planners.items ≡ length points.agents }
     requires fit { AllFit P.fits_map grid.value planners.items }
     requires few { length works.items ≤ 64 }
-    ensures ok { IfOk result (λ ran. LivesShown P.fits_map P.slot_count (record { grid = grid.value; layout = points }) planners.items works.items (option_map (λ p. p.turns) pace) journal
+    ensures ok { IfOk result (λ ran. LivesShown P.fits_map P.slot_count (record { grid = grid.value; layout = points; homes = false }) planners.items works.items (option_map (λ p. p.turns) pace) journal
         ran.text.items ran.last (option_map (λ d. S.shown d.screen) display) (option_map S.shown ran.screen)) }
     ensures fault { IfErr result (IsWhyUnlived display) }
 {
     let warehouse = match Warehouse::open(alloc, grid, points, planners, 0) {
         Ok(warehouse) => warehouse,
-        Err(OpenFault::NoMemory) => return Err(Trouble::NoMemory),
+        Err(OpenFault::NoMemory) => {
+            drop(works);
+            drop(display);
+            return Err(Trouble::NoMemory);
+        }
         Err(OpenFault::WrongCount | OpenFault::Foreign { .. }) => unreachable!(),
     };
-    let slots = Vec::from_slice(alloc, warehouse.first_slots())?;
+    let slots = match Vec::from_slice(alloc, warehouse.first_slots()) {
+        Ok(slots) => slots,
+        Err(AllocError) => {
+            drop(warehouse);
+            drop(works);
+            drop(display);
+            return Err(Trouble::NoMemory);
+        }
+    };
     let Left {
         history,
         screen,
         last,
     } = match history_of(rt, alloc, warehouse, works, journal, pace, display) {
         Ok(left) => left,
-        Err(trouble) => return Err(trouble),
+        Err(trouble) => {
+            drop(slots);
+            return Err(trouble);
+        }
     };
     match log_text(alloc, 0, &slots, history.warehouse.history()) {
-        Ok(text) => Ok(Ran { text, screen, last }),
-        Err(NoMemory) => Err(Trouble::NoMemory),
+        Ok(text) => {
+            drop(history);
+            drop(slots);
+            Ok(Ran { text, screen, last })
+        }
+        Err(NoMemory) => {
+            drop(history);
+            drop(slots);
+            drop(screen);
+            Err(Trouble::NoMemory)
+        }
     }
 }

@@ -49,6 +49,10 @@ path_of paths agent = slice_index_or paths agent []
 abbrev pub place_of : List (List Cell) → ℕ → Cell
 place_of paths agent = at (path_of paths agent) 0
 
+-- where its path ends, and it comes to rest
+abbrev pub end_of : List (List Cell) → ℕ → Cell
+end_of paths agent = end (path_of paths agent)
+
 -- how many steps the agent has left
 abbrev pub steps_left : List (List Cell) → ℕ → ℕ
 steps_left paths agent = last_index (path_of paths agent)

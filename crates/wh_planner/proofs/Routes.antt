@@ -3,7 +3,7 @@ use Rattle.std.proofs.Common.{ℕ, ◌<◌, ◌≤◌, ◌∙◌, List, [], ◌�
 use Rattle.std.specs.Prelude.{◌↔◌, Contains}
 use Rattle.wh_grid.specs.declared.cell.Cell.{Cell}
 use Rattle.wh_grid.specs.Grids.{Floor, IsPassable, passable_cells}
-use Rattle.wh_path.specs.Paths.{at, last_index, place_of, others, ends}
+use Rattle.wh_path.specs.Paths.{end_of, at, last_index, others, ends}
 use Rattle.wh_path.proofs.Trips.{IsTrip, trip-short, run_of, at-run_of, all-run_of, end-run_of, last-run_of, walk-run_of}
 use Rattle.wh_path.proofs.Tours.{last_of, last_of-is, Legs, Tour, tour-legs, legs-along}
 use Rattle.wh_field.specs.Distances.{IsRoute, IsLeastRoute}
@@ -61,9 +61,9 @@ legs-from g avoid from (stop ∷ stops) here routes =
 
 -- a trip that meets no other's end, written out, is a clear way
 pub trip-clear : (g : Floor) (paths : List (List Cell)) (agent : ℕ) (Serves : List Cell → Type 0) (f : ℕ → Cell) (n : ℕ) (to : Cell) →
-    IsTrip (IsOff g (ends (others paths agent))) f n (place_of paths agent) to → Serves (run_of f n) → IsClearWay g paths agent Serves (run_of f n)
+    IsTrip (IsOff g (ends (others paths agent))) f n (end_of paths agent) to → Serves (run_of f n) → IsClearWay g paths agent Serves (run_of f n)
 trip-clear g paths agent Serves f n to trip serves =
-    let route = route-of g (ends (others paths agent)) (place_of paths agent) to f n trip in
+    let route = route-of g (ends (others paths agent)) (end_of paths agent) to f n trip in
     record { walk = route.walk.walk; starts_here = route.walk.starts; clear = route.avoids; serves = serves }
 
 -- a tour, written out, serves a delivery
@@ -80,30 +80,30 @@ delivers-tour g Ok from (stop ∷ stops) some tour = record {
 
 -- a clear way through the legs
 pub way-legs : (g : Floor) (paths : List (List Cell)) (agent : ℕ) (stops : List Cell) → 1 ≤ length stops →
-    Legs g (IsOff g (ends (others paths agent))) (place_of paths agent) stops → (way : List Cell) × IsClearWay g paths agent (Delivers stops) way
+    Legs g (IsOff g (ends (others paths agent))) (end_of paths agent) stops → (way : List Cell) × IsClearWay g paths agent (Delivers stops) way
 way-legs g paths agent stops some legs =
     let Ok = IsOff g (ends (others paths agent)) in
-    let here = place_of paths agent in
+    let here = end_of paths agent in
     let tour = tour-legs g Ok here stops legs in
     (run_of tour.f tour.n, trip-clear g paths agent (Delivers stops) tour.f tour.n (last_of here stops) tour.trip (delivers-tour g Ok here stops some tour))
 
 -- the legs of a clear way
 pub legs-way : (g : Floor) (paths : List (List Cell)) (agent : ℕ) (stops way : List Cell) → IsClearWay g paths agent (Delivers stops) way →
-    Legs g (IsOff g (ends (others paths agent))) (place_of paths agent) stops
+    Legs g (IsOff g (ends (others paths agent))) (end_of paths agent) stops
 legs-way g paths agent stops way clear =
     let Ok = IsOff g (ends (others paths agent)) in
     let visits = clear.serves.visits in
     let off : (k : ℕ) → Ok (at way k) = λ k. record { passable = clear.walk.passable k; off = clear.clear k } in
     legs-along g Ok (off-passable g (ends (others paths agent))) (λ k. at way k) off clear.walk.moves
-    (place_of paths agent) stops 0 clear.starts_here visits.when (omega arith) visits.in_order visits.there
+    (end_of paths agent) stops 0 clear.starts_here visits.when (omega arith) visits.in_order visits.there
 
 pub clear_ways_by_stops : (g : Floor) (paths : List (List Cell)) (agent : ℕ) (stops : List Cell) → 1 ≤ length stops →
     ((way : List Cell) × IsClearWay g paths agent (Delivers stops) way)
-    ↔ HasRoutes g (ends (others paths agent)) (place_of paths agent) stops
+    ↔ HasRoutes g (ends (others paths agent)) (end_of paths agent) stops
 clear_ways_by_stops g paths agent [] some = absurd (omega arith)
 clear_ways_by_stops g paths agent (stop ∷ stops) some =
     let avoid = ends (others paths agent) in
-    let here = place_of paths agent in (
+    let here = end_of paths agent in (
       λ way. routes-from g avoid here (stop ∷ stops) (legs-way g paths agent (stop ∷ stops) way.0 way.1),
       λ routes.
           let trip = trip-of g avoid here stop routes.0.0 routes.0.1 in

@@ -15,7 +15,7 @@ abbrev pub legs : Duty → ℕ
 legs (Deliver stops) = length stops.now
 legs (Park allowed) = 2
 
--- a delivery has 2 to 8 stops
+-- a delivery has 2 to 9 stops: up to 8, and home
 abbrev pub IsDuty : Duty → Type 0
-IsDuty (Deliver stops) = (2 ≤ length stops.now) × (length stops.now ≤ 8)
+IsDuty (Deliver stops) = (2 ≤ length stops.now) × (length stops.now ≤ 9)
 IsDuty (Park allowed) = ⊤

@@ -3,7 +3,7 @@ use Rattle.std.specs.Prelude.{◌≡◌, ℕ, ◌+◌, ◌-◌, ◌*◌, ◌≤�
 use Rattle.wh_grid.specs.declared.cell.Cell.{Cell}
 use Rattle.wh_grid.specs.Grids.{Floor, passable_cells}
 use Rattle.wh_field.specs.Distances.{IsRoute}
-use Rattle.wh_path.specs.Paths.{at, end, last_index, cell_at, place_of, others, ends, horizon, IsWalk, IsFree, VisitsInOrder}
+use Rattle.wh_path.specs.Paths.{at, end, last_index, cell_at, place_of, end_of, others, ends, horizon, IsWalk, IsFree, VisitsInOrder}
 
 -- The path goes through the stops in their order, and ends at the last of them.
 pub record Delivers (stops path : List Cell) : Type 0 where
@@ -23,10 +23,10 @@ pub record IsLawful (g : Floor) (nofollow : Bool) (paths : List (List Cell)) (ag
   pub bounded : last_index path ≤ horizon (others paths agent) + legs * passable_cells g
   pub serves : Serves path
 
--- A walk from where the agent is, for a duty, that avoids the cells where other paths end. Time plays no part.
+-- A walk from where the agent comes to rest, for a duty, that avoids the cells where other paths end. Time plays no part.
 pub record IsClearWay (g : Floor) (paths : List (List Cell)) (agent : ℕ) (Serves : List Cell → Type 0) (way : List Cell) : Type 0 where
   pub walk : IsWalk g way
-  pub starts_here : at way 0 ≡ place_of paths agent
+  pub starts_here : at way 0 ≡ end_of paths agent
   pub clear : (k : ℕ) → ¬ Contains (ends (others paths agent)) (at way k)
   pub serves : Serves way
 

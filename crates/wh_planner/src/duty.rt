@@ -6,7 +6,7 @@ use wh_grid::Cell;
 /// What a path is planned for.
 #[derive(Clone, Copy)]
 pub enum Duty<'a> {
-    /// To go through the stops, 2 to 8 of them, in their order, and to end at the last.
+    /// To go through the stops, 2 to 9 of them, in their order, and to end at the last.
     Deliver { stops: &'a [Cell] },
     /// To end at one of these cells.
     Park { allowed: &'a [Cell] },

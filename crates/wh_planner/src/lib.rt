@@ -8,4 +8,4 @@ mod planner;
 
 pub use duty::Duty;
 pub use others::other_ends;
-pub use planner::{PlanFault, Planner, Scene};
+pub use planner::{PlanFault, Planner, Plans, Scene};

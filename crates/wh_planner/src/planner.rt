@@ -3,7 +3,7 @@
 
 ghost use Rattle.std.specs.Prelude.{◌≡◌, ◌<◌, ℕ, Bool, true, IfOk, IfErr, length};
 ghost use Rattle.wh_grid.specs.Grids.{Floor};
-ghost use Rattle.wh_path.specs.Paths.{AllFree, steps_left};
+ghost use Rattle.wh_path.specs.Paths.{path_of, AllFree, IsWalk};
 ghost use Rattle.wh_planner.specs.Duties.{IsLawful, HasNoClearWay};
 ghost use Rattle.wh_planner.specs.Asked.{IsDuty, Serves, legs};
 ghost use Rattle.wh_shared.specs.Shares.{stored_grid, room};
@@ -39,7 +39,7 @@ pub enum PlanFault {
 
 /// Plans for one agent at a time, on one grid, by distance fields that are lent to it for the call, and may count some
 /// of them as kept between the plans.
-pub trait Planner: Send + Drop {
+pub trait Plans: Drop {
     // the grids that it plans on
     ghost fits_map: { Self → Floor → Bool };
 
@@ -54,7 +54,7 @@ pub trait Planner: Send + Drop {
     fn slots(&self) -> u32
         ensures { result ≡ slot_count self.now };
 
-    /// A lawful path for the duty of an agent that has no steps left. `NoPath` comes only where there is no clear way, and
+    /// A lawful path for the duty of an agent, in place of what is left of its own. `NoPath` comes only where there is no clear way, and
     /// `NoMemory` when out of memory: the planner then fits the same grids and has the same slots. The fields are
     /// over the same grid as before, and there is room for as many.
     fn plan(
@@ -67,7 +67,7 @@ pub trait Planner: Send + Drop {
         requires fits { fits_map self.old scene.now.grid.now ≡ true }
         requires stored { stored_grid fields.old ≡ scene.now.grid.now }
         requires agent { scene.now.agent < length scene.now.paths.now }
-        requires resting { steps_left scene.now.paths.now scene.now.agent ≡ 0 }
+        requires walk { IsWalk scene.now.grid.now (path_of scene.now.paths.now scene.now.agent) }
         requires free { AllFree scene.now.nofollow scene.now.paths.now }
         requires duty { IsDuty duty }
         ensures fits_stays { (g : Floor) → fits_map self.new g ≡ fits_map self.old g }
@@ -78,11 +78,14 @@ pub trait Planner: Send + Drop {
         ensures no_path { IfErr result (λ fault. fault ≡ PlanFault.NoPath → HasNoClearWay scene.now.grid.now scene.now.paths.now scene.now.agent (Serves duty.entry)) };
 }
 
-/// A boxed planner plans as the planner in the box.
-impl Planner for Box<dyn Planner> {
-    ghost fits_map = { λ b. (Planner-box b).fits_map b.value };
+/// A planner that may be sent to another thread.
+pub trait Planner: Plans + Send {}
 
-    ghost slot_count = { λ b. (Planner-box b).slot_count b.value };
+/// A boxed planner plans as the planner in the box.
+impl Plans for Box<dyn Planner> {
+    ghost fits_map = { λ b. (Planner-box b).Plans.fits_map b.value };
+
+    ghost slot_count = { λ b. (Planner-box b).Plans.slot_count b.value };
 
     fn fits(&self, grid: &Grid) -> bool {
         (**self).fits(grid)
@@ -102,3 +105,5 @@ impl Planner for Box<dyn Planner> {
         (**self).plan(alloc, fields, scene, duty)
     }
 }
+
+impl Planner for Box<dyn Planner> {}

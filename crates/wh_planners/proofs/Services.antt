@@ -1,5 +1,5 @@
 -- between what a duty asks and what the search finds
-use Rattle.std.proofs.Common.{◌≡◌, ℕ, ◌<◌, ◌≤◌, ◌∙◌, Bool, true, false, ◌==◌, ◌&&◌, List, [], length, get_or, Contains, Result, Ok, Err, IfErr, refl, sym, ap, subst, eqb-true, arith}
+use Rattle.std.proofs.Common.{◌≡◌, ◌≢◌, ℕ, ◌<◌, ◌≤◌, ◌∙◌, Bool, true, false, ◌==◌, ◌&&◌, List, [], length, get_or, Contains, Result, Ok, Err, IfErr, refl, sym, ap, subst, eqb-true, arith}
 use Rattle.std.proofs.lemmas.List.{get_or_default}
 use Rattle.std.specs.Cmp.{booleans_Decides}
 use Rattle.std.specs.Cmp.Lexicographic.{pointwise}
@@ -8,9 +8,9 @@ use Rattle.std.proofs.lemmas.Slice.Eq.{slice_eq-Decides}
 use Rattle.wh_grid.specs.declared.cell.Cell.{Cell}
 use Rattle.wh_grid.specs.Grids.{Floor, IsPassable, same_floor}
 use Rattle.wh_grid.proofs.Removed.{all_removed-from}
-use Rattle.wh_path.specs.Paths.{at, last_index, path_of, place_of, steps_left, AllFree}
-use Rattle.wh_path.proofs.AtLemmas.{at-rests}
-use Rattle.wh_resv.specs.Others.{Others, StaysAway, MayRest}
+use Rattle.wh_path.specs.Paths.{at, last_index, path_of, place_of, others, IsWalk, AllFree}
+use Rattle.wh_resv.specs.Others.{Others}
+use Rattle.wh_resv.specs.Calls.{IsVacant}
 use Rattle.wh_search.specs.declared.fault.Fault.{Fault}
 use Rattle.wh_search.specs.declared.fault.Fault.TheVariants.{NoPath}
 use Rattle.wh_search.specs.Deliveries.{IsDelivery, IsLawful as IsSearchLawful, IfNoPath}
@@ -86,27 +86,28 @@ module _ (g : Floor) (nofollow : Bool) (paths : List (List Cell)) (agent : ℕ) 
     pub no_parking : (allowed : List Cell) → ((q : List Cell) → IsParking g seen loc allowed q → ⊥) → HasNoService g nofollow paths agent (ParksAt (Contains allowed))
     no_parking allowed none path s = none path (parking_seen allowed path s)
 
-  module _ (known : agent < length paths) (resting : steps_left paths agent ≡ 0) (free : AllFree nofollow paths) where
-    -- who has no steps left rests where nobody comes
-    pub rests_clear : (seen : Others) (loc : Cell) → seen ≡ others_of nofollow paths agent → loc ≡ place_of paths agent → MayRest seen loc 0
-    rests_clear seen loc same here =
-        let mine = path_of paths agent in
+  module _ (known : agent < length paths) (walk : IsWalk g (path_of paths agent)) (free : AllFree nofollow paths) where
+    -- where the agent is nobody else is
+    pub here_vacant : (seen : Others) (loc : Cell) → seen ≡ others_of nofollow paths agent → loc ≡ place_of paths agent → IsVacant seen.paths loc 0
+    here_vacant seen loc same here =
         let c = place_of paths agent in
-        let clear : MayRest (others_of nofollow paths agent) c 0 = all_removed-from (λ q. StaysAway q c 0) paths agent
-        (λ j d h ne. record {
-          away = λ k z e.
-              (free.pair agent j known h (λ s. ne (sym s))).apart k (at-rests mine k 0 (omega arith) (omega arith) ∙ sym e ∙ ap (λ (q : List Cell). at q k) (get_or_default paths j d [] h));
-        }) in
-        subst (λ (o : Others). MayRest o loc 0) (sym same) (subst (λ (b : Cell). MayRest (others_of nofollow paths agent) b 0) (sym here) clear)
+        let vacant : IsVacant (others paths agent) c 0 = all_removed-from (λ q. at q 0 ≢ c) paths agent
+        (λ j d h ne e. (free.pair agent j known h (λ s. ne (sym s))).apart 0 (sym e ∙ ap (λ (q : List Cell). at q 0) (get_or_default paths j d [] h))) in
+        subst (λ (o : Others). IsVacant o.paths loc 0) (sym same) (subst (λ (b : Cell). IsVacant (others paths agent) b 0) (sym here) vacant)
 
     -- where no path serves, there is no clear way
     pub no_way : (duty : Duty) → IsDuty duty → HasNoService g nofollow paths agent (Serves duty) → HasNoClearWay g paths agent (Serves duty)
     no_way (Deliver stops) is none way clear =
-        let l = clear_delivery-lawful g nofollow paths agent stops.now way (record { known = known; resting = resting; free = free }) (let h = is.0 in omega arith) clear in
+        let l = clear_delivery-lawful g nofollow paths agent stops.now way (record { known = known; walk = walk; free = free }) (let h = is.0 in omega arith) clear in
         none l.0 (service_of (length stops.now) (Delivers stops.now) l.0 l.1)
     no_way (Park allowed) is none way clear =
-        let l = clear_parking-lawful g nofollow paths agent (Contains allowed.now) way (record { known = known; resting = resting; free = free }) clear in
+        let l = clear_parking-lawful g nofollow paths agent (Contains allowed.now) way (record { known = known; walk = walk; free = free }) clear in
         none l.0 (service_of 2 (ParksAt (Contains allowed.now)) l.0 l.1)
+
+-- the path that is read is the agent's
+pub own_is : (all paths : List (List Cell)) (agent : ℕ) (mine : List Cell) → agent < length paths → all ≡ paths → mine ≡ get_or all agent mine → mine ≡ path_of paths agent
+own_is all paths agent mine known same read =
+    read ∙ ap (λ (ps : List (List Cell)). get_or ps agent mine) same ∙ get_or_default paths agent mine [] known
 
 -- the cell from which the search sets out is the agent's
 pub loc_is : (all paths : List (List Cell)) (agent : ℕ) (mine : List Cell) (loc : Cell) → agent < length paths → all ≡ paths → mine ≡ get_or all agent mine →

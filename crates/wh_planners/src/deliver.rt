@@ -5,7 +5,7 @@ ghost use Rattle.std.specs.Prelude.{◌≡◌, ℕ, ◌<◌, ◌≤◌, IfOk, Is
 ghost use Rattle.wh_grid.specs.declared.cell.Cell.{Cell};
 ghost use Rattle.wh_grid.specs.Grids.{IsPassable};
 ghost use Rattle.wh_path.specs.Paths.{cell_at, last_index};
-ghost use Rattle.wh_resv.specs.Others.{MayRest};
+ghost use Rattle.wh_resv.specs.Calls.{IsVacant};
 ghost use Rattle.wh_search.specs.Deliveries.{AreStops, IsDelivery, IsLawful, IfNoPath};
 ghost use Rattle.wh_search.specs.Sights.{IsSightAt};
 ghost use Rattle.wh_shared.specs.Shares.{stored_grid, room, slots};
@@ -34,15 +34,15 @@ fn ask_fields(
     share: &mut Share,
     loc: Cell,
     stops: &[Cell],
-) -> Result<[Option<u32>; 8], AllocError>
-    requires { length stops.now ≤ 8 }
+) -> Result<[Option<u32>; 9], AllocError>
+    requires { length stops.now ≤ 9 }
     ensures room { room store.new ≡ room store.old }
     ensures grid { stored_grid store.new ≡ stored_grid store.old }
     ensures slots { slots share.new ≡ slots share.old }
     ensures asked { IfOk result (λ levels. (l : ℕ) → l < length stops.now → l < room store.old → IsFilled store.new (cell_at stops.now l) (slice_index_or levels l None)) }
 {
     let few = stops.len().min(store.room());
-    let mut levels = [None; 8];
+    let mut levels = [None; 9];
     for i in 0..few {
         let leg = few - 1 - i;
         if leg < share.slots() {
@@ -70,14 +70,14 @@ fn sight_of(store: &SharedFields, stop: Cell, level: Option<u32>) -> Option<Sigh
 fn sights_of<'a>(
     store: &'a SharedFields,
     stops: &[Cell],
-    levels: [Option<u32>; 8],
-) -> [Option<Sight<'a>>; 8]
-    requires { length stops.now ≤ 8 }
-    ensures size { length result ≡ 8 }
+    levels: [Option<u32>; 9],
+) -> [Option<Sight<'a>>; 9]
+    requires { length stops.now ≤ 9 }
+    ensures size { length result ≡ 9 }
     ensures each { (l : ℕ) → l < length stops.now → IsSightAt (stored_grid store.now) (slice_index_or result l None) (cell_at stops.now l) }
     ensures all { (l : ℕ) → l < length stops.now → IsFilled store.now (cell_at stops.now l) (slice_index_or levels l None) → IsSomeAnd (slice_index_or result l None) (λ s. slice_index_or levels l None ≡ Some s.level) }
 {
-    let mut sights = [None; 8];
+    let mut sights = [None; 9];
     for i in 0..stops.len() {
         sights[i] = sight_of(store, stops[i], levels[i]);
     }
@@ -116,7 +116,7 @@ fn deliver_guided(
 ) -> Result<TimedPath, Fault>
     requires fits { stored_grid store.old ≡ grid.now }
     requires inside { IsPassable grid.now loc }
-    requires clear { MayRest others.now loc 0 }
+    requires clear { IsVacant others.now.paths loc 0 }
     requires stops { AreStops stops.now }
     ensures room { room store.new ≡ room store.old }
     ensures grid { stored_grid store.new ≡ stored_grid store.old }
@@ -158,7 +158,7 @@ pub fn deliver_shared(
 ) -> Result<TimedPath, Fault>
     requires fits { stored_grid store.old ≡ grid.now }
     requires inside { IsPassable grid.now loc }
-    requires clear { MayRest others.now loc 0 }
+    requires clear { IsVacant others.now.paths loc 0 }
     requires stops { AreStops stops.now }
     ensures room { room store.new ≡ room store.old }
     ensures grid { stored_grid store.new ≡ stored_grid store.old }

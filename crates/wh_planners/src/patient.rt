@@ -1,12 +1,12 @@
-//! The patient planner: it waits until all others rest, and then goes around them.
+//! The patient planner: it goes its own way until all others rest, and then around them.
 #![tactic(auto)]
 
 ghost use Rattle.std.specs.Prelude.{◌≡◌, ◌<◌, ◌≤◌, ◌^◌, ◌+◌, ◌*◌, ℕ, Bool, true, List, [], ◌∷◌, IfOk, IfErr, IfSome, IfNone, length, Contains};
 ghost use Rattle.wh_grid.specs.declared.cell.Cell.{Cell};
 ghost use Rattle.wh_grid.specs.Grids.{Floor, same_floor};
-ghost use Rattle.wh_path.specs.Paths.{at, last_index, AllFree, IsWalk, steps_left};
+ghost use Rattle.wh_path.specs.Paths.{at, last_index, path_of, AllFree, IsWalk};
 ghost use Rattle.wh_field.specs.Distances.{IsNearestRoute};
-ghost use Rattle.wh_planner.specs.Duties.{Delivers, ParksAt, IsLawful, IsClearWay, HasNoClearWay};
+ghost use Rattle.wh_planner.specs.Duties.{Delivers, ParksAt, IsLawful, HasNoClearWay};
 ghost use Rattle.wh_planner.specs.Asked.{IsDuty, Serves, legs};
 ghost use Rattle.wh_planners.specs.Patience.{IsPatient, GoesPatiently, ParksPatiently, IsPatientPath};
 ghost use Rattle.wh_claims.specs.Claim.{claim_amount};
@@ -19,41 +19,39 @@ use wh_claims::Claim;
 use wh_field::{route, route_to_nearest};
 use wh_grid::{Cell, Grid};
 use wh_path::{TimedPath, last_to_rest};
-use wh_planner::{Duty, PlanFault, Planner, Scene, other_ends};
+use wh_planner::{Duty, PlanFault, Planner, Plans, Scene, other_ends};
 use wh_shared::SharedFields;
 
-/// The path that stays at a cell until a time.
-fn waiting(alloc: Global, here: Cell, wait: u64) -> Result<TimedPath, AllocError>
+/// The path that goes the way of another until a time.
+fn going_on(alloc: Global, own: &TimedPath, wait: u64) -> Result<TimedPath, AllocError>
     requires { wait < 2 ^ 61 }
-    ensures stays { IfOk result (λ p. (k : ℕ) → at p k ≡ here) }
+    ensures goes { IfOk result (λ p. (k : ℕ) → k ≤ wait → at p k ≡ at own.now k) }
     ensures size { IfOk result (λ p. length p ≡ wait + 1) }
 {
     let mut cells = Vec::with_capacity(alloc, wait as usize + 1)?;
-    cells.push(here)?;
+    cells.push(own.at(0))?;
     for k in 0..wait {
-        cells.push(here)?;
+        cells.push(own.at(k + 1))?;
     }
     Ok(TimedPath::over(cells))
 }
 
-/// Waits, and goes from stop to stop by shortest routes that avoid some cells.
+/// Goes the own way until a time, and then from stop to stop by shortest routes that avoid some cells.
 fn tour(
     alloc: Global,
     grid: &Grid,
-    here: Cell,
+    own: &TimedPath,
     wait: u64,
     stops: &[Cell],
     avoid: &[Cell],
 ) -> Result<Option<TimedPath>, AllocError>
     requires wait { wait < 2 ^ 61 }
-    requires off { ¬ Contains avoid.now here }
-    ensures found { IfOk result (λ r. IfSome r (IsPatient grid.now avoid.now here wait stops.now (length stops.now))) }
-    ensures none { IfOk result (λ r. IfNone r ((way : List Cell) → IsWalk grid.now way → at way 0 ≡ here → ((k : ℕ) → ¬ Contains avoid.now (at way k)) → ¬ Delivers stops.now way)) }
+    requires walk { IsWalk grid.now own.now }
+    requires off { ¬ Contains avoid.now (at own.now wait) }
+    ensures found { IfOk result (λ r. IfSome r (IsPatient grid.now avoid.now own.now wait stops.now (length stops.now))) }
+    ensures none { IfOk result (λ r. IfNone r ((way : List Cell) → IsWalk grid.now way → at way 0 ≡ at own.now wait → ((k : ℕ) → ¬ Contains avoid.now (at way k)) → ¬ Delivers stops.now way)) }
 {
-    if !grid.passable(here) {
-        return Ok(None);
-    }
-    let mut path = waiting(alloc, here, wait)?;
+    let mut path = going_on(alloc, own, wait)?;
     for i in 0..stops.len() {
         match route(alloc, grid, path.end(), stops[i], avoid)? {
             Some(leg) => path.follow(&leg)?,
@@ -66,33 +64,32 @@ fn tour(
 /// The patient path through the stops. None where there is no clear way.
 fn deliver(alloc: Global, scene: &Scene, stops: &[Cell]) -> Result<Option<TimedPath>, AllocError>
     requires agent { scene.now.agent < length scene.now.paths.now }
-    requires resting { steps_left scene.now.paths.now scene.now.agent ≡ 0 }
+    requires walk { IsWalk scene.now.grid.now (path_of scene.now.paths.now scene.now.agent) }
     requires free { AllFree scene.now.nofollow scene.now.paths.now }
     ensures found { IfOk result (λ r. IfSome r (GoesPatiently scene.now.grid.now scene.now.paths.now scene.now.agent stops.now)) }
     ensures none { IfOk result (λ r. IfNone r (HasNoClearWay scene.now.grid.now scene.now.paths.now scene.now.agent (Delivers stops.now))) }
 {
     let paths = scene.paths.paths();
     let avoid = other_ends(alloc, paths, scene.agent)?;
-    let here = paths[scene.agent].at(0);
     let wait = last_to_rest(paths, scene.agent);
-    tour(alloc, scene.grid, here, wait, stops, &avoid)
+    tour(alloc, scene.grid, &paths[scene.agent], wait, stops, &avoid)
 }
 
 /// The patient path to the nearest of the allowed cells. None where there is no clear way.
 fn park(alloc: Global, scene: &Scene, allowed: &[Cell]) -> Result<Option<TimedPath>, AllocError>
     requires agent { scene.now.agent < length scene.now.paths.now }
-    requires resting { steps_left scene.now.paths.now scene.now.agent ≡ 0 }
+    requires walk { IsWalk scene.now.grid.now (path_of scene.now.paths.now scene.now.agent) }
     requires free { AllFree scene.now.nofollow scene.now.paths.now }
     ensures found { IfOk result (λ r. IfSome r (ParksPatiently scene.now.grid.now scene.now.paths.now scene.now.agent allowed.now)) }
     ensures none { IfOk result (λ r. IfNone r (HasNoClearWay scene.now.grid.now scene.now.paths.now scene.now.agent (ParksAt (Contains allowed.now)))) }
 {
     let paths = scene.paths.paths();
     let avoid = other_ends(alloc, paths, scene.agent)?;
-    let here = paths[scene.agent].at(0);
+    let wait = last_to_rest(paths, scene.agent);
+    let here = paths[scene.agent].at(wait);
     match route_to_nearest(alloc, scene.grid, here, allowed, &avoid)? {
         Some((index, leg)) => {
-            let wait = last_to_rest(paths, scene.agent);
-            let mut path = waiting(alloc, here, wait)?;
+            let mut path = going_on(alloc, &paths[scene.agent], wait)?;
             path.follow(&leg)?;
             Ok(Some(path))
         }
@@ -100,7 +97,7 @@ fn park(alloc: Global, scene: &Scene, allowed: &[Cell]) -> Result<Option<TimedPa
     }
 }
 
-/// The path of the patient planner: until the others rest it stays, and then it goes around their
+/// The path of the patient planner: until the others rest it goes its own way, and then around their
 /// ends, from stop to stop by shortest routes, or to the nearest of the allowed cells.
 pub fn patient_path(
     alloc: Global,
@@ -108,12 +105,11 @@ pub fn patient_path(
     duty: Duty,
 ) -> Result<Option<TimedPath>, AllocError>
     requires agent { scene.now.agent < length scene.now.paths.now }
-    requires resting { steps_left scene.now.paths.now scene.now.agent ≡ 0 }
+    requires walk { IsWalk scene.now.grid.now (path_of scene.now.paths.now scene.now.agent) }
     requires free { AllFree scene.now.nofollow scene.now.paths.now }
     requires duty { IsDuty duty }
     ensures patient { IfOk result (λ r. IfSome r (IsPatientPath scene.now.grid.now scene.now.paths.now scene.now.agent duty.entry)) }
     ensures lawful { IfOk result (λ r. IfSome r (IsLawful scene.now.grid.now scene.now.nofollow scene.now.paths.now scene.now.agent (legs duty.entry) (Serves duty.entry))) }
-    ensures clear { IfOk result (λ r. IfSome r (IsClearWay scene.now.grid.now scene.now.paths.now scene.now.agent (Serves duty.entry))) }
     ensures none { IfOk result (λ r. IfNone r (HasNoClearWay scene.now.grid.now scene.now.paths.now scene.now.agent (Serves duty.entry))) }
 {
     match duty {
@@ -122,7 +118,7 @@ pub fn patient_path(
     }
 }
 
-/// Waits until all others rest, and then goes around them. It keeps no fields, so its slots stay empty; when it is dropped,
+/// Goes its own way until all others rest, and then around them. It keeps no fields, so its slots stay empty; when it is dropped,
 /// its claim gives them back.
 #[derive(Drop)]
 pub struct Patient {
@@ -153,7 +149,7 @@ impl Patient {
     }
 }
 
-impl Planner for Patient {
+impl Plans for Patient {
     ghost fits_map = { λ p g. same_floor p.grid g };
 
     ghost slot_count = { λ p. claim_amount p.claim };
@@ -179,7 +175,7 @@ impl Planner for Patient {
     ) -> Result<TimedPath, PlanFault>
         requires fits { same_floor self.old.grid scene.now.grid.now ≡ true }
         requires agent { scene.now.agent < length scene.now.paths.now }
-        requires resting { steps_left scene.now.paths.now scene.now.agent ≡ 0 }
+        requires walk { IsWalk scene.now.grid.now (path_of scene.now.paths.now scene.now.agent) }
         requires free { AllFree scene.now.nofollow scene.now.paths.now }
         requires duty { IsDuty duty }
         ensures same { self.new ≡ self.old }
@@ -199,3 +195,5 @@ impl Planner for Patient {
         }
     }
 }
+
+impl Planner for Patient {}

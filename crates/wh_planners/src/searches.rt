@@ -3,7 +3,7 @@
 
 ghost use Rattle.std.specs.Prelude.{◌≡◌, ℕ, ◌<◌, ◌≤◌, IfOk, IfErr, List, Contains, length};
 ghost use Rattle.wh_grid.specs.declared.cell.Cell.{Cell};
-ghost use Rattle.wh_path.specs.Paths.{AllFree, steps_left};
+ghost use Rattle.wh_path.specs.Paths.{path_of, AllFree, IsWalk};
 ghost use Rattle.wh_search.specs.Deliveries.{AreStops};
 ghost use Rattle.wh_planner.specs.Duties.{Delivers, ParksAt, IsLawful};
 ghost use Rattle.wh_planners.specs.Services.{HasNoService, HasNoShorter, others_of};
@@ -42,7 +42,7 @@ pub fn plan_delivery(
 ) -> Result<TimedPath, PlanFault>
     requires fits { stored_grid fields.old ≡ scene.now.grid.now }
     requires agent { scene.now.agent < length scene.now.paths.now }
-    requires resting { steps_left scene.now.paths.now scene.now.agent ≡ 0 }
+    requires walk { IsWalk scene.now.grid.now (path_of scene.now.paths.now scene.now.agent) }
     requires free { AllFree scene.now.nofollow scene.now.paths.now }
     requires stops { AreStops stops.now }
     ensures room { room fields.new ≡ room fields.old }
@@ -77,7 +77,7 @@ pub fn plan_parking(
     allowed: &[Cell],
 ) -> Result<TimedPath, PlanFault>
     requires agent { scene.now.agent < length scene.now.paths.now }
-    requires resting { steps_left scene.now.paths.now scene.now.agent ≡ 0 }
+    requires walk { IsWalk scene.now.grid.now (path_of scene.now.paths.now scene.now.agent) }
     requires free { AllFree scene.now.nofollow scene.now.paths.now }
     ensures lawful { IfOk result (IsLawful scene.now.grid.now scene.now.nofollow scene.now.paths.now scene.now.agent 2 (ParksAt (Contains allowed.now))) }
     ensures least { IfOk result (HasNoShorter scene.now.grid.now scene.now.nofollow scene.now.paths.now scene.now.agent (ParksAt (Contains allowed.now))) }

@@ -3,7 +3,7 @@
 
 ghost use Rattle.std.specs.Prelude.{◌≡◌, ◌<◌, ◌≤◌, IfOk, IfErr, [], length};
 ghost use Rattle.wh_grid.specs.Grids.{Floor, same_floor};
-ghost use Rattle.wh_path.specs.Paths.{AllFree, steps_left};
+ghost use Rattle.wh_path.specs.Paths.{path_of, AllFree, IsWalk};
 ghost use Rattle.wh_planner.specs.Duties.{IsLawful, HasNoClearWay};
 ghost use Rattle.wh_planner.specs.Asked.{IsDuty, Serves, legs};
 ghost use Rattle.wh_claims.specs.Claim.{claim_amount};
@@ -18,7 +18,7 @@ use std::sync::Arc;
 use wh_claims::Claim;
 use wh_grid::Grid;
 use wh_path::TimedPath;
-use wh_planner::{Duty, PlanFault, Planner, Scene};
+use wh_planner::{Duty, PlanFault, Planner, Plans, Scene};
 use wh_search::SearchMemory;
 use wh_shared::{Share, SharedFields};
 
@@ -74,7 +74,7 @@ impl Sharing {
     }
 }
 
-impl Planner for Sharing {
+impl Plans for Sharing {
     ghost fits_map = { λ n g. same_floor n.grid g };
 
     ghost slot_count = { λ n. claim_amount n.claim };
@@ -100,7 +100,7 @@ impl Planner for Sharing {
     ) -> Result<TimedPath, PlanFault>
         requires stored { stored_grid fields.old ≡ scene.now.grid.now }
         requires agent { scene.now.agent < length scene.now.paths.now }
-        requires resting { steps_left scene.now.paths.now scene.now.agent ≡ 0 }
+        requires walk { IsWalk scene.now.grid.now (path_of scene.now.paths.now scene.now.agent) }
         requires free { AllFree scene.now.nofollow scene.now.paths.now }
         requires duty { IsDuty duty }
         ensures grid_stays { self.new.grid ≡ self.old.grid }
@@ -127,3 +127,5 @@ impl Planner for Sharing {
         }
     }
 }
+
+impl Planner for Sharing {}

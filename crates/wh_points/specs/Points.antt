@@ -4,6 +4,7 @@ use Rattle.wh_grid.specs.declared.cell.Cell.{Cell}
 use Rattle.wh_points.specs.declared.points.Point.{Point}
 use Rattle.wh_points.specs.declared.points.Kind.{Kind}
 use Rattle.wh_grid.specs.Grids.{Floor, IsPassable}
+use Rattle.wh_path.specs.Paths.{cell_at}
 
 -- the points in the order of their file, the number of the point at which each agent starts, and whether the rule
 -- against following stands
@@ -12,10 +13,11 @@ pub record Layout : Type 0 where
   pub agents : List ℕ
   pub nofollow : Bool
 
--- the points on their grid
+-- the points on their grid; and whether each agent's path goes on home, by the option
 pub record Site : Type 0 where
   pub grid : Floor
   pub layout : Layout
+  pub homes : Bool
 
 -- a station of this name stands at the cell
 abbrev pub IsStation : Layout → List ℕ → Cell → Type 0
@@ -48,6 +50,10 @@ parkings layout = count_by (λ point. is_parking point.kind) layout.points
 -- where each agent starts
 abbrev pub starts : Layout → List Cell
 starts layout = map (λ n. (point_at layout.points n).cell) layout.agents
+
+-- the home of an agent: the cell where the points file starts it
+abbrev pub home_of : Layout → ℕ → Cell
+home_of layout agent = cell_at (starts layout) agent
 
 -- what every points file that is read gives: passable cells, no name or cell twice, and the agents start at different points
 pub record IsLayout (g : Floor) (layout : Layout) : Type 0 where

@@ -15,7 +15,7 @@ use std::io::Write;
 use wh_event::{Command, Entry, LineFault, Reply, put, put_reply, read_line_into};
 use wh_lines::{CommandLine, WriteFault, write_all};
 use wh_log::{Form, tell};
-use wh_planner::Planner;
+use wh_planner::Plans;
 use wh_token::Warehouse;
 
 /// The caller of each event of a script.
@@ -129,7 +129,7 @@ fn tell_outcome<W: Write>(
 /// Runs a command, and tells its reply.
 // Nearly all commands are requests by agents that rest: with these functions inlined, they are answered without a call.
 #[inline(always)]
-pub fn obey<W: Write, P: Planner>(
+pub fn obey<W: Write, P: Plans>(
     command: &Command,
     alloc: Global,
     form: Form,
@@ -160,7 +160,7 @@ pub fn read_kept(line: &CommandLine, command: &mut Command) -> Result<bool, Line
 
 /// Answers a line, of which only a front is kept. How many replies it got: one, or none where it is skipped. The command is a
 /// room for what the line asks.
-pub(crate) fn answer<W: Write, P: Planner>(
+pub(crate) fn answer<W: Write, P: Plans>(
     line: &CommandLine,
     command: &mut Command,
     alloc: Global,

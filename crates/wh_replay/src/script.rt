@@ -14,7 +14,7 @@ use std::io::{Read, Write};
 use wh_event::{Command, read_front_into};
 use wh_lines::{CommandLine, LineFault, Lines, Next, ReadFault};
 use wh_log::Form;
-use wh_planner::Planner;
+use wh_planner::Plans;
 use wh_token::Warehouse;
 
 /// How many lines were written.
@@ -45,7 +45,7 @@ fn fault_of(fault: LineFault) -> ReplayFault
 }
 
 /// Serves a line, of which only a front is kept. How many replies it got: one or none. The command is a room for what it asks.
-pub fn serve<W: Write, P: Planner>(
+pub fn serve<W: Write, P: Plans>(
     line: &CommandLine,
     command: &mut Command,
     alloc: Global,
@@ -83,7 +83,7 @@ fn take_request<R: Read>(lines: &mut Lines<R>, command: &mut Command) -> bool
     }
 }
 
-fn serve_all<R: Read, W: Write, P: Planner>(
+fn serve_all<R: Read, W: Write, P: Plans>(
     lines: &mut Lines<R>,
     alloc: Global,
     form: Form,
@@ -133,7 +133,7 @@ fn serve_all<R: Read, W: Write, P: Planner>(
 /// of a known agent takes the last spare. The writer is flushed before each read, and at the end.
 ///
 /// A line takes no memory of its own. An event whose reply could not be written stands.
-pub fn replay<R: Read, W: Write, P: Planner>(
+pub fn replay<R: Read, W: Write, P: Plans>(
     lines: &mut Lines<R>,
     alloc: Global,
     form: Form,

@@ -1,5 +1,5 @@
 -- what following a log says of runs from an opening
-use Rattle.std.proofs.Common.{◌≡◌, ℕ, zero, suc, ◌≤◌, List, [], ◌∷◌, ◌++◌, length, refl, sym, ap, ◌∙◌, subst, arith, lit≤, append_assoc, append-nil}
+use Rattle.std.proofs.Common.{◌≡◌, ℕ, Bool, false, zero, suc, ◌≤◌, List, [], ◌∷◌, ◌++◌, length, refl, sym, ap, ◌∙◌, subst, arith, lit≤, append_assoc, append-nil}
 use Rattle.std.specs.List.{AllByRecursion}
 use Rattle.wh_grid.specs.Grids.{Floor}
 use Rattle.wh_points.specs.Points.{Layout, Site, IsLayout}
@@ -134,9 +134,11 @@ led_parts site content last clock slots history state led a b c d =
       history_is = h;
     }
 
-pub site_of : (s : Site) (grid : Floor) (layout : Layout) → grid ≡ s.grid → layout ≡ s.layout → record { grid = grid; layout = layout } ≡ s
-site_of s grid layout e f =
-    ap (λ (g : Floor). let x : Site = record { grid = g; layout = layout } in x) e ∙ ap (λ (l : Layout). let x : Site = record { grid = s.grid; layout = l } in x) f
+pub site_of : (s : Site) (grid : Floor) (layout : Layout) → grid ≡ s.grid → layout ≡ s.layout → s.homes ≡ false → record { grid = grid; layout = layout; homes = false } ≡ s
+site_of s grid layout e f off =
+    ap (λ (g : Floor). let x : Site = record { grid = g; layout = layout; homes = false } in x) e
+    ∙ ap (λ (l : Layout). let x : Site = record { grid = s.grid; layout = l; homes = false } in x) f
+    ∙ ap (λ (b : Bool). let x : Site = record { grid = s.grid; layout = s.layout; homes = b } in x) (sym off)
 
 leads_run : (site : Site) (first : Kept) (content : Content) (new : Kept) → IsLayout site.grid site.layout → first.judge.site ≡ site → first.content.entries ≡ []
     → Leads Opens Steps first content new → IsRunOf site content

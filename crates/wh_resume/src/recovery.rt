@@ -9,7 +9,7 @@ use crate::fronts::is_front;
 use crate::keeper::{Keeper, Parts};
 use std::alloc::Global;
 use wh_judge::{Book, Instance, Setting};
-use wh_log::{Front, Source, SourceFault, Version, follow_front};
+use wh_log::{Front, NoMemory, Source, SourceFault, Version, follow_front};
 use wh_words::whole_line;
 
 /// A book that goes on from what a log tells.
@@ -67,34 +67,57 @@ pub fn recover<S: Source>(
     ensures same { S.held source.new ≡ S.held source.old }
 {
     let _agents = setting.agents();
-    let mut keeper = Keeper::new(alloc, Instance::new(setting.grid(), setting.points()))?;
-    let (version, bytes, is_ended) = match follow_front(alloc, &mut keeper, source)? {
+    let mut keeper = match Keeper::new(alloc, Instance::new(setting.grid(), setting.points())) {
+        Ok(keeper) => keeper,
+        Err(NoMemory) => {
+            drop(setting);
+            return Err(SourceFault::NoMemory);
+        }
+    };
+    let front = match follow_front(alloc, &mut keeper, source) {
+        Ok(front) => front,
+        Err(fault) => {
+            drop(keeper);
+            drop(setting);
+            return Err(fault);
+        }
+    };
+    match front {
         Front::Whole {
             version,
             bytes,
             is_ended,
             ..
-        } => (version, bytes, is_ended),
+        } => {
+            let Parts {
+                first_clock,
+                first_slots,
+                floor,
+                history,
+            } = keeper.into_parts();
+            let book = Book::resume(setting, first_clock, first_slots, floor, history);
+            Ok(Recovery::Resumed(Resumed {
+                version,
+                book,
+                bytes,
+                is_ended,
+            }))
+        }
         Front::Unopened { text } => {
             drop(keeper);
             if is_front(text.as_slice(), begun) {
+                drop(text);
                 return Ok(Recovery::Unopened(setting));
             }
-            return Ok(begun_otherwise(text.as_slice()));
+            drop(setting);
+            let told = begun_otherwise(text.as_slice());
+            drop(text);
+            Ok(told)
         }
-        Front::Bad { line, bytes } => return Ok(Recovery::Bad { line, bytes }),
-    };
-    let Parts {
-        first_clock,
-        first_slots,
-        floor,
-        history,
-    } = keeper.into_parts();
-    let book = Book::resume(setting, first_clock, first_slots, floor, history);
-    Ok(Recovery::Resumed(Resumed {
-        version,
-        book,
-        bytes,
-        is_ended,
-    }))
+        Front::Bad { line, bytes } => {
+            drop(keeper);
+            drop(setting);
+            Ok(Recovery::Bad { line, bytes })
+        }
+    }
 }

@@ -29,9 +29,9 @@ pub record IsLeast (g : Floor) (others : Others) (loc : Cell) (stops : List Cell
   pub lawful : IsLawful g others loc stops p
   pub least : (q : List Cell) → IsDelivery g others loc stops q → last_index p ≤ last_index q
 
--- two to eight stops
+-- two to nine stops: eight, and home
 abbrev pub AreStops : List Cell → Type 0
-AreStops stops = (2 ≤ length stops) × (length stops ≤ 8)
+AreStops stops = (2 ≤ length stops) × (length stops ≤ 9)
 
 -- the fact for the result that there is no path
 abbrev pub IfNoPath : {T : Type 0} → Result T Fault → Type 0 → Type 0

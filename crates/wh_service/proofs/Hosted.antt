@@ -1,5 +1,5 @@
 -- What a run of `live` came to.
-use Rattle.std.proofs.Common.{◌≡◌, ◌+◌, ◌≤◌, ℕ, Bool, List, [], ◌∷◌, ◌++◌, length, map, replicate, refl, sym, ap, ◌∙◌, subst, arith, inl, inr, All, Option, None, Some, Result, Ok, Err, IfErr, option_map}
+use Rattle.std.proofs.Common.{◌≡◌, ◌+◌, ◌≤◌, ℕ, Bool, List, [], ◌∷◌, ◌++◌, false, length, map, replicate, refl, sym, ap, ◌∙◌, subst, arith, inl, inr, All, Option, None, Some, Result, Ok, Err, IfErr, option_map}
 use Prim.Native.Nat.{zero, suc}
 use Rattle.std.specs.Prelude.{MatchOption, OnOk}
 use Rattle.std.specs.Io.KnownBytes.{Keeps}
@@ -24,6 +24,7 @@ use Rattle.wh_display.specs.declared.screen.ShowFault.{ShowFault}
 use Rattle.wh_service.specs.Fleets.{IsMember, IsOfFleet, IsWhyUnclaimed, MakesPlanners}
 use Rattle.wh_service.specs.Hosts.{AreMembers, HaveSpares, IsTeam, ReadsAll, Hosts, HostsTo, IsPaceOf, IsWhyUnhosted, ShowsBoards, Tells, agent_threads, paced_turns}
 use Rattle.wh_core.specs.States.{opened}
+use Rattle.wh_core.proofs.Sound.{opening-reached}
 use Rattle.wh_core.proofs.Ways.{none_is_refused_a_path}
 use Rattle.wh_service.proofs.Logged.{logged}
 use Rattle.wh_service.proofs.Openings.{opening_read}
@@ -101,7 +102,7 @@ hosts fits count gives options site scripts planners works old new text reads ma
       team = team;
       lives = lives;
       is_opening = begins;
-      served = λ formed. none_is_refused_a_path site lives.history lives.state formed (record { opening = opened site.layout 0 lives.slots; is_opening = begins; run = (worked_of fits count works (paced_turns options) options.journal _ lives.history lives.state lives.worked).run });
+      served = λ formed. none_is_refused_a_path site lives.history lives.state formed (opening-reached site (opened site.layout 0 lives.slots) lives.history lives.state begins (worked_of fits count works (paced_turns options) options.journal _ lives.history lives.state lives.worked).run);
       slots = slots_are;
       is_log = logged fits count gives options site scripts planners works old new text reads makes range team few lives slots_are;
     }
@@ -109,7 +110,7 @@ hosts fits count gives options site scripts planners works old new text reads ma
 -- a site and its clients, in other words
 pub reads_all : (every : Option ℕ) (old between new : Input) (floor grid : Floor) (layout : Layout) (agents threads : ℕ) (scripts : List (List Command)) → grid ≡ floor → agents ≡ length layout.agents
     → threads ≡ agent_threads every agents → SiteRead old between floor layout → ClientsRead threads between new scripts
-    → ReadsAll every old new (record { grid = grid; layout = layout }) scripts
+    → ReadsAll every old new (record { grid = grid; layout = layout; homes = false }) scripts
 reads_all every old between new floor grid layout agents threads scripts same seats room at read = record {
   between = between;
   site_read = subst (λ (f : Floor). SiteRead old between f layout) (sym same) at;

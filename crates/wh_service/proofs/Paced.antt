@@ -11,7 +11,7 @@ use Rattle.wh_event.specs.declared.event.Command.{Command}
 use Rattle.wh_edge.specs.declared.work.Work.{Work}
 use Rattle.wh_core.specs.Laws.{IsOpening}
 use Rattle.wh_core.specs.States.{State}
-use Rattle.wh_core.proofs.Seats.{seats-reached}
+use Rattle.wh_core.proofs.Sound.{opening-reached, sound-reached}
 use Rattle.wh_log.specs.Ranges.{SpareKeeps}
 use Rattle.wh_board.specs.Pasts.{Origin, Past}
 use Rattle.wh_board.specs.declared.board.Board.{Board}
@@ -76,7 +76,7 @@ board_small limit ends known origin board opening few same turn =
     let from : Origin = turn.past.origin in
     let is : origin ≡ from = same ∙ turn.begins.0 in
     let opened : IsOpening from.site from.opening = subst (λ (o : Origin). IsOpening o.site o.opening) is opening in
-    let seats = (seats-reached from.site turn.past.history shows.state (record { opening = from.opening; is_opening = opened; run = shows.run })).paths in
+    let seats = (sound-reached from.site turn.past.history shows.state (opening-reached from.site from.opening turn.past.history shows.state opened shows.run).reached).seats.paths in
     let small : length from.site.layout.agents ≤ limit = subst (λ (o : Origin). length o.site.layout.agents ≤ limit) is few in
     let count = shows.agents.count in
     omega (arith, seats, count, small)

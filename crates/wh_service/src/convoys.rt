@@ -1,6 +1,6 @@
 //! What `replay` does with vehicles over a log file and a file of arrivals.
 
-ghost use Rattle.std.specs.Prelude.{◌≡◌, ◌≤◌, IfErr, IfOk, IfSome, length};
+ghost use Rattle.std.specs.Prelude.{◌≡◌, ◌≤◌, false, IfErr, IfOk, IfSome, length};
 ghost use Rattle.std.specs.Arc.{arc_value};
 ghost use Rattle.wh_points.specs.Points.{IsLayout};
 ghost use Rattle.wh_log.specs.Told.{told_text};
@@ -148,13 +148,13 @@ fn start_convoy<L: LogFile, P: Planner, F: Fn(PlannerParts) -> Result<P, AllocEr
     requires range { IsOfFleet options.now.fleet }
     requires ahead { 1 ≤ ahead }
     requires callable { F.IsAlwaysCallable make.now }
-    ensures ok { IfOk result (λ r. StartsFrom options.now.fleet (record { grid = arc_value grid.now; layout = points }) (L.contents file.old) r.0) }
+    ensures ok { IfOk result (λ r. StartsFrom options.now.fleet (record { grid = arc_value grid.now; layout = points; homes = false }) (L.contents file.old) r.0) }
     ensures stands { IfOk result (λ r. StandsBeside (L.contents beside.old) text.now r.1) }
     ensures within { IfOk result (λ r. IfSome options.now.told (λ first. first ≤ length r.0.book.history)) }
     ensures over { IfOk result (λ r. StandsOver r.0.book ahead (L.contents arrivals.old) r.2) }
     ensures in_step { IfOk result (λ r. SomeInStep r.0.book r.2.order) }
     ensures seated { IfOk result (λ r. IsSeated (F.post make.now) options.now.fleet (arc_value grid.now) r.0.book.state.slots r.3.0.items r.3.1.items) }
-    ensures fault { IfErr result (IsWhyNoConvoy options.now.fleet options.now.told ahead (record { grid = arc_value grid.now; layout = points }) (record { log = L.contents file.old; arrivals = L.contents arrivals.old }) (L.contents beside.old) text.now) }
+    ensures fault { IfErr result (IsWhyNoConvoy options.now.fleet options.now.told ahead (record { grid = arc_value grid.now; layout = points; homes = false }) (record { log = L.contents file.old; arrivals = L.contents arrivals.old }) (L.contents beside.old) text.now) }
     ensures same { L.contents file.new ≡ L.contents file.old }
     ensures same_beside { L.contents beside.new ≡ L.contents beside.old }
     ensures same_arrivals { L.contents arrivals.new ≡ L.contents arrivals.old }
@@ -167,11 +167,18 @@ fn start_convoy<L: LogFile, P: Planner, F: Fn(PlannerParts) -> Result<P, AllocEr
     };
     let stood = match stand_over(alloc, arrivals, &start.book, ahead) {
         Ok(stood) => stood,
-        Err(trouble) => return Err(trouble),
+        Err(trouble) => {
+            drop(start);
+            return Err(trouble);
+        }
     };
     match equip_for(alloc, fleet, grid, start.book.slots(), make) {
         Ok(equipped) => Ok((start, found, stood, equipped)),
-        Err(trouble) => Err(DriveTrouble::Plain(trouble)),
+        Err(trouble) => {
+            drop(stood);
+            drop(start);
+            Err(DriveTrouble::Plain(trouble))
+        }
     }
 }
 
@@ -206,7 +213,9 @@ fn go_on<R: Read, W: Write, L: LogFile, P: Planner>(
         Err(fault) => return Err(ride_trouble(fault)),
     };
     let _history = warehouse.history();
-    match write_tail(alloc, output, &warehouse, tail) {
+    let written = write_tail(alloc, output, &warehouse, tail);
+    drop(warehouse);
+    match written {
         Ok(()) => Ok(vehicles.on_their_way()),
         Err(trouble) => Err(trouble),
     }
@@ -254,9 +263,14 @@ pub fn serve_convoy<
     let bytes = text.as_slice();
     let Site { grid, points } = site;
     if !points.nofollow() {
+        drop(text);
+        drop(points);
+        drop(grid);
         return Err(DriveTrouble::Plain(Trouble::MayFollow));
     }
     let Ok(grid) = Arc::new(alloc, grid) else {
+        drop(text);
+        drop(points);
         return Err(DriveTrouble::Plain(Trouble::NoMemory));
     };
     let ahead = u64::from(pace.ahead);
@@ -264,14 +278,27 @@ pub fn serve_convoy<
         alloc, file, beside, arrivals, bytes, &grid, points, options, ahead, &make,
     ) {
         Ok(started) => started,
-        Err(trouble) => return Err(trouble),
+        Err(trouble) => {
+            drop(text);
+            drop(grid);
+            return Err(trouble);
+        }
     };
     match keep_beside(beside, bytes, found) {
         Ok(()) => {}
-        Err(_) => return Err(DriveTrouble::Plain(Trouble::Unkept)),
+        Err(_) => {
+            drop(planners);
+            drop(spares);
+            drop(stood);
+            drop(start);
+            drop(text);
+            drop(grid);
+            return Err(DriveTrouble::Plain(Trouble::Unkept));
+        }
     }
     drop(text);
-    match go_on(
+    drop(grid);
+    let left = go_on(
         alloc,
         lines,
         output,
@@ -285,7 +312,9 @@ pub fn serve_convoy<
         u64::from(pace.behind),
         planners,
         &mut spares,
-    ) {
+    );
+    drop(spares);
+    match left {
         Ok(left) => Ok(left),
         Err(trouble) => Err(DriveTrouble::Plain(trouble)),
     }

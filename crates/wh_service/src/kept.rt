@@ -1,6 +1,6 @@
 //! What `replay` does over a log file.
 
-ghost use Rattle.std.specs.Prelude.{◌≡◌, ◌<◌, ◌≤◌, ◌⊎◌, ◌+◌, ◌^◌, ℕ, Some, IfErr, IfNone, IfOk, IfSome, OnOk, length, All};
+ghost use Rattle.std.specs.Prelude.{◌≡◌, ◌<◌, ◌≤◌, ◌⊎◌, ◌+◌, ◌^◌, ℕ, false, Some, IfErr, IfNone, IfOk, IfSome, OnOk, length, All};
 ghost use Rattle.std.specs.Arc.{arc_value};
 ghost use Rattle.wh_log.specs.Logs.{IsSlots};
 ghost use Rattle.wh_points.specs.Points.{IsLayout};
@@ -117,9 +117,9 @@ fn start_over<L: LogFile>(
     requires layout { IsLayout (arc_value grid.now) points }
     requires some { 1 ≤ length points.agents }
     requires range { IsOfFleet fleet.now }
-    ensures ok { IfOk result (StartsFrom fleet.now (record { grid = arc_value grid.now; layout = points }) (L.contents file.old)) }
+    ensures ok { IfOk result (StartsFrom fleet.now (record { grid = arc_value grid.now; layout = points; homes = false }) (L.contents file.old)) }
     ensures slots { IfOk result (λ start. All IsSlots start.book.state.slots) }
-    ensures fault { IfErr result (IsWhyNotStarted fleet.now (record { grid = arc_value grid.now; layout = points }) (L.contents file.old)) }
+    ensures fault { IfErr result (IsWhyNotStarted fleet.now (record { grid = arc_value grid.now; layout = points; homes = false }) (L.contents file.old)) }
     ensures same { L.contents file.new ≡ L.contents file.old }
 {
     let each = vec![in alloc; fleet.slots; points.agents().len()]?;
@@ -160,11 +160,11 @@ pub fn start_aside<L: LogFile, B: LogFile>(
     requires layout { IsLayout (arc_value grid.now) points }
     requires some { 1 ≤ length points.agents }
     requires range { IsOfFleet fleet.now }
-    ensures ok { IfOk result (λ r. StartsFrom fleet.now (record { grid = arc_value grid.now; layout = points }) (L.contents file.old) r.0) }
+    ensures ok { IfOk result (λ r. StartsFrom fleet.now (record { grid = arc_value grid.now; layout = points; homes = false }) (L.contents file.old) r.0) }
     ensures stands { IfOk result (λ r. StandsBeside (B.contents beside.old) text.now r.1) }
     ensures within { IfOk result (λ r. IfSome again (λ first. first ≤ length r.0.book.history)) }
     ensures slots { IfOk result (λ r. All IsSlots r.0.book.state.slots) }
-    ensures fault { IfErr result (IsWhyNoRun fleet.now again (record { grid = arc_value grid.now; layout = points }) (L.contents file.old) (B.contents beside.old) text.now) }
+    ensures fault { IfErr result (IsWhyNoRun fleet.now again (record { grid = arc_value grid.now; layout = points; homes = false }) (L.contents file.old) (B.contents beside.old) text.now) }
     ensures same { L.contents file.new ≡ L.contents file.old }
     ensures same_beside { B.contents beside.new ≡ B.contents beside.old }
 {
@@ -177,7 +177,10 @@ pub fn start_aside<L: LogFile, B: LogFile>(
         Err(trouble) => return Err(trouble),
     };
     match missing_line(again, start.book.history().len() as u64) {
-        Some(line) => Err(Trouble::Log { line }),
+        Some(line) => {
+            drop(start);
+            Err(Trouble::Log { line })
+        }
         None => Ok((start, found)),
     }
 }
@@ -225,18 +228,35 @@ pub fn serve_kept<
         alloc, file, beside, bytes, &grid, points, fleet, again,
     ) {
         Ok(started) => started,
-        Err(trouble) => return Err(trouble),
+        Err(trouble) => {
+            drop(text);
+            drop(grid);
+            return Err(trouble);
+        }
     };
     let slots = start.book.slots();
     let (planners, mut spares) = match equip_for(alloc, fleet, &grid, slots, &make) {
         Ok(equipped) => equipped,
-        Err(trouble) => return Err(trouble),
+        Err(trouble) => {
+            drop(start);
+            drop(text);
+            drop(grid);
+            return Err(trouble);
+        }
     };
     match keep_beside(beside, bytes, found) {
         Ok(()) => {}
-        Err(_) => return Err(Trouble::Unkept),
+        Err(_) => {
+            drop(planners);
+            drop(spares);
+            drop(start);
+            drop(text);
+            drop(grid);
+            return Err(Trouble::Unkept);
+        }
     }
     drop(text);
+    drop(grid);
     let form = form_of(options.replies);
     let ran = run_on(
         lines,
@@ -251,8 +271,14 @@ pub fn serve_kept<
     );
     let warehouse = match ran {
         Ok(warehouse) => warehouse,
-        Err(fault) => return Err(run_trouble(fault)),
+        Err(fault) => {
+            drop(spares);
+            return Err(run_trouble(fault));
+        }
     };
+    drop(spares);
     let _history = warehouse.history();
-    write_tail(alloc, output, &warehouse, options.tail)
+    let written = write_tail(alloc, output, &warehouse, options.tail);
+    drop(warehouse);
+    written
 }

@@ -116,11 +116,34 @@ fn make_team<P: Planner, F: Fn(PlannerParts) -> Result<P, AllocError>>(
     ensures fault { IfErr result (IsWhyUnclaimed options.now.fleet.slots) }
 {
     let fleet = &options.fleet;
-    let (bank, mut seat) = Bank::new(alloc, fleet.bank)?;
-    let planners = members(alloc, fleet, grid, &bank, &mut seat, make, agents)?;
-    let clients = with_spares(alloc, fleet, grid, &bank, &mut seat, make, clients)?;
-    let works = workers(alloc, options, agents as u32, clients)?;
-    Ok(Team { planners, works })
+    let (bank, mut seat) = match Bank::new(alloc, fleet.bank) {
+        Ok(opened) => opened,
+        Err(AllocError) => {
+            drop(clients);
+            return Err(Trouble::NoMemory);
+        }
+    };
+    let planners = match members(alloc, fleet, grid, &bank, &mut seat, make, agents) {
+        Ok(planners) => planners,
+        Err(trouble) => {
+            drop(clients);
+            return Err(trouble);
+        }
+    };
+    let clients = match with_spares(alloc, fleet, grid, &bank, &mut seat, make, clients) {
+        Ok(clients) => clients,
+        Err(trouble) => {
+            drop(planners);
+            return Err(trouble);
+        }
+    };
+    match workers(alloc, options, agents as u32, clients) {
+        Ok(works) => Ok(Team { planners, works }),
+        Err(AllocError) => {
+            drop(planners);
+            Err(Trouble::NoMemory)
+        }
+    }
 }
 
 /// Takes the screen for a run, if there is one, which rests the given number of milliseconds between two looks.
@@ -185,15 +208,28 @@ pub fn live<
     let agents = points.agents().len();
     let clients = match read_clients(lines, alloc, agent_threads(options.every, agents)) {
         Ok(clients) => clients,
-        Err(trouble) => return Err(trouble),
+        Err(trouble) => {
+            drop(grid);
+            drop(points);
+            return Err(trouble);
+        }
     };
     let grid = match Arc::new(alloc, grid) {
         Ok(grid) => grid,
-        Err(_) => return Err(Trouble::NoMemory),
+        Err(failed) => {
+            drop(failed);
+            drop(clients);
+            drop(points);
+            return Err(Trouble::NoMemory);
+        }
     };
     let Team { planners, works } = match make_team(alloc, options, &grid, agents, clients, &make) {
         Ok(team) => team,
-        Err(trouble) => return Err(trouble),
+        Err(trouble) => {
+            drop(grid);
+            drop(points);
+            return Err(trouble);
+        }
     };
     let pace = pace_of(options.every, options.turns);
     let display = display_of(screen, options.board_every);

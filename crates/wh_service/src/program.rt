@@ -1,6 +1,6 @@
 //! What `replay` does, and how the program ends where its words give no options.
 
-ghost use Rattle.std.specs.Prelude.{◌≡◌, IfErr, IfOk, length};
+ghost use Rattle.std.specs.Prelude.{◌≡◌, false, IfErr, IfOk, length};
 ghost use Rattle.wh_points.specs.Points.{IsLayout};
 ghost use Rattle.wh_log.specs.Told.{told_text};
 ghost use Rattle.wh_replay.specs.Fleet.{AllFit};
@@ -60,14 +60,17 @@ pub fn play<R: Read, W: Write, P: Planner>(
     requires layout { IsLayout grid.value points }
     requires count { length planners.items ≡ length points.agents }
     requires fit { AllFit P.fits_map grid.value planners.items }
-    ensures ok { IfOk result (λ r. Plays P.fits_map P.slot_count (told_text form) (record { grid = grid.value; layout = points }) planners.items spares.items tail
+    ensures ok { IfOk result (λ r. Plays P.fits_map P.slot_count (told_text form) (record { grid = grid.value; layout = points; homes = false }) planners.items spares.items tail
         lines.old lines.new (W.contents output.old) (W.contents output.new) r.replies) }
-    ensures fault { IfErr result (λ told. IsWhyUnplayed P.fits_map P.slot_count (told_text form) (record { grid = grid.value; layout = points }) planners.items spares.items tail
+    ensures fault { IfErr result (λ told. IsWhyUnplayed P.fits_map P.slot_count (told_text form) (record { grid = grid.value; layout = points; homes = false }) planners.items spares.items tail
         told lines.old lines.new (W.contents output.old) (W.contents output.new)) }
 {
     let mut warehouse = match Warehouse::open(alloc, grid, points, planners, 0) {
         Ok(warehouse) => warehouse,
-        Err(OpenFault::NoMemory) => return Err(Trouble::NoMemory),
+        Err(OpenFault::NoMemory) => {
+            drop(spares);
+            return Err(Trouble::NoMemory);
+        }
         Err(OpenFault::WrongCount | OpenFault::Foreign { .. }) => unreachable!(),
     };
     let replayed = match wh_replay::replay(
@@ -79,9 +82,16 @@ pub fn play<R: Read, W: Write, P: Planner>(
         &mut spares,
     ) {
         Ok(replayed) => replayed,
-        Err(fault) => return Err(trouble_of(fault)),
+        Err(fault) => {
+            drop(warehouse);
+            drop(spares);
+            return Err(trouble_of(fault));
+        }
     };
-    match write_tail(alloc, output, &warehouse, tail) {
+    drop(spares);
+    let written = write_tail(alloc, output, &warehouse, tail);
+    drop(warehouse);
+    match written {
         Ok(()) => Ok(replayed),
         Err(trouble) => Err(trouble),
     }
@@ -116,7 +126,11 @@ pub fn replay<R: Read, W: Write, P: Planner, F: Fn(PlannerParts) -> Result<P, Al
         &make,
     ) {
         Ok(equipped) => equipped,
-        Err(trouble) => return Err(trouble),
+        Err(trouble) => {
+            drop(points);
+            drop(grid);
+            return Err(trouble);
+        }
     };
     let form = form_of(options.replies);
     let tail = options.tail;

@@ -1,6 +1,6 @@
 //! What `replay` does with vehicles, each at its own pace.
 
-ghost use Rattle.std.specs.Prelude.{◌≡◌, ◌≤◌, IfErr, IfOk, length};
+ghost use Rattle.std.specs.Prelude.{◌≡◌, ◌≤◌, false, IfErr, IfOk, length};
 ghost use Rattle.wh_points.specs.Points.{IsLayout};
 ghost use Rattle.wh_log.specs.Told.{told_text};
 ghost use Rattle.wh_replay.specs.Fleet.{AllFit};
@@ -55,21 +55,28 @@ fn play_late<R: Read, W: Write, P: Planner>(
     requires count { length planners.items ≡ length points.agents }
     requires fit { AllFit P.fits_map grid.value planners.items }
     requires ahead { 1 ≤ pace.ahead }
-    ensures ok { IfOk result (λ left. Drives P.fits_map P.slot_count (told_text form) (record { grid = grid.value; layout = points }) planners.items spares.items tail pace
+    ensures ok { IfOk result (λ left. Drives P.fits_map P.slot_count (told_text form) (record { grid = grid.value; layout = points; homes = false }) planners.items spares.items tail pace
         lines.old lines.new (W.contents output.old) (W.contents output.new) left) }
-    ensures fault { IfErr result (λ told. IsWhyUndriven P.fits_map P.slot_count (told_text form) (record { grid = grid.value; layout = points }) planners.items spares.items tail pace
+    ensures fault { IfErr result (λ told. IsWhyUndriven P.fits_map P.slot_count (told_text form) (record { grid = grid.value; layout = points; homes = false }) planners.items spares.items tail pace
         told lines.old lines.new (W.contents output.old) (W.contents output.new)) }
 {
     let mut warehouse = match Warehouse::open(alloc, grid, points, planners, 0) {
         Ok(warehouse) => warehouse,
-        Err(OpenFault::NoMemory) => return Err(Trouble::NoMemory),
+        Err(OpenFault::NoMemory) => {
+            drop(spares);
+            return Err(Trouble::NoMemory);
+        }
         Err(OpenFault::WrongCount | OpenFault::Foreign { .. }) => unreachable!(),
     };
     let behind = u64::from(pace.behind);
     let ahead = u64::from(pace.ahead);
     let mut vehicles = match Vehicles::open(alloc, &warehouse, behind, ahead) {
         Ok(vehicles) => vehicles,
-        Err(_) => return Err(Trouble::NoMemory),
+        Err(_) => {
+            drop(warehouse);
+            drop(spares);
+            return Err(Trouble::NoMemory);
+        }
     };
     match dispatch(
         lines,
@@ -81,10 +88,18 @@ fn play_late<R: Read, W: Write, P: Planner>(
         &mut vehicles,
     ) {
         Ok(()) => {}
-        Err(fault) => return Err(trouble_of(fault)),
+        Err(fault) => {
+            drop(vehicles);
+            drop(warehouse);
+            drop(spares);
+            return Err(trouble_of(fault));
+        }
     }
+    drop(spares);
     let _history = warehouse.history();
-    match write_tail(alloc, output, &warehouse, tail) {
+    let written = write_tail(alloc, output, &warehouse, tail);
+    drop(warehouse);
+    match written {
         Ok(()) => Ok(vehicles.on_their_way()),
         Err(trouble) => Err(trouble),
     }
@@ -109,6 +124,8 @@ pub fn serve_late<R: Read, W: Write, P: Planner, F: Fn(PlannerParts) -> Result<P
 {
     let Site { grid, points } = read_site(lines, alloc)?;
     if !points.nofollow() {
+        drop(points);
+        drop(grid);
         return Err(Trouble::MayFollow);
     }
     let grid = Arc::new(alloc, grid)?;
@@ -120,7 +137,11 @@ pub fn serve_late<R: Read, W: Write, P: Planner, F: Fn(PlannerParts) -> Result<P
         &make,
     ) {
         Ok(equipped) => equipped,
-        Err(trouble) => return Err(trouble),
+        Err(trouble) => {
+            drop(points);
+            drop(grid);
+            return Err(trouble);
+        }
     };
     let form = form_of(options.replies);
     let tail = options.tail;

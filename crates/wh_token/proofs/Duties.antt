@@ -7,12 +7,14 @@ use Rattle.wh_path.specs.Paths.{at, place_of}
 use Rattle.wh_tasks.specs.declared.task.Task.{Task}
 use Rattle.wh_tasks.specs.Tasks.{IsTask}
 use Rattle.wh_core.specs.States.{State}
-use Rattle.wh_core.specs.Steps.{Refuses, IsDue, IsNext, MakesWay, IsAllowed, NoneIsNext, IsDeliveryCell}
+use Rattle.wh_core.specs.Steps.{IsDeliveryCell}
+use Rattle.wh_core.specs.Ordinary.{IsDue, Refuses, IsNext, MakesWay, IsAllowed, NoneIsNext}
 use Rattle.wh_event.specs.declared.reply.Refusal.{Refusal}
 use Rattle.wh_event.specs.declared.event.Event.{Event}
-use Rattle.std.specs.Prelude.{◌↔◌}
+use Rattle.std.specs.Prelude.{◌↔◌, Result, Ok, Err, IfErr}
 use Rattle.wh_grid.specs.declared.cell.Cell.{Cell}
 use Rattle.wh_grid.specs.Grids.{Floor}
+use Rattle.wh_core.proofs.Same.{to-none}
 use Rattle.wh_planner.specs.Duties.{Delivers, ParksAt, IsLawful, HasNoClearWay}
 
 pub lawful-parking : (g : Floor) (nofollow : Bool) (paths : List (List Cell)) (agent legs : ℕ) (P Q : Cell → Type 0) (path : List Cell) →
@@ -46,11 +48,11 @@ pub refuses-delivery : (site : Site) (s : State) (agent n : ℕ) → IsDue s age
     Refuses site s Refusal.NoPath (Event.Request agent)
 refuses-delivery site s agent n due next asked =
     let found = next-same site s agent n (λ task. HasNoClearWay site.grid s.paths agent (Delivers task.stops)) next asked in
-    (due, inl (n, found.0, found.1, found.2))
+    (due, inl (n, found.0, found.1, to-none site.grid s agent (Delivers found.0.stops) due found.2))
 
 pub refuses-parking : (site : Site) (s : State) (agent : ℕ) → IsDue s agent → MakesWay s agent →
     HasNoClearWay site.grid s.paths agent (ParksAt (IsAllowed site s agent)) → Refuses site s Refusal.NoPath (Event.Request agent)
-refuses-parking site s agent due way none = (due, inr (way, none))
+refuses-parking site s agent due way none = (due, inr (way, to-none site.grid s agent (ParksAt (IsAllowed site s agent)) due none))
 
 -- where the agent stands, as it was read
 pub place-read : (paths read : List (List Cell)) (agent : ℕ) (path : List Cell) (here : Cell) → read ≡ paths → agent < length paths →
@@ -62,3 +64,10 @@ pub way-made : (s : State) (read : List (List Cell)) (agent : ℕ) (path : List 
     path ≡ get_or read agent path → here ≡ at path 0 → IsDeliveryCell s here → MakesWay s agent
 way-made s read agent path here none same known is start delivery =
     record { none = none; in_the_way = subst (IsDeliveryCell s) (place-read s.paths read agent path here same known is start) delivery }
+
+-- a planner's refusal for the stops of a task that was read is one for the task
+pub no_path-task : {A E : Type 0} (r : Result A E) (none : E) (g : Floor) (s : State) (agent n : ℕ) (task : Task) → IsTask s.tasks n task →
+    IfErr r (λ fault. fault ≡ none → HasNoClearWay g s.paths agent (Delivers task.stops)) →
+    IfErr r (λ fault. fault ≡ none → (job : Task) × IsTask s.tasks n job × HasNoClearWay g s.paths agent (Delivers job.stops))
+no_path-task (Ok x) none g s agent n task there why = tt
+no_path-task (Err e) none g s agent n task there why = λ is. (task, there, why is)

@@ -4,7 +4,7 @@ use Rattle.std.proofs.lemmas.List.{take_more}
 use Rattle.wh_core.specs.States.{State, arrived, moved}
 use Rattle.wh_grid.specs.Grids.{Floor}
 use Rattle.wh_points.specs.Points.{Site}
-use Rattle.wh_core.specs.Steps.{Step, Run, Answers, last_clock}
+use Rattle.wh_core.specs.Steps.{Step, Run, last_clock}
 use Rattle.wh_book.specs.Drafts.{Seen, IsSame, ticked}
 use Rattle.wh_book.proofs.Kept.{step-ticked}
 use Rattle.wh_token.specs.Commands.{event_of}
@@ -93,12 +93,12 @@ ran-take-at fits count site here caller commands i command outcomes outcome s sp
 
 -- a request that is answered at once, by a reply that changes nothing, where there was memory for its entry
 pub moved-at-once : {X : Type 0} (fits : X → Floor → Bool) (count : X → ℕ) (caller agent : ℕ) (reply : Reply) (old : Seen) (spares : List X) (new : Seen) (added : Bool) →
-    Answers old.site old.state reply (Event.Request agent) old.state → new.state ≡ old.state → StaysAt old new →
+    MatchBool added (Step old.site old.state (record { caller = caller; event = Event.Request agent; reply = reply }) old.state) (new.state ≡ old.state) → new.state ≡ old.state → StaysAt old new →
     MatchBool added (new.history ≡ old.history ++ record { caller = caller; event = Event.Request agent; reply = reply } ∷ []) (new.history ≡ old.history) →
     RunsOne fits count caller (Command.Token agent) added old spares new spares
 moved-at-once fits count caller agent reply old spares new true answers same stays history =
     let entry : Entry = record { caller = caller; event = Event.Request agent; reply = reply } in
-    let step = subst (λ t. Answers old.site old.state reply (Event.Request agent) t) (sym same) answers in
+    let step = subst (λ t. Step old.site old.state entry t) (sym same) answers in
     record {
       outcome = Some entry;
       added_is = refl;

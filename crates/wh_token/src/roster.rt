@@ -11,7 +11,7 @@ use std::sync::Arc;
 use wh_book::Book;
 use wh_field::LazyField;
 use wh_grid::{Cell, Grid};
-use wh_planner::Planner;
+use wh_planner::Plans;
 use wh_shared::{SharedFields, room_within};
 
 /// How many bytes the distance fields that are lent to the planners may take, but for those of one task.
@@ -61,7 +61,7 @@ impl From<AllocError> for ResumeFault {
 
 /// What a warehouse that goes on from the book's state has beside its planners. It refuses in the order of
 /// [`ResumeFault`].
-pub(crate) fn outfit<P: Planner>(
+pub(crate) fn outfit<P: Plans>(
     alloc: Global,
     book: &Book,
     planners: &[P],
@@ -102,7 +102,7 @@ pub(crate) fn fields_over(
 }
 
 /// The number of the first planner that has not these slots.
-pub(crate) fn first_other<P: Planner>(planners: &[P], slots: &[u32]) -> Option<u32>
+pub(crate) fn first_other<P: Plans>(planners: &[P], slots: &[u32]) -> Option<u32>
     requires few { length planners.now ≤ 256 }
     requires each { length slots.now ≡ length planners.now }
     ensures none { IfNone result (HaveSlots P.slot_count planners.now slots.now) }
@@ -117,7 +117,7 @@ pub(crate) fn first_other<P: Planner>(planners: &[P], slots: &[u32]) -> Option<u
 }
 
 /// The number of the first planner that does not plan on the grid.
-pub(crate) fn first_foreign<P: Planner>(planners: &[P], grid: &Grid) -> Option<u32>
+pub(crate) fn first_foreign<P: Plans>(planners: &[P], grid: &Grid) -> Option<u32>
     requires few { length planners.now ≤ 256 }
     ensures none { IfNone result (AllFit P.fits_map grid.now planners.now) }
     ensures first { IfSome result (IsFirstForeign P.fits_map grid.now planners.now) }
@@ -131,7 +131,7 @@ pub(crate) fn first_foreign<P: Planner>(planners: &[P], grid: &Grid) -> Option<u
 }
 
 /// The slots of the planners, which all plan on the grid.
-pub(crate) fn slots_of<P: Planner>(
+pub(crate) fn slots_of<P: Plans>(
     alloc: Global,
     planners: &[P],
     _grid: &Grid,

@@ -18,7 +18,8 @@ ghost use Rattle.wh_ledger.specs.Ledgers.{rows_of};
 ghost use Rattle.wh_planner.specs.Duties.{IsLawful, HasNoClearWay, Delivers, ParksAt};
 ghost use Rattle.wh_core.specs.States.{opened, arrived, moved};
 ghost use Rattle.wh_core.specs.Laws.{IsOpening};
-ghost use Rattle.wh_core.specs.Steps.{Step, Run, Answers, IsDue, IsNext, NoneIsNext, IsDeliveryCell, IsAllowed, MakesWay, last_clock};
+ghost use Rattle.wh_core.specs.Steps.{Step, Run, IsDeliveryCell, last_clock};
+ghost use Rattle.wh_core.specs.Ordinary.{Answers, IsDue, IsNext, NoneIsNext, IsAllowed, MakesWay};
 ghost use Rattle.wh_shared.specs.Shares.{stored_grid};
 ghost use Rattle.wh_book.specs.Drafts.{IsSame, IsReady, StaysReady, Drafts, AllServed, ticked};
 ghost use Rattle.wh_token.specs.Commands.{event_of};
@@ -40,7 +41,7 @@ use wh_field::LazyField;
 use wh_grid::{Cell, Grid};
 use wh_ledger::DeliveryLedger;
 use wh_path::TimedPath;
-use wh_planner::{Duty, PlanFault, Planner, Scene};
+use wh_planner::{Duty, PlanFault, Planner, Plans, Scene};
 use wh_points::Points;
 use wh_shared::SharedFields;
 use wh_tasks::{Load, Task};
@@ -48,7 +49,7 @@ use wh_tasks::{Load, Task};
 /// The book and the agents' planners: one for each agent, which plans on the book's grid and has the slots that the state
 /// tells.
 #[derive(Drop)]
-pub struct Warehouse<P: Planner = Box<dyn Planner>> {
+pub struct Warehouse<P: Plans = Box<dyn Planner>> {
     book: Book,
     planners: Vec<P>,
     near: LazyField,
@@ -56,7 +57,7 @@ pub struct Warehouse<P: Planner = Box<dyn Planner>> {
     fields: SharedFields,
 }
 
-impl<P: Planner> Model for Warehouse<P> {
+impl<P: Plans> Model for Warehouse<P> {
     ghost use Rattle.std.specs.Prelude.{length};
     ghost use Rattle.wh_shared.specs.Shares.{stored_grid};
     ghost use Rattle.wh_token.specs.Houses.{House, IsFurnished};
@@ -68,7 +69,7 @@ impl<P: Planner> Model for Warehouse<P> {
     ghost invariant = { λ w. IsFurnished P.fits_map P.slot_count w.book w.planners.items w.near (stored_grid w.fields) };
 }
 
-impl<P: Planner> Warehouse<P> {
+impl<P: Plans> Warehouse<P> {
     /// The warehouse in its opening state, at a clock of at most 1,000,000,000, with one planner for each agent, in the
     /// agents' order. It refuses a wrong count of planners, then the first planner of another map, then it is out of memory;
     /// on a refusal what was handed in is dropped.
@@ -81,7 +82,7 @@ impl<P: Planner> Warehouse<P> {
     ) -> Result<Warehouse<P>, OpenFault>
         requires layout { IsLayout grid.value points }
         requires start { start ≤ last_clock }
-        ensures site { IfOk result (λ w. w.book.site ≡ record { grid = grid.value; layout = points }) }
+        ensures site { IfOk result (λ w. w.book.site ≡ record { grid = grid.value; layout = points; homes = false }) }
         ensures opening { IfOk result (λ w. ((slots : List ℕ) × (w.book.opening ≡ opened points start slots) × (w.book.state ≡ w.book.opening))) }
         ensures history { IfOk result (λ w. w.book.history ≡ []) }
         ensures planners { IfOk result (λ w. w.planners ≡ planners.items) }
@@ -89,9 +90,15 @@ impl<P: Planner> Warehouse<P> {
         ensures refused { IfErr result (RefusesToOpen P.fits_map grid.value planners.items (length points.agents)) }
     {
         if planners.len() != points.agents().len() {
+            drop(planners);
+            drop(points);
+            drop(grid);
             return Err(OpenFault::WrongCount);
         }
         if let Some(agent) = first_foreign(planners.as_slice(), &grid) {
+            drop(planners);
+            drop(points);
+            drop(grid);
             return Err(OpenFault::Foreign { agent });
         }
         match Warehouse::furnish(alloc, grid, points, planners, start) {
@@ -112,16 +119,51 @@ impl<P: Planner> Warehouse<P> {
         requires start { start ≤ last_clock }
         requires seats { length planners.items ≡ length points.agents }
         requires fit { AllFit P.fits_map grid.value planners.items }
-        ensures site { IfOk result (λ w. w.book.site ≡ record { grid = grid.value; layout = points }) }
+        ensures site { IfOk result (λ w. w.book.site ≡ record { grid = grid.value; layout = points; homes = false }) }
         ensures opening { IfOk result (λ w. ((slots : List ℕ) × (w.book.opening ≡ opened points start slots) × (w.book.state ≡ w.book.opening))) }
         ensures history { IfOk result (λ w. w.book.history ≡ []) }
         ensures planners { IfOk result (λ w. w.planners ≡ planners.items) }
         ensures tied { IfOk result (λ w. IsTied P.fits_map P.slot_count grid.value w.planners w.book.state.slots) }
     {
-        let slots = slots_of(alloc, planners.as_slice(), &grid)?;
-        let near = LazyField::from(alloc, &grid, Cell { x: 0, y: 0 })?;
-        let fields = fields_over(alloc, &grid, &slots)?;
-        let book = Book::open(alloc, Setting::new(grid, points), start, slots)?;
+        let slots = match slots_of(alloc, planners.as_slice(), &grid) {
+            Ok(slots) => slots,
+            Err(error) => {
+                drop(planners);
+                drop(points);
+                drop(grid);
+                return Err(error);
+            }
+        };
+        let near = match LazyField::from(alloc, &grid, Cell { x: 0, y: 0 }) {
+            Ok(near) => near,
+            Err(error) => {
+                drop(slots);
+                drop(planners);
+                drop(points);
+                drop(grid);
+                return Err(error);
+            }
+        };
+        let fields = match fields_over(alloc, &grid, &slots) {
+            Ok(fields) => fields,
+            Err(error) => {
+                drop(near);
+                drop(slots);
+                drop(planners);
+                drop(points);
+                drop(grid);
+                return Err(error);
+            }
+        };
+        let book = match Book::open(alloc, Setting::new(grid, points), start, slots) {
+            Ok(book) => book,
+            Err(error) => {
+                drop(fields);
+                drop(near);
+                drop(planners);
+                return Err(error);
+            }
+        };
         Ok(Warehouse {
             book,
             planners,
@@ -587,6 +629,7 @@ impl<P: Planner> Warehouse<P> {
     fn add_answer(&mut self, caller: u32, agent: u32, reply: Reply) -> bool
         requires answers { Answers self.old.book.site self.old.book.state reply (Asked.Request agent) self.old.book.state }
         ensures stays { StaysAt self.old.book self.new.book }
+        ensures step { MatchBool result (Step self.old.book.site self.old.book.state (record { caller = caller; event = Asked.Request agent; reply = reply }) self.old.book.state) (self.new.book.state ≡ self.old.book.state) }
         ensures state { self.new.book.state ≡ self.old.book.state }
         ensures history { MatchBool result (self.new.book.history ≡ self.old.book.history ++ record { caller = caller; event = Asked.Request agent; reply = reply } ∷ []) (self.new.book.history ≡ self.old.book.history) }
         ensures planners { self.new.planners ≡ self.old.planners }

@@ -15,7 +15,7 @@ use Rattle.wh_core.specs.States.{State}
 use Rattle.wh_core.specs.Steps.{Answers, Step as StepOfState}
 use Rattle.wh_core.specs.Laws.{IsReached as IsReachedState}
 use Rattle.wh_core.proofs.StepKinds.{run-join}
-use Rattle.wh_core.proofs.Seats.{seats-reached}
+use Rattle.wh_core.proofs.Sound.{sound-reached}
 use Rattle.wh_core.proofs.Traffic.{none_share, none_follow, each_step_moves, only_ticks_move}
 use Rattle.wh_drive.specs.Drives.{Drive, clock, planned, started, arrived, ticked, opened}
 use Rattle.wh_drive.specs.Runs.{Start, Arrive, Tick, Run as RunOfDrive, Step as StepOfDrive, Event as EventOfVehicles, IsReached as IsReachedDrive}
@@ -34,15 +34,15 @@ next-reached : (site : Site) (entries : List Entry) (old : State) (entry : Entry
     IsReachedState site (entries ++ entry ∷ []) new
 next-reached site entries old entry new r step = record {
   opening = r.opening;
-  is_opening = r.is_opening;
+  is_beginning = r.is_beginning;
   run = run-join site r.opening entries old (entry ∷ []) new r.run (new, step, refl);
 }
 
 pub each_step_may_be_taken : EachStepMayBeTaken
 each_step_may_be_taken site entries old entry new d r step come =
     let next = next-reached site entries old entry new r step in
-    let before = (seats-reached site entries old r).paths in
-    let after = (seats-reached site (entries ++ entry ∷ []) new next).paths in
+    let before = (sound-reached site entries old r).seats.paths in
+    let after = (sound-reached site (entries ++ entry ∷ []) new next).seats.paths in
     let same : length new.paths ≡ length old.paths = after ∙ sym before in
     let all = come.all in
     let cells = size new in
@@ -116,7 +116,7 @@ carried-still : (site : Site) (before : List Entry) (old : Fleet) (entry : Entry
 carried-still site before old entry new r step quiet same =
     let next = next-reached site before old.state entry new.state r.state step in
     let count : length new.state.paths ≡ length old.state.paths =
-    (seats-reached site (before ++ entry ∷ []) new.state next).paths ∙ sym (seats-reached site before old.state r.state).paths in
+    (sound-reached site (before ++ entry ∷ []) new.state next).seats.paths ∙ sym (sound-reached site before old.state r.state).seats.paths in
     let here = same-places old.state new.state count (still site old.state entry.reply entry.event new.state step quiet) in
     record {
       state = next;
@@ -136,7 +136,7 @@ carried-tick site before old entry new r step same =
     let cells = places new.state in
     let d = old.drive in
     let count : length new.state.paths ≡ length old.state.paths =
-    (seats-reached site (before ++ entry ∷ []) new.state next).paths ∙ sym (seats-reached site before old.state r.state).paths in
+    (sound-reached site (before ++ entry ∷ []) new.state next).seats.paths ∙ sym (sound-reached site before old.state r.state).seats.paths in
     let may = each_step_may_be_taken site before old.state entry new.state d r.state step r.come in
     let longer : length (d.rows ++ cells ∷ []) ≡ length d.rows + 1 = length_push d.rows cells in
     let last : length d.rows ≡ length (d.rows ++ cells ∷ []) - 1 = omega arith in
@@ -204,7 +204,7 @@ carried site before old (Comes agent step ∷ happenings) new r run =
 pub carried-opening : (site : Site) (fleet : Fleet) → IsOpening site fleet → IsCarriedOut site [] fleet
 carried-opening site fleet o =
     let s = fleet.state in
-    let reached : IsReachedState site [] s = record { opening = s; is_opening = o.state; run = refl } in
+    let reached : IsReachedState site [] s = record { opening = s; is_beginning = o.state; run = refl } in
     let starts = places s in
     let cells = size s in
     let d = opened site.layout.nofollow o.ahead starts in

@@ -3,3 +3,4 @@ pub mod Reports
 pub mod Notices
 pub mod Driving
 pub mod Visits
+pub mod Stands

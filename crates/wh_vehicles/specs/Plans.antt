@@ -7,7 +7,7 @@ use Rattle.wh_event.specs.declared.entry.Entry.{Entry}
 use Rattle.wh_event.specs.declared.reply.Reply.{Reply}
 use Rattle.wh_core.specs.States.{State}
 use Rattle.wh_core.specs.Steps.{Step as StepOfState}
-use Rattle.wh_core.specs.Laws.{IsReached as IsReachedState, IsOpening as IsOpeningState}
+use Rattle.wh_core.specs.Laws.{IsReached as IsReachedState, IsBeginning}
 use Rattle.wh_drive.specs.Drives.{Drive, clock, MayStart, MayArrive, MayTick, started, arrived, ticked, opened}
 use Rattle.wh_drive.specs.Runs.{Event as EventOfVehicles, IsReached as IsReachedDrive}
 
@@ -54,11 +54,11 @@ abbrev pub AllHappen : Site → Fleet → List Happening → Fleet → Type 0
 AllHappen site old [] new = new ≡ old
 AllHappen site old (happening ∷ happenings) new = (mid : Fleet) × Happens site old happening mid × AllHappen site mid happenings new
 
--- the warehouse is at an opening, and all vehicles stand at their starts
+-- the warehouse is at a beginning, and each vehicle stands where its agent is
 pub record IsOpening (site : Site) (fleet : Fleet) : Type 0 where
   pub ahead : ℕ
   pub some : 1 ≤ ahead
-  pub state : IsOpeningState site fleet.state
+  pub state : IsBeginning site fleet.state
   pub drive : fleet.drive ≡ opened site.layout.nofollow ahead (places fleet.state)
 
 -- the entries among what happens

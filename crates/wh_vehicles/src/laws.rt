@@ -2,6 +2,7 @@
 //! the law.
 
 ghost use Rattle.wh_vehicles.specs.Plans.{EachStepMayBeTaken, EachRunIsAPlan, RowsAreTheTicks};
+ghost use Rattle.wh_vehicles.specs.Stands.{VehiclesStand};
 
 /// Whatever the warehouse does next, the plan may go on to where the agents then are.
 pub fn each_step_may_be_taken()
@@ -16,4 +17,9 @@ pub fn each_run_is_a_plan()
 /// The rows of the plan are those of the history's ticks.
 pub fn rows_are_the_ticks()
     ensures { RowsAreTheTicks }
+{}
+
+/// Vehicles stand at passable cells, and no two at one.
+pub fn vehicles_stand()
+    ensures { VehiclesStand }
 {}

@@ -7,7 +7,7 @@ use std::sync::Arc;
 use std::test::Fail;
 use wh_grid::{Cell, Grid};
 use wh_path::TimedPath;
-use wh_planner::{Duty, PlanFault, Planner, Scene};
+use wh_planner::{Duty, PlanFault, Planner, Plans, Scene};
 use wh_shared::SharedFields;
 use wh_timetable::Timetable;
 
@@ -17,7 +17,7 @@ struct Forgetful {
     slots: u32,
 }
 
-impl Planner for Forgetful {
+impl Plans for Forgetful {
     ghost fits_map = { λ p g. true };
 
     ghost slot_count = { λ p. p.slots };
@@ -40,6 +40,8 @@ impl Planner for Forgetful {
         Err(PlanFault::NoMemory)
     }
 }
+
+impl Planner for Forgetful {}
 
 fn is_forgotten(planned: Result<TimedPath, PlanFault>) -> bool {
     matches!(planned, Err(PlanFault::NoMemory))

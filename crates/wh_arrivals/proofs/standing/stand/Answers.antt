@@ -114,5 +114,5 @@ pub returns-clause-ok : goal.returns-clause-ok
 returns-clause-ok c =
     let book = c.args.book.now in
     let steps = c.args.steps.now in
-    walked-all book c.args.ahead steps c.loop-entry.paths.items c.loop-entry.order c.history-history.ensures.opening c.requires.some
+    walked-all book c.args.ahead steps c.loop-entry.paths.items c.loop-entry.order c.history-history.ensures.opening c.history-history.ensures.run c.requires.some
     (walked-end book c.args.ahead steps c.history-history.result.now c.loop-entry.entry-index c.loop-entry.paths.items c.loop-entry.order c.history-history.ensures.value c.loop-entry-test.false c.loop-entry.invariant)

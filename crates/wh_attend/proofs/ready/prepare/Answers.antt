@@ -1,4 +1,4 @@
-use Rattle.std.proofs.Common.{inl, inr, refl}
+use Rattle.std.proofs.Common.{false, inl, inr, refl}
 use Rattle.std.proofs.lemmas.Result.{err_from_is_err_and}
 use Rattle.std.specs.Arc.{arc_value}
 use Rattle.wh_points.specs.Points.{Site}
@@ -9,12 +9,12 @@ use Rattle.wh_attend.proofs.ready.prepare.Goals as goal
 
 pub make_staff-requires-clause-callers : goal.make_staff-requires-clause-callers
 make_staff-requires-clause-callers g c κs within =
-    let site : Site = record { grid = arc_value c.in_ok-grid.grid; layout = c.in-Ok.kept.site.points } in
+    let site : Site = record { grid = arc_value c.in_ok-grid.grid; layout = c.in-Ok.kept.site.points; homes = false } in
     callers_few c.args.options.now.fleet site _ c.in-Ok-start_aside.started.0 c.in-Ok-start_aside.ensures.ok
 
 pub returns-in-Err-make_staff-clause-fault : goal.returns-in-Err-make_staff-clause-fault
 returns-in-Err-make_staff-clause-fault g c =
-    let site : Site = record { grid = arc_value c.in_ok-grid.grid; layout = c.in-Ok.kept.site.points } in
+    let site : Site = record { grid = arc_value c.in_ok-grid.grid; layout = c.in-Ok.kept.site.points; homes = false } in
     inr (inr (inl (
       c.in-Ok.ensures.alone,
       record {
@@ -31,7 +31,7 @@ returns-in-Err-make_staff-clause-fault g c =
 
 pub returns-in-Some-clause-fault : goal.returns-in-Some-clause-fault
 returns-in-Some-clause-fault g c =
-    let site : Site = record { grid = arc_value c.in_ok-grid.grid; layout = c.in-Ok.kept.site.points } in
+    let site : Site = record { grid = arc_value c.in_ok-grid.grid; layout = c.in-Ok.kept.site.points; homes = false } in
     inr (inr (inr (
       c.in-Some.client,
       refl,

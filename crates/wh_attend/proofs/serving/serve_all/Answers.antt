@@ -14,7 +14,7 @@ returns-clause-ok g c =
     let pace = c.pacing_of-pace.result in
     let paced : IsPacingOf options.every options c.args.warehouse.book.history pace =
     subst (λ (h : List Entry). IsPacingOf options.every options h pace) c.history.ensures.value c.pacing_of-pace.ensures in
-    serves_clients c.join-came.result.1 g.P.Planner.fits_map g.P.Planner.slot_count _ _ c.args.options.now _ _ _ (λ r. r.history.warehouse.book.history) (λ r. r.history.warehouse.book.state) (λ r. r.connections.items) (λ r. r.worker)
+    serves_clients c.join-came.result.1 g.P.Plans.fits_map g.P.Plans.slot_count _ _ c.args.options.now _ _ _ (λ r. r.history.warehouse.book.history) (λ r. r.history.warehouse.book.state) (λ r. r.connections.items) (λ r. r.worker)
     _ _ c.form_of-form.ensures paced c.join-came.ensures.second.0
 
 pub returns-clause-boards : goal.returns-clause-boards

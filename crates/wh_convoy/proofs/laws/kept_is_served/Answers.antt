@@ -3,4 +3,4 @@ use Rattle.wh_convoy.proofs.Kept.{kept_is_served}
 use Rattle.wh_convoy.proofs.laws.kept_is_served.Goals as goal
 
 pub returns : goal.returns
-returns g c = kept_is_served g.P.Planner.fits_map g.P.Planner.slot_count (told_text c.args.form)
+returns g c = kept_is_served g.P.Plans.fits_map g.P.Plans.slot_count (told_text c.args.form)

@@ -7,8 +7,8 @@ use Rattle.wh_convoy.proofs.riding.ride_on.Goals as goal
 
 pub returns-in-Ok-ride-clause-runs : goal.returns-in-Ok-ride-clause-runs
 returns-in-Ok-ride-clause-runs g c =
-    let fits = g.P.Planner.fits_map in
-    let count = g.P.Planner.slot_count in
+    let fits = g.P.Plans.fits_map in
+    let count = g.P.Plans.slot_count in
     let text = told_text c.args.form in
     let before = c.args.lines.now in
     let after = c.ride.new.lines in
@@ -45,7 +45,7 @@ returns-in-Err-ride-clause-fault g c =
       g.W.Write.contents c.begin_all.new.writer,
       begun,
       c.in-Ok.ensures.begins,
-      stops_over g.P.Planner.fits_map g.P.Planner.slot_count (told_text c.args.form) c.in-Ok-man.manned.1.bound c.args.behind manned.bound c.in-Ok-man.manned.0.book c.args.start.book manned.book
+      stops_over g.P.Plans.fits_map g.P.Plans.slot_count (told_text c.args.form) c.in-Ok-man.manned.1.bound c.args.behind manned.bound c.in-Ok-man.manned.0.book c.args.start.book manned.book
           c.in-Ok-man.manned.1.order c.args.stood.order manned.order c.args.lines.now c.ride.new.lines c.args.spares.now.items c.ride.new.spares.items
           (g.W.Write.contents c.begin_all.new.writer) (g.W.Write.contents c.ride.new.writer) begun holds synced c.in-Err-ride.fault (g.L.Journal.failed c.ride.new.log) (g.L.Journal.failed c.ride.new.arrivals)
           c.in-Err-ride.ensures.fault,

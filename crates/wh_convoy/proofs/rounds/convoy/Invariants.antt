@@ -6,7 +6,7 @@ use Rattle.wh_convoy.proofs.rounds.convoy.Given as goal
 
 abbrev pub invariant-loop : goal.invariant-loop
 invariant-loop g l = record {
-  follows : ConvoysFrom g.P.Planner.fits_map g.P.Planner.slot_count (told_text l.fn.form) l.fn.vehicles.bound Served l.fn.lines l.lines l.fn.warehouse.book l.fn.spares.items l.fn.vehicles
+  follows : ConvoysFrom g.P.Plans.fits_map g.P.Plans.slot_count (told_text l.fn.form) l.fn.vehicles.bound Served l.fn.lines l.lines l.fn.warehouse.book l.fn.spares.items l.fn.vehicles
       l.warehouse.book l.spares.items l.vehicles (g.W.Write.contents l.fn.writer) (g.W.Write.contents l.writer)
       (record { log = g.L.Journal.contents l.fn.log; arrivals = g.L.Journal.contents l.fn.arrivals }) (record { log = g.L.Journal.contents l.log; arrivals = g.L.Journal.contents l.arrivals })
       (record { log = g.L.Journal.synced l.log; arrivals = g.L.Journal.synced l.arrivals });

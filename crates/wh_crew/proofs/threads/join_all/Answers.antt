@@ -21,7 +21,7 @@ loop-handle-preserved g c =
       omega (arith, more, inv.0, c.in-Some.ensures.steps.1),
       next.1 ∙ ap (λ n. drop n handles) (sym more),
       omega (arith, c.push_reserved.ensures.capacity, inv.2),
-      subst (λ l. AllAt (λ i y. (h : _) → slice_get handles i ≡ Some h → Worked g.P.Planner.fits_map g.P.Planner.slot_count g.N.DeskName.origin.site.grid (length g.N.DeskName.cells) h.promise.work.value.commands.items h.promise.work.value.spares.items h.promise.had.value y.pass y.missed) l) (sym pushed)
-          (AllAt_push (λ i y. (h : _) → slice_get handles i ≡ Some h → Worked g.P.Planner.fits_map g.P.Planner.slot_count g.N.DeskName.origin.site.grid (length g.N.DeskName.cells) h.promise.work.value.commands.items h.promise.work.value.spares.items h.promise.had.value y.pass y.missed) rs r inv.3
-          (λ h at. subst (λ z. Worked g.P.Planner.fits_map g.P.Planner.slot_count g.N.DeskName.origin.site.grid (length g.N.DeskName.cells) z.promise.work.value.commands.items z.promise.work.value.spares.items z.promise.had.value r.pass r.missed) (same_Some _ _ (sym next.0 ∙ at)) c.join.ensures)),
+      subst (λ l. AllAt (λ i y. (h : _) → slice_get handles i ≡ Some h → Worked g.P.Plans.fits_map g.P.Plans.slot_count g.N.DeskName.origin.site.grid (length g.N.DeskName.cells) h.promise.work.value.commands.items h.promise.work.value.spares.items h.promise.had.value y.pass y.missed) l) (sym pushed)
+          (AllAt_push (λ i y. (h : _) → slice_get handles i ≡ Some h → Worked g.P.Plans.fits_map g.P.Plans.slot_count g.N.DeskName.origin.site.grid (length g.N.DeskName.cells) h.promise.work.value.commands.items h.promise.work.value.spares.items h.promise.had.value y.pass y.missed) rs r inv.3
+          (λ h at. subst (λ z. Worked g.P.Plans.fits_map g.P.Plans.slot_count g.N.DeskName.origin.site.grid (length g.N.DeskName.cells) z.promise.work.value.commands.items z.promise.work.value.spares.items z.promise.had.value r.pass r.missed) (same_Some _ _ (sym next.0 ∙ at)) c.join.ensures)),
     )

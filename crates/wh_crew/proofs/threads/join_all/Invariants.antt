@@ -10,4 +10,4 @@ invariant-loop-handle g l =
     (length l.reports.items + into_iter_len l.handle-iterator ≡ length l.fn.handles.items)
     × (into_iter_items l.handle-iterator ≡ drop (length l.reports.items) l.fn.handles.items)
     × (length l.fn.handles.items ≤ vec_capacity l.reports)
-    × AllAt (λ i r. (h : _) → slice_get l.fn.handles.items i ≡ Some h → Worked g.P.Planner.fits_map g.P.Planner.slot_count g.N.DeskName.origin.site.grid (length g.N.DeskName.cells) h.promise.work.value.commands.items h.promise.work.value.spares.items h.promise.had.value r.pass r.missed) l.reports.items
+    × AllAt (λ i r. (h : _) → slice_get l.fn.handles.items i ≡ Some h → Worked g.P.Plans.fits_map g.P.Plans.slot_count g.N.DeskName.origin.site.grid (length g.N.DeskName.cells) h.promise.work.value.commands.items h.promise.work.value.spares.items h.promise.had.value r.pass r.missed) l.reports.items

@@ -7,4 +7,4 @@ use Rattle.wh_crew.proofs.worker.work_through.Given as goal
 abbrev pub invariant-loop-command : goal.invariant-loop-command
 invariant-loop-command g l =
     (l.yielded ++ into_iter_items l.command-iterator ≡ l.fn.work.commands.items)
-    × Working g.P.Planner.fits_map g.P.Planner.slot_count g.N.DeskName.origin.site.grid (length g.N.DeskName.cells) l.yielded l.fn.work.spares.items l.initial.pass l.pass l.missed l.spares.items
+    × Working g.P.Plans.fits_map g.P.Plans.slot_count g.N.DeskName.origin.site.grid (length g.N.DeskName.cells) l.yielded l.fn.work.spares.items l.initial.pass l.pass l.missed l.spares.items

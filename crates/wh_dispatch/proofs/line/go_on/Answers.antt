@@ -8,9 +8,8 @@ use Rattle.wh_dispatch.proofs.Texts.{on_ok, on_fault, both}
 use Rattle.wh_dispatch.proofs.Serving.{tells_all, tells_some, tells_none, stand_settled}
 use Rattle.wh_dispatch.proofs.line.go_on.Goals as goal
 
-pub tell_gone-requires-clause-stand : goal.tell_gone-requires-clause-stand
-tell_gone-requires-clause-stand g c κs within =
-    stand_settled c.args.warehouse.now.book c.args.vehicles.now c.settle.new.self c.requires.stand (c.in-Ok.ensures.drive c.requires.stand.drive c.requires.stand.represents) c.settle.ensures.pending
+pub tell_gone-requires : goal.tell_gone-requires
+tell_gone-requires g c = record { stand = (stand_settled c.args.warehouse.now.book c.args.vehicles.now c.settle.new.self c.requires.stand (c.in-Ok.ensures.drive c.requires.stand.drive c.requires.stand.represents) c.settle.ensures.pending) }
 
 pub returns-in-Ok-clause-ok : goal.returns-in-Ok-clause-ok
 returns-in-Ok-clause-ok g c =

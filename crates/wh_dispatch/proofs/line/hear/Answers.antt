@@ -25,7 +25,8 @@ returns-in-Ok-clause-err g c =
     let on = go h.0 h.2 in
     (on.0, record { notice = c.hear-notice.result; mid = h.0; answers = h.1; some = inr (g.W.Write.contents c.tell_notice.new.writer, c.in-Ok.ensures.ok, subst (λ (ps : List Pending). TellsSome fault c.args.warehouse.now.book ps h.0 on.0 (g.W.Write.contents c.tell_notice.new.writer) (g.W.Write.contents c.go_on.new.writer)) (ap (λ (x : Crew). x.pending) c.hear-notice.ensures.others) on.1) })) c.go_on.ensures.err
 
-pub go_on-requires-clause-stand : goal.go_on-requires-clause-stand
-go_on-requires-clause-stand g c κs within =
-    let h = c.hear-notice.ensures.drive c.requires.stand.drive c.requires.stand.represents in
-    stand_heard c.args.warehouse.now.book c.args.vehicles.now c.hear-notice.new.self c.args.report c.hear-notice.result c.requires.stand h.0 h.1 h.2 (ap (λ (x : Crew). x.pending) c.hear-notice.ensures.others)
+pub go_on-requires : goal.go_on-requires
+go_on-requires g c = record {
+  stand = (let h = c.hear-notice.ensures.drive c.requires.stand.drive c.requires.stand.represents in
+      stand_heard c.args.warehouse.now.book c.args.vehicles.now c.hear-notice.new.self c.args.report c.hear-notice.result c.requires.stand h.0 h.1 h.2 (ap (λ (x : Crew). x.pending) c.hear-notice.ensures.others));
+}

@@ -44,4 +44,4 @@ returns-in-Err-TooLong-clause-err g c =
 pub returns-in-Ok-true-clause-ok : goal.returns-in-Ok-true-clause-ok
 returns-in-Ok-true-clause-ok g c =
     let e : said (short_line c.args.line.now) ≡ Ok (Some c.read_kept.new.command) = search rules in
-    on_ok c.run.result (λ s. served_as g.P.Planner.fits_map g.P.Planner.slot_count (told_text c.args.form) c.args.vehicles.now.bound _ _ _ _ _ _ _ _ _ _ (ap Asked e) s) c.run.ensures.ok
+    on_ok c.run.result (λ s. served_as g.P.Plans.fits_map g.P.Plans.slot_count (told_text c.args.form) c.args.vehicles.now.bound _ _ _ _ _ _ _ _ _ _ (ap Asked e) s) c.run.ensures.ok

@@ -2,8 +2,8 @@ use Rattle.wh_dispatch.proofs.Texts.{on_ok}
 use Rattle.wh_dispatch.proofs.SettingOut.{stand_untold, sets_out}
 use Rattle.wh_dispatch.proofs.line.set_out.Goals as goal
 
-pub go_on-requires-clause-stand : goal.go_on-requires-clause-stand
-go_on-requires-clause-stand g c κs within = stand_untold c.args.warehouse.now.book c.args.vehicles.now c.requires.untold c.requires.stand
+pub go_on-requires : goal.go_on-requires
+go_on-requires g c = record { stand = (stand_untold c.args.warehouse.now.book c.args.vehicles.now c.requires.untold c.requires.stand) }
 
 pub returns-clause-ok : goal.returns-clause-ok
 returns-clause-ok g c =

@@ -10,8 +10,8 @@ use Rattle.wh_dispatch.proofs.script.serve_all.Goals as goal
 pub loop-init : goal.loop-init
 loop-init g c = record { follows = from_start _ _ _ _ c.args.lines.now c.args.warehouse.now.book c.args.spares.now.items c.args.vehicles.now _; bound = refl; reads = omega arith; open_still = c.requires.unfailed }
 
-pub serve-requires-clause-manned : goal.serve-requires-clause-manned
-serve-requires-clause-manned g c κs within = manned_on _ _ _ _ _ _ _ _ _ _ _ _ _ _ _ c.loop.invariant.follows c.requires.manned
+pub serve-requires : goal.serve-requires
+serve-requires g c = record { manned = manned_on _ _ _ _ _ _ _ _ _ _ _ _ _ _ _ c.loop.invariant.follows c.requires.manned }
 
 pub returns-in-Err-clause-fault : goal.returns-in-Err-clause-fault
 returns-in-Err-clause-fault g c =

@@ -5,7 +5,7 @@ use Rattle.wh_dispatch.proofs.script.serve_all.Given as goal
 
 abbrev pub invariant-loop : goal.invariant-loop
 invariant-loop g l = record {
-  follows : FollowsFrom g.P.Planner.fits_map g.P.Planner.slot_count (told_text l.fn.form) l.fn.vehicles.bound l.counter l.fn.lines l.lines l.fn.warehouse.book l.fn.spares.items l.fn.vehicles
+  follows : FollowsFrom g.P.Plans.fits_map g.P.Plans.slot_count (told_text l.fn.form) l.fn.vehicles.bound l.counter l.fn.lines l.lines l.fn.warehouse.book l.fn.spares.items l.fn.vehicles
       l.warehouse.book l.spares.items l.vehicles (g.W.Write.contents l.fn.writer) (g.W.Write.contents l.writer);
   bound : l.vehicles.bound ≡ l.fn.vehicles.bound;
   reads : l.fn.lines.reads ≤ l.lines.reads;

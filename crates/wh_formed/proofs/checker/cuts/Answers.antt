@@ -1,4 +1,4 @@
-use Rattle.std.proofs.Common.{◌≡◌, ℕ, ◌<◌, ◌-◌, ◌*◌, ◌∙◌, length, ap, arith, subst, sym, Option}
+use Rattle.std.proofs.Common.{◌≡◌, ℕ, ◌<◌, ◌-◌, ◌*◌, ◌∙◌, false, length, ap, arith, subst, sym, Option}
 use Rattle.std.proofs.lemmas.List.{length-map}
 use Rattle.std.specs.List.{AllZip, range_with_len}
 use Rattle.rayon.specs.Numbers.{nat_range}
@@ -29,7 +29,7 @@ collect-requires-clause-ready g c κs within =
 
 pub returns-clause-cuts : goal.returns-clause-cuts
 returns-clause-cuts g c =
-    let site : Site = record { grid = c.args.grid.now; layout = c.args.points.now } in
+    let site : Site = record { grid = c.args.grid.now; layout = c.args.points.now; homes = false } in
     let cells = c.deref-cells.result.now in
     let same : cells ≡ cells_of site.layout = c.deref-cells.ensures.value ∙ c.in_ok-list.ensures.cells in
     let numbers = c.deref-numbers.result.now in

@@ -21,8 +21,8 @@ finish-requires-after_bounds g c κs within =
     let parts : c.args.passes.items ≡ c.pop.new.self.items ++ c.in-Some.own ∷ [] = c.in-Some.ensures.items in
     let same : length c.args.clients.items ≡ length c.pop.new.self.items = omega (arith, c.requires.clients, ap length parts, length_push c.pop.new.self.items c.in-Some.own) in
     subst (λ (l : List Received). InOrder g.N.DeskName.callers l) (sym c.gather.ensures)
-    (paced_order (λ (history : List Entry) d had has n. Attended (length g.N.DeskName.cells) g.P.Planner.fits_map g.P.Planner.slot_count g.N.DeskName.origin.site.grid (receipt_text c.args.form g.N.DeskName.origin history) (λ x. g.R.Read.remaining x) (λ x. g.W.Write.contents x) d had has n)
-    (λ history. attended_caller (length g.N.DeskName.cells) g.P.Planner.fits_map g.P.Planner.slot_count g.N.DeskName.origin.site.grid (receipt_text c.args.form g.N.DeskName.origin history) (λ x. g.R.Read.remaining x) (λ x. g.W.Write.contents x))
+    (paced_order (λ (history : List Entry) d had has n. Attended (length g.N.DeskName.cells) g.P.Plans.fits_map g.P.Plans.slot_count g.N.DeskName.origin.site.grid (receipt_text c.args.form g.N.DeskName.origin history) (λ x. g.R.Read.remaining x) (λ x. g.W.Write.contents x) d had has n)
+    (λ history. attended_caller (length g.N.DeskName.cells) g.P.Plans.fits_map g.P.Plans.slot_count g.N.DeskName.origin.site.grid (receipt_text c.args.form g.N.DeskName.origin history) (λ x. g.R.Read.remaining x) (λ x. g.W.Write.contents x))
     c.args.clients.items c.args.passes.items c.pop.new.self.items left.reports.passes.items left.reports.connections.items g.N.DeskName.callers c.in-Some.own left.paced.pass c.requires.passes parts same s.count.0 s.count.1 s.served
     (paces_caller (length g.N.DeskName.cells) c.args.pace left.paced.viewer.past c.in-Some.own left.paced.pass left.paced.ended s.turns))
 
@@ -46,8 +46,8 @@ returns-else-is_before-clause-leaves g c =
       by_callers = done.callers;
       granted = done.served;
       within = done.within;
-      served = all_served (λ (history : List Entry) d had has n. Attended (length g.N.DeskName.cells) g.P.Planner.fits_map g.P.Planner.slot_count g.N.DeskName.origin.site.grid (receipt_text c.args.form g.N.DeskName.origin history) (λ x. g.R.Read.remaining x) (λ x. g.W.Write.contents x) d had has n)
-          (λ history. attended_caller (length g.N.DeskName.cells) g.P.Planner.fits_map g.P.Planner.slot_count g.N.DeskName.origin.site.grid (receipt_text c.args.form g.N.DeskName.origin history) (λ x. g.R.Read.remaining x) (λ x. g.W.Write.contents x))
+      served = all_served (λ (history : List Entry) d had has n. Attended (length g.N.DeskName.cells) g.P.Plans.fits_map g.P.Plans.slot_count g.N.DeskName.origin.site.grid (receipt_text c.args.form g.N.DeskName.origin history) (λ x. g.R.Read.remaining x) (λ x. g.W.Write.contents x) d had has n)
+          (λ history. attended_caller (length g.N.DeskName.cells) g.P.Plans.fits_map g.P.Plans.slot_count g.N.DeskName.origin.site.grid (receipt_text c.args.form g.N.DeskName.origin history) (λ x. g.R.Read.remaining x) (λ x. g.W.Write.contents x))
           c.args.clients.items c.pop.new.self.items left.reports.passes.items left.reports.connections.items book.history c.args.passes.items (left.reports.passes.items ++ left.paced.pass ∷ [])
           c.requires.passes.each
           (λ k p less at. get_before c.pop.new.self.items c.in-Some.own p k (omega (arith, less, same)) (subst (λ (l : List Received). slice_get l k ≡ Some p) parts at))

@@ -13,7 +13,7 @@ loop-command-init g c = record {
 pub loop-command-preserved-in-Ok : goal.loop-command-preserved-in-Ok
 loop-command-preserved-in-Ok g c =
     let less : length c.loop-command.pass.list < c.args.entries = grind (arith, nat_tests) in
-    let one = received_does g.P.Planner.fits_map g.P.Planner.slot_count g.N.DeskName.origin.site.grid c.in-Some.command c.loop-command.pass c.loop-command.spares.items _ c.call.new.pass c.call.new.spares.items c.in-Ok.ensures.ok in
+    let one = received_does g.P.Plans.fits_map g.P.Plans.slot_count g.N.DeskName.origin.site.grid c.in-Some.command c.loop-command.pass c.loop-command.spares.items _ c.call.new.pass c.call.new.spares.items c.in-Ok.ensures.ok in
     record {
       going = going_more c.loop-command.invariant.going c.in-Some.ensures one;
       share = share_kept c.args.entries c.args.pass.now c.loop-command.pass c.call.new.pass c.loop-command.invariant.share
@@ -23,7 +23,7 @@ loop-command-preserved-in-Ok g c =
 pub loop-command-preserved-in-Ok-2 : goal.loop-command-preserved-in-Ok-2
 loop-command-preserved-in-Ok-2 g c =
     let less : length c.loop-command.pass.list < c.args.entries = grind (arith, nat_tests) in
-    let one = received_does g.P.Planner.fits_map g.P.Planner.slot_count g.N.DeskName.origin.site.grid c.in-Some.command c.loop-command.pass c.loop-command.spares.items _ c.call.new.pass c.call.new.spares.items c.in-Ok.ensures.ok in
+    let one = received_does g.P.Plans.fits_map g.P.Plans.slot_count g.N.DeskName.origin.site.grid c.in-Some.command c.loop-command.pass c.loop-command.spares.items _ c.call.new.pass c.call.new.spares.items c.in-Ok.ensures.ok in
     record {
       going = going_more c.loop-command.invariant.going c.in-Some.ensures one;
       share = share_kept c.args.entries c.args.pass.now c.loop-command.pass c.call.new.pass c.loop-command.invariant.share

@@ -33,7 +33,7 @@ returns-in-Ok-host_beside-clause-ok g c =
     if_four c.compare.result told.history told.connections told.worker told.begins (λ r same counts worked first.
     let left : r.history.front.past.history ≡ hosted.history.front.past.history = rw same refl in
     let begins = begun c.again-earlier.result.past r.history.front.past earlier hosted.history.warehouse.book.history first known (left ∙ ap (λ (p : Past). p.history) done.past) in
-    let leaves = subst (λ (n : ℕ). Leaves g.P.Planner.fits_map g.P.Planner.slot_count (receipt_text c.args.form g.N.DeskName.origin) (λ x. g.R.Read.remaining x) (λ x. g.W.Write.contents x) g.N.DeskName.origin (length g.N.DeskName.cells) n c.args.clients.items passes c.args.pace
+    let leaves = subst (λ (n : ℕ). Leaves g.P.Plans.fits_map g.P.Plans.slot_count (receipt_text c.args.form g.N.DeskName.origin) (λ x. g.R.Read.remaining x) (λ x. g.W.Write.contents x) g.N.DeskName.origin (length g.N.DeskName.cells) n c.args.clients.items passes c.args.pace
     hosted.history.warehouse.book.history hosted.history.warehouse.book.state hosted.connections.items hosted.worker) many done.leaves in
     rw (same, counts, worked) (record {
       begins = begins;
@@ -41,7 +41,7 @@ returns-in-Ok-host_beside-clause-ok g c =
       in_order = order;
       had = c.in-Ok.ensures.lists;
       leaves = leaves;
-      allowed = all_keep (length g.N.DeskName.cells) g.P.Planner.fits_map g.P.Planner.slot_count g.N.DeskName.origin.site.grid (receipt_text c.args.form g.N.DeskName.origin hosted.history.warehouse.book.history) (λ x. g.R.Read.remaining x) (λ x. g.W.Write.contents x)
+      allowed = all_keep (length g.N.DeskName.cells) g.P.Plans.fits_map g.P.Plans.slot_count g.N.DeskName.origin.site.grid (receipt_text c.args.form g.N.DeskName.origin hosted.history.warehouse.book.history) (λ x. g.R.Read.remaining x) (λ x. g.W.Write.contents x)
           c.args.clients.items _ passes earlier hosted.history.warehouse.book.history hosted.connections.items (clients_few c.args.clients.items c.args.pace) order c.in-Ok.ensures.lists leaves.served;
     }))
 

@@ -13,7 +13,7 @@ over_desk-requires-clause-start g c κs within = log_begun (g.J.Journal.contents
 pub returns-clause-ok : goal.returns-clause-ok
 returns-clause-ok g c =
     let book = c.args.warehouse.book in
-    subst (λ (n : ℕ). IfOk c.over_desk.result (λ r. ServedFrom g.P.Planner.fits_map g.P.Planner.slot_count (receipt_text c.args.form (record { site = book.site; opening = book.opening })) (λ x. g.R.Read.remaining x) (λ x. g.W.Write.contents x) (record { site = book.site; opening = book.opening }) book.history c.args.clients.items c.args.pace n
+    subst (λ (n : ℕ). IfOk c.over_desk.result (λ r. ServedFrom g.P.Plans.fits_map g.P.Plans.slot_count (receipt_text c.args.form (record { site = book.site; opening = book.opening })) (λ x. g.R.Read.remaining x) (λ x. g.W.Write.contents x) (record { site = book.site; opening = book.opening }) book.history c.args.clients.items c.args.pace n
     r.history.warehouse.book.history r.history.warehouse.book.state r.connections.items r.worker)) c.in-Ok.ensures.cells c.over_desk.ensures.ok
 
 pub returns-clause-boards : goal.returns-clause-boards

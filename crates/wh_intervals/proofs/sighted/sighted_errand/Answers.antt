@@ -25,7 +25,7 @@ returns-clause-errand c =
     let many = c.requires.stops.0 in
     let few = c.requires.stops.1 in
     let cells : c.from.result ≡ passable_cells g = c.from.ensures ∙ c.cells.ensures.value in
-    let small : length stops * c.from.result ≤ 8 * 4294967296 = mul-le (length stops) c.from.result 8 4294967296 few (omega (arith, c.from.ensures)) in
+    let small : length stops * c.from.result ≤ 9 * 4294967296 = mul-le (length stops) c.from.result 9 4294967296 few (omega (arith, c.from.ensures)) in
     let size : length via + 1 ≡ length stops = (let z = via_size stops in omega arith) in
     let product : (length via + 1) * passable_cells g ≡ length stops * c.from.result = ap (λ k. k * passable_cells g) size ∙ ap (λ k. length stops * k) (sym cells) in
     record {

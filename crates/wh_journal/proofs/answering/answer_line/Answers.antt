@@ -8,14 +8,14 @@ use Rattle.wh_journal.proofs.answering.answer_line.Goals as goal
 pub returns-in-Ok-false-clause-answers : goal.returns-in-Ok-false-clause-answers
 returns-in-Ok-false-clause-answers g c text =
     let e : said (short_line c.args.line.now) ≡ Ok None = search rules in
-    answers_skipped g.P.Planner.fits_map g.P.Planner.slot_count text _ c.args.warehouse.now.book c.args.spares.now.items e
+    answers_skipped g.P.Plans.fits_map g.P.Plans.slot_count text _ c.args.warehouse.now.book c.args.spares.now.items e
 
 pub returns-in-Err-Form-clause-answers : goal.returns-in-Err-Form-clause-answers
 returns-in-Err-Form-clause-answers g c text =
     let e : said (short_line c.args.line.now) ≡ Err Form = search rules in
-    answers_wrong g.P.Planner.fits_map g.P.Planner.slot_count text _ c.args.warehouse.now.book c.args.spares.now.items e
+    answers_wrong g.P.Plans.fits_map g.P.Plans.slot_count text _ c.args.warehouse.now.book c.args.spares.now.items e
 
 pub returns-in-Err-TooLong-clause-answers : goal.returns-in-Err-TooLong-clause-answers
 returns-in-Err-TooLong-clause-answers g c text =
     let e : said (short_line c.args.line.now) ≡ Err TooLong = search rules in
-    answers_long g.P.Planner.fits_map g.P.Planner.slot_count text _ c.args.warehouse.now.book c.args.spares.now.items e
+    answers_long g.P.Plans.fits_map g.P.Plans.slot_count text _ c.args.warehouse.now.book c.args.spares.now.items e

@@ -4,15 +4,15 @@ use Rattle.std.proofs.Common.{refl, false}
 
 pub returns-then-history-ge-MOST_ENTRIES-clause-answers : goal.returns-then-history-ge-MOST_ENTRIES-clause-answers
 returns-then-history-ge-MOST_ENTRIES-clause-answers g c text =
-    answers_none g.P.Planner.fits_map g.P.Planner.slot_count text c.args.command.now c.args.warehouse.now.book c.args.spares.now.items c.args.warehouse.now.book c.args.spares.now.items
-    c.history.ensures.opening c.history.ensures.run false (not_run g.P.Planner.fits_map g.P.Planner.slot_count c.args.command.now c.args.warehouse.now.book c.args.spares.now.items) refl
+    answers_none g.P.Plans.fits_map g.P.Plans.slot_count text c.args.command.now c.args.warehouse.now.book c.args.spares.now.items c.args.warehouse.now.book c.args.spares.now.items
+    c.history.ensures.opening c.history.ensures.run false (not_run g.P.Plans.fits_map g.P.Plans.slot_count c.args.command.now c.args.warehouse.now.book c.args.spares.now.items) refl
 
 pub returns-then-run_event-clause-answers : goal.returns-then-run_event-clause-answers
 returns-then-run_event-clause-answers g c text =
-    answers_entry g.P.Planner.fits_map g.P.Planner.slot_count text c.args.command.now c.args.warehouse.now.book c.args.spares.now.items c.run_event.new.self.book c.run_event.new.spares.items
+    answers_entry g.P.Plans.fits_map g.P.Plans.slot_count text c.args.command.now c.args.warehouse.now.book c.args.spares.now.items c.run_event.new.self.book c.run_event.new.spares.items
     c.history.ensures.opening c.history.ensures.run c.run_event.result c.run_event.ensures.runs c.if-run_event.true
 
 pub returns-else-run_event-clause-answers : goal.returns-else-run_event-clause-answers
 returns-else-run_event-clause-answers g c text =
-    answers_none g.P.Planner.fits_map g.P.Planner.slot_count text c.args.command.now c.args.warehouse.now.book c.args.spares.now.items c.run_event.new.self.book c.run_event.new.spares.items
+    answers_none g.P.Plans.fits_map g.P.Plans.slot_count text c.args.command.now c.args.warehouse.now.book c.args.spares.now.items c.run_event.new.self.book c.run_event.new.spares.items
     c.history.ensures.opening c.history.ensures.run c.run_event.result c.run_event.ensures.runs c.if-run_event.false

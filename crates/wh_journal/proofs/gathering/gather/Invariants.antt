@@ -5,7 +5,7 @@ use Rattle.wh_journal.proofs.gathering.gather.Given as goal
 
 abbrev pub invariant-loop : goal.invariant-loop
 invariant-loop g l = record {
-  served : (text : Answered → List ℕ) → Gathering g.P.Planner.fits_map g.P.Planner.slot_count text l.fn.lines l.lines l.fn.warehouse.book l.fn.spares.items l.warehouse.book l.spares.items
+  served : (text : Answered → List ℕ) → Gathering g.P.Plans.fits_map g.P.Plans.slot_count text l.fn.lines l.lines l.fn.warehouse.book l.fn.spares.items l.warehouse.book l.spares.items
       (g.W.Write.contents l.fn.writer) (g.W.Write.contents l.writer) l.answers.items l.counter;
   room : length l.answers.items < 32768;
   few : length l.fn.warehouse.book.history < 10 ^ 9 → length l.warehouse.book.history < 10 ^ 9;

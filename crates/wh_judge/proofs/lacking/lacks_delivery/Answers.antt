@@ -4,7 +4,8 @@ use Rattle.std.proofs.lemmas.Option.{same_Some}
 use Rattle.wh_grid.specs.declared.cell.Cell.{Cell}
 use Rattle.wh_path.specs.Paths.{ends, others}
 use Rattle.wh_tasks.specs.declared.task.Task.{Task}
-use Rattle.wh_core.specs.Steps.{IsNext, other_ends}
+use Rattle.wh_core.specs.Steps.{other_ends}
+use Rattle.wh_core.specs.Ordinary.{IsNext}
 use Rattle.wh_judge.specs.Judged.{IsChoice}
 use Rattle.wh_judge.proofs.Ways.{lacks-delivery}
 use Rattle.wh_judge.proofs.lacking.lacks_delivery.Goals as goal

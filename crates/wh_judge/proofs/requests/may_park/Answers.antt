@@ -1,6 +1,6 @@
 use Rattle.wh_path.specs.Paths.{end}
 use Rattle.wh_planner.specs.Duties.{ParksAt}
-use Rattle.wh_core.specs.Steps.{IsAllowed}
+use Rattle.wh_core.specs.Ordinary.{IsAllowed}
 use Rattle.wh_book.proofs.Naming.{park-allowed}
 use Rattle.wh_judge.proofs.Courses.{lawful-from, course-from}
 use Rattle.wh_judge.proofs.requests.may_park.Goals as goal

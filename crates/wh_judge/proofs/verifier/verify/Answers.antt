@@ -1,4 +1,4 @@
-use Rattle.std.proofs.Common.{◌≤◌, ◌∙◌, length, subst}
+use Rattle.std.proofs.Common.{◌≤◌, ◌∙◌, false, length, subst}
 use Rattle.wh_points.specs.Points.{Site}
 use Rattle.wh_log.specs.declared.follow_log.Followed.{Followed}
 use Rattle.wh_log.specs.Judges.{Concludes}
@@ -9,20 +9,20 @@ use Rattle.wh_judge.proofs.verifier.verify.Goals as goal
 
 pub follow-requires : goal.follow-requires
 follow-requires c =
-    let site : Site = record { grid = c.args.grid.now; layout = c.args.points.now } in
+    let site : Site = record { grid = c.args.grid.now; layout = c.args.points.now; homes = false } in
     let few : length c.args.points.now.agents ≤ 256 = rw (← c.agents-agents.ensures.value) c.agents-agents.ensures.bound in
     can_open site c.in_ok-follower.follower (c.in_ok-follower.ensures ∙ c.new.ensures) c.requires.some few
 
 pub returns-in-Whole-clause-says : goal.returns-in-Whole-clause-says
 returns-in-Whole-clause-says c =
-    let site : Site = record { grid = c.args.grid.now; layout = c.args.points.now } in
+    let site : Site = record { grid = c.args.grid.now; layout = c.args.points.now; homes = false } in
     let first = c.in_ok-follower.follower in
     let said = subst (λ (r : Followed). Concludes Opens Steps c.args.log.now first c.follow.new.judge r) c.in-Whole.is c.in_ok-entries.ensures in
     says_run site first c.follow.new.judge c.args.log.now c.in-Whole.entries c.requires.layout (c.in_ok-follower.ensures ∙ c.new.ensures) said
 
 pub returns-in-Whole-clause-run : goal.returns-in-Whole-clause-run
 returns-in-Whole-clause-run c =
-    let site : Site = record { grid = c.args.grid.now; layout = c.args.points.now } in
+    let site : Site = record { grid = c.args.grid.now; layout = c.args.points.now; homes = false } in
     let first = c.in_ok-follower.follower in
     let said = subst (λ (r : Followed). Concludes Opens Steps c.args.log.now first c.follow.new.judge r) c.in-Whole.is c.in_ok-entries.ensures in
     let says = says_run site first c.follow.new.judge c.args.log.now c.in-Whole.entries c.requires.layout (c.in_ok-follower.ensures ∙ c.new.ensures) said in
@@ -30,14 +30,14 @@ returns-in-Whole-clause-run c =
 
 pub returns-clause-says : goal.returns-clause-says
 returns-clause-says c =
-    let site : Site = record { grid = c.args.grid.now; layout = c.args.points.now } in
+    let site : Site = record { grid = c.args.grid.now; layout = c.args.points.now; homes = false } in
     let first = c.in_ok-follower.follower in
     let said = subst (λ (r : Followed). Concludes Opens Steps c.args.log.now first c.follow.new.judge r) c.in-Bad.is c.in_ok-entries.ensures in
     says_bad site first c.follow.new.judge c.args.log.now c.in-Bad.line c.requires.layout (c.in_ok-follower.ensures ∙ c.new.ensures) said
 
 pub returns-clause-run : goal.returns-clause-run
 returns-clause-run c =
-    let site : Site = record { grid = c.args.grid.now; layout = c.args.points.now } in
+    let site : Site = record { grid = c.args.grid.now; layout = c.args.points.now; homes = false } in
     let first = c.in_ok-follower.follower in
     let said = subst (λ (r : Followed). Concludes Opens Steps c.args.log.now first c.follow.new.judge r) c.in-Bad.is c.in_ok-entries.ensures in
     let says = says_bad site first c.follow.new.judge c.args.log.now c.in-Bad.line c.requires.layout (c.in_ok-follower.ensures ∙ c.new.ensures) said in

@@ -1,4 +1,4 @@
-use Rattle.std.proofs.Common.{rules, option_map, ◌≡◌, ℕ, List, Err, ap, sym, ◌∙◌, subst}
+use Rattle.std.proofs.Common.{false, rules, option_map, ◌≡◌, ℕ, List, Err, ap, sym, ◌∙◌, subst}
 use Rattle.std.specs.Prelude.{IfErr}
 use Rattle.std.proofs.lemmas.Result.{err_from_is_err_and}
 use Rattle.wh_words.specs.Lines.{text_of}
@@ -14,8 +14,8 @@ use Rattle.wh_live.proofs.run.run_crew.Goals as goal
 
 pub returns-in-Ok-log_text-clause-ok : goal.returns-in-Ok-log_text-clause-ok
 returns-in-Ok-log_text-clause-ok g c =
-    let fits = g.P.Planner.fits_map in
-    let count : g.row.P.Denot → ℕ = g.P.Planner.slot_count in
+    let fits = g.P.Plans.fits_map in
+    let count : g.row.P.Denot → ℕ = g.P.Plans.slot_count in
     let book = c.in-Ok.warehouse.book in
     let start = c.in-Ok.ensures in
     let ran = c.in-Ok-history_of.left in
@@ -27,13 +27,13 @@ returns-in-Ok-log_text-clause-ok g c =
     let sited = subst (λ (s : Site). WorkedBy fits count c.args.works.items turns c.args.journal (record { site = s; opening = book.opening }) left.history left.state) start.site c.in-Ok-history_of.ensures.ok in
     let had = option_map (λ d. g.S.Screen.shown d.screen) c.args.display in
     let has = option_map g.S.Screen.shown ran.screen in
-    let opened_is : record { site = book.site; opening = book.opening } ≡ record { site = record { grid = c.args.grid.value; layout = c.args.points }; opening = opened c.args.points 0 slots } = ap (λ (s : Site). record { site = s; opening = book.opening }) start.site ∙ ap (λ (o : State). record { site = record { grid = c.args.grid.value; layout = c.args.points }; opening = o }) start.opening.1 in
-    let lives : Lives fits count (record { grid = c.args.grid.value; layout = c.args.points }) c.args.planners.items c.args.works.items turns c.args.journal c.in-Ok-log_text.text.items = record {
+    let opened_is : record { site = book.site; opening = book.opening } ≡ record { site = record { grid = c.args.grid.value; layout = c.args.points; homes = false }; opening = opened c.args.points 0 slots } = ap (λ (s : Site). record { site = s; opening = book.opening }) start.site ∙ ap (λ (o : State). record { site = record { grid = c.args.grid.value; layout = c.args.points; homes = false }; opening = o }) start.opening.1 in
+    let lives : Lives fits count (record { grid = c.args.grid.value; layout = c.args.points; homes = false }) c.args.planners.items c.args.works.items turns c.args.journal c.in-Ok-log_text.text.items = record {
       slots = slots;
       tied = subst (λ row. IsTied fits count c.args.grid.value row slots) start.planners tied;
       history = left.history;
       state = left.state;
-      worked = subst (λ (o : State). WorkedBy fits count c.args.works.items turns c.args.journal (record { site = record { grid = c.args.grid.value; layout = c.args.points }; opening = o }) left.history left.state) start.opening.1 sited;
+      worked = subst (λ (o : State). WorkedBy fits count c.args.works.items turns c.args.journal (record { site = record { grid = c.args.grid.value; layout = c.args.points; homes = false }; opening = o }) left.history left.state) start.opening.1 sited;
       text_is =
           c.in-Ok-log_text.ensures.text
           ∙ ap (λ (n : List ℕ). text_of (log_lines Two (record { clock = 0; slots = n; entries = c.history.result.now }))) (copied ∙ ap (λ (s : State). s.slots) start.opening.1)

@@ -7,5 +7,5 @@ use Rattle.wh_planners.proofs.deliver.ask_fields.Given as goal
 -- the last i of them were asked for, and are among the first i fields
 abbrev pub invariant-loop-i : goal.invariant-loop-i
 invariant-loop-i l =
-    (room l.store ≡ room l.fn.store) × (stored_grid l.store ≡ stored_grid l.fn.store) × (slots l.share ≡ slots l.fn.share) × (length l.levels ≡ 8)
+    (room l.store ≡ room l.fn.store) × (stored_grid l.store ≡ stored_grid l.fn.store) × (slots l.share ≡ slots l.fn.share) × (length l.levels ≡ 9)
     × ((k : ℕ) → k < l.few → l.few ≤ k + l.i → IsSomeAnd (get_or l.levels k None) (IsAmong l.i l.store (cell_at l.stops k)))

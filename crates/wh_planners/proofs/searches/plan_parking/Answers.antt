@@ -1,7 +1,7 @@
 use Rattle.std.proofs.Common.{sym, subst, Contains}
 use Rattle.wh_grid.specs.Grids.{IsPassable}
 use Rattle.wh_planner.specs.Duties.{ParksAt}
-use Rattle.wh_planners.proofs.Services.{loc_is, no_path, no_service, rests_clear, lawful_parking, least_parking, no_parking}
+use Rattle.wh_planners.proofs.Services.{loc_is, no_path, no_service, here_vacant, lawful_parking, least_parking, no_parking}
 use Rattle.wh_planners.proofs.searches.plan_parking.Goals as goal
 
 pub returns-then-not-passable-clause-none : goal.returns-then-not-passable-clause-none
@@ -16,7 +16,7 @@ park_in-requires-clause-clear c =
     let scene = c.args.scene.now in
     let paths = scene.paths.now in
     let here = loc_is c.paths-paths.result.now paths scene.agent c.index-paths-scene.result c.at-loc.result c.requires.agent c.paths-paths.ensures c.index-paths-scene.is c.at-loc.ensures in
-    rests_clear scene.grid.now scene.nofollow paths scene.agent c.requires.agent c.requires.resting c.requires.free c.in-Ok.others c.at-loc.result c.in-Ok.ensures here
+    here_vacant scene.grid.now scene.nofollow paths scene.agent c.requires.agent c.requires.walk c.requires.free c.in-Ok.others c.at-loc.result c.in-Ok.ensures here
 
 pub returns-in-Ok-park_in-clause-lawful : goal.returns-in-Ok-park_in-clause-lawful
 returns-in-Ok-park_in-clause-lawful c =

@@ -10,7 +10,7 @@ returns-clause-ok g c =
     let one = c.run_event-added.ensures.runs in
     let here = ap (λ (entries : List Entry). length entries) c.history-before.ensures.value in
     let now = c.clock-clock.ensures.value in
-    let gives = gives_one g.P.Planner.fits_map g.P.Planner.slot_count (told_text c.args.form) _ _ c.args.command.now c.args.warehouse.now.book c.args.spares.now.items _ _
+    let gives = gives_one g.P.Plans.fits_map g.P.Plans.slot_count (told_text c.args.form) _ _ c.args.command.now c.args.warehouse.now.book c.args.spares.now.items _ _
     c.run_event-added.result here now c.history-before.ensures.opening c.history-before.ensures.run one in
     let told = tells_outcome (told_text c.args.form) _ _ one.outcome c.run_event-added.result _ _ c.tell_outcome.result _ _ one.added_is one.history c.tell_outcome.ensures.starved
     (λ yes front entry is. c.tell_outcome.ensures.text yes front entry (c.history.ensures.value ∙ is)) in
@@ -27,7 +27,7 @@ returns-clause-err g c =
     let one = c.run_event-added.ensures.runs in
     let here = ap (λ (entries : List Entry). length entries) c.history-before.ensures.value in
     let now = c.clock-clock.ensures.value in
-    let gives = gives_one g.P.Planner.fits_map g.P.Planner.slot_count (told_text c.args.form) _ _ c.args.command.now c.args.warehouse.now.book c.args.spares.now.items _ _
+    let gives = gives_one g.P.Plans.fits_map g.P.Plans.slot_count (told_text c.args.form) _ _ c.args.command.now c.args.warehouse.now.book c.args.spares.now.items _ _
     c.run_event-added.result here now c.history-before.ensures.opening c.history-before.ensures.run one in
     let told = tells_outcome (told_text c.args.form) _ _ one.outcome c.run_event-added.result _ _ c.tell_outcome.result _ _ one.added_is one.history c.tell_outcome.ensures.starved
     (λ yes front entry is. c.tell_outcome.ensures.text yes front entry (c.history.ensures.value ∙ is)) in

@@ -13,7 +13,7 @@ use Rattle.wh_replay.proofs.script.serve_all.Goals as goal
 
 pub loop-init : goal.loop-init
 loop-init g c = record {
-  served = following_start g.P.Planner.fits_map g.P.Planner.slot_count (told_text c.args.form) c.args.lines.now c.args.warehouse.now.book c.args.spares.now.items (g.W.Write.contents c.args.writer.now);
+  served = following_start g.P.Plans.fits_map g.P.Plans.slot_count (told_text c.args.form) c.args.lines.now c.args.warehouse.now.book c.args.spares.now.items (g.W.Write.contents c.args.writer.now);
   few = omega arith;
   open_still = c.requires;
 }
@@ -43,7 +43,7 @@ pub returns-in-Err-serve-clause-fault : goal.returns-in-Err-serve-clause-fault
 returns-in-Err-serve-clause-fault g c =
     let served = following_same _ _ _ _ _ _ _ _ _ _ _ _ _ _ (c.take_request.ensures.left c.if-take_request.false) c.loop.invariant.served in
     let told = g.W.Write.contents in
-    subst (λ (fault : ReplayFault). Stops g.P.Planner.fits_map g.P.Planner.slot_count (told_text c.args.form) fault c.args.lines.now c.next_line.new.self
+    subst (λ (fault : ReplayFault). Stops g.P.Plans.fits_map g.P.Plans.slot_count (told_text c.args.form) fault c.args.lines.now c.next_line.new.self
     c.args.warehouse.now.book c.args.spares.now.items c.serve.new.warehouse.book c.serve.new.spares.items (told c.args.writer.now) (told c.serve.new.writer)) (sym c.in-Err-serve.ensures.fault)
     (stops_served _ _ _ c.args.lines.now c.take_request.new.lines c.next_line.new.self _ _ _ _ _ _ _ _ _ _ _ c.next_line.new.line served.follows c.next_line.ensures.writer
     c.in-Ok-next_line.next c.in_default.not-End c.in-Ok-next_line.ensures.ok c.in-Err-serve.ensures.err)

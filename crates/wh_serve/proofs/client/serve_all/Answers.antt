@@ -15,7 +15,7 @@ use Rattle.wh_serve.proofs.client.serve_all.Goals as goal
 
 pub loop-init : goal.loop-init
 loop-init g c = record {
-  served = λ history begins. following_start c.args.may (length g.N.DeskName.cells) g.P.Planner.fits_map g.P.Planner.slot_count g.N.DeskName.origin.site.grid (receipt_text c.args.form g.N.DeskName.origin history) c.args.lines.now c.args.pass.now c.args.spares.now.items (g.W.Write.contents c.args.writer.now);
+  served = λ history begins. following_start c.args.may (length g.N.DeskName.cells) g.P.Plans.fits_map g.P.Plans.slot_count g.N.DeskName.origin.site.grid (receipt_text c.args.form g.N.DeskName.origin history) c.args.lines.now c.args.pass.now c.args.spares.now.items (g.W.Write.contents c.args.writer.now);
   few = omega arith;
   open_still = c.requires;
 }
@@ -51,7 +51,7 @@ returns-in-Err-serve_line-clause-fault g c =
     let gathered = subst (λ (next : Next). Gathered next c.loop.lines c.next_line.new.self c.next_line.new.line) c.in-Whole.is c.in-Ok.ensures.ok in
     λ history begins.
     let before = c.loop.invariant.served history (prefix_trans c.loop.pass.known after history grown begins) in
-    subst (λ (fault : ServeFault). Stops c.args.may (length g.N.DeskName.cells) g.P.Planner.fits_map g.P.Planner.slot_count g.N.DeskName.origin.site.grid (receipt_text c.args.form g.N.DeskName.origin history) fault c.args.lines.now c.next_line.new.self
+    subst (λ (fault : ServeFault). Stops c.args.may (length g.N.DeskName.cells) g.P.Plans.fits_map g.P.Plans.slot_count g.N.DeskName.origin.site.grid (receipt_text c.args.form g.N.DeskName.origin history) fault c.args.lines.now c.next_line.new.self
     c.args.pass.now c.args.spares.now.items c.serve_line.new.pass c.serve_line.new.spares.items (told c.args.writer.now) (told c.serve_line.new.writer)) (sym c.unserved_fault.ensures)
     (stops_unserved _ _ _ _ _ _ c.args.lines.now c.loop.lines c.next_line.new.self _ _ _ _ _ _ _ _ _ _ _ c.next_line.new.line before.follows c.next_line.ensures.writer c.in-Err-serve_line.why gathered (c.in-Err-serve_line.ensures.err history begins))
 

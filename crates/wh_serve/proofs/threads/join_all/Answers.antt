@@ -22,7 +22,7 @@ loop-handle-preserved g c =
       omega (arith, more, inv.0, c.in-Some.ensures.steps.1),
       next.1 ∙ ap (λ n. drop n handles) (sym more),
       omega (arith, c.push_reserved.ensures.capacity, inv.2),
-      subst (λ l. AllAt (λ i y. (h : _) → slice_get handles i ≡ Some h → InEach y.pass.known (λ history. Attended (length g.N.DeskName.cells) g.P.Planner.fits_map g.P.Planner.slot_count g.N.DeskName.origin.site.grid (receipt_text h.promise.form g.N.DeskName.origin history) (λ x. g.R.Read.remaining x) (λ x. g.W.Write.contents x) h.promise.client.value h.promise.had.value y.pass y.connections)) l) (sym pushed)
-          (AllAt_push (λ i y. (h : _) → slice_get handles i ≡ Some h → InEach y.pass.known (λ history. Attended (length g.N.DeskName.cells) g.P.Planner.fits_map g.P.Planner.slot_count g.N.DeskName.origin.site.grid (receipt_text h.promise.form g.N.DeskName.origin history) (λ x. g.R.Read.remaining x) (λ x. g.W.Write.contents x) h.promise.client.value h.promise.had.value y.pass y.connections)) rs r inv.3
-          (λ h at. subst (λ z. InEach r.pass.known (λ history. Attended (length g.N.DeskName.cells) g.P.Planner.fits_map g.P.Planner.slot_count g.N.DeskName.origin.site.grid (receipt_text z.promise.form g.N.DeskName.origin history) (λ x. g.R.Read.remaining x) (λ x. g.W.Write.contents x) z.promise.client.value z.promise.had.value r.pass r.connections)) (same_Some _ _ (sym next.0 ∙ at)) c.join.ensures)),
+      subst (λ l. AllAt (λ i y. (h : _) → slice_get handles i ≡ Some h → InEach y.pass.known (λ history. Attended (length g.N.DeskName.cells) g.P.Plans.fits_map g.P.Plans.slot_count g.N.DeskName.origin.site.grid (receipt_text h.promise.form g.N.DeskName.origin history) (λ x. g.R.Read.remaining x) (λ x. g.W.Write.contents x) h.promise.client.value h.promise.had.value y.pass y.connections)) l) (sym pushed)
+          (AllAt_push (λ i y. (h : _) → slice_get handles i ≡ Some h → InEach y.pass.known (λ history. Attended (length g.N.DeskName.cells) g.P.Plans.fits_map g.P.Plans.slot_count g.N.DeskName.origin.site.grid (receipt_text h.promise.form g.N.DeskName.origin history) (λ x. g.R.Read.remaining x) (λ x. g.W.Write.contents x) h.promise.client.value h.promise.had.value y.pass y.connections)) rs r inv.3
+          (λ h at. subst (λ z. InEach r.pass.known (λ history. Attended (length g.N.DeskName.cells) g.P.Plans.fits_map g.P.Plans.slot_count g.N.DeskName.origin.site.grid (receipt_text z.promise.form g.N.DeskName.origin history) (λ x. g.R.Read.remaining x) (λ x. g.W.Write.contents x) z.promise.client.value z.promise.had.value r.pass r.connections)) (same_Some _ _ (sym next.0 ∙ at)) c.join.ensures)),
     )

@@ -20,6 +20,6 @@ returns-in-Ok-run_all-clause-served g c =
     let clients = c.args.clients.items in
     let passes = c.args.passes.items in
     let rs = c.in-Ok-run_all.reports.items in
-    subst (λ (l : List Received). AllReported (λ d had has n. InEach has.known (λ history. Attended (length g.N.DeskName.cells) g.P.Planner.fits_map g.P.Planner.slot_count g.N.DeskName.origin.site.grid (receipt_text c.args.form g.N.DeskName.origin history) (λ x. g.R.Read.remaining x) (λ x. g.W.Write.contents x) d had has n)) clients passes l c.take_apart.result.connections.items) (sym c.take_apart.ensures.passes)
-    (subst (λ (l : List ℕ). AllReported (λ d had has n. InEach has.known (λ history. Attended (length g.N.DeskName.cells) g.P.Planner.fits_map g.P.Planner.slot_count g.N.DeskName.origin.site.grid (receipt_text c.args.form g.N.DeskName.origin history) (λ x. g.R.Read.remaining x) (λ x. g.W.Write.contents x) d had has n)) clients passes (map (λ r. r.pass) rs) l) (sym c.take_apart.ensures.connections)
-    (all_reported (λ d had has n. InEach has.known (λ history. Attended (length g.N.DeskName.cells) g.P.Planner.fits_map g.P.Planner.slot_count g.N.DeskName.origin.site.grid (receipt_text c.args.form g.N.DeskName.origin history) (λ x. g.R.Read.remaining x) (λ x. g.W.Write.contents x) d had has n)) (λ r. r.pass) (λ r. r.connections) clients passes rs c.in-Ok-run_all.ensures.reported))
+    subst (λ (l : List Received). AllReported (λ d had has n. InEach has.known (λ history. Attended (length g.N.DeskName.cells) g.P.Plans.fits_map g.P.Plans.slot_count g.N.DeskName.origin.site.grid (receipt_text c.args.form g.N.DeskName.origin history) (λ x. g.R.Read.remaining x) (λ x. g.W.Write.contents x) d had has n)) clients passes l c.take_apart.result.connections.items) (sym c.take_apart.ensures.passes)
+    (subst (λ (l : List ℕ). AllReported (λ d had has n. InEach has.known (λ history. Attended (length g.N.DeskName.cells) g.P.Plans.fits_map g.P.Plans.slot_count g.N.DeskName.origin.site.grid (receipt_text c.args.form g.N.DeskName.origin history) (λ x. g.R.Read.remaining x) (λ x. g.W.Write.contents x) d had has n)) clients passes (map (λ r. r.pass) rs) l) (sym c.take_apart.ensures.connections)
+    (all_reported (λ d had has n. InEach has.known (λ history. Attended (length g.N.DeskName.cells) g.P.Plans.fits_map g.P.Plans.slot_count g.N.DeskName.origin.site.grid (receipt_text c.args.form g.N.DeskName.origin history) (λ x. g.R.Read.remaining x) (λ x. g.W.Write.contents x) d had has n)) (λ r. r.pass) (λ r. r.connections) clients passes rs c.in-Ok-run_all.ensures.reported))

@@ -27,8 +27,8 @@ spawn_with-started-requires-send-F g c κs within =
 
 pub spawn_with-started-requires-clause-keeps : goal.spawn_with-started-requires-clause-keeps
 spawn_with-started-requires-clause-keeps g c κs within = λ r s.
-    subst (λ d. InEach r.pass.known (λ history. Attended (length g.N.DeskName.cells) g.P.Planner.fits_map g.P.Planner.slot_count g.N.DeskName.origin.site.grid (receipt_text c.args.form g.N.DeskName.origin history) (λ x. g.R.Read.remaining x) (λ x. g.W.Write.contents x) d c.of.result.value r.pass r.connections)) (sym c.of-2.ensures)
-    (subst (λ (p : Received). InEach r.pass.known (λ history. Attended (length g.N.DeskName.cells) g.P.Planner.fits_map g.P.Planner.slot_count g.N.DeskName.origin.site.grid (receipt_text c.args.form g.N.DeskName.origin history) (λ x. g.R.Read.remaining x) (λ x. g.W.Write.contents x) c.args.client p r.pass r.connections)) (sym c.of.ensures) s)
+    subst (λ d. InEach r.pass.known (λ history. Attended (length g.N.DeskName.cells) g.P.Plans.fits_map g.P.Plans.slot_count g.N.DeskName.origin.site.grid (receipt_text c.args.form g.N.DeskName.origin history) (λ x. g.R.Read.remaining x) (λ x. g.W.Write.contents x) d c.of.result.value r.pass r.connections)) (sym c.of-2.ensures)
+    (subst (λ (p : Received). InEach r.pass.known (λ history. Attended (length g.N.DeskName.cells) g.P.Plans.fits_map g.P.Plans.slot_count g.N.DeskName.origin.site.grid (receipt_text c.args.form g.N.DeskName.origin history) (λ x. g.R.Read.remaining x) (λ x. g.W.Write.contents x) c.args.client p r.pass r.connections)) (sym c.of.ensures) s)
 
 pub spawn_with-started-requires-send-T : goal.spawn_with-started-requires-send-T
 spawn_with-started-requires-send-T g c κs within =

@@ -14,7 +14,7 @@ returns-in-Ok g c = λ history begins. inl (record {
   nothing_yet = c.new-lines.ensures.waiting;
   source_is = c.new-lines.ensures.source;
   after = c.serve_client-outcome.new.lines;
-  fared = fared_of c.args.may (length g.N.DeskName.cells) g.P.Planner.fits_map g.P.Planner.slot_count g.N.DeskName.origin.site.grid (receipt_text c.args.form g.N.DeskName.origin) c.serve_client-outcome.result c.new-lines.result c.serve_client-outcome.new.lines
+  fared = fared_of c.args.may (length g.N.DeskName.cells) g.P.Plans.fits_map g.P.Plans.slot_count g.N.DeskName.origin.site.grid (receipt_text c.args.form g.N.DeskName.origin) c.serve_client-outcome.result c.new-lines.result c.serve_client-outcome.new.lines
       c.args.pass.now c.args.spares.now.items c.serve_client-outcome.new.pass c.serve_client-outcome.new.spares.items
       (g.W.Write.contents c.write_entries.new.writer) (g.W.Write.contents c.serve_client-outcome.new.writer)
       c.serve_client-outcome.ensures.ok c.serve_client-outcome.ensures.fault history begins;

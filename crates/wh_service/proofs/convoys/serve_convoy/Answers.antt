@@ -1,4 +1,4 @@
-use Rattle.std.proofs.Common.{rules, ap, inl, inr, refl}
+use Rattle.std.proofs.Common.{false, rules, ap, inl, inr, refl}
 use Rattle.std.proofs.KnownBytes.{Keeps-refl}
 use Rattle.std.specs.Arc.{arc_value}
 use Rattle.wh_points.specs.Points.{Site}
@@ -10,7 +10,7 @@ use Rattle.wh_service.proofs.convoys.serve_convoy.Goals as goal
 
 pub returns-in-Err-start_convoy-clause-fault : goal.returns-in-Err-start_convoy-clause-fault
 returns-in-Err-start_convoy-clause-fault g c =
-    let site : Site = record { grid = arc_value c.in-Ok-new.grid; layout = c.in-Ok.kept.site.points } in
+    let site : Site = record { grid = arc_value c.in-Ok-new.grid; layout = c.in-Ok.kept.site.points; homes = false } in
     let n = c.from-ahead.ensures in
     inr (inr (inl (
       record {
@@ -24,7 +24,7 @@ returns-in-Err-start_convoy-clause-fault g c =
 
 pub returns-in-Err-keep_beside-clause-fault : goal.returns-in-Err-keep_beside-clause-fault
 returns-in-Err-keep_beside-clause-fault g c =
-    let site : Site = record { grid = arc_value c.in-Ok-new.grid; layout = c.in-Ok.kept.site.points } in
+    let site : Site = record { grid = arc_value c.in-Ok-new.grid; layout = c.in-Ok.kept.site.points; homes = false } in
     stops_aside _ _ _ _ c.args.options.now.fleet c.args.options.now.tail c.args.options.now.told c.args.pace _ _ _ _ site c.in-Ok-start_convoy.started.0 c.in-Ok-start_convoy.started.2 c.in-Ok-start_convoy.started.3.0.items c.in-Ok-start_convoy.started.3.1.items
     c.as_slice-bytes.result.now (kept_at _ _ _ _ c.in-Ok-new.ensures.ok c.as_slice-bytes.ensures.value c.in-Ok.ensures.ok) (search rules)
     c.in-Ok-start_convoy.started.1 c.in-Ok-start_convoy.ensures.stands c.in-Ok-start_convoy.ensures.ok c.in-Ok-start_convoy.ensures.within _ c.from-ahead.ensures c.in-Ok-start_convoy.ensures.over c.in-Ok-start_convoy.ensures.seated
@@ -32,12 +32,12 @@ returns-in-Err-keep_beside-clause-fault g c =
 
 pub go_on-requires-clause-starts : goal.go_on-requires-clause-starts
 go_on-requires-clause-starts g c κs within =
-    let site : Site = record { grid = arc_value c.in-Ok-new.grid; layout = c.in-Ok.kept.site.points } in
+    let site : Site = record { grid = arc_value c.in-Ok-new.grid; layout = c.in-Ok.kept.site.points; homes = false } in
     start_of_file c.args.options.now.fleet site (g.L.Journal.contents c.args.file.now) (g.L.Journal.contents c.start_convoy.new.file) c.in-Ok-start_convoy.started.0 c.in-Ok-start_convoy.ensures.ok c.in-Ok-start_convoy.ensures.same
 
 pub returns-in-Ok-go_on-clause-ok : goal.returns-in-Ok-go_on-clause-ok
 returns-in-Ok-go_on-clause-ok g c =
-    let site : Site = record { grid = arc_value c.in-Ok-new.grid; layout = c.in-Ok.kept.site.points } in
+    let site : Site = record { grid = arc_value c.in-Ok-new.grid; layout = c.in-Ok.kept.site.points; homes = false } in
     serves_convoy _ _ _ _ c.args.options.now.fleet c.args.options.now.tail c.args.options.now.told c.args.pace _ _ _ _ site c.in-Ok-start_convoy.started.0 c.in-Ok-start_convoy.started.2 c.in-Ok-start_convoy.started.3.0.items c.in-Ok-start_convoy.started.3.1.items
     c.as_slice-bytes.result.now (kept_at _ _ _ _ c.in-Ok-new.ensures.ok c.as_slice-bytes.ensures.value c.in-Ok.ensures.ok) (search rules)
     c.in-Ok-start_convoy.started.1 c.in-Ok-start_convoy.ensures.stands c.in-Ok-start_convoy.ensures.ok c.in-Ok-start_convoy.ensures.within _ c.from-ahead.ensures c.in-Ok-start_convoy.ensures.over c.in-Ok-start_convoy.ensures.seated
@@ -46,7 +46,7 @@ returns-in-Ok-go_on-clause-ok g c =
 
 pub returns-clause-fault : goal.returns-clause-fault
 returns-clause-fault g c =
-    let site : Site = record { grid = arc_value c.in-Ok-new.grid; layout = c.in-Ok.kept.site.points } in
+    let site : Site = record { grid = arc_value c.in-Ok-new.grid; layout = c.in-Ok.kept.site.points; homes = false } in
     stops_convoy _ _ _ _ c.args.options.now.fleet c.args.options.now.tail c.args.options.now.told c.args.pace _ _ _ _ site c.in-Ok-start_convoy.started.0 c.in-Ok-start_convoy.started.2 c.in-Ok-start_convoy.started.3.0.items c.in-Ok-start_convoy.started.3.1.items
     c.as_slice-bytes.result.now (kept_at _ _ _ _ c.in-Ok-new.ensures.ok c.as_slice-bytes.ensures.value c.in-Ok.ensures.ok) (search rules)
     c.in-Ok-start_convoy.started.1 c.in-Ok-start_convoy.ensures.stands c.in-Ok-start_convoy.ensures.ok c.in-Ok-start_convoy.ensures.within _ c.from-ahead.ensures c.in-Ok-start_convoy.ensures.over c.in-Ok-start_convoy.ensures.seated
@@ -57,7 +57,7 @@ pub returns-then-not-nofollow-clause-fault : goal.returns-then-not-nofollow-clau
 returns-then-not-nofollow-clause-fault g c = inr (inl (
   record {
     is = refl;
-    site = record { grid = c.in-Ok.kept.site.grid; layout = c.in-Ok.kept.site.points };
+    site = record { grid = c.in-Ok.kept.site.grid; layout = c.in-Ok.kept.site.points; homes = false };
     text = c.in-Ok.kept.text.items;
     site_read = c.in-Ok.ensures.ok;
     rule = search rules;

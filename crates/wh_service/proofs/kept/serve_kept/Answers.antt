@@ -1,4 +1,4 @@
-use Rattle.std.proofs.Common.{ap, ◌⊎◌, ℕ, List, inl, inr, subst}
+use Rattle.std.proofs.Common.{false, ap, ◌⊎◌, ℕ, List, inl, inr, subst}
 use Rattle.std.proofs.KnownBytes.{Keeps-refl}
 use Rattle.std.specs.Arc.{arc_value}
 use Rattle.wh_points.specs.Points.{Site}
@@ -9,7 +9,7 @@ use Rattle.wh_service.proofs.kept.serve_kept.Goals as goal
 
 pub returns-in-Err-start_aside-clause-fault : goal.returns-in-Err-start_aside-clause-fault
 returns-in-Err-start_aside-clause-fault g c =
-    let site : Site = record { grid = arc_value c.in_ok-grid.grid; layout = c.in-Ok.kept.site.points } in
+    let site : Site = record { grid = arc_value c.in_ok-grid.grid; layout = c.in-Ok.kept.site.points; homes = false } in
     inr (inl (
       record {
         site = site;
@@ -24,7 +24,7 @@ returns-in-Err-start_aside-clause-fault g c =
 
 pub returns-in-Err-equip_for-clause-fault : goal.returns-in-Err-equip_for-clause-fault
 returns-in-Err-equip_for-clause-fault g c =
-    let site : Site = record { grid = arc_value c.in_ok-grid.grid; layout = c.in-Ok.kept.site.points } in
+    let site : Site = record { grid = arc_value c.in_ok-grid.grid; layout = c.in-Ok.kept.site.points; homes = false } in
     let fleet = c.args.options.now.fleet in
     inr (inl (
       record {
@@ -44,7 +44,7 @@ returns-in-Err-equip_for-clause-fault g c =
 
 pub returns-in-Err-keep_beside-clause-fault : goal.returns-in-Err-keep_beside-clause-fault
 returns-in-Err-keep_beside-clause-fault g c =
-    let site : Site = record { grid = arc_value c.in_ok-grid.grid; layout = c.in-Ok.kept.site.points } in
+    let site : Site = record { grid = arc_value c.in_ok-grid.grid; layout = c.in-Ok.kept.site.points; homes = false } in
     stops_aside _ _ _ _ c.args.options.now.fleet c.args.options.now.told _ _ _ _ site c.in-Ok-start_aside.started.0 c.in-Ok-equip_for.equipped.0.items c.in-Ok-equip_for.equipped.1.items
     c.as_slice-bytes.result.now (kept_at _ _ _ _ c.in_ok-grid.ensures.ok c.as_slice-bytes.ensures.value c.in-Ok.ensures.ok)
     c.in-Ok-start_aside.started.1 c.in-Ok-start_aside.ensures.stands c.in-Ok-start_aside.ensures.ok c.in-Ok-start_aside.ensures.within
@@ -53,12 +53,12 @@ returns-in-Err-keep_beside-clause-fault g c =
 
 pub run_on-ran-requires-clause-starts : goal.run_on-ran-requires-clause-starts
 run_on-ran-requires-clause-starts g c κs within =
-    let site : Site = record { grid = arc_value c.in_ok-grid.grid; layout = c.in-Ok.kept.site.points } in
+    let site : Site = record { grid = arc_value c.in_ok-grid.grid; layout = c.in-Ok.kept.site.points; homes = false } in
     start_of_file c.args.options.now.fleet site (g.L.Journal.contents c.args.file.now) (g.L.Journal.contents c.start_aside.new.file) c.in-Ok-start_aside.started.0 c.in-Ok-start_aside.ensures.ok c.in-Ok-start_aside.ensures.same
 
 pub returns-in-Err-ran-clause-fault : goal.returns-in-Err-ran-clause-fault
 returns-in-Err-ran-clause-fault g c =
-    let site : Site = record { grid = arc_value c.in_ok-grid.grid; layout = c.in-Ok.kept.site.points } in
+    let site : Site = record { grid = arc_value c.in_ok-grid.grid; layout = c.in-Ok.kept.site.points; homes = false } in
     stops_kept _ _ _ _ c.args.options.now.fleet c.args.options.now.told _ _ _ _ site c.in-Ok-start_aside.started.0 c.in-Ok-equip_for.equipped.0.items c.in-Ok-equip_for.equipped.1.items
     c.as_slice-bytes.result.now (kept_at _ _ _ _ c.in_ok-grid.ensures.ok c.as_slice-bytes.ensures.value c.in-Ok.ensures.ok)
     c.in-Ok-start_aside.started.1 c.in-Ok-start_aside.ensures.stands c.in-Ok-start_aside.ensures.ok c.in-Ok-start_aside.ensures.within
@@ -68,7 +68,7 @@ returns-in-Err-ran-clause-fault g c =
 
 pub returns-clause-ok : goal.returns-clause-ok
 returns-clause-ok g c =
-    let site : Site = record { grid = arc_value c.in_ok-grid.grid; layout = c.in-Ok.kept.site.points } in
+    let site : Site = record { grid = arc_value c.in_ok-grid.grid; layout = c.in-Ok.kept.site.points; homes = false } in
     serves_kept _ _ _ _ c.args.options.now.fleet c.args.options.now.told _ _ _ _ site c.in-Ok-start_aside.started.0 c.in-Ok-equip_for.equipped.0.items c.in-Ok-equip_for.equipped.1.items
     c.as_slice-bytes.result.now (kept_at _ _ _ _ c.in_ok-grid.ensures.ok c.as_slice-bytes.ensures.value c.in-Ok.ensures.ok)
     c.in-Ok-start_aside.started.1 c.in-Ok-start_aside.ensures.stands c.in-Ok-start_aside.ensures.ok c.in-Ok-start_aside.ensures.within
@@ -79,7 +79,7 @@ returns-clause-ok g c =
 
 pub returns-clause-fault : goal.returns-clause-fault
 returns-clause-fault g c =
-    let site : Site = record { grid = arc_value c.in_ok-grid.grid; layout = c.in-Ok.kept.site.points } in
+    let site : Site = record { grid = arc_value c.in_ok-grid.grid; layout = c.in-Ok.kept.site.points; homes = false } in
     without_tail _ _ _ _ c.args.options.now.fleet c.args.options.now.told _ _ _ _ site c.in-Ok-start_aside.started.0 c.in-Ok-equip_for.equipped.0.items c.in-Ok-equip_for.equipped.1.items
     c.as_slice-bytes.result.now (kept_at _ _ _ _ c.in_ok-grid.ensures.ok c.as_slice-bytes.ensures.value c.in-Ok.ensures.ok)
     c.in-Ok-start_aside.started.1 c.in-Ok-start_aside.ensures.stands c.in-Ok-start_aside.ensures.ok c.in-Ok-start_aside.ensures.within

@@ -1,4 +1,4 @@
-use Rattle.std.proofs.Common.{subst, sym, ◌∙◌}
+use Rattle.std.proofs.Common.{false, subst, sym, ◌∙◌}
 use Rattle.wh_edge.specs.declared.trouble.Trouble.{Trouble}
 use Rattle.wh_lines.specs.Output.{WritesFront}
 use Rattle.wh_service.specs.Checks.{IsWhyUnjudged}
@@ -10,7 +10,7 @@ returns-clause-fault g c =
     let has = g.W.Write.contents c.write_text.new.output in
     subst (λ (told : Trouble). IsWhyUnjudged told c.args.lines.now c.read_site.new.lines had has) (sym c.in-Err-write_text.ensures.fault)
     (record {
-      site = record { grid = c.in_ok-grid.field-0.grid; layout = c.in_ok-grid.field-0.points };
+      site = record { grid = c.in_ok-grid.field-0.grid; layout = c.in_ok-grid.field-0.points; homes = false };
       site_read = c.in_ok-grid.ensures.ok;
       verdict = c.in-Ok.verdict;
       verdict_is = c.in-Ok.ensures.verdict;

@@ -1,4 +1,4 @@
-use Rattle.std.proofs.Common.{subst, sym, ◌∙◌, ℕ, List}
+use Rattle.std.proofs.Common.{false, subst, sym, ◌∙◌, ℕ, List}
 use Rattle.std.specs.Io.KnownBytes.{Appends}
 use Rattle.wh_points.specs.Points.{Site}
 use Rattle.wh_edge.specs.declared.trouble.Trouble.{Trouble}
@@ -10,7 +10,7 @@ use Rattle.wh_service.proofs.verified.verify.Goals as goal
 
 pub returns-in-Err-log_section-clause-fault : goal.returns-in-Err-log_section-clause-fault
 returns-in-Err-log_section-clause-fault g c = no_log _ _ _ _ (record {
-  site = record { grid = c.in-Ok.site.grid; layout = c.in-Ok.site.points };
+  site = record { grid = c.in-Ok.site.grid; layout = c.in-Ok.site.points; homes = false };
   between = c.read_site.new.lines;
   site_read = c.in-Ok.ensures.ok;
   why = c.in-Err-log_section.ensures.fault;
@@ -18,7 +18,7 @@ returns-in-Err-log_section-clause-fault g c = no_log _ _ _ _ (record {
 
 pub returns-in-Ok-write_text-clause-ok : goal.returns-in-Ok-write_text-clause-ok
 returns-in-Ok-write_text-clause-ok g c =
-    let site : Site = record { grid = c.in-Ok.site.grid; layout = c.in-Ok.site.points } in
+    let site : Site = record { grid = c.in-Ok.site.grid; layout = c.in-Ok.site.points; homes = false } in
     let told = c.in-Ok-verify.verified in
     let had = g.W.Write.contents c.args.output.now in
     let has = g.W.Write.contents c.write_text.new.output in
@@ -39,7 +39,7 @@ returns-in-Ok-write_text-clause-ok g c =
 
 pub returns-clause-fault : goal.returns-clause-fault
 returns-clause-fault g c =
-    let site : Site = record { grid = c.in-Ok.site.grid; layout = c.in-Ok.site.points } in
+    let site : Site = record { grid = c.in-Ok.site.grid; layout = c.in-Ok.site.points; homes = false } in
     let told = c.in-Ok-verify.verified in
     let had = g.W.Write.contents c.args.output.now in
     let has = g.W.Write.contents c.write_text.new.output in

@@ -1,6 +1,6 @@
 use Rattle.std.proofs.Common.{◌≡◌, ap, subst}
 use Rattle.wh_core.specs.States.{State}
-use Rattle.wh_core.specs.Steps.{NoneIsNext}
+use Rattle.wh_core.specs.Ordinary.{NoneIsNext}
 use Rattle.wh_book.specs.Drafts.{Seen}
 use Rattle.wh_book.proofs.book.Book.rests_at_once.Goals as goal
 

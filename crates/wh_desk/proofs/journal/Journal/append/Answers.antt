@@ -126,7 +126,7 @@ pub returns-clause-back : goal.returns-clause-back
 returns-clause-back g c =
     let old = c.make_ready-made.new.warehouse in
     let entry = c.commit-entry.result.entry in
-    let fits = g.P.Planner.fits_map in
+    let fits = g.P.Plans.fits_map in
     let origin = g.N.DeskName.origin in
     let site : old.book.site ≡ origin.site = ap (λ (p : Past). p.origin.site) (past_same _ _ c.make_ready-made.ensures.same) ∙ ap (λ (o : Origin). o.site) c.self.invariant.origin_is in
     let fit : AllFit fits origin.site.grid old.planners = subst (λ (s : Site). AllFit fits s.grid old.planners) site c.planners-seated.ensures.tied.fit in

@@ -10,4 +10,4 @@ invariant_of-self c = (
 
 pub returns-clause-step : goal.returns-clause-step
 returns-clause-step c =
-    rw (← c.self.view_is) (step-result c.self.inside.instance c.self.inside.floor.state c.args.entry c.answer.new.floor.state c.answer.result c.answer.ensures.answer)
+    rw (← c.self.view_is) (step-result c.self.inside.instance c.self.inside.floor.state c.args.entry c.answer.new.floor.state c.answer.result c.self.invariant.0 c.answer.ensures.answer)

@@ -18,6 +18,6 @@ returns-in-Ok g c =
     let history : mid.history ≡ old.history = ap (λ (s : Seen). s.history) c.draft_choice.ensures.book ∙ same.history ∙ ap (λ (h : House g.row.P.Denot). h.book.history) c.self.view_is in
     let step = rw (site, state) at made.step in
     record {
-      runs = λ spares. moved-by-choice g.P.Planner.fits_map g.P.Planner.slot_count c.args.caller c.args.agent entry old spares new c.in-Ok.ensures.drafts.caller_is c.in-Ok.ensures.drafts.event_is step
+      runs = λ spares. moved-by-choice g.P.Plans.fits_map g.P.Plans.slot_count c.args.caller c.args.agent entry old spares new c.in-Ok.ensures.drafts.caller_is c.in-Ok.ensures.drafts.event_is step
           (record { site = made.stays.site ∙ site; opening = made.stays.opening ∙ opening }) (made.history ∙ ap (λ es. es ++ entry ∷ []) history);
     }

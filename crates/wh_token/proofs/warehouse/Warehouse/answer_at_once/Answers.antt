@@ -1,7 +1,8 @@
 use Rattle.std.proofs.Common.{◌≡◌, ap, rules, refl, subst}
 use Rattle.wh_path.specs.Paths.{place_of}
 use Rattle.wh_core.specs.States.{State}
-use Rattle.wh_core.specs.Steps.{IsDue, IsDeliveryCell, NoneIsNext}
+use Rattle.wh_core.specs.Steps.{IsDeliveryCell}
+use Rattle.wh_core.specs.Ordinary.{IsDue, NoneIsNext}
 use Rattle.wh_token.specs.Houses.{House}
 use Rattle.wh_token.proofs.warehouse.Warehouse.answer_at_once.Goals as goal
 

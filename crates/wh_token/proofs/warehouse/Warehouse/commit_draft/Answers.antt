@@ -16,12 +16,12 @@ invariant_of-self g c =
     let step = c.commit.ensures.step in
     let grid : old.book.site.grid ≡ new.site.grid = ap (λ (s : Site). s.grid) (sym c.commit.ensures.site) in
     let swaps = rw c.replaced-agent.ensures at c.swap.ensures.swaps in
-    let tied = tied-step g.P.Planner.fits_map g.P.Planner.slot_count old.book.site old.book.state entry.reply entry.event new.state
+    let tied = tied-step g.P.Plans.fits_map g.P.Plans.slot_count old.book.site old.book.state entry.reply entry.event new.state
     old.planners.items c.args.spare c.swap.new.planners.items c.swap.result
     c.self.invariant.seats step (rw same_book c.requires.tells) swaps c.self.invariant.tied in
     record {
       seats = c.swap.ensures.len ∙ c.self.invariant.seats ∙ sym c.commit.ensures.seats;
-      tied = subst (λ (f : Floor). IsTied g.P.Planner.fits_map g.P.Planner.slot_count f c.swap.new.planners.items new.state.slots) grid tied;
+      tied = subst (λ (f : Floor). IsTied g.P.Plans.fits_map g.P.Plans.slot_count f c.swap.new.planners.items new.state.slots) grid tied;
       over = c.self.invariant.over ∙ grid;
       lent = c.self.invariant.lent ∙ grid;
     }

@@ -1,4 +1,7 @@
-use Rattle.std.proofs.Common.{◌≡◌, ◌<◌, length, ap}
+use Rattle.std.proofs.Common.{◌≡◌, ◌<◌, length, ap, rules}
+use Rattle.wh_tasks.specs.Tasks.{IsTask}
+use Rattle.wh_token.proofs.Duties.{no_path-task}
+use Rattle.wh_planner.specs.declared.planner.PlanFault.{PlanFault}
 use Rattle.wh_token.specs.Houses.{House}
 use Rattle.wh_token.proofs.Fleet.{tied-read}
 use Rattle.wh_token.proofs.Seats.{others_asked}
@@ -23,3 +26,16 @@ invariant_of-self g c =
 pub returns-clause-others : goal.returns-clause-others
 returns-clause-others g c =
     others_asked c.args.agent _ c.self.inside.planners.items c.plan.new.self (ap (λ (h : House g.row.P.Denot). h.planners) c.self.view_is)
+
+pub plan-requires-clause-walk : goal.plan-requires-clause-walk
+plan-requires-clause-walk g c =
+    let self = c.self.inside in
+    let same_book : self.book ≡ c.args.self.now.book = ap (λ (h : House g.row.P.Denot). h.book) c.self.view_is in
+    rw (c.grid.ensures, c.setting.ensures, c.timetable.ensures.value) (c.timetable.ensures.walks c.args.agent (rw same_book c.requires.due.known.known))
+
+pub returns-clause-no_path : goal.returns-clause-no_path
+returns-clause-no_path g c =
+    let same_book : c.self.inside.book ≡ c.args.self.now.book = ap (λ (h : House g.row.P.Denot). h.book) c.self.view_is in
+    let there : IsTask c.args.self.now.book.state.tasks c.args.task c.task.result.now = search rules in
+    no_path-task c.plan.result PlanFault.NoPath c.args.self.now.book.site.grid c.args.self.now.book.state c.args.agent c.args.task c.task.result.now there
+    (rw (c.grid.ensures, c.setting.ensures, c.timetable.ensures.value, c.as_slice.ensures.value, same_book) at c.plan.ensures.no_path)

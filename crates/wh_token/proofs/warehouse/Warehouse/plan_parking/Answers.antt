@@ -23,3 +23,14 @@ invariant_of-self g c =
 pub returns-clause-others : goal.returns-clause-others
 returns-clause-others g c =
     others_asked c.args.agent _ c.self.inside.planners.items c.plan.new.self (ap (λ (h : House g.row.P.Denot). h.planners) c.self.view_is)
+
+pub plan-requires-clause-walk : goal.plan-requires-clause-walk
+plan-requires-clause-walk g c =
+    let self = c.self.inside in
+    let same_book : self.book ≡ c.args.self.now.book = ap (λ (h : House g.row.P.Denot). h.book) c.self.view_is in
+    rw (c.grid.ensures, c.setting.ensures, c.timetable.ensures.value) (c.timetable.ensures.walks c.args.agent (rw same_book c.requires.due.known.known))
+
+pub returns-clause-no_path : goal.returns-clause-no_path
+returns-clause-no_path g c =
+    let same_book : c.self.inside.book ≡ c.args.self.now.book = ap (λ (h : House g.row.P.Denot). h.book) c.self.view_is in
+    rw (c.grid.ensures, c.setting.ensures, c.timetable.ensures.value, same_book) at c.plan.ensures.no_path

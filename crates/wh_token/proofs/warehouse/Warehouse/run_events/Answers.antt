@@ -21,7 +21,7 @@ loop-command-preserved g c =
           | then-added w ↦ rw w.entries-is (length-added outcomes one.outcome _ before.ran.2 (one.added_is ∙ w.if-added.true))
           | else-added w ↦ rw w.entries-is (length-kept outcomes one.outcome _ before.ran.2 (one.added_is ∙ w.if-added.false))
         ],
-        ran-take-at g.P.Planner.fits_map g.P.Planner.slot_count c.args.self.now.book.site c.loop-command.self.book.site c.args.caller c.args.commands.now c.loop-command.command-index c.command-item.result outcomes one.outcome
+        ran-take-at g.P.Plans.fits_map g.P.Plans.slot_count c.args.self.now.book.site c.loop-command.self.book.site c.args.caller c.args.commands.now c.loop-command.command-index c.command-item.result outcomes one.outcome
             c.args.self.now.book.state c.args.spares.now.items _ _ c.run_event-added.new.self.book.state c.run_event-added.new.spares.items
             before.stays.site c.loop-command-test.true c.command-item.is before.ran.3 one.moves,
       );

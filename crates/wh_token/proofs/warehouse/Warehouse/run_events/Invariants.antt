@@ -11,5 +11,5 @@ invariant-loop-command g l = record {
   count : l.entries + l.starved ≡ l.command-index;
   ran : (outcomes : List (Option Entry)) × (l.self.book.history ≡ l.fn.self.book.history ++ entries_of outcomes)
       × (length (entries_of outcomes) ≡ l.entries)
-      × Ran g.P.Planner.fits_map g.P.Planner.slot_count l.fn.self.book.site l.caller (take l.command-index l.commands) outcomes l.fn.self.book.state l.fn.spares.items l.self.book.state l.spares.items;
+      × Ran g.P.Plans.fits_map g.P.Plans.slot_count l.fn.self.book.site l.caller (take l.command-index l.commands) outcomes l.fn.self.book.state l.fn.spares.items l.self.book.state l.spares.items;
 }

@@ -9,7 +9,7 @@ returns-in-Ok g c =
     let entry = c.in-Ok.draft.entry in
     let same = c.draft.ensures.same in
     let event = rw c.copy.ensures at c.in-Ok.ensures.drafts.event_is in
-    let tells = tells_of g.P.Planner.fits_map g.P.Planner.slot_count c.args.self.now.book.site.grid c.if-wants.spare c.args.command.now c.tell-told.result entry.event c.tell-told.ensures event in
+    let tells = tells_of g.P.Plans.fits_map g.P.Plans.slot_count c.args.self.now.book.site.grid c.if-wants.spare c.args.command.now c.tell-told.result entry.event c.tell-told.ensures event in
     record {
       runs = record {
         outcome = Some entry;
