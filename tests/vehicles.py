@@ -61,6 +61,27 @@ def test_the_clock_waits() -> None:
 
 def test_without_the_rule() -> None:
     same(replay(MAP + POINTS + 'agent P0\n%%\ntick\n', '--vehicles'), ('', 'refused V4\n', 1))
+    same(replay(OCTILE + AGENTS + '%%\ntick\n', '--vehicles', '--ahead=2'), ('', 'refused V4\n', 1))
+
+
+# The rule stands between the points and the agents. Agent 0 goes by 1,1 to A (1,0) and on to B; agent 1 rests.
+OCTILE = MAP.replace('type t\n', 'type octile\n') + POINTS
+AGENTS = 'agent P0\nagent P1\n'
+ONE_UNDER_WAY = OCTILE + RULE + AGENTS + '%%\nsubmit x A B\ntoken 0\ntick\ntick\n'
+
+
+def test_a_pickup_is_visited_once() -> None:
+    out, said, status = replay(ONE_UNDER_WAY + 'at 0 1\nat 0 2\nat 0 2\nat 1 1\n', '--vehicles')
+    same(out, 'accepted 0\ntook 0 end 6\nclock 1 picked 0 dropped 0\ngo 0 1 1,1\nclock 2 picked 1 dropped 0\narrived 0 1\ngo 0 2 1,0\n'
+         'arrived 0 2\nvisited 0 0 0\narrived 0 2\narrived 1 1\n')
+    same((said, status), ('', 0))
+
+
+def test_a_step_that_was_not_told() -> None:
+    # the clock waits behind the first step, so the second one was not told; and there is no agent 9
+    out, said, status = replay(ONE_UNDER_WAY + 'at 0 2\nat 9 0\n', '--vehicles', '--behind', '1')
+    same(out, 'accepted 0\ntook 0 end 6\nclock 1 picked 0 dropped 0\ngo 0 1 1,1\nrefused V1 0 1\nrefused V3 0 2\nrefused V2 9\n')
+    same((said, status), ('vehicles on their way: 1\n', 0))
 
 
 def test_mistaken_words() -> None:

@@ -5,7 +5,6 @@ ghost use Rattle.wh_claims.specs.Claim.{claim_amount};
 
 use std::alloc::{AllocError, Global};
 use std::io::{Read, Write};
-use std::test::Fail;
 use wh_edge::Trouble;
 use wh_lines::Lines;
 use wh_options::{Fleet, PlannerKind, ReplayOptions, Replies, Tail};
@@ -23,14 +22,10 @@ pub const POINTS: &str =
 /// The agents stand on the parkings.
 pub const AGENTS: &str = "agent P0\nagent P1\n";
 
-/// Serves an input with boxed planners of a kind, of 4 slots each on a bank of 1024, and a number of spare ones; the replies are
-/// told so, and the tail follows them. Some: what stopped it.
+/// Serves an input with boxed planners of 4 slots each on a bank of 1024, none of them spare, with short replies and no tail.
+/// Some: what stopped it.
 pub fn served<R: Read + Drop, W: Write>(
     alloc: Global,
-    kind: PlannerKind,
-    spares: u32,
-    replies: Replies,
-    tail: Tail,
     reader: R,
     writer: &mut W,
 ) -> Option<Trouble> {
@@ -52,15 +47,15 @@ pub fn served<R: Read + Drop, W: Write>(
         }
     };
     let fleet = Fleet {
-        planner: kind,
+        planner: PlannerKind::Near,
         slots: 4,
         bank: 1024,
-        spares,
+        spares: 0,
     };
     let options = ReplayOptions {
         fleet,
-        tail,
-        replies,
+        tail: Tail::Nothing,
+        replies: Replies::Short,
         log: None,
         told: None,
         vehicles: None,
@@ -70,20 +65,4 @@ pub fn served<R: Read + Drop, W: Write>(
         Ok(_) => None,
         Err(trouble) => Some(trouble),
     }
-}
-
-/// What the program shows of an input: its replies with their tail, and the line that tells what stopped it, if anything did.
-pub fn answers(
-    alloc: Global,
-    kind: PlannerKind,
-    spares: u32,
-    tail: Tail,
-    input: &[u8],
-) -> Result<Vec<u8>, Fail> {
-    let mut shown = Vec::new(alloc);
-    let replies = Replies::Short;
-    if let Some(trouble) = served(alloc, kind, spares, replies, tail, input, &mut shown) {
-        shown.extend_from_slice(trouble.text().as_slice())?;
-    }
-    Ok(shown)
 }

@@ -9,7 +9,6 @@ use std::test::*;
 use wh_claims::Bank;
 use wh_edge::{Site, Trouble, read_site};
 use wh_lines::Lines;
-use wh_options::{PlannerKind, Replies, Tail};
 use wh_planners::Patient;
 use wh_replay::replay;
 use wh_service::{Form, ReplayFault, Warehouse, claim};
@@ -93,15 +92,7 @@ fn readers(rt: HostRuntime) -> Result<(), Fail> {
             fails,
         };
         let mut written = Vec::new(rt.alloc());
-        let trouble = served(
-            rt.alloc(),
-            PlannerKind::Near,
-            0,
-            Replies::Short,
-            Tail::Nothing,
-            source,
-            &mut written,
-        );
+        let trouble = served(rt.alloc(), source, &mut written);
         let told = if fails { Some(Trouble::Broken) } else { None };
         assert!(rt; trouble == told, "{given} bytes, {piece} a call");
         assert!(rt;
@@ -121,15 +112,7 @@ fn writers(rt: HostRuntime) -> Result<(), Fail> {
             room: 20,
             fails,
         };
-        let trouble = served(
-            rt.alloc(),
-            PlannerKind::Near,
-            0,
-            Replies::Short,
-            Tail::Nothing,
-            input.as_bytes(),
-            &mut sink,
-        );
+        let trouble = served(rt.alloc(), input.as_bytes(), &mut sink);
         assert!(rt; trouble == Some(Trouble::Unwritten));
         assert!(rt; sink.taken.as_slice() == b"accepted 0\nrefused E".as_slice());
     }

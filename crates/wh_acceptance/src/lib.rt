@@ -1,5 +1,6 @@
-//! The program's libraries from outside, as its users meet them: worked rows from text to text, readers and writers that
-//! fail, the machine command by command, and the last values that are accepted. There is nothing here but tests.
+//! The program's libraries from outside, where no call of the program can ask them: readers and writers that fail, the machine
+//! command by command, and the options that words give. What the program can be asked stands in `tests/`. There is nothing here
+//! but tests.
 #![tactic(auto)]
 
 #[cfg(test)]
@@ -7,12 +8,6 @@ mod answers;
 #[cfg(test)]
 mod devices;
 #[cfg(test)]
-mod last_values;
-#[cfg(test)]
 mod machine;
 #[cfg(test)]
 mod options;
-#[cfg(test)]
-mod program;
-#[cfg(test)]
-mod rows;
