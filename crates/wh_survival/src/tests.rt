@@ -1,10 +1,15 @@
+//! A run whose journal is cut at each byte, and that goes on.
+
 ghost use Rattle.std.specs.Prelude.{◌≤◌, IfOk, length};
+ghost use Rattle.std.specs.Arc.{arc_value};
+ghost use Rattle.wh_claims.specs.Bank.{Belongs};
 ghost use Rattle.wh_points.specs.Points.{IsLayout};
 
+use super::displays::opened;
 use std::alloc::Global;
 use std::sync::Arc;
 use std::test::*;
-use wh_claims::{Bank, Claim};
+use wh_claims::{Bank, BankSeat, Claim};
 use wh_grid::Grid;
 use wh_journal::{Journal, JournalFault, Warehouse, replay_journaled};
 use wh_lines::Lines;
@@ -12,7 +17,7 @@ use wh_log::{Form, begun_text};
 use wh_planners::Patient;
 use wh_points::Points;
 use wh_replay::write_all;
-use wh_resume::{Recovery, Setting, recover};
+use wh_resume::{Recovery, Resumed, Setting, recover};
 
 const MAP: &[u8] = b"type octile\nheight 3\nwidth 5\nmap\n@.@.@\n.....\n@.@.@\n";
 
@@ -80,26 +85,68 @@ pub fn points(alloc: Global, grid: &Grid) -> Result<Points, Fail>
     }
 }
 
+/// This many slots of the bank.
+fn claim(bank: &Arc<Bank>, seat: &mut BankSeat, slots: u32) -> Result<Claim, Fail>
+    requires { Belongs seat.old (arc_value bank.now) }
+    ensures { Belongs seat.new (arc_value bank.now) }
+{
+    if slots < 2 || slots > 64 {
+        return Err("a planner has 2 to 64 slots".into());
+    }
+    let shared = Arc::try_clone(bank)?;
+    let own = seat.split(bank);
+    match Claim::take(shared, own, slots) {
+        Ok(claim) => Ok(claim),
+        Err(_) => Err("there are slots".into()),
+    }
+}
+
+/// A planner of this many slots.
+fn planner(
+    bank: &Arc<Bank>,
+    seat: &mut BankSeat,
+    grid: &Arc<Grid>,
+    slots: u32,
+) -> Result<Patient, Fail>
+    requires { Belongs seat.old (arc_value bank.now) }
+    ensures { Belongs seat.new (arc_value bank.now) }
+{
+    let claim = claim(bank, seat, slots)?;
+    match Arc::try_clone(grid) {
+        Ok(over) => Ok(Patient::new(over, claim)),
+        Err(_) => {
+            drop(claim);
+            Err("there is memory".into())
+        }
+    }
+}
+
+/// Some planners come to a row, each with so many slots.
+fn add_planners(
+    row: &mut Vec<Patient>,
+    bank: &Arc<Bank>,
+    seat: &mut BankSeat,
+    grid: &Arc<Grid>,
+    slots: &[u32],
+) -> Result<(), Fail>
+    requires { Belongs seat.old (arc_value bank.now) }
+{
+    for count in slots {
+        row.push(planner(bank, seat, grid, *count)?)?;
+    }
+    Ok(())
+}
+
 pub fn planners(alloc: Global, grid: &Arc<Grid>, slots: &[u32]) -> Result<Vec<Patient>, Fail> {
     let (bank, mut seat) = Bank::new(alloc, 1024)?;
     let mut row = Vec::new(alloc);
-    for count in slots {
-        if *count < 2 || *count > 64 {
-            return Err("a planner has 2 to 64 slots")?;
-        }
-        let own = seat.split(&bank);
-        let Ok(shared) = Arc::try_clone(&bank) else {
-            return Err("there is memory")?;
-        };
-        let Ok(over) = Arc::try_clone(grid) else {
-            return Err("there is memory")?;
-        };
-        match Claim::take(shared, own, *count) {
-            Ok(claim) => row.push(Patient::new(over, claim))?,
-            Err(_) => return Err("there are slots")?,
+    match add_planners(&mut row, &bank, &mut seat, grid, slots) {
+        Ok(()) => Ok(row),
+        Err(fault) => {
+            drop(row);
+            Err(fault)
         }
     }
-    Ok(row)
 }
 
 /// The bytes after the given number of line feeds.
@@ -118,92 +165,186 @@ fn behind(text: &[u8], lines: usize) -> usize
     text.len()
 }
 
-#[test]
-fn survives(rt: HostRuntime) -> Result<(), Fail> {
-    let alloc = rt.alloc();
-    let script = SCRIPT.as_bytes();
-    let map = grid(alloc)?;
-    let Ok(over) = Arc::try_clone(&map) else {
-        return Err("there is memory")?;
-    };
-    let crew = planners(alloc, &map, [4, 4].as_slice())?;
-    let places = points(alloc, &map)?;
-    let Ok(mut warehouse) = Warehouse::open(alloc, over, places, crew, 0) else {
-        return Err("it opens")?;
-    };
-    let mut journal = Shelf::new(alloc);
-    let head = match begun_text(alloc, 0, [4, 4].as_slice()) {
-        Ok(head) => head,
-        Err(_) => return Err("there is memory")?,
-    };
-    assert!(rt; journal.append(head.as_slice()).is_ok());
-    assert!(rt; journal.sync().is_ok());
-    let mut output: Vec<u8> = Vec::new(alloc);
-    let mut spares: Vec<Patient> = Vec::new(alloc);
+/// What a whole run leaves: its journal, its replies, and how many entries its history has.
+#[derive(Drop)]
+struct Whole {
+    held: Vec<u8>,
+    told: Vec<u8>,
+    entries: usize,
+}
+
+/// A journal with these bytes, synced.
+fn shelf_with(alloc: Global, bytes: &[u8]) -> Option<Shelf> {
+    let mut shelf = Shelf::new(alloc);
+    if shelf.append(bytes).is_ok() && shelf.sync().is_ok() {
+        Some(shelf)
+    } else {
+        None
+    }
+}
+
+/// The replies to a script, if all of it is served.
+fn served(
+    alloc: Global,
+    script: &[u8],
+    shelf: &mut Shelf,
+    warehouse: &mut Warehouse<Patient>,
+) -> Option<Vec<u8>> {
+    let mut told = Vec::new(alloc);
+    let mut spares = Vec::new(alloc);
     let mut lines = Lines::new(script);
-    assert!(rt;
-        replay_journaled(
-            &mut lines,
-            alloc,
-            Form::Full,
-            &mut journal,
-            &mut output,
-            &mut warehouse,
-            &mut spares
-        )
-        .is_ok()
-    );
-    let all = warehouse.history().len();
-    assert_eq!(rt; all, 19);
-    let held = journal.held.as_slice();
-    for cut in 0..held.len() + 1 {
-        let map = grid(alloc)?;
-        let Ok(over) = Arc::try_clone(&map) else {
-            return Err("there is memory")?;
-        };
-        let places = points(alloc, &map)?;
-        let setting = Setting::new(over, places);
-        let Ok(found) = recover(alloc, setting, head.as_slice(), &mut &held[..cut]) else {
-            return Err("there is memory")?;
-        };
-        match found {
-            Recovery::Bad { .. } => return Err("no cut is bad")?,
-            Recovery::Unopened(_) => assert!(rt; cut < head.len()),
-            Recovery::Resumed(resumed) => {
-                assert!(rt; cut >= head.len());
-                assert!(rt; !resumed.is_ended);
-                let known = resumed.book.history().len();
-                assert_eq!(rt; resumed.bytes, behind(held, known + 2));
-                assert!(rt; resumed.bytes <= cut);
-                let crew = planners(alloc, &map, resumed.book.slots())?;
-                let Ok(mut again) = Warehouse::resume(alloc, resumed.book, crew) else {
-                    return Err("it goes on")?;
+    match replay_journaled(
+        &mut lines,
+        alloc,
+        Form::Full,
+        shelf,
+        &mut told,
+        warehouse,
+        &mut spares,
+    ) {
+        Ok(()) => Some(told),
+        Err(_) => None,
+    }
+}
+
+/// What the whole script leaves in a warehouse, behind the first lines of the log.
+fn left_by(alloc: Global, head: &[u8], warehouse: &mut Warehouse<Patient>) -> Option<Whole> {
+    let mut shelf = shelf_with(alloc, head)?;
+    match served(alloc, SCRIPT.as_bytes(), &mut shelf, warehouse) {
+        Some(told) => Some(Whole {
+            held: shelf.held,
+            told,
+            entries: warehouse.history().len(),
+        }),
+        None => None,
+    }
+}
+
+/// The whole run.
+fn whole_run(alloc: Global, head: &[u8]) -> Result<Whole, Fail> {
+    let mut warehouse = opened(alloc)?;
+    let left = left_by(alloc, head, &mut warehouse);
+    drop(warehouse);
+    Ok(left.ok_or("it is served")?)
+}
+
+/// A journal with the first bytes of a text, synced. None: there are fewer.
+fn shelf_with_front(alloc: Global, text: &[u8], bytes: usize) -> Option<Shelf> {
+    shelf_with(alloc, text.get(..bytes)?)
+}
+
+/// Whether the rest of the script, behind this many entries and a journal, leaves what the whole run did.
+fn ends_alike(
+    alloc: Global,
+    whole: &Whole,
+    mut rest: Shelf,
+    known: usize,
+    warehouse: &mut Warehouse<Patient>,
+) -> bool {
+    let (script, replies) = (SCRIPT.as_bytes(), whole.told.as_slice());
+    match served(
+        alloc,
+        &script[behind(script, known)..],
+        &mut rest,
+        warehouse,
+    ) {
+        Some(told) => {
+            rest.held.as_slice() == whole.held.as_slice()
+                && rest.safe == whole.held.len()
+                && told.as_slice() == &replies[behind(replies, known)..]
+        }
+        None => false,
+    }
+}
+
+/// Whether what was recovered of a journal that was cut is its whole lines, and goes on to what the whole run left.
+fn goes_on(
+    alloc: Global,
+    map: &Arc<Grid>,
+    whole: &Whole,
+    cut: &[u8],
+    resumed: Resumed,
+) -> Result<bool, Fail> {
+    let Resumed {
+        book,
+        bytes,
+        is_ended,
+        ..
+    } = resumed;
+    let known = book.history().len();
+    let is_whole = !is_ended && bytes == behind(whole.held.as_slice(), known + 2);
+    match planners(alloc, map, book.slots()) {
+        Ok(crew) => match Warehouse::resume(alloc, book, crew) {
+            Ok(mut again) => {
+                let is_alike = match shelf_with_front(alloc, cut, bytes) {
+                    Some(rest) => ends_alike(alloc, whole, rest, known, &mut again),
+                    None => false,
                 };
-                let mut rest = Shelf::new(alloc);
-                assert!(rt; rest.append(&held[..resumed.bytes]).is_ok());
-                assert!(rt; rest.sync().is_ok());
-                let mut lines = Lines::new(&script[behind(script, known)..]);
-                let mut told: Vec<u8> = Vec::new(alloc);
-                let mut spares: Vec<Patient> = Vec::new(alloc);
-                assert!(rt;
-                    replay_journaled(
-                        &mut lines,
-                        alloc,
-                        Form::Full,
-                        &mut rest,
-                        &mut told,
-                        &mut again,
-                        &mut spares
-                    )
-                    .is_ok()
-                );
-                assert!(rt; rest.held.as_slice() == held);
-                assert_eq!(rt; rest.safe, held.len());
-                assert!(rt;
-                    told.as_slice() == &output.as_slice()[behind(output.as_slice(), known)..]
-                );
+                drop(again);
+                Ok(is_whole && is_alike)
             }
+            Err(_) => Ok(false),
+        },
+        Err(fault) => {
+            drop(book);
+            Err(fault)
         }
     }
+}
+
+/// The floor of the run.
+fn setting_on(alloc: Global, map: &Arc<Grid>) -> Result<Setting, Fail>
+    ensures { IfOk result (λ s. 1 ≤ length s.layout.agents) }
+{
+    let places = points(alloc, map)?;
+    match Arc::try_clone(map) {
+        Ok(over) => Ok(Setting::new(over, places)),
+        Err(_) => {
+            drop(places);
+            Err("there is memory".into())
+        }
+    }
+}
+
+/// Whether a run whose journal was cut to these bytes has not begun, or goes on.
+fn survives_on(
+    alloc: Global,
+    map: &Arc<Grid>,
+    head: &[u8],
+    whole: &Whole,
+    cut: &[u8],
+) -> Result<bool, Fail> {
+    let setting = setting_on(alloc, map)?;
+    match recover(alloc, setting, head, &mut &*cut) {
+        Ok(Recovery::Unopened(setting)) => {
+            drop(setting);
+            Ok(cut.len() < head.len())
+        }
+        Ok(Recovery::Resumed(resumed)) => {
+            Ok(goes_on(alloc, map, whole, cut, resumed)? && cut.len() >= head.len())
+        }
+        Ok(Recovery::Bad { .. }) | Err(_) => Ok(false),
+    }
+}
+
+/// Whether a run goes on wherever its journal was cut.
+fn survives_each(alloc: Global, head: &[u8], whole: &Whole) -> Result<bool, Fail> {
+    let held = whole.held.as_slice();
+    for cut in 0..held.len() + 1 {
+        let map = grid(alloc)?;
+        let survives = survives_on(alloc, &map, head, whole, &held[..cut]);
+        drop(map);
+        if !survives? {
+            return Ok(false);
+        }
+    }
+    Ok(true)
+}
+
+#[test]
+fn survives(rt: HostRuntime) -> Result<(), Fail> {
+    let head = begun_text(rt.alloc(), 0, [4, 4].as_slice())?;
+    let whole = whole_run(rt.alloc(), head.as_slice())?;
+    assert!(rt; whole.entries == 19 && survives_each(rt.alloc(), head.as_slice(), &whole)?);
     Ok(())
 }
