@@ -197,10 +197,70 @@ fn end<N: DeskName, H: Wait + Drop, P: Planner, R: Print>(
 ) -> Result<(), Halt>
     requires { N.callers ≡ 2 }
 {
-    let passes = both(rt, alloc, zero, one)?;
-    match desk.finish(passes) {
-        Ok(history) => tell_entries(rt, history.warehouse.history()),
-        Err(_) => Err(Halt::Odd),
+    match both(rt, alloc, zero, one) {
+        Ok(passes) => match desk.finish(passes) {
+            Ok(history) => {
+                let told = tell_entries(rt, history.warehouse.history());
+                drop(history);
+                told
+            }
+            Err(_) => Err(Halt::Odd),
+        },
+        Err(halt) => {
+            drop(desk);
+            Err(halt)
+        }
+    }
+}
+
+/// The passes of callers 0 and 1, where there are two.
+fn two_passes<N: DeskName>(mut passes: Vec<Pass<N>>) -> Option<(Pass<N>, Pass<N>)> {
+    let one = passes.pop()?;
+    let zero = passes.pop()?;
+    Some((zero, one))
+}
+
+/// Goes through the row with a viewer, and ends the desk.
+fn watched<N: DeskName, H: Wait + Drop, P: Planner, R: Print + Wait>(
+    rt: &R,
+    alloc: Global,
+    desk: Desk<N, H, P>,
+    mut zero: Pass<N>,
+    mut one: Pass<N>,
+    viewer: &mut Viewer,
+) -> Result<(), Halt>
+    requires callers { N.callers ≡ 2 }
+    requires viewer { viewer.old.book ≡ N.book }
+{
+    match calls(rt, alloc, &desk, &mut zero, &mut one, viewer) {
+        Ok(()) => end(rt, alloc, desk, zero, one),
+        Err(halt) => {
+            drop(desk);
+            Err(halt)
+        }
+    }
+}
+
+/// Goes through the row, and tells at its end what a viewer sees.
+fn row<N: DeskName, H: Wait + Drop, P: Planner, R: Print + Wait>(
+    rt: &R,
+    alloc: Global,
+    desk: Desk<N, H, P>,
+    zero: Pass<N>,
+    one: Pass<N>,
+) -> Result<bool, Halt>
+    requires { N.callers ≡ 2 }
+{
+    match desk.viewer(rt) {
+        Ok(mut viewer) => {
+            watched(rt, alloc, desk, zero, one, &mut viewer)?;
+            tell_seen(rt, &mut viewer)?;
+            Ok(true)
+        }
+        Err(_) => {
+            drop(desk);
+            Err(Halt::Odd)
+        }
     }
 }
 
@@ -220,19 +280,16 @@ fn at_desk<N: DeskName, H: Wait + Drop, P: Planner, R: Print + Wait>(
     requires shown { publisher.shown ≡ past_of warehouse.book }
     requires callers { N.callers ≡ 2 }
 {
-    let Ok((desk, mut passes)) = Desk::<N, H, P>::open(alloc, warehouse, cells, publisher, 2) else {
-        return Ok(false);
-    };
-    let Ok(mut viewer) = desk.viewer(rt) else {
-        return Err(Halt::Odd);
-    };
-    let (Some(mut one), Some(mut zero)) = (passes.pop(), passes.pop()) else {
-        return Err(Halt::Odd);
-    };
-    calls(rt, alloc, &desk, &mut zero, &mut one, &mut viewer)?;
-    end(rt, alloc, desk, zero, one)?;
-    tell_seen(rt, &mut viewer)?;
-    Ok(true)
+    match Desk::<N, H, P>::open(alloc, warehouse, cells, publisher, 2) {
+        Ok((desk, passes)) => match two_passes(passes) {
+            Some((zero, one)) => row(rt, alloc, desk, zero, one),
+            None => {
+                drop(desk);
+                Err(Halt::Odd)
+            }
+        },
+        Err(_) => Ok(false),
+    }
 }
 
 /// The cells of the journal.
@@ -252,6 +309,20 @@ fn publisher<'a, R: Print + Wait>(
     again!(rt, Publisher::new(alloc, rt, book))
 }
 
+/// The cells of the journal, and the one that publishes.
+fn cells_and_publisher<'a, P: Planner, R: Print + Wait>(
+    rt: &'a R,
+    alloc: Global,
+    warehouse: &Warehouse<P>,
+) -> Result<(Cells, Publisher<&'a R>), Halt>
+    ensures added { IfOk result (λ r. r.1.added ≡ past_of warehouse.now.book) }
+    ensures shown { IfOk result (λ r. r.1.shown ≡ past_of warehouse.now.book) }
+{
+    let cells = cells(rt, alloc)?;
+    let publisher = publisher(rt, alloc, warehouse.book())?;
+    Ok((cells, publisher))
+}
+
 /// Makes a warehouse and a desk round it, and goes through the row there. False: the desk could not be opened, and what was
 /// made was dropped.
 fn at_new_desk<R: Print + Wait, P: Planner, F: Fn(PlannerParts) -> Result<P, AllocError>>(
@@ -266,9 +337,15 @@ fn at_new_desk<R: Print + Wait, P: Planner, F: Fn(PlannerParts) -> Result<P, All
     ensures seat { Belongs seat.new (arc_value bank.now) }
 {
     let warehouse = open(rt, alloc, bank, seat, make)?;
-    let cells = cells(rt, alloc)?;
-    let publisher = publisher(rt, alloc, warehouse.book())?;
-    at_desk::<Brand, _, _, _>(rt, alloc, warehouse, cells, publisher)
+    match cells_and_publisher(rt, alloc, &warehouse) {
+        Ok((cells, publisher)) => {
+            at_desk::<Brand, _, _, _>(rt, alloc, warehouse, cells, publisher)
+        }
+        Err(halt) => {
+            drop(warehouse);
+            Err(halt)
+        }
+    }
 }
 
 /// Two callers fill a journal of three, while a viewer looks. Where the desk could not be opened, it is opened with another

@@ -45,7 +45,13 @@ pub fn floor<R: Print>(rt: &R, alloc: Global) -> Result<(Arc<Grid>, Points), Hal
     ensures { IfOk result (λ r. IsLayout r.0.value r.1) }
 {
     let Site { grid, points } = read(rt, alloc, MAP_AND_POINTS)?;
-    Ok((shared(rt, alloc, grid)?, points))
+    match shared(rt, alloc, grid) {
+        Ok(grid) => Ok((grid, points)),
+        Err(halt) => {
+            drop(points);
+            Err(halt)
+        }
+    }
 }
 
 /// An empty list with room for two.
@@ -83,6 +89,25 @@ pub fn planner<R: Print, P: Planner, F: Fn(PlannerParts) -> Result<P, AllocError
     Err(Halt::NoMemory)
 }
 
+/// Two planners of 4 slots come to a row.
+fn add_planners<R: Print, P: Planner, F: Fn(PlannerParts) -> Result<P, AllocError>>(
+    rt: &R,
+    row: &mut Vec<P>,
+    grid: &Arc<Grid>,
+    bank: &Arc<Bank>,
+    seat: &mut BankSeat,
+    make: &F,
+) -> Result<(), Halt>
+    requires callable { F.IsAlwaysCallable make.now }
+    requires seat { Belongs seat.old (arc_value bank.now) }
+    ensures seat { Belongs seat.new (arc_value bank.now) }
+{
+    for _ in 0..2u32 {
+        row.push(planner(rt, grid, 4, bank, seat, make)?)?;
+    }
+    Ok(())
+}
+
 /// Two planners of 4 slots.
 fn planners<R: Print, P: Planner, F: Fn(PlannerParts) -> Result<P, AllocError>>(
     rt: &R,
@@ -97,10 +122,13 @@ fn planners<R: Print, P: Planner, F: Fn(PlannerParts) -> Result<P, AllocError>>(
     ensures seat { Belongs seat.new (arc_value bank.now) }
 {
     let mut row = room(rt, alloc)?;
-    for _ in 0..2u32 {
-        row.push(planner(rt, grid, 4, bank, seat, make)?)?;
+    match add_planners(rt, &mut row, grid, bank, seat, make) {
+        Ok(()) => Ok(row),
+        Err(halt) => {
+            drop(row);
+            Err(halt)
+        }
     }
-    Ok(row)
 }
 
 /// The warehouse at clock 0, with two planners of 4 slots. Where it could not be opened, it is opened with new planners,
@@ -120,7 +148,14 @@ pub fn open<R: Print, P: Planner, F: Fn(PlannerParts) -> Result<P, AllocError>>(
     for _ in 0..TRIES {
         let free = bank.free(seat);
         let (grid, points) = floor(rt, alloc)?;
-        let planners = planners(rt, alloc, &grid, bank, seat, make)?;
+        let planners = match planners(rt, alloc, &grid, bank, seat, make) {
+            Ok(planners) => planners,
+            Err(halt) => {
+                drop(grid);
+                drop(points);
+                return Err(halt);
+            }
+        };
         match Warehouse::open(alloc, grid, points, planners, 0) {
             Ok(warehouse) => return Ok(warehouse),
             Err(OpenFault::NoMemory) => refused(rt, bank.free(seat) == free)?,

@@ -104,7 +104,20 @@ fn log_of_run<R: Print, P: Planner, F: Fn(PlannerParts) -> Result<P, AllocError>
 {
     let (bank, mut seat) = bank(rt, alloc, 1024)?;
     let mut warehouse = open(rt, alloc, &bank, &mut seat, make)?;
-    tell_run(rt, alloc, &mut warehouse)
+    let log = tell_run(rt, alloc, &mut warehouse);
+    drop(warehouse);
+    log
+}
+
+/// Tells what the log is over the site, and what three changes of the whole script's log are.
+fn tell_each<R: Print>(rt: &R, alloc: Global, site: &Site, log: &[u8]) -> Result<(), Halt>
+    requires layout { IsLayout site.now.grid site.now.points }
+    requires some { 1 ≤ length site.now.points.agents }
+{
+    tell_verified(rt, alloc, site, log)?;
+    tell_verified(rt, alloc, site, PICKED)?;
+    tell_verified(rt, alloc, site, NO_PICKUP)?;
+    tell_verified(rt, alloc, site, NO_END)
 }
 
 /// A script is replayed, and the log of the run is verified; three changes of the whole script's log are refused.
@@ -117,8 +130,7 @@ pub fn log_and_verify<R: Print, P: Planner, F: Fn(PlannerParts) -> Result<P, All
 {
     let log = log_of_run(rt, alloc, make)?;
     let site = read(rt, alloc, MAP_AND_POINTS)?;
-    tell_verified(rt, alloc, &site, log.as_slice())?;
-    tell_verified(rt, alloc, &site, PICKED)?;
-    tell_verified(rt, alloc, &site, NO_PICKUP)?;
-    tell_verified(rt, alloc, &site, NO_END)
+    let told = tell_each(rt, alloc, &site, log.as_slice());
+    drop(site);
+    told
 }

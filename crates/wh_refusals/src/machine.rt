@@ -41,6 +41,13 @@ const REPLACE_AND_SPARES: [&str; 7] = [
     "replace 0",
 ];
 
+/// Puts the spare planner back, where it was not taken.
+fn put_back<P: Planner>(spare: &mut Option<P>, back: Option<P>, reply: &Reply) {
+    if !matches!(reply, Reply::Replaced { .. }) {
+        *spare = back;
+    }
+}
+
 /// Steps with a command. The spare planner is handed in, and goes back to its place where it was not taken.
 fn step<R: Print, P: Planner>(
     rt: &R,
@@ -57,9 +64,7 @@ fn step<R: Print, P: Planner>(
         let had_spare = spare.is_some();
         match warehouse.step(alloc, CALLER, command.copy(), spare.take()) {
             Ok(Committed { entry, back }) => {
-                if !matches!(entry.reply, Reply::Replaced { .. }) {
-                    *spare = back;
-                }
+                put_back(spare, back, &entry.reply);
                 return tell(rt, write_reply(&entry.reply).as_slice());
             }
             Err((NoMemory, back)) => {
@@ -125,6 +130,16 @@ fn opened<R: Print, P: Planner, F: Fn(PlannerParts) -> Result<P, AllocError>>(
     open(rt, alloc, &bank, &mut seat, make)
 }
 
+/// An agent of a warehouse picks up and delivers, and its task is counted.
+fn deliver<R: Print, P: Planner>(
+    rt: &R,
+    alloc: Global,
+    warehouse: &mut Warehouse<P>,
+) -> Result<(), Halt> {
+    step_through(rt, alloc, warehouse, ONE_DELIVERY.as_slice(), &mut None)?;
+    tell_ledger(rt, alloc, warehouse)
+}
+
 /// An agent picks up and delivers, and its task is counted.
 pub fn one_delivery<R: Print, P: Planner, F: Fn(PlannerParts) -> Result<P, AllocError>>(
     rt: &R,
@@ -134,14 +149,9 @@ pub fn one_delivery<R: Print, P: Planner, F: Fn(PlannerParts) -> Result<P, Alloc
     requires { F.IsAlwaysCallable make.now }
 {
     let mut warehouse = opened(rt, alloc, make)?;
-    step_through(
-        rt,
-        alloc,
-        &mut warehouse,
-        ONE_DELIVERY.as_slice(),
-        &mut None,
-    )?;
-    tell_ledger(rt, alloc, &warehouse)
+    let delivered = deliver(rt, alloc, &mut warehouse);
+    drop(warehouse);
+    delivered
 }
 
 /// Two agents cross.
@@ -154,7 +164,9 @@ pub fn two_agents_cross<R: Print, P: Planner, F: Fn(PlannerParts) -> Result<P, A
 {
     let mut warehouse = opened(rt, alloc, make)?;
     let script = TWO_AGENTS_CROSS.as_slice();
-    step_through(rt, alloc, &mut warehouse, script, &mut None)
+    let crossed = step_through(rt, alloc, &mut warehouse, script, &mut None);
+    drop(warehouse);
+    crossed
 }
 
 /// Tells how many slots of the bank are free.
@@ -165,6 +177,23 @@ fn tell_free<R: Print>(rt: &R, bank: &Bank, seat: &mut BankSeat) -> Result<(), H
     let free = bank.free(seat);
     println!(rt; "free {free}")?;
     Ok(())
+}
+
+/// Steps through the script with a spare planner: the bank's free slots before and after.
+fn replace<R: Print, P: Planner>(
+    rt: &R,
+    alloc: Global,
+    bank: &Bank,
+    seat: &mut BankSeat,
+    warehouse: &mut Warehouse<P>,
+    spare: &mut Option<P>,
+) -> Result<(), Halt>
+    requires { Belongs seat.old bank.now }
+    ensures { Belongs seat.new bank.now }
+{
+    tell_free(rt, bank, seat)?;
+    step_through(rt, alloc, warehouse, REPLACE_AND_SPARES.as_slice(), spare)?;
+    tell_free(rt, bank, seat)
 }
 
 /// Steps through the script with a spare planner, and drops both: the bank's free slots before, after, and at the end.
@@ -179,12 +208,10 @@ fn step_with_spare<R: Print, P: Planner>(
     requires { Belongs seat.old bank.now }
 {
     let mut spare = Some(spare);
-    tell_free(rt, bank, seat)?;
-    let script = REPLACE_AND_SPARES.as_slice();
-    step_through(rt, alloc, &mut warehouse, script, &mut spare)?;
-    tell_free(rt, bank, seat)?;
+    let replaced = replace(rt, alloc, bank, seat, &mut warehouse, &mut spare);
     drop(warehouse);
     drop(spare);
+    replaced?;
     tell_free(rt, bank, seat)
 }
 
@@ -200,7 +227,8 @@ fn spare_one<R: Print, P: Planner, F: Fn(PlannerParts) -> Result<P, AllocError>>
     requires seat { Belongs seat.old (arc_value bank.now) }
     ensures seat { Belongs seat.new (arc_value bank.now) }
 {
-    let (grid, _points) = floor(rt, alloc)?;
+    let (grid, points) = floor(rt, alloc)?;
+    drop(points);
     planner(rt, &grid, 2, bank, seat, make)
 }
 
@@ -214,6 +242,11 @@ pub fn replace_and_spares<R: Print, P: Planner, F: Fn(PlannerParts) -> Result<P,
 {
     let (bank, mut seat) = bank(rt, alloc, 10)?;
     let warehouse = open(rt, alloc, &bank, &mut seat, make)?;
-    let spare = spare_one(rt, alloc, &bank, &mut seat, make)?;
-    step_with_spare(rt, alloc, &bank, &mut seat, warehouse, spare)
+    match spare_one(rt, alloc, &bank, &mut seat, make) {
+        Ok(spare) => step_with_spare(rt, alloc, &bank, &mut seat, warehouse, spare),
+        Err(halt) => {
+            drop(warehouse);
+            Err(halt)
+        }
+    }
 }

@@ -70,10 +70,9 @@ fn tell_cut<R: Print>(rt: &R, points: &Points, a: u32, b: u32) -> Result<(), Hal
     tell(rt, points.name(b).as_slice())
 }
 
-/// Reads a site, and tells whether it is well-formed.
-fn judge<R: Print + Threads + Sync>(rt: &R, alloc: Global, text: &[u8]) -> Result<(), Halt> {
-    let site = read(rt, alloc, text)?;
-    match verdict(rt, alloc, &site)? {
+/// Tells whether a site is well-formed.
+fn tell_verdict<R: Print + Threads + Sync>(rt: &R, alloc: Global, site: &Site) -> Result<(), Halt> {
+    match verdict(rt, alloc, site)? {
         Verdict::Formed => tell(rt, b"formed"),
         Verdict::Cut { a, b } => tell_cut(rt, &site.points, a, b),
         Verdict::FewParkings { have, need } => {
@@ -81,6 +80,14 @@ fn judge<R: Print + Threads + Sync>(rt: &R, alloc: Global, text: &[u8]) -> Resul
             Ok(())
         }
     }
+}
+
+/// Reads a site, and tells whether it is well-formed.
+fn judge<R: Print + Threads + Sync>(rt: &R, alloc: Global, text: &[u8]) -> Result<(), Halt> {
+    let site = read(rt, alloc, text)?;
+    let told = tell_verdict(rt, alloc, &site);
+    drop(site);
+    told
 }
 
 /// The line ends of a map do not matter.
