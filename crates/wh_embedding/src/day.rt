@@ -123,11 +123,47 @@ fn claim(bank: &Arc<Bank>, seat: &mut BankSeat) -> Result<Claim, Halt>
     ensures seat { Belongs seat.new (arc_value bank.now) }
     ensures amount { IfOk result (λ c. claim_amount c ≡ 4) }
 {
+    let shared = Arc::try_clone(bank)?;
     let own = seat.split(bank);
-    match Claim::take(Arc::try_clone(bank)?, own, SLOTS) {
+    match Claim::take(shared, own, SLOTS) {
         Ok(claim) => Ok(claim),
         Err(_) => Err(Halt::TooFewSlots),
     }
+}
+
+/// A planner for an agent, with slots of a bank.
+fn planner<P: Planner, F: Fn(Parts) -> Result<P, AllocError>>(
+    agent: usize,
+    grid: &Arc<Grid>,
+    bank: &Arc<Bank>,
+    seat: &mut BankSeat,
+    make: &F,
+) -> Result<P, Halt>
+    requires callable { F.IsAlwaysCallable make.now }
+    requires seat { Belongs seat.old (arc_value bank.now) }
+    ensures seat { Belongs seat.new (arc_value bank.now) }
+{
+    let claim = claim(bank, seat)?;
+    let grid = Arc::try_clone(grid)?;
+    Ok(make(Parts { agent, grid, claim })?)
+}
+
+/// A planner for each agent comes to a row, with slots of one bank.
+fn add_planners<P: Planner, F: Fn(Parts) -> Result<P, AllocError>>(
+    row: &mut Vec<P>,
+    grid: &Arc<Grid>,
+    bank: &Arc<Bank>,
+    seat: &mut BankSeat,
+    agents: usize,
+    make: &F,
+) -> Result<(), Halt>
+    requires callable { F.IsAlwaysCallable make.now }
+    requires seat { Belongs seat.old (arc_value bank.now) }
+{
+    for agent in 0..agents {
+        row.push(planner(agent, grid, bank, seat, make)?)?;
+    }
+    Ok(())
 }
 
 /// A planner for each agent, with slots of one bank.
@@ -141,12 +177,13 @@ pub fn planners<P: Planner, F: Fn(Parts) -> Result<P, AllocError>>(
 {
     let (bank, mut seat) = Bank::new(alloc, BANK)?;
     let mut row = Vec::new(alloc);
-    for agent in 0..agents {
-        let claim = claim(&bank, &mut seat)?;
-        let grid = Arc::try_clone(grid)?;
-        row.push(make(Parts { agent, grid, claim })?)?;
+    match add_planners(&mut row, grid, &bank, &mut seat, agents, make) {
+        Ok(()) => Ok(row),
+        Err(halt) => {
+            drop(row);
+            Err(halt)
+        }
     }
-    Ok(row)
 }
 
 /// Asks for each line of the script, and tells the reply.
@@ -170,6 +207,24 @@ fn obey<R: Print, P: Planner>(
     Ok(())
 }
 
+/// The warehouse in the morning.
+fn opened<P: Planner, F: Fn(Parts) -> Result<P, AllocError>>(
+    alloc: Global,
+    make: &F,
+) -> Result<Warehouse<P>, Halt>
+    requires { F.IsAlwaysCallable make.now }
+{
+    let grid = Arc::new(alloc, Grid::read(alloc, MAP)?)?;
+    let points = Points::read(alloc, &grid, POINTS)?;
+    match planners(alloc, &grid, points.agents().len(), make) {
+        Ok(planners) => Ok(Warehouse::open(alloc, grid, points, planners, 0)?),
+        Err(halt) => {
+            drop(points);
+            Err(halt)
+        }
+    }
+}
+
 /// The warehouse at the end of the day. Whatever the planners answered, its history is a run from its opening, and on a
 /// well-formed instance no request in it was refused for lack of a path.
 fn warehouse_after<R: Print, P: Planner, F: Fn(Parts) -> Result<P, AllocError>>(
@@ -182,14 +237,18 @@ fn warehouse_after<R: Print, P: Planner, F: Fn(Parts) -> Result<P, AllocError>>(
     ensures run { IfOk result (λ w. Run w.book.site w.book.opening w.book.history w.book.state) }
     ensures served { IfOk result (λ w. IsFormed w.book.site → AllServed w.book.history) }
 {
-    let grid = Arc::new(alloc, Grid::read(alloc, MAP)?)?;
-    let points = Points::read(alloc, &grid, POINTS)?;
-    let planners = planners(alloc, &grid, points.agents().len(), make)?;
-    let mut warehouse = Warehouse::open(alloc, grid, points, planners, 0)?;
-    obey(rt, alloc, &mut warehouse)?;
-    // Called for what its contract says: the three clauses above.
-    let _run = warehouse.history();
-    Ok(warehouse)
+    let mut warehouse = opened(alloc, make)?;
+    match obey(rt, alloc, &mut warehouse) {
+        Ok(()) => {
+            // Called for what its contract says: the three clauses above.
+            let _run = warehouse.history();
+            Ok(warehouse)
+        }
+        Err(halt) => {
+            drop(warehouse);
+            Err(halt)
+        }
+    }
 }
 
 /// A whole day: the replies, and how many entries the history has.
@@ -201,6 +260,8 @@ pub fn day<R: Print, P: Planner, F: Fn(Parts) -> Result<P, AllocError>>(
     requires callable { F.IsAlwaysCallable make.now }
 {
     let warehouse = warehouse_after(rt, alloc, make)?;
-    println!(rt; "{} entries", warehouse.history().len())?;
+    let entries = warehouse.history().len();
+    drop(warehouse);
+    println!(rt; "{entries} entries")?;
     Ok(())
 }

@@ -87,40 +87,72 @@ fn unasked(parts: Parts, lacks_memory: bool) -> Counting {
     }
 }
 
+/// The command of a line comes to some commands.
+fn add_command(commands: &mut Vec<Command>, line: &str) -> Result<(), Halt> {
+    match read_line(line.as_bytes()) {
+        Ok(Some(command)) => Ok(commands.push(command)?),
+        _ => Err(Halt::Unread),
+    }
+}
+
 /// The commands of the script.
 fn commands(alloc: Global) -> Result<Vec<Command>, Halt> {
     let mut commands = Vec::new(alloc);
     for line in SCRIPT.iter() {
-        let Ok(Some(command)) = read_line(line.as_bytes()) else {
-            return Err(Halt::Unread);
-        };
-        commands.push(command)?;
+        add_command(&mut commands, line)?;
     }
     Ok(commands)
+}
+
+/// The planners before the shift, one for each agent. That of agent 1 never has memory.
+fn starters(alloc: Global, grid: &Arc<Grid>, agents: usize) -> Result<Vec<Counting>, Halt> {
+    let make = |parts: Parts| -> Result<Counting, AllocError> {
+        let lacks_memory = parts.agent == 1;
+        Ok(unasked(parts, lacks_memory))
+    };
+    planners(alloc, grid, agents, &make)
 }
 
 /// The warehouse before the shift. The planner of agent 1 never has memory.
 fn opened(alloc: Global, grid: &Arc<Grid>) -> Result<Warehouse<Counting>, Halt>
     ensures { IfOk result (λ w. w.book.history ≡ []) }
 {
+    let shared = Arc::try_clone(grid)?;
     let points = Points::read(alloc, grid, POINTS)?;
-    let make = |parts: Parts| -> Result<Counting, AllocError> {
-        let lacks_memory = parts.agent == 1;
-        Ok(unasked(parts, lacks_memory))
-    };
-    let planners = planners(alloc, grid, points.agents().len(), &make)?;
-    Ok(Warehouse::open(alloc, Arc::try_clone(grid)?, points, planners, 0)?)
+    match starters(alloc, grid, points.agents().len()) {
+        Ok(planners) => Ok(Warehouse::open(alloc, shared, points, planners, 0)?),
+        Err(halt) => {
+            drop(points);
+            Err(halt)
+        }
+    }
+}
+
+/// Planners on a grid that have memory.
+fn helpers(alloc: Global, grid: &Arc<Grid>, count: usize) -> Result<Vec<Counting>, Halt> {
+    let make = |parts: Parts| -> Result<Counting, AllocError> { Ok(unasked(parts, false)) };
+    planners(alloc, grid, count, &make)
+}
+
+/// A planner on the other map comes to a row.
+fn add_foreign(alloc: Global, row: &mut Vec<Counting>) -> Result<(), Halt> {
+    let other = Arc::new(alloc, Grid::read(alloc, OTHER_MAP)?)?;
+    for planner in helpers(alloc, &other, 1)? {
+        row.push(planner)?;
+    }
+    Ok(())
 }
 
 /// Planners that stand by: two on the grid, and after them one on the other map.
 fn standby(alloc: Global, grid: &Arc<Grid>) -> Result<Vec<Counting>, Halt> {
-    let other = Arc::new(alloc, Grid::read(alloc, OTHER_MAP)?)?;
-    let make = |parts: Parts| -> Result<Counting, AllocError> { Ok(unasked(parts, false)) };
-    let mut row = planners(alloc, grid, 2, &make)?;
-    for planner in planners(alloc, &other, 1, &make)? {
-        row.push(planner)?;
+    let mut row = helpers(alloc, grid, 2)?;
+    match add_foreign(alloc, &mut row) {
+        Ok(()) => Ok(row),
+        Err(halt) => {
+            drop(row);
+            Err(halt)
+        }
     }
-    Ok(row)
 }
 
 /// Runs the commands in a new warehouse. Each adds an entry or is refused for lack of memory, and the entries are a run.
@@ -171,6 +203,7 @@ fn run_script<R: Print>(
 {
     let commands = commands(alloc)?;
     let Ran { entries, starved } = work(alloc, warehouse, commands.as_slice(), spares);
+    drop(commands);
     println!(rt; "{entries} entries, {starved} without memory")?;
     tell_replies(rt, warehouse)?;
     tell_asked(rt, warehouse.planners())?;
@@ -178,11 +211,31 @@ fn run_script<R: Print>(
     Ok(())
 }
 
+/// What is told of a shift in a warehouse, with planners that stand by, and of a stop after it.
+fn tell_shift<R: Print>(
+    rt: &R,
+    alloc: Global,
+    warehouse: &mut Warehouse<Counting>,
+    spares: &mut Vec<Counting>,
+) -> Result<(), Halt>
+    requires { warehouse.old.book.history ≡ [] }
+{
+    run_script(rt, alloc, warehouse, spares)?;
+    bring(rt, alloc, warehouse)
+}
+
 /// A whole shift, from the map to what is told of it, and of a stop after it.
 pub fn shift<R: Print>(rt: &R, alloc: Global) -> Result<(), Halt> {
     let grid = Arc::new(alloc, Grid::read(alloc, MAP)?)?;
     let mut warehouse = opened(alloc, &grid)?;
-    let mut spares = standby(alloc, &grid)?;
-    run_script(rt, alloc, &mut warehouse, &mut spares)?;
-    bring(rt, alloc, &warehouse)
+    let told = match standby(alloc, &grid) {
+        Ok(mut spares) => {
+            let told = tell_shift(rt, alloc, &mut warehouse, &mut spares);
+            drop(spares);
+            told
+        }
+        Err(halt) => Err(halt),
+    };
+    drop(warehouse);
+    told
 }

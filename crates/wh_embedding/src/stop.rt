@@ -64,6 +64,8 @@ pub fn bring<R: Print, P: Planner>(
     warehouse: &Warehouse<P>,
 ) -> Result<(), Halt> {
     let order = stood(alloc, warehouse)?;
-    tell_places(rt, &order)?;
+    let told = tell_places(rt, &order);
+    drop(order);
+    told?;
     tell_bad_line(rt, alloc, warehouse.agents())
 }
