@@ -85,15 +85,22 @@ fn have_steps_from(
     Ok(have_steps(&field, lazy, row) && nearest_tells(alloc, grid, from, row)?)
 }
 
+/// Whether the fields of each cell have its steps, and none has any from a wall.
+fn have_all_steps(alloc: Global, grid: &Grid, lazy: &mut LazyField) -> Result<bool, AllocError> {
+    for (from, row) in CELLS.iter().zip(STEPS.iter()) {
+        if !have_steps_from(alloc, grid, lazy, *from, row)? {
+            return Ok(false);
+        }
+    }
+    lazy.again(Cell { x: 2, y: 0 });
+    Ok(lazy.dist(Cell { x: 2, y: 0 }).is_none())
+}
+
 #[test]
 fn all_distances(rt: HostRuntime) -> Result<(), Fail> {
     let grid = tree(rt.alloc())?;
     let mut lazy = LazyField::from(rt.alloc(), &grid, Cell { x: 0, y: 0 })?;
-    for (from, row) in CELLS.iter().zip(STEPS.iter()) {
-        assert!(rt; have_steps_from(rt.alloc(), &grid, &mut lazy, *from, row)?);
-    }
-    lazy.again(Cell { x: 2, y: 0 });
-    assert!(rt; lazy.dist(Cell { x: 2, y: 0 }).is_none());
+    assert!(rt; have_all_steps(rt.alloc(), &grid, &mut lazy)?);
     Ok(())
 }
 
@@ -111,27 +118,36 @@ fn tells_nearer(field: &NearestField) -> bool {
     near(0) == 0 && near(3) == 3 && near(4) == 4 && near(5) == 3 && near(8) == 0 && near(11) > 3
 }
 
+/// The field of these cells of the row, filled as far as another.
+fn of_row(alloc: Global, ends: &[Cell], until: u16) -> Result<NearestField, AllocError> {
+    let grid = row(alloc)?;
+    NearestField::until(alloc, &grid, ends, Cell { x: until, y: 0 })
+}
+
 #[test]
 fn nearer_of_two(rt: HostRuntime) -> Result<(), Fail> {
-    let grid = row(rt.alloc())?;
     let ends = [Cell { x: 0, y: 0 }, Cell { x: 8, y: 0 }];
-    let field = NearestField::until(rt.alloc(), &grid, &ends, Cell { x: 3, y: 0 })?;
+    let field = of_row(rt.alloc(), &ends, 3)?;
     assert!(rt; tells_nearer(&field));
     Ok(())
 }
 
 /// Filled as far as cell 1 of the row, and then whole: each cell up to the wall has its distance from the left end.
-#[test]
-fn filled_to_its_end(rt: HostRuntime) -> Result<(), Fail> {
-    let grid = row(rt.alloc())?;
-    let ends = [Cell { x: 0, y: 0 }];
-    let mut field = NearestField::until(rt.alloc(), &grid, &ends, Cell { x: 1, y: 0 })?;
-    assert!(rt; field.estimate(Cell { x: 1, y: 0 }) == 1);
+fn is_filled(field: &mut NearestField) -> bool {
+    let is_begun = field.estimate(Cell { x: 1, y: 0 }) == 1;
     field.fill();
     for x in 0..9 {
-        assert!(rt; field.estimate(Cell { x, y: 0 }) == u32::from(x));
+        if field.estimate(Cell { x, y: 0 }) != u32::from(x) {
+            return false;
+        }
     }
-    assert!(rt; field.estimate(Cell { x: 10, y: 0 }) > 1_000_000);
+    is_begun && field.estimate(Cell { x: 10, y: 0 }) > 1_000_000
+}
+
+#[test]
+fn filled_to_its_end(rt: HostRuntime) -> Result<(), Fail> {
+    let mut field = of_row(rt.alloc(), &[Cell { x: 0, y: 0 }], 1)?;
+    assert!(rt; is_filled(&mut field));
     Ok(())
 }
 
@@ -179,13 +195,19 @@ const WITHIN: [(u16, u32, Option<u32>); 9] = [
     (12, 100, None),
 ];
 
+fn are_within(lazy: &mut LazyField) -> bool {
+    for (x, limit, steps) in WITHIN {
+        if lazy.within(Cell { x, y: 0 }, limit) != steps {
+            return false;
+        }
+    }
+    lazy.dist(Cell { x: 8, y: 0 }) == Some(8)
+}
+
 #[test]
 fn no_further_than_the_limit(rt: HostRuntime) -> Result<(), Fail> {
     let mut lazy = from_the_left(rt.alloc())?;
-    for (x, limit, steps) in WITHIN {
-        assert!(rt; lazy.within(Cell { x, y: 0 }, limit) == steps);
-    }
-    assert!(rt; lazy.dist(Cell { x: 8, y: 0 }) == Some(8));
+    assert!(rt; are_within(&mut lazy));
     Ok(())
 }
 
@@ -200,21 +222,38 @@ const SOUGHT: [(u16, Option<u32>); 7] = [
     (0, Some(1)),
 ];
 
-#[test]
-fn first_of_those_sought(rt: HostRuntime) -> Result<(), Fail> {
-    let mut lazy = from_the_left(rt.alloc())?;
-    assert!(rt; lazy.first_sought().is_none());
+/// Whether the first of those that are sought one after the other is as far from the place at 1.
+fn are_sought(lazy: &mut LazyField) -> bool {
+    if lazy.first_sought().is_some() {
+        return false;
+    }
     lazy.again(Cell { x: 1, y: 0 });
     for (x, steps) in SOUGHT {
         lazy.seek(Cell { x, y: 0 });
-        assert!(rt; lazy.first_sought() == steps);
+        if lazy.first_sought() != steps {
+            return false;
+        }
     }
+    true
+}
+
+/// Whether it is one step from the place at 7, and none is sought once none is to be, and then that place alone.
+fn is_sought_anew(lazy: &mut LazyField) -> bool {
     lazy.again(Cell { x: 7, y: 0 });
-    assert!(rt; lazy.first_sought() == Some(1));
+    let is_beside = lazy.first_sought() == Some(1);
     lazy.seek_none();
-    assert!(rt; lazy.first_sought().is_none());
+    let is_none = lazy.first_sought().is_none();
     lazy.seek(Cell { x: 7, y: 0 });
-    assert!(rt; lazy.first_sought() == Some(0) && lazy.dist(Cell { x: 2, y: 0 }) == Some(5));
+    is_beside
+        && is_none
+        && lazy.first_sought() == Some(0)
+        && lazy.dist(Cell { x: 2, y: 0 }) == Some(5)
+}
+
+#[test]
+fn first_of_those_sought(rt: HostRuntime) -> Result<(), Fail> {
+    let mut lazy = from_the_left(rt.alloc())?;
+    assert!(rt; are_sought(&mut lazy) && is_sought_anew(&mut lazy));
     Ok(())
 }
 
@@ -224,14 +263,23 @@ fn field(alloc: Global) -> Result<Field, AllocError> {
     Field::from(alloc, &grid, Cell { x: 0, y: 1 })
 }
 
+fn tells_around(field: &Field) -> bool {
+    let middle = field.around(Cell { x: 3, y: 1 });
+    let border = field.around(Cell { x: 0, y: 1 });
+    middle.here == Some(3)
+        && middle.left == Some(2)
+        && middle.right == Some(4)
+        && middle.above == Some(4)
+        && middle.below == Some(4)
+        && border.left == Some(0)
+        && border.above.is_none()
+        && border.right == Some(1)
+}
+
 #[test]
 fn around_a_cell(rt: HostRuntime) -> Result<(), Fail> {
     let field = field(rt.alloc())?;
-    let middle = field.around(Cell { x: 3, y: 1 });
-    assert!(rt; middle.here == Some(3) && middle.left == Some(2) && middle.right == Some(4));
-    assert!(rt; middle.above == Some(4) && middle.below == Some(4));
-    let border = field.around(Cell { x: 0, y: 1 });
-    assert!(rt; border.left == Some(0) && border.above.is_none() && border.right == Some(1));
+    assert!(rt; tells_around(&field));
     Ok(())
 }
 
@@ -298,16 +346,35 @@ fn parted(alloc: Global) -> Result<Grid, AllocError> {
     Ok(Grid::new(5, 1, [true, true, false, true, true].to_vec(alloc)?))
 }
 
+/// Whether the left end's distances go as far as its component.
+fn ends_at_the_gap(alloc: Global, grid: &Grid) -> Result<bool, AllocError> {
+    let field = Field::from(alloc, grid, LEFT)?;
+    Ok(field.dist(NEAR_LEFT) == Some(1) && field.dist(RIGHT).is_none())
+}
+
+/// How far a cell is from the nearest of some others by an estimate, and how far another, by a field that is filled until that one.
+fn estimates(
+    alloc: Global,
+    grid: &Grid,
+    ends: &[Cell],
+    near: Cell,
+    until: Cell,
+) -> Result<(u32, u32), AllocError> {
+    let field = NearestField::until(alloc, grid, ends, until)?;
+    Ok((field.estimate(near), field.estimate(until)))
+}
+
+fn are_parted(alloc: Global, grid: &Grid) -> Result<bool, AllocError> {
+    let beside = Cell { x: 3, y: 0 };
+    let (_, of_both) = estimates(alloc, grid, &[LEFT, RIGHT], NEAR_LEFT, beside)?;
+    let (near, far) = estimates(alloc, grid, &[LEFT], NEAR_LEFT, RIGHT)?;
+    Ok(of_both == 1 && near == 1 && far > 1_000_000 && ends_at_the_gap(alloc, grid)?)
+}
+
 #[test]
 fn distances_in_two_components(rt: HostRuntime) -> Result<(), Fail> {
     let grid = parted(rt.alloc())?;
-    let field = Field::from(rt.alloc(), &grid, LEFT)?;
-    assert!(rt; field.dist(NEAR_LEFT) == Some(1) && field.dist(RIGHT).is_none());
-    let beside = Cell { x: 3, y: 0 };
-    let ends = NearestField::until(rt.alloc(), &grid, &[LEFT, RIGHT], beside)?;
-    assert!(rt; ends.estimate(beside) == 1);
-    let end = NearestField::until(rt.alloc(), &grid, &[LEFT], RIGHT)?;
-    assert!(rt; end.estimate(NEAR_LEFT) == 1 && end.estimate(RIGHT) > 1_000_000);
+    assert!(rt; are_parted(rt.alloc(), &grid)?);
     Ok(())
 }
 
@@ -320,13 +387,19 @@ fn has_no_nearest(
     Ok(route_to_nearest(alloc, grid, from, targets, &[])?.is_none())
 }
 
+fn routes_end_at_the_gap(alloc: Global, grid: &Grid) -> Result<bool, AllocError> {
+    let way = [LEFT, NEAR_LEFT];
+    Ok(
+        has_no_route(alloc, grid, LEFT, RIGHT, &[])?
+            && is_nearest(alloc, grid, &[RIGHT, NEAR_LEFT], &[], 1, &way)?
+            && has_no_nearest(alloc, grid, LEFT, &[RIGHT])?,
+    )
+}
+
 #[test]
 fn routes_in_two_components(rt: HostRuntime) -> Result<(), Fail> {
     let grid = parted(rt.alloc())?;
-    assert!(rt; has_no_route(rt.alloc(), &grid, LEFT, RIGHT, &[])?);
-    let way = [LEFT, NEAR_LEFT];
-    assert!(rt; is_nearest(rt.alloc(), &grid, &[RIGHT, NEAR_LEFT], &[], 1, &way)?);
-    assert!(rt; has_no_nearest(rt.alloc(), &grid, LEFT, &[RIGHT])?);
+    assert!(rt; routes_end_at_the_gap(rt.alloc(), &grid)?);
     Ok(())
 }
 
@@ -339,26 +412,40 @@ const WAY: [Cell; 5] = [
     Cell { x: 3, y: 2 },
 ];
 
+/// Whether the way is the route between its ends, and there is none that avoids its middle or one of its ends.
+fn is_only_way(alloc: Global, grid: &Grid) -> Result<bool, AllocError> {
+    let [from, _, middle, _, to] = WAY;
+    for avoid in [middle, from, to] {
+        if !has_no_route(alloc, grid, from, to, &[avoid])? {
+            return Ok(false);
+        }
+    }
+    is_route(alloc, grid, from, to, &WAY)
+}
+
 #[test]
 fn routes(rt: HostRuntime) -> Result<(), Fail> {
     let grid = tree(rt.alloc())?;
-    let [from, _, middle, _, to] = WAY;
-    assert!(rt; is_route(rt.alloc(), &grid, from, to, &WAY)?);
-    for avoid in [middle, from, to] {
-        assert!(rt; has_no_route(rt.alloc(), &grid, from, to, &[avoid])?);
-    }
+    assert!(rt; is_only_way(rt.alloc(), &grid)?);
     Ok(())
+}
+
+/// Whether the first of two corners is the nearest to the middle, and the other one where the way to the first is avoided.
+fn are_nearest_in_turn(alloc: Global, grid: &Grid) -> Result<bool, AllocError> {
+    let [_, wall, middle, beside, to] = WAY;
+    let corners = [Cell { x: 1, y: 2 }, to];
+    let first = [middle, wall, corners[0]];
+    let other = [middle, beside, to];
+    Ok(
+        is_nearest(alloc, grid, &corners, &[], 0, &first)?
+            && is_nearest(alloc, grid, &corners, &[wall], 1, &other)?,
+    )
 }
 
 #[test]
 fn routes_to_the_nearest(rt: HostRuntime) -> Result<(), Fail> {
     let grid = tree(rt.alloc())?;
-    let [_, wall, middle, beside, to] = WAY;
-    let corners = [Cell { x: 1, y: 2 }, to];
-    let first = [middle, wall, corners[0]];
-    assert!(rt; is_nearest(rt.alloc(), &grid, &corners, &[], 0, &first)?);
-    let other = [middle, beside, to];
-    assert!(rt; is_nearest(rt.alloc(), &grid, &corners, &[wall], 1, &other)?);
+    assert!(rt; are_nearest_in_turn(rt.alloc(), &grid)?);
     Ok(())
 }
 
