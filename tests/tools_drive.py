@@ -149,7 +149,7 @@ def test_a_file_with_a_run_of_before() -> None:
         made = text.read()
     found, said, status = drive(instance, '--log', log)
     same((found, status), ('orders 1 accepted 0 ticks 0 commands 0 requests 0 refused 0', 2))
-    has(said, 'log has 8 entries of a run of before, which this script knows nothing of')
+    has(said, 'log holds an earlier run (8 entries)', 'log.site, or name another file')
     with open(log) as text:
         same(text.read(), made)
 

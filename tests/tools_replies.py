@@ -284,7 +284,7 @@ def test_a_run_that_is_not_gone_on_with() -> None:
             ([begun, ['entries 2']], file('other', log_of(GOES[0], 'token 1 = rested')[3:]), 'other line 4 is no entry of `token 0`'),
             ([begun, ['entries 2']], file('short', log_of(GOES[0])[3:].replace('end 1\n', '')), 'short line 4 is no entry of `token 0`'),
             ([begun, ['accepted 0']], kept, '`accepted 0` came in place of `entries N`'),
-            ([['entries 8']], kept, 'kept has 8 entries of a run of before, which this script knows nothing of'),
+            ([['entries 8']], kept, 'kept holds an earlier run (8 entries)'),
             ([['']], kept, 'came in place of `entries N`')):
         found, said, status = lived(lives, name)
         same(status, 2)

@@ -34,8 +34,8 @@ With --log FILE the program keeps the run in FILE, each entry before its reply i
 ends while commands wait for their replies, it is started again, and goes on: `entries N` tells how many of these commands
 it had served, and their replies are read from FILE, in which each command must stand at its place. A FILE that cannot be
 read here, as behind ssh, can be gone on with only where none of them was served. A program that ends again before it has
-served anything more is not started a third time. A FILE with a run of before is left as it is: what this script knew of
-that run, it knows no more, so it says so and ends. --save FILE is for a program that knows no --log: it writes there, at the
+served anything more is not started a third time. A FILE with an earlier run is left as it is: what this script knew of
+that run, it knows no more, so it says so and ends, and FILE and FILE.site are to be removed first. --save FILE is for a program that knows no --log: it writes there, at the
 end, the log that follows the replies.
 
 With --replies short `took N end K` and `parked P end K` tell K and no cell: for a program that knows no `--replies`.
@@ -286,7 +286,8 @@ class Fleet:
             self.program.send(self.site.text)
         elif count := self.kept.begin(self.program, self.site):
             self.program.tail()    # it writes the end line that it has cut off
-            raise Stop(f'{self.kept.path} has {count} entries of a run of before, which this script knows nothing of')
+            raise Stop(f'{self.kept.path} holds an earlier run ({count} entries), which this script cannot go on with: '
+                       f'remove {self.kept.path} and {self.kept.path}.site, or name another file, or use --save')
 
     def answers(self, commands: list[str]) -> list[str]:
         """Their replies. Where the program ends before, it goes on with what it keeps."""
@@ -484,7 +485,8 @@ def words_of_options() -> argparse.Namespace:
     parser.add_argument('--close', action='store_true', help='send `close` at the end')
     parser.add_argument('--log', metavar='FILE', help='the program keeps the run there, and goes on with it where it ends')
     parser.add_argument('--save', metavar='FILE', help='write the log there at the end, for a program that knows no --log')
-    parser.add_argument('--late', type=int, metavar='SEED', help='move vehicles that are late, in a simulation: tools/late.py tells all of it')
+    parser.add_argument('--late', type=int, metavar='SEED', help='move vehicles that are late, in a simulation, under `rule nofollow`, which is added where INSTANCE has none: '
+                             'tools/late.py tells all of it')
     parser.add_argument('--behind', type=int, default=8, metavar='N', help='with --late: the clock waits for a vehicle so far behind (%(default)s)')
     parser.add_argument('--ahead', type=int, default=1, metavar='N', help='with --late: cells ahead that a vehicle is told (%(default)s)')
     parser.add_argument('--spread', type=float, default=0.3, metavar='X', help='with --late: how far speeds differ, 0 to 0.9 (%(default)s)')
