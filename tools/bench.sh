@@ -22,19 +22,23 @@ machine() {
     echo "Kit: $(rt version | head -n 1). Commit: $(git -C "$root" rev-parse --short HEAD). The least of $runs runs."
 }
 
-# Runs a command on an input, several times: the least seconds, the most MB of memory, the status.
+# Runs a command on an input, several times: the least processor seconds (user and system), the most MB of memory, the status, and
+# the least seconds by the clock.
 #   timed INPUT OUTPUT COMMAND..
 timed() {
     RUNS=$runs python3 - "$@" <<'PYTHON'
 import os, resource, subprocess, sys, time
-best, status = None, 0
+spent, best, status = [], None, 0
 for _ in range(int(os.environ['RUNS'])):
+    before = resource.getrusage(resource.RUSAGE_CHILDREN)
     with open(sys.argv[1]) as given, open(sys.argv[2], 'w') as told:
         begin = time.monotonic()
         status = subprocess.run(sys.argv[3:], stdin=given, stdout=told).returncode
         took = time.monotonic() - begin
     best = took if best is None else min(best, took)
-print(f'{best:.3f} {resource.getrusage(resource.RUSAGE_CHILDREN).ru_maxrss // 1024} {status}')
+    after = resource.getrusage(resource.RUSAGE_CHILDREN)
+    spent.append(after.ru_utime + after.ru_stime - before.ru_utime - before.ru_stime)
+print(f'{min(spent):.3f} {after.ru_maxrss // 1024} {status} {best:.3f}')
 PYTHON
 }
 
@@ -108,7 +112,7 @@ row() {
     local name=$1 input=$2 figures
     shift 2
     figures=$(timed "$input" "$folder/output" "$program" "$@")
-    read -r seconds memory status <<< "$figures"
+    read -r seconds memory status _ <<< "$figures"
     printf '| %s | `%s` | %s | %s | %s | %s | %s | %s |\n' "$name" "$*" "$(grep -c -v -e '^%%$' "$folder/output")" \
         "$(grep -c '^took' "$folder/output" || true)" "$(grep -c '^refused E6' "$folder/output" || true)" \
         "$seconds" "$memory" "$status"
@@ -170,7 +174,7 @@ whole_runs() {
     $make --columns 35 --rows 21 --agents 50 --tasks 0 --ticks 0 > "$folder/ticks"
     yes tick | head -n 1000000 >> "$folder/ticks"
     echo
-    echo '| Instance | Options | Lines | Tasks taken | No path | Seconds | Memory, MB | Status |'
+    echo '| Instance | Options | Lines | Tasks taken | No path | Processor seconds | Memory, MB | Status |'
     echo '|---|---|---|---|---|---|---|---|'
     row 'small warehouse, 21 x 35, 50 agents, 500 tasks' "$folder/small" replay --planner near
     row 'large warehouse, 81 x 81, 250 agents, 1000 tasks' "$folder/large" replay --planner near
@@ -220,7 +224,7 @@ desks() {
             local words=(live --every 1 --turns 1 --journal 100000)
             [[ $board == none ]] || words+=(--board "$folder/board" --board-every 5)
             figures=$(timed "$folder/clients" "$folder/output" "$program" "${words[@]}")
-            read -r seconds memory status <<< "$figures"
+            read -r _ memory status seconds <<< "$figures"
             entries=$(grep -c ' = ' "$folder/output")
             echo "| $clients | $board | $entries | $seconds | $(awk "BEGIN { printf \"%d\", $entries / $seconds }") | $memory | $status |"
         done
@@ -231,7 +235,7 @@ desks() {
 floods() {
     instances    # so that the program is built
     echo
-    echo '| Instance | Options | Lines | Tasks taken | No path | Seconds | Memory, MB | Status |'
+    echo '| Instance | Options | Lines | Tasks taken | No path | Processor seconds | Memory, MB | Status |'
     echo '|---|---|---|---|---|---|---|---|'
     local words
     for words in 'stops 64 5 2' 'stops 64 8 2' 'stops 128 5 2' 'stops 256 8 2' 'unreachable 64 5' 'unreachable 256 5' 'door 64 4' \

@@ -1,0 +1,271 @@
+#!/usr/bin/env python3
+"""Tests of the documentation: its size, its links, its words, and the commands and drawings that carry a marker.
+
+    tests/docs.py                   all; the program that commands run is taken from WAREHOUSE, else ./warehouse
+    tests/docs.py --no-program      what needs no program
+    tests/docs.py --words           how many words each page has, and its bound
+
+A marker is a comment on the last line before a fenced block that is not empty:
+
+    <!-- run -->            the block's commands end with status 0; `<!-- run 1 -->` with status 1
+    <!-- output -->         the block is what the commands before it wrote; `<!-- output: 10 % -->` where numbers may
+                            differ by so much
+    <!-- floor: formed -->  the block is a drawing (`.` free, `@` blocked, small letters stations, capitals parkings with an
+                            agent), and `check` says so of it
+
+All commands of a page run in one folder, which has `tools`, `examples` and `warehouse` in it. tests/docs_words has the words
+that pages do not use. The last line is `N passed, M failed`, and the status is 1 where one failed.
+"""
+from __future__ import annotations
+
+import argparse
+import functools
+import os
+import re
+import shutil
+import subprocess
+import sys
+import tempfile
+from typing import Iterator, NamedTuple
+
+ROOT = os.path.dirname(os.path.dirname(os.path.abspath(__file__)))
+PROGRAM = os.path.abspath(os.environ.get('WAREHOUSE', os.path.join(ROOT, 'warehouse')))
+MOST_SECONDS = 30    # for one block
+
+# The most words of each page (`wc -w`). The bound of a page only ever falls.
+CAPS = {
+    'README.md': 2300, 'examples/README.md': 550,
+    'docs/ARCHITECTURE.md': 2100, 'docs/CONTRIBUTING.md': 2500, 'docs/DECISIONS.md': 15800, 'docs/DEFINITIONS.md': 6600,
+    'docs/EMBEDDING.md': 800, 'docs/EXPERIMENTS.md': 2600, 'docs/FLEET.md': 7600, 'docs/FORMATS.md': 4300, 'docs/LIMITS.md': 2050,
+    'docs/MODELING.md': 1500, 'docs/PERFORMANCE.md': 2300, 'docs/PROOFS.md': 4300, 'docs/PROVED.md': 7100, 'docs/READING.md': 2450,
+    'docs/RELIABILITY.md': 3300, 'docs/USE.md': 3650,
+}
+MOST_IN_ALL = 71_000
+# Dates, commits and loads stand in these pages alone, and why.
+DATED = {
+    'CHANGELOG.md': 'a list of what changed when',
+    'docs/CONTRIBUTING.md': 'names the commit at which times of proofs were taken',
+    'docs/DECISIONS.md': 'says since when a choice holds',
+    'docs/RELIABILITY.md': 'a list of what was tried when, and on which program',
+}
+OF_A_DAY = re.compile(r'\b20[0-9]{2}-[01][0-9]-[0-3][0-9]\b|\bcommit (?=[0-9a-f]*[0-9])[0-9a-f]{7,}\b|\bload (?:of )?[0-9]', re.ASCII)
+LINK = re.compile(r'\]\(([^()\s]+)\)')
+MARKER = re.compile(r'<!-- (run|output|floor)(?::? ([^>]*?))? -->')
+NUMBER = re.compile(r'[0-9]+(?:\.[0-9]+)?')
+
+
+class Block(NamedTuple):
+    """A fenced block with a marker: the number of its first line, the marker's word and what follows it."""
+    line: int
+    kind: str
+    said: str
+    text: str
+
+
+@functools.lru_cache(None)
+def read(page: str) -> str:
+    with open(os.path.join(ROOT, page), encoding='utf-8') as text:
+        return text.read()
+
+
+def pages() -> list[str]:
+    """The pages that have a bound or should have one."""
+    return ['README.md', 'examples/README.md'] + sorted(f'docs/{name}' for name in os.listdir(os.path.join(ROOT, 'docs')) if name.endswith('.md'))
+
+
+@functools.lru_cache(None)
+def prose(text: str) -> str:
+    """The text with fenced blocks and code between backquotes left blank, line by line."""
+    lines, within = [], False
+    for line in text.split('\n'):
+        fence = line.lstrip().startswith('```')
+        lines.append('' if within or fence else re.sub(r'(`+).*?\1', ' ', line))
+        within ^= fence
+    return '\n'.join(lines)
+
+
+def blocks(text: str) -> Iterator[Block]:
+    """The fenced blocks that have a marker."""
+    marker, first, inside = None, 0, None
+    for number, line in enumerate(text.split('\n'), 1):
+        if line.startswith('```'):
+            if inside is None:
+                inside, first = [], number + 1
+            else:
+                if marker:
+                    yield Block(first, marker[1], (marker[2] or '').strip(), '\n'.join(inside) + '\n')
+                inside, marker = None, None
+        elif inside is not None:
+            inside.append(line)
+        elif line.strip():
+            marker = MARKER.fullmatch(line.strip())
+
+
+@functools.lru_cache(None)
+def anchors(text: str) -> set[str]:
+    """The anchors of a page, as GitHub makes them of headings, and those that are named."""
+    found: set[str] = set(re.findall(r'<a id="([^"]+)"', text))
+    plain, within = [], False
+    for line in text.split('\n'):
+        if line.startswith('```'):
+            within = not within
+        elif not within and re.match(r'#{1,6} ', line):
+            plain.append(line.lstrip('#').strip())
+    for heading in plain:
+        heading = re.sub(r'\[([^]]*)\]\([^)]*\)', r'\1', heading)
+        name = re.sub(r'[^\w\- ]', '', heading.lower()).replace(' ', '-')
+        same = sum(other == name or re.fullmatch(re.escape(name) + r'-[0-9]+', other) is not None for other in found)
+        found.add(f'{name}-{same}' if name in found else name)
+    return found
+
+
+def line_of(text: str, place: int) -> int:
+    return text.count('\n', 0, place) + 1
+
+
+def sizes() -> Iterator[tuple[str, str]]:
+    """Each page is within its bound, and all together."""
+    total = 0
+    for page in pages():
+        words, most = len(read(page).split()), CAPS.get(page)
+        total += words if page != 'examples/README.md' else 0
+        yield page, '' if most and words <= most else f'{words} words, {most or "no bound"}: cut it, or give it a bound in tests/docs.py'
+    yield 'all pages', '' if total <= MOST_IN_ALL else f'{total} words, {MOST_IN_ALL} at most'
+    for page in sorted(set(CAPS) - set(pages())):
+        yield page, 'it has a bound, and is not there'
+
+
+def links() -> Iterator[tuple[str, str]]:
+    """Each relative link leads to a file, and its anchor to a heading."""
+    for page in [*pages(), 'CHANGELOG.md']:
+        text = prose(read(page))
+        for link in LINK.finditer(text):
+            name, _, anchor = link[1].partition('#')
+            if re.match(r'[a-z]+:', name):
+                continue
+            target = os.path.normpath(os.path.join(os.path.dirname(page), name)) if name else page
+            wrong = ''
+            if not os.path.exists(os.path.join(ROOT, target)):
+                wrong = f'{link[1]}: there is no {target}'
+            elif anchor and (not target.endswith('.md') or anchor not in anchors(read(target))):
+                wrong = f'{link[1]}: {target} has no heading of this name'
+            yield f'{page}:{line_of(text, link.start())}', wrong
+
+
+def days() -> Iterator[tuple[str, str]]:
+    """No date, commit or load but in the pages that are named."""
+    for page in pages():
+        if page in DATED:
+            continue
+        text = read(page)
+        found = OF_A_DAY.search(text)
+        yield page, f'line {line_of(text, found.start())}: `{found[0]}`, and the page is none of those that tell dates' if found else ''
+
+
+def words() -> Iterator[tuple[str, str]]:
+    """No page uses a word of tests/docs_words where it is not allowed."""
+    for line in read('tests/docs_words').splitlines():
+        if not line.strip() or line.startswith('#'):
+            continue
+        word, term, allowed = (part.strip() for part in line.split('|'))
+        pattern, wrong = re.compile(rf'(?<![\w-]){re.escape(word)}(?![\w-])', re.IGNORECASE), []
+        for page in sorted(set(pages()) - set(allowed.split())):
+            text = prose(read(page))
+            wrong += [f'{page}:{line_of(text, found.start())}' for found in pattern.finditer(text)]
+        yield f'the word `{word}`', f'{", ".join(wrong)}: write {term}' if wrong else ''
+
+
+def instance_of(drawing: str) -> str:
+    """The map and the points of a drawing."""
+    rows = drawing.rstrip('\n').split('\n')
+    points, agents = [], []
+    for y, row in enumerate(rows):
+        for x, letter in enumerate(row):
+            if letter.isalpha():
+                points.append(f'{"parking" if letter.isupper() else "station"} {letter} {x} {y}')
+                agents += [f'agent {letter}'] * letter.isupper()
+    cells = [re.sub('[A-Za-z]', '.', row) for row in rows]
+    return '\n'.join(['type octile', f'height {len(rows)}', f'width {len(rows[0])}', 'map', *cells, '%%', *points, *agents]) + '\n'
+
+
+def differs(found: str, wanted: str, percent: float) -> str:
+    """What is wrong with an output whose numbers may differ by so many percent."""
+    if percent and NUMBER.sub('N', found) == NUMBER.sub('N', wanted):
+        pairs = zip(map(float, NUMBER.findall(found)), map(float, NUMBER.findall(wanted)))
+        if all(abs(one - other) <= abs(other) * percent / 100 for one, other in pairs):
+            return ''
+    return '' if found == wanted else f'it wrote\n{found}in place of\n{wanted}'
+
+
+def scratch() -> str:
+    """A folder in which commands of a page run."""
+    folder = tempfile.mkdtemp()
+    for name in ('tools', 'examples', 'docs'):
+        os.symlink(os.path.join(ROOT, name), os.path.join(folder, name))
+    os.symlink(PROGRAM, os.path.join(folder, 'warehouse'))
+    return folder
+
+
+def outcome(block: Block, folder: str, before: str) -> tuple[str, str]:
+    """What the block wrote, and what is wrong with it."""
+    if block.kind == 'output':
+        tolerance = re.fullmatch(r'([0-9.]+) %', block.said)
+        return before, differs(before, block.text, float(tolerance[1]) if tolerance else 0)
+    if block.kind == 'floor':
+        done = subprocess.run([PROGRAM, 'check'], input=instance_of(block.text), capture_output=True, text=True, timeout=MOST_SECONDS)
+        said = (done.stdout + done.stderr).strip()
+        return '', '' if said == block.said else f'`check` says {said}, not {block.said}'
+    try:
+        done = subprocess.run(['bash', '-e', '-c', block.text], cwd=folder, stdin=subprocess.DEVNULL, capture_output=True, text=True,
+                              timeout=MOST_SECONDS, env={**os.environ, 'WAREHOUSE': PROGRAM})
+    except subprocess.TimeoutExpired:
+        return '', f'it takes more than {MOST_SECONDS} seconds'
+    wrong = '' if done.returncode == int(block.said or 0) else f'status {done.returncode}, not {block.said or 0}: {done.stderr.strip()[-400:]}'
+    return done.stdout, wrong
+
+
+def commands() -> Iterator[tuple[str, str]]:
+    """The marked blocks of each page, in one folder."""
+    for page in pages():
+        folder, before = scratch(), ''
+        try:
+            for block in blocks(read(page)):
+                before, wrong = outcome(block, folder, before)
+                yield f'{page}:{block.line}: {block.kind}', wrong
+        finally:
+            shutil.rmtree(folder)
+
+
+def needs() -> str:
+    """What is missing for the commands, or nothing."""
+    if not os.access(PROGRAM, os.X_OK):
+        return f'there is no program {PROGRAM}'
+    return '' if shutil.which('bash') else 'there is no bash'
+
+
+def main() -> int:
+    parser = argparse.ArgumentParser(description=__doc__, formatter_class=argparse.RawDescriptionHelpFormatter)
+    parser.add_argument('--no-program', action='store_true')
+    parser.add_argument('--words', action='store_true')
+    options = parser.parse_args()
+    if options.words:
+        for page in pages():
+            print(f'{len(read(page).split()):6} of {CAPS.get(page, 0):6} {page}')
+        return 0
+    checks = [sizes, links, days, words, commands]
+    missing = 'it was not asked for' if options.no_program else needs()
+    if missing:
+        checks.remove(commands)
+        print(f'skipped: the commands and drawings of the pages, since {missing}')
+    passed = failed = 0
+    for check in checks:
+        for name, wrong in check():
+            passed, failed = passed + (not wrong), failed + bool(wrong)
+            if wrong:
+                print(f'{name}: {wrong}')
+    print(f'{passed} passed, {failed} failed')
+    return 1 if failed else 0
+
+
+if __name__ == '__main__':
+    sys.exit(main())
