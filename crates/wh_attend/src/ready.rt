@@ -109,22 +109,30 @@ pub(crate) fn prepare<
         }
     };
     drop(grid);
-    let trouble = match hall.first_without(alloc) {
-        Ok(None) => {
-            return Ok(Ready {
-                text,
-                found,
-                start,
-                planners,
-                clients,
-            });
+    let without = match hall.first_without(alloc) {
+        Ok(without) => without,
+        Err(AllocError) => {
+            drop(clients);
+            drop(planners);
+            drop(start);
+            drop(text);
+            return Err(Trouble::NoMemory);
         }
-        Ok(Some(client)) => Trouble::NoPipes { client },
-        Err(AllocError) => Trouble::NoMemory,
     };
-    drop(clients);
-    drop(planners);
-    drop(start);
-    drop(text);
-    Err(trouble)
+    match without {
+        Some(client) => {
+            drop(clients);
+            drop(planners);
+            drop(start);
+            drop(text);
+            Err(Trouble::NoPipes { client })
+        }
+        None => Ok(Ready {
+            text,
+            found,
+            start,
+            planners,
+            clients,
+        }),
+    }
 }

@@ -244,13 +244,13 @@ fn host_paced<
     } = paced;
     match desk.finish(gather(served, pass, room)) {
         Ok(history) => {
-            let is_stale = history.front.is_before(viewer.front());
-            drop(viewer);
-            if is_stale {
+            if history.front.is_before(viewer.front()) {
+                drop(viewer);
                 drop(history);
                 drop(connections);
                 return Err(CrewFault::Stale);
             }
+            drop(viewer);
             Ok(Hosted {
                 history,
                 connections,

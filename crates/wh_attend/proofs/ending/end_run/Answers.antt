@@ -6,17 +6,17 @@ use Rattle.wh_attend.proofs.ending.end_run.Goals as goal
 pub returns-in-Err-clause-fault : goal.returns-in-Err-clause-fault
 returns-in-Err-clause-fault g c = inl (unkept c.in-Err.fault _ _ _ c.keep_trouble.ensures)
 
-pub returns-in-Err-write_text-clause-fault : goal.returns-in-Err-write_text-clause-fault
-returns-in-Err-write_text-clause-fault g c = inl (written_short _ _ _ _ _ c.in-Err-write_text.ensures.fault (c.as_slice.ensures.value ∙ c.in-Ok-text_of.ensures.ok) c.in-Err-write_text.ensures.front)
+pub returns-in-Err-written-clause-fault : goal.returns-in-Err-written-clause-fault
+returns-in-Err-written-clause-fault g c = inl (written_short _ _ _ _ _ c.in-Err-written.ensures.fault (c.as_slice.ensures.value ∙ c.in-Ok-text_of.ensures.ok) c.in-Err-written.ensures.front)
 
 pub returns-in-Ok-last-clause-tells : goal.returns-in-Ok-last-clause-tells
 returns-in-Ok-last-clause-tells g c =
-    subst (λ (t : List ℕ). Appends (g.W.Write.contents c.args.output.now) (g.W.Write.contents c.write_text.new.output) t) (c.as_slice.ensures.value ∙ c.in-Ok-text_of.ensures.ok) c.in-Ok-write_text.ensures.ok
+    subst (λ (t : List ℕ). Appends (g.W.Write.contents c.args.output.now) (g.W.Write.contents c.write_text-written.new.output) t) (c.as_slice.ensures.value ∙ c.in-Ok-text_of.ensures.ok) c.in-Ok-written.ensures.ok
 
 -- the last board was not shown
 pub returns-clause-fault : goal.returns-clause-fault
 returns-clause-fault g c =
-    let all = subst (λ (t : List ℕ). Appends (g.W.Write.contents c.args.output.now) (g.W.Write.contents c.write_text.new.output) t) (c.as_slice.ensures.value ∙ c.in-Ok-text_of.ensures.ok) c.in-Ok-write_text.ensures.ok in
+    let all = subst (λ (t : List ℕ). Appends (g.W.Write.contents c.args.output.now) (g.W.Write.contents c.write_text-written.new.output) t) (c.as_slice.ensures.value ∙ c.in-Ok-text_of.ensures.ok) c.in-Ok-written.ensures.ok in
     inr (_, c.in-Err-last.is, c.trouble_of_show.ensures.value, all)
 
 pub returns-in-Err-text_of-clause-fault : goal.returns-in-Err-text_of-clause-fault

@@ -1,5 +1,4 @@
 use Rattle.std.proofs.Common.{false, inl, inr, refl}
-use Rattle.std.proofs.lemmas.Result.{err_from_is_err_and}
 use Rattle.std.specs.Arc.{arc_value}
 use Rattle.wh_points.specs.Points.{Site}
 use Rattle.wh_service.proofs.Lasting.{kept_at}
@@ -53,9 +52,3 @@ returns-in-Some-clause-fault g c =
         };
       },
     )))
-
--- out of memory
-pub returns-in_err-client-clause-fault : goal.returns-in_err-client-clause-fault
-returns-in_err-client-clause-fault g c =
-    let p = err_from_is_err_and c.from_residual-in_err-client.result c.from_residual-in_err-client.ensures.1 in
-    rw (p.1, p.2) (inl tt)

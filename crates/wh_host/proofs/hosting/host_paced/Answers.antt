@@ -16,8 +16,8 @@ use Rattle.wh_host.proofs.hosting.host_paced.Goals as goal
 
 pub finish-requires-after_bounds : goal.finish-requires-after_bounds
 finish-requires-after_bounds g c κs within =
-    let s = c.in_ok-reports.ensures in
-    let left = c.in_ok-reports.field-0 in
+    let s = c.in-Ok-serve_beside.ensures in
+    let left = c.in-Ok-serve_beside.shift in
     let parts : c.args.passes.items ≡ c.pop.new.self.items ++ c.in-Some.own ∷ [] = c.in-Some.ensures.items in
     let same : length c.args.clients.items ≡ length c.pop.new.self.items = omega (arith, c.requires.clients, ap length parts, length_push c.pop.new.self.items c.in-Some.own) in
     subst (λ (l : List Received). InOrder g.N.DeskName.callers l) (sym c.gather.ensures)
@@ -28,8 +28,8 @@ finish-requires-after_bounds g c κs within =
 
 pub returns-else-is_before-clause-leaves : goal.returns-else-is_before-clause-leaves
 returns-else-is_before-clause-leaves g c =
-    let s = c.in_ok-reports.ensures in
-    let left = c.in_ok-reports.field-0 in
+    let s = c.in-Ok-serve_beside.ensures in
+    let left = c.in-Ok-serve_beside.shift in
     let done = c.in-Ok-finish.ensures in
     let book = c.in-Ok-finish.history.warehouse.book in
     let front = c.in-Ok-finish.history.front in

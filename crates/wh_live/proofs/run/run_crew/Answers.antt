@@ -1,6 +1,4 @@
-use Rattle.std.proofs.Common.{false, rules, option_map, ◌≡◌, ℕ, List, Err, ap, sym, ◌∙◌, subst}
-use Rattle.std.specs.Prelude.{IfErr}
-use Rattle.std.proofs.lemmas.Result.{err_from_is_err_and}
+use Rattle.std.proofs.Common.{false, rules, option_map, ◌≡◌, ℕ, List, ap, sym, ◌∙◌, subst}
 use Rattle.wh_words.specs.Lines.{text_of}
 use Rattle.wh_points.specs.Points.{Site}
 use Rattle.wh_event.specs.declared.entry.Entry.{Entry}
@@ -8,8 +6,8 @@ use Rattle.wh_core.specs.States.{State, opened}
 use Rattle.wh_crew.specs.Fleet.{IsTied}
 use Rattle.wh_log.specs.Logs.{log_lines}
 use Rattle.wh_log.specs.declared.version.Version.TheVariants.{Two}
-use Rattle.wh_live.specs.Lives.{IsWhyUnlived, Lives, WorkedBy}
-use Rattle.wh_live.proofs.Screens.{boards_along, memory_unlived}
+use Rattle.wh_live.specs.Lives.{Lives, WorkedBy}
+use Rattle.wh_live.proofs.Screens.{boards_along}
 use Rattle.wh_live.proofs.run.run_crew.Goals as goal
 
 pub returns-in-Ok-log_text-clause-ok : goal.returns-in-Ok-log_text-clause-ok
@@ -43,8 +41,3 @@ returns-in-Ok-log_text-clause-ok g c =
       lives = lives;
       boards = boards_along _ _ opened_is left.history ran.last had has c.in-Ok-history_of.ensures.boards;
     }
-
-pub returns-in_err-slots-clause-fault : goal.returns-in_err-slots-clause-fault
-returns-in_err-slots-clause-fault g c =
-    let came = err_from_is_err_and c.from_residual.result c.from_residual.ensures.1 in
-    subst (λ r. IfErr r (IsWhyUnlived c.args.display)) (sym (came.1 ∙ ap Err came.2)) (memory_unlived c.args.display)

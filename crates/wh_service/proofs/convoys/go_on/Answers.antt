@@ -5,13 +5,13 @@ use Rattle.wh_service.proofs.convoys.go_on.Goals as goal
 pub returns-in-Err-clause-fault : goal.returns-in-Err-clause-fault
 returns-in-Err-clause-fault g c = inl (c.in-Err.fault, c.ride_on-ran.new.spares.items, c.ride_trouble.ensures, c.in-Err.ensures.fault)
 
-pub returns-in-Ok-write_tail-clause-ok : goal.returns-in-Ok-write_tail-clause-ok
-returns-in-Ok-write_tail-clause-ok g c = record {
+pub returns-in-Ok-written-clause-ok : goal.returns-in-Ok-written-clause-ok
+returns-in-Ok-written-clause-ok g c = record {
   final = c.in-Ok.ran.0.book;
   crew = c.in-Ok.ran.1;
   replied = g.W.Write.contents c.ride_on-ran.new.writer;
   goes = goes_to_end _ _ _ _ _ _ _ c.args.start c.args.stood _ _ c.requires.stand c.in-Ok.ran.0.book c.in-Ok.ran.1 _ _ _ _ _ c.in-Ok.ensures.runs c.history-history.ensures.opening c.history-history.ensures.run c.history-history.ensures.served;
-  follows = c.in-Ok-write_tail.ensures.ok;
+  follows = c.in-Ok-written.ensures.ok;
   left_is = c.on_their_way.ensures;
 }
 
@@ -21,5 +21,5 @@ returns-clause-fault g c = inr (record {
   crew = c.in-Ok.ran.1;
   replied = g.W.Write.contents c.ride_on-ran.new.writer;
   goes = goes_to_end _ _ _ _ _ _ _ c.args.start c.args.stood _ _ c.requires.stand c.in-Ok.ran.0.book c.in-Ok.ran.1 _ _ _ _ _ c.in-Ok.ensures.runs c.history-history.ensures.opening c.history-history.ensures.run c.history-history.ensures.served;
-  why = c.in-Err-write_tail.ensures.fault;
+  why = c.in-Err-written.ensures.fault;
 })

@@ -74,8 +74,8 @@ returns-clause-ok g c =
     c.in-Ok-start_aside.started.1 c.in-Ok-start_aside.ensures.stands c.in-Ok-start_aside.ensures.ok c.in-Ok-start_aside.ensures.within
     c.slots-slots.result.now c.slots-slots.ensures.value c.in-Ok-equip_for.ensures.ok
     _ _ _ _ _ _ _ (ap told_text c.form_of-form.ensures) _ c.in-Ok-start_aside.ensures.same _ c.in-Ok-start_aside.ensures.same_beside c.in-Ok-keep_beside.ensures.ok c.in-Ok-keep_beside.ensures.synced
-    c.args.options.now.tail c.write_tail.result c.in-Ok-ran.warehouse.book _ c.in-Ok-ran.ensures.runs c.in-Ok-ran.ensures.opening c.in-Ok-ran.ensures.run
-    c.history-history.ensures.served c.write_tail.ensures.ok
+    c.args.options.now.tail c.write_tail-written.result c.in-Ok-ran.warehouse.book _ c.in-Ok-ran.ensures.runs c.in-Ok-ran.ensures.opening c.in-Ok-ran.ensures.run
+    c.history-history.ensures.served c.write_tail-written.ensures.ok
 
 pub returns-clause-fault : goal.returns-clause-fault
 returns-clause-fault g c =
@@ -85,4 +85,4 @@ returns-clause-fault g c =
     c.in-Ok-start_aside.started.1 c.in-Ok-start_aside.ensures.stands c.in-Ok-start_aside.ensures.ok c.in-Ok-start_aside.ensures.within
     c.slots-slots.result.now c.slots-slots.ensures.value c.in-Ok-equip_for.ensures.ok
     _ _ _ _ _ _ _ (ap told_text c.form_of-form.ensures) _ c.in-Ok-start_aside.ensures.same _ c.in-Ok-start_aside.ensures.same_beside c.in-Ok-keep_beside.ensures.ok c.in-Ok-keep_beside.ensures.synced
-    c.args.options.now.tail c.write_tail.result c.in-Ok-ran.warehouse.book _ c.in-Ok-ran.ensures.runs _ c.write_tail.ensures.fault
+    c.args.options.now.tail c.write_tail-written.result c.in-Ok-ran.warehouse.book _ c.in-Ok-ran.ensures.runs _ c.write_tail-written.ensures.fault

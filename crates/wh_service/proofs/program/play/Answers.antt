@@ -15,8 +15,8 @@ returns-in-Err-clause-fault g c = inr (inl (
   },
 ))
 
-pub returns-in-Ok-write_tail-clause-ok : goal.returns-in-Ok-write_tail-clause-ok
-returns-in-Ok-write_tail-clause-ok g c = record {
+pub returns-in-Ok-written-clause-ok : goal.returns-in-Ok-written-clause-ok
+returns-in-Ok-written-clause-ok g c = record {
   final = c.replay.new.warehouse.book;
   replied = g.W.Write.contents c.replay.new.writer;
   plays = record {
@@ -25,7 +25,7 @@ returns-in-Ok-write_tail-clause-ok g c = record {
     rest = c.replay.new.spares.items;
     replays = c.in-Ok-replay.ensures.ok;
   };
-  follows = c.in-Ok-write_tail.ensures.ok;
+  follows = c.in-Ok-written.ensures.ok;
 }
 
 pub returns-clause-fault : goal.returns-clause-fault
@@ -39,5 +39,5 @@ returns-clause-fault g c = inr (inr record {
     rest = c.replay.new.spares.items;
     replays = c.in-Ok-replay.ensures.ok;
   };
-  why = c.in-Err-write_tail.ensures.fault;
+  why = c.in-Err-written.ensures.fault;
 })

@@ -36,8 +36,8 @@ returns-in-Err-dispatch-clause-fault g c =
       },
     ))
 
-pub returns-in-Ok-write_tail-clause-ok : goal.returns-in-Ok-write_tail-clause-ok
-returns-in-Ok-write_tail-clause-ok g c =
+pub returns-in-Ok-written-clause-ok : goal.returns-in-Ok-written-clause-ok
+returns-in-Ok-written-clause-ok g c =
     let book : Seen = c.in-Ok.warehouse.book in
     let crew : Crew = c.in-Ok-open.vehicles in
     let m = subst (λ n. IsManned book crew (drives.opened book.site.layout.nofollow n (places book.state))) c.from-ahead.ensures c.in-Ok-open.ensures.manned in
@@ -55,8 +55,8 @@ returns-in-Ok-write_tail-clause-ok g c =
         run = subst (λ (b : Seen). Run b.site b.opening b.history b.state) (sym r.book_is) c.history-history.ensures.run;
         served = subst (λ (b : Seen). IsFormed b.site → AllServed b.history) (sym r.book_is) c.history-history.ensures.served;
       };
-      follows = subst (λ (b : Seen). Appends (g.W.Write.contents c.dispatch.new.writer) (g.W.Write.contents c.write_tail.new.output) (tail_after c.args.tail b.opening b.history b.state)) (sym r.book_is)
-          c.in-Ok-write_tail.ensures.ok;
+      follows = subst (λ (b : Seen). Appends (g.W.Write.contents c.dispatch.new.writer) (g.W.Write.contents c.write_tail-written.new.output) (tail_after c.args.tail b.opening b.history b.state)) (sym r.book_is)
+          c.in-Ok-written.ensures.ok;
       left_is = c.on_their_way.ensures ∙ r.count_is;
     }
 
@@ -79,6 +79,6 @@ returns-clause-fault g c =
         run = subst (λ (b : Seen). Run b.site b.opening b.history b.state) (sym r.book_is) c.history-history.ensures.run;
         served = subst (λ (b : Seen). IsFormed b.site → AllServed b.history) (sym r.book_is) c.history-history.ensures.served;
       };
-      why = subst (λ (b : Seen). IsWhyNoTail c.in-Err-write_tail.trouble (g.W.Write.contents c.dispatch.new.writer) (g.W.Write.contents c.write_tail.new.output) (tail_after c.args.tail b.opening b.history b.state)) (sym r.book_is)
-          c.in-Err-write_tail.ensures.fault;
+      why = subst (λ (b : Seen). IsWhyNoTail c.in-Err-written.trouble (g.W.Write.contents c.dispatch.new.writer) (g.W.Write.contents c.write_tail-written.new.output) (tail_after c.args.tail b.opening b.history b.state)) (sym r.book_is)
+          c.in-Err-written.ensures.fault;
     })
