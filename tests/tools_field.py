@@ -7,6 +7,7 @@
 The last line is `N passed, M failed`, and the status is 1 where one failed.
 """
 import os
+import random
 import re
 import subprocess
 import sys
@@ -15,6 +16,9 @@ import tempfile
 import counting
 
 ROOT = os.path.dirname(os.path.dirname(os.path.abspath(__file__)))
+sys.path.insert(0, os.path.join(ROOT, 'tools'))
+import cuts    # noqa: E402
+import runs    # noqa: E402
 PROGRAM = os.environ.get('WAREHOUSE', os.path.join(ROOT, 'warehouse'))
 ENVIRONMENT = {**os.environ, 'WAREHOUSE': PROGRAM}
 SCRATCH = tempfile.TemporaryDirectory()
@@ -111,6 +115,62 @@ def test_explain_sees_a_separator_in_a_row() -> None:
     assert 'tools/join.py' in lines[3]
     lines = tool('explain.py', 'refused M4 line 5', file('i', 'type t\nheight 1\nwidth 3\nmap\n.x.\n'))[0].splitlines()
     same(lines[3], "The byte is 'x', at x = 1.")
+
+
+CUT = 'type t\nheight 5\nwidth 9\nmap\n.........\n.@@@@@@@.\n.........\n.@@@@@@@.\n.........\n%%\n'
+CUT_POINTS = 'parking H 4 0\nstation S 2 2\nstation T 4 2\nstation U 6 2\nagent H\n'
+
+
+def test_explain_lists_the_points_that_cut() -> None:
+    # S and U bar both ways to T; S and U themselves are joined by the lowest row
+    lines = tool('explain.py', 'cut H T', file('i', CUT + CUT_POINTS))[0].splitlines()
+    same(lines[1:], ['Points that cut others (X below; o are the others):', 'S (x = 2, y = 2) cuts H from T.', 'U (x = 6, y = 2) cuts H from T.',
+                     'Columns 0 to 8, rows 0 to 4:', '    ....o....', '    .@@@@@@@.', '    ..X.o.X..', '    .@@@@@@@.', '    .........',
+                     'Move them off the only way, or widen it (docs/MODELING.md).'])
+    # with S in the shelf above, T is beside the way from the left
+    mended = CUT.replace('.@@@@@@@.', '.@.@@@@@.', 1) + CUT_POINTS.replace('S 2 2', 'S 2 1')
+    assert 'No point of this instance cuts others' in tool('explain.py', 'cut H T', file('i', mended))[0]
+    # only what is around them is drawn
+    wide = 'type t\nheight 1\nwidth 20\nmap\n' + '.' * 20 + '\n%%\nparking H 7 0\nstation S 10 0\nstation T 13 0\nagent H\n'
+    same(tool('explain.py', 'cut H T', file('i', wide))[0].splitlines()[2:5], ['S (x = 10, y = 0) cuts H from T.', 'Columns 8 to 12, rows 0 to 0:', '    ..X..'])
+
+
+def test_points_cut_where_the_program_says_so() -> None:
+    chance, seen = random.Random(5), set()
+    for _ in range(40):
+        rows = [''.join(chance.choice('...@') for _ in range(7)) for _ in range(5)]
+        free = [(x, y) for y in range(5) for x in range(7) if rows[y][x] == '.']
+        points = [f'parking P{n} {x} {y}\n' for n, (x, y) in enumerate(chance.sample(free, 6))]
+        instance = 'type t\nheight 5\nwidth 7\nmap\n' + '\n'.join(rows) + '\n%%\n' + ''.join(points) + 'agent P0\n'
+        site = runs.read_instance('made', instance.encode())
+        found = cuts.cutting(site)
+        floor = cuts.Floor(site)
+        pairs = [(a, b) for a in range(6) for b in range(a + 1, 6) if not floor.joined(a, b)]
+        said = warehouse(instance, 'check')[0]
+        same(said, 'cut P%d P%d\n' % pairs[0] if pairs else 'formed\n')
+        assert all(pair in pairs and number not in pair for number, pair in found)
+        seen.add((said[:3], bool(found)))
+    assert {('cut', True), ('for', False)} <= seen, seen
+
+
+def test_explain_says_which_name_is_too_long() -> None:
+    instance = file('i', SITE + b'%%\n' + POINTS + b'%%\nsubmit WMS-ORDER-2026-000123456 S S\n')
+    same(tool('explain.py', 'refused C1 line 1', instance)[0].splitlines()[3],
+         '`WMS-ORDER-2026-000123456` is no name: it has 24 bytes, and a name 1 to 16 letters, digits, _ or -.')
+    assert 'A name has 1 to 16 bytes' in tool('explain.py', 'C1')[0]
+
+
+def test_explain_beside_a_program() -> None:
+    explain = [sys.executable, os.path.join(ROOT, 'tools', 'explain.py'), '--run']
+    def ran(text: str) -> tuple[str, str, int]:
+        done = subprocess.run([*explain, 'bash', '-c', text], input=b'in', capture_output=True)
+        return done.stdout.decode(), done.stderr.decode(), done.returncode
+    m4 = dict(line.split(': ', 1) for line in tool('explain.py', '--all')[0].splitlines())['M4']
+    same(ran('cat; echo refused M4 line 5 >&2; exit 1'), ('in', f'refused M4 line 5\nM4: {m4} (tools/explain.py shows the line)\n', 1))
+    for words in ('echo one >&2; echo two >&2; exit 3', 'echo refused M4 line 5 >&2; exit 0', 'echo refused M4 >&2; echo more >&2; exit 1'):
+        assert m4 not in ran(words)[1]
+    same((ran('exit 7')[2], ran('kill -9 $$')[2], ran('kill -15 $$')[2]), (7, -9, -15))
+    same(ran("trap 'echo got; exit 9' TERM; kill -15 $PPID; while :; do sleep 0.02; done"), ('got\n', '', 9))
 
 
 MAPD_MAP = '3,4\n2\n1\n50\n.e..\nr..@\n..e.\n'
@@ -245,7 +305,7 @@ def test_examples() -> None:
     same(warehouse(joined, 'verify'), ('run 27\n', 0))
 
 
-NEEDS_PROGRAM = {'test_made_instances_are_formed', 'test_a_written_script_asks_only_where_an_agent_is_due', 'test_examples'}
+NEEDS_PROGRAM = {'test_points_cut_where_the_program_says_so', 'test_made_instances_are_formed', 'test_a_written_script_asks_only_where_an_agent_is_due', 'test_examples'}
 
 
 if __name__ == '__main__':

@@ -5,7 +5,9 @@
     explain.py 'refused P4 line 2' INSTANCE      and the line itself, and its place in the whole input
     explain.py 'bad 7' INPUT                     INPUT is what `verify` read: map, points, log
     explain.py 'refused L1 line 7' FILE          FILE is the log file of `replay --log`
+    explain.py 'cut A B' INSTANCE                all points that cut others, and a drawing with them
     explain.py E6                                a code alone; --all prints every code
+    explain.py --run PROGRAM WORD..              runs the program, and adds the sentence to a refusal on standard error
 
 The program counts lines from 1 in each section anew: M codes in the map, P codes in the points, C codes with a line in
 the scripts of `live`. This adds what stands before. Replies have no line: `refused E1 NAME` is the answer to the command
@@ -14,8 +16,10 @@ at the same place as the reply, where comment lines, lines of blanks and empty l
 import argparse
 import re
 import signal
+import subprocess
 import sys
 
+import cuts
 from sections import Section, fail, is_skipped, lines_of, read_file, sections_of, words_of
 
 SENTENCES = {
@@ -36,7 +40,7 @@ SENTENCES = {
     'P8': 'No earlier line defines the point at which this agent is to start.',
     'P9': 'An earlier agent starts at this point.',
     'P10': 'A line `rule nofollow` stands earlier.',
-    'C1': 'This line is no command: `submit CLIENT S1 .. Sn` with 2 to 8 stops, `token AGENT`, `tick`, `replace AGENT`, `close`. In `replay` nothing changes, and it is no entry of the history.',
+    'C1': 'This line is no command: `submit CLIENT S1 .. Sn` with 2 to 8 stops, `token AGENT`, `tick`, `replace AGENT`, `close`. A name has 1 to 16 bytes, each a letter A to Z or a to z, a digit, _ or -; a number has at most 9 digits. In `replay` nothing changes, and it is no entry of the history.',
     'C2': 'This line is longer than 256 bytes, and that is refused also where it is a comment. In `replay` nothing changes, and it is no entry of the history.',
     'C3': 'This client of `live` has no right to the command: --client N=FOLDER:RIGHTS names its rights. Nothing changes, and it is no entry of the history.',
     'E1': 'The task is refused: no point has this name.',
@@ -50,7 +54,7 @@ SENTENCES = {
     'E9': 'The planner that was to take the place is of another map.',
     'E10': 'No spare planner is there: --spares N says how many there are.',
     'E11': 'The journal is full, or this client has used up its share of it: no more events can be entered (--journal N and --share N of `live`).',
-    'E90': 'Memory is wanting. As a reply: the command changed nothing, and may be sent again. On standard error: the program ended with status 4.',
+    'E90': 'Out of memory. As a reply: the command changed nothing, and may be sent again. On standard error: the program ended with status 4.',
     'E91': 'A receipt or the book had a value at this position already. A library call says it, and no subcommand.',
     'E92': 'No place for a viewer is left; there are 64. A library call says it, and no subcommand.',
     'E93': 'A thread could not be started (status 3).',
@@ -71,11 +75,12 @@ SENTENCES = {
     'X6': 'The file that shows the board of `live --board` cannot be written (status 3).',
     'X7': 'Something stands behind the points, a line `%%` too, where `live` has running clients (status 2): they send their commands over their pipes.',
     'formed': 'The instance is well-formed: no agent that is due is refused a path.',
-    'few': 'There are fewer parkings than agents: the first number are there, the second is wanted. The instance is not well-formed.',
-    'cut': 'No walk leads from the first of these points to the second without meeting a third one. The instance is not well-formed: requests may be refused for want of a path.',
+    'few': 'There are fewer parkings than agents: the first number are there, the second is needed. The instance is not well-formed (docs/MODELING.md).',
+    'cut': 'No walk leads from the first of these points to the second without meeting a third one. The instance is not well-formed: requests may be refused, since there is no path. Move the points between them off the way, or widen it (docs/MODELING.md).',
     'bad': 'This line of the log is the first with which no log of a run over this map and these points begins.',
     'run': 'The log is a run over this map and these points, of so many entries.',
 }
+NAME = re.compile(r'[\w-]{1,16}', re.ASCII)
 COMMAND = re.compile(r'submit( [\w-]{1,16}){3,9}|(token|replace) [0-9]{1,9}|tick|close', re.ASCII)
 
 
@@ -121,6 +126,9 @@ def hint(code: str, line: str, section: Section, sections: list[Section]) -> str
         if y < len(rows) and x < len(rows[y]):
             return f'The map has {rows[y][x]!r} at x = {x}, y = {y}.'
         return f'x = {x}, y = {y} is outside.'
+    if code == 'C1' and words_of(line)[0] == 'submit':
+        odd = next((word for word in words_of(line)[1:] if not NAME.fullmatch(word)), None)
+        return '' if odd is None else f'`{odd}` is no name: it has {len(odd)} bytes, and a name 1 to 16 letters, digits, _ or -.'
     return ''
 
 
@@ -152,7 +160,32 @@ def explained(words: list[str], instance: str | None) -> list[str]:
         text = read_file(instance)
         sections = [Section(1, lines_of(text))] if code == 'L1' else sections_of(text)
         lines += place(code, int(number), sections)
+    if code == 'cut' and instance is not None:
+        lines += cuts.explained(instance, read_file(instance))
     return lines
+
+
+def run(words: list[str]) -> int:
+    """Runs a program, hands on its standard error, and adds the sentence of a refusal that it ends with; its status."""
+    # signals that the launcher has it ignore stay ignored
+    program = subprocess.Popen(words, stderr=subprocess.PIPE, restore_signals=False)
+    signal.signal(signal.SIGINT, signal.SIG_IGN)    # a terminal sends it to the program too
+    for number in (signal.SIGTERM, signal.SIGHUP):
+        signal.signal(number, lambda number, _: program.send_signal(number))
+    last = b''
+    for last in program.stderr:
+        sys.stderr.buffer.write(last)
+        sys.stderr.buffer.flush()
+    status = program.wait()
+    said = last.decode('latin-1').split()
+    if status > 0 and said[:1] == ['refused'] and said[1:2] and said[1] in SENTENCES:
+        place = ' (tools/explain.py shows the line)' if 'line' in said else ''
+        print(f'{said[1]}: {SENTENCES[said[1]]}{place}', file=sys.stderr)
+    if status < 0:    # it was ended by a signal, and so is this
+        if -status != signal.SIGKILL:
+            signal.signal(-status, signal.SIG_DFL)
+        signal.raise_signal(-status)
+    return status
 
 
 def main() -> None:
@@ -168,6 +201,8 @@ def main() -> None:
 
 
 if __name__ == '__main__':
+    if sys.argv[1:2] == ['--run'] and sys.argv[2:]:
+        sys.exit(run(sys.argv[2:]))
     signal.signal(signal.SIGPIPE, signal.SIG_DFL)    # `| head` ends it quietly
     sys.stdout.reconfigure(encoding='latin-1', errors='replace')
     main()
