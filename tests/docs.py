@@ -26,6 +26,7 @@ import shutil
 import subprocess
 import sys
 import tempfile
+from concurrent.futures import ThreadPoolExecutor
 from typing import Iterator, NamedTuple
 
 ROOT = os.path.dirname(os.path.dirname(os.path.abspath(__file__)))
@@ -224,16 +225,23 @@ def outcome(block: Block, folder: str, before: str) -> tuple[str, str]:
     return done.stdout, wrong
 
 
+def tried(page: str) -> list[tuple[str, str]]:
+    """What each marked block of a page came to, in one folder."""
+    folder, before, found = scratch(), '', []
+    try:
+        for block in blocks(read(page)):
+            before, wrong = outcome(block, folder, before)
+            found.append((f'{page}:{block.line}: {block.kind}', wrong))
+    finally:
+        shutil.rmtree(folder)
+    return found
+
+
 def commands() -> Iterator[tuple[str, str]]:
-    """The marked blocks of each page, in one folder."""
-    for page in pages():
-        folder, before = scratch(), ''
-        try:
-            for block in blocks(read(page)):
-                before, wrong = outcome(block, folder, before)
-                yield f'{page}:{block.line}: {block.kind}', wrong
-        finally:
-            shutil.rmtree(folder)
+    """The marked blocks of all pages, a few pages at a time: most of it is waiting for replies."""
+    with ThreadPoolExecutor(4) as pool:
+        for found in pool.map(tried, pages()):
+            yield from found
 
 
 def needs() -> str:
