@@ -39,7 +39,7 @@ CAPS = {
     'docs/ARCHITECTURE.md': 2100, 'docs/CONTRIBUTING.md': 2500, 'docs/DECISIONS.md': 14900, 'docs/DEFINITIONS.md': 7700,
     'docs/EMBEDDING.md': 800, 'docs/EXPERIMENTS.md': 2600, 'docs/FLEET.md': 7600, 'docs/FORMATS.md': 4300, 'docs/LIMITS.md': 2050,
     'docs/MODELING.md': 1500, 'docs/PERFORMANCE.md': 2300, 'docs/PROOFS.md': 4450, 'docs/PROVED.md': 7400, 'docs/READING.md': 2450,
-    'docs/RELIABILITY.md': 3300, 'docs/USE.md': 3650,
+    'docs/RELIABILITY.md': 1450, 'docs/USE.md': 3650,
 }
 MOST_IN_ALL = 71_500
 # Dates, commits and loads stand in these pages alone, and why.
@@ -47,7 +47,6 @@ DATED = {
     'CHANGELOG.md': 'a list of what changed when',
     'docs/CONTRIBUTING.md': 'names the commit at which times of proofs were taken',
     'docs/DECISIONS.md': 'says since when a choice holds',
-    'docs/RELIABILITY.md': 'a list of what was tried when, and on which program',
 }
 OF_A_DAY = re.compile(r'\b20[0-9]{2}-[01][0-9]-[0-3][0-9]\b|\bcommit (?=[0-9a-f]*[0-9])[0-9a-f]{7,}\b|\bload (?:of )?[0-9]', re.ASCII)
 LINK = re.compile(r'\]\(([^()\s]+)\)')
