@@ -243,6 +243,23 @@ def commands() -> Iterator[tuple[str, str]]:
             yield from found
 
 
+def itself() -> Iterator[tuple[str, str]]:
+    """What this script finds in small texts, worked out by hand."""
+    fence = '```'
+    page = f'# A b: `c`\n## A\n## A\n[x](#a-1)\n<!-- run 1 -->\n\n{fence}\nfalse\n{fence}\n{fence}\nno marker [y](z)\n{fence}\n<!-- output: 10 % -->\n{fence}\n1\n{fence}\n'
+    for name, found, wanted in (
+            ('anchors', anchors(page), {'a-b-c', 'a', 'a-1'}),
+            ('prose', LINK.findall(prose(page + '`[a](b)` [c](d)')), ['#a-1', 'd']),
+            ('blocks', list(blocks(page)), [Block(8, 'run', '1', 'false\n'), Block(15, 'output', '10 %', '1\n')]),
+            ('numbers within', [bool(differs(f'a {n} b\n', 'a 100 b\n', 10)) for n in (90, 89, 110, 111)], [False, True, False, True]),
+            ('numbers exact', [bool(differs(one, 'a 1\n', 0)) for one in ('a 1\n', 'a 2\n')], [False, True]),
+            ('other words', bool(differs('b 1\n', 'a 1\n', 10)), True),
+            ('drawing', instance_of('A.b\n@..\n'), 'type octile\nheight 2\nwidth 3\nmap\n...\n@..\n%%\nparking A 0 0\nstation b 2 0\nagent A\n'),
+            ('days', [bool(OF_A_DAY.search(text)) for text in ('2026-11-29', 'commit 34fce11', 'load 11.9', 'load of 7', 'commit of a load', 'a workload 3')],
+             [True, True, True, True, False, False])):
+        yield f'itself: {name}', '' if found == wanted else f'found {found!r}, wanted {wanted!r}'
+
+
 def needs() -> str:
     """What is missing for the commands, or nothing."""
     if not os.access(PROGRAM, os.X_OK):
@@ -259,7 +276,7 @@ def main() -> int:
         for page in pages():
             print(f'{len(read(page).split()):6} of {CAPS.get(page, 0):6} {page}')
         return 0
-    checks = [sizes, links, days, words, commands]
+    checks = [itself, sizes, links, days, words, commands]
     missing = 'it was not asked for' if options.no_program else needs()
     if missing:
         checks.remove(commands)
