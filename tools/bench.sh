@@ -182,6 +182,7 @@ whole_runs() {
     peers
     row 'small warehouse, 2 to 8 stops' "$folder/stops" replay --planner near
     row 'small warehouse, nobody may follow' "$folder/rule" replay --planner near
+    row 'large warehouse, nobody may follow' "$folder/large_rule" replay --planner near
     row 'maze, 81 x 81, 40 agents, 300 tasks' "$folder/maze" replay --planner near
     row '16,000 barred tasks, 20 agents' "$folder/barred" replay --planner near
     row 'open map, 2048 x 2048, 16 agents' "$folder/wider" replay --planner near
@@ -193,6 +194,9 @@ whole_runs() {
     if "$program" replay --tail log < "$folder/ticks" > "$folder/log" 2> /dev/null; then
         with_log "$folder/ticks" "$folder/log" > "$folder/ticks_log"
         row 'log of 1,000,000 ticks' "$folder/ticks_log" verify
+        "$program" replay --tail log < "$folder/small" > "$folder/log"
+        with_log "$folder/small" "$folder/log" > "$folder/small_log"
+        row 'log of the small warehouse' "$folder/small_log" verify
         "$program" replay --tail log < "$folder/large" > "$folder/log"
         with_log "$folder/large" "$folder/log" > "$folder/large_log"
         row 'log of the large warehouse' "$folder/large_log" verify
