@@ -163,14 +163,14 @@ def test_explain_says_which_name_is_too_long() -> None:
 def test_explain_beside_a_program() -> None:
     explain = [sys.executable, os.path.join(ROOT, 'tools', 'explain.py'), '--run']
     def ran(text: str) -> tuple[str, str, int]:
-        done = subprocess.run([*explain, 'bash', '-c', text], input=b'in', capture_output=True)
+        done = subprocess.run([*explain, 'bash', '-c', text], input=b'in', capture_output=True, timeout=30)
         return done.stdout.decode(), done.stderr.decode(), done.returncode
     m4 = dict(line.split(': ', 1) for line in tool('explain.py', '--all')[0].splitlines())['M4']
     same(ran('cat; echo refused M4 line 5 >&2; exit 1'), ('in', f'refused M4 line 5\nM4: {m4} (tools/explain.py shows the line)\n', 1))
     for words in ('echo one >&2; echo two >&2; exit 3', 'echo refused M4 line 5 >&2; exit 0', 'echo refused M4 >&2; echo more >&2; exit 1'):
         assert m4 not in ran(words)[1]
     same((ran('exit 7')[2], ran('kill -9 $$')[2], ran('kill -15 $$')[2]), (7, -9, -15))
-    same(ran("trap 'echo got; exit 9' TERM; kill -15 $PPID; while :; do sleep 0.02; done"), ('got\n', '', 9))
+    same(ran("trap 'echo got; exit 9' TERM; kill -15 $PPID; for k in {1..500}; do sleep 0.02; done"), ('got\n', '', 9))
 
 
 MAPD_MAP = '3,4\n2\n1\n50\n.e..\nr..@\n..e.\n'

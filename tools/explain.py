@@ -167,11 +167,21 @@ def explained(words: list[str], instance: str | None) -> list[str]:
 
 def run(words: list[str]) -> int:
     """Runs a program, hands on its standard error, and adds the sentence of a refusal that it ends with; its status."""
-    # signals that the launcher has it ignore stay ignored
-    program = subprocess.Popen(words, stderr=subprocess.PIPE, restore_signals=False)
-    signal.signal(signal.SIGINT, signal.SIG_IGN)    # a terminal sends it to the program too
+    program, waiting = None, []
+
+    def hand_on(number: int, _: object) -> None:
+        if program is None:
+            waiting.append(number)
+        else:
+            program.send_signal(number)
+
+    # handlers stand before the program does, and are none of its own; what the launcher has it ignore stays ignored
+    signal.signal(signal.SIGINT, lambda *_: None)    # a terminal sends it to the program too
     for number in (signal.SIGTERM, signal.SIGHUP):
-        signal.signal(number, lambda number, _: program.send_signal(number))
+        signal.signal(number, hand_on)
+    program = subprocess.Popen(words, stderr=subprocess.PIPE, restore_signals=False)
+    for number in waiting:
+        program.send_signal(number)
     last = b''
     for last in program.stderr:
         sys.stderr.buffer.write(last)
