@@ -28,8 +28,8 @@ returns-in-Ok-written-clause-ok g c = record {
   follows = c.in-Ok-written.ensures.ok;
 }
 
-pub returns-clause-fault : goal.returns-clause-fault
-returns-clause-fault g c = inr (inr record {
+pub returns-in-Err-written-clause-fault : goal.returns-in-Err-written-clause-fault
+returns-in-Err-written-clause-fault g c = inr (inr record {
   final = c.replay.new.warehouse.book;
   replied = g.W.Write.contents c.replay.new.writer;
   written = c.in-Ok-replay.replayed.replies;
