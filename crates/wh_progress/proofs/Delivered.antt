@@ -20,11 +20,11 @@ use Rattle.wh_event.specs.declared.reply.Reply.{Reply}
 use Rattle.wh_core.proofs.Sound.{sound-reached, kept-reached, opening-reached, ways-reached}
 use Rattle.wh_progress.specs.Laws.{NoneCanStand}
 use Rattle.wh_core.proofs.Ways.{none_is_refused_a_path}
-use Rattle.wh_progress.specs.Progress.{is_awaited, in_way, open_tasks, legs, span, weight, left_to_do, HaveAtMost, FindPaths, IsRound, Rounds, StandsStill, StoodStill, AllDone}
+use Rattle.wh_progress.specs.Progress.{is_awaited, in_way, open_tasks, legs, span, weight, left_to_do, HaveAtMost, FindPaths, IsRound, Rounds, StandsStill, StoodStill, AreOfTwoPlaces, AllDone}
 use Rattle.wh_progress.proofs.Sizes.{credits, twice-span}
 use Rattle.wh_progress.proofs.Weighing.{added_by, turn}
 use Rattle.wh_progress.proofs.Rounds.{EachTurns, run-no_more, round-turn, rounds-still}
-use Rattle.wh_progress.proofs.Reaching.{reached-run, places-before, rounds-later, done-at, done-on, done-later, tasks-stay}
+use Rattle.wh_progress.proofs.Reaching.{reached-run, few-before, places-before, rounds-later, done-at, done-on, done-later, tasks-stay}
 use Rattle.wh_progress.proofs.Spans.{horizon_is_bounded}
 use Rattle.wh_core.proofs.Later.{AllLater}
 use Rattle.wh_progress.proofs.Standing.{zero_still, still_is_done}
@@ -121,3 +121,23 @@ each_is_delivered_meanwhile site stops before s new rounds added n task formed s
     let done = still_is_done site reached.0 stood.state some reached.1 (stand-before site stood.state new later places) stood.still in
     let is = done-at stood.state n on.0 done on.1 in
     done-on stood.state new n on.0 later on.1 is
+
+-- with the bound of what is left to do in numbers
+pub all_is_delivered_within : (site : Site) (stops : ℕ) (opening : State) (before : List Entry) (s new : State) (rounds : List (List Entry)) → site.homes ≡ false →
+    IsFormed site → 0 < length site.layout.agents → IsOpening site opening → Run site opening before s → Rounds site s rounds new →
+    length new.tasks ≡ length s.tasks → HaveAtMost stops new → AreOfTwoPlaces new →
+    2 * span site stops * (length site.layout.agents + open_tasks s) ≤ length rounds → AllDone new
+all_is_delivered_within site stops opening before s new rounds off formed some o before_run run same few places enough =
+    let r = opening-reached site opening before s o before_run in
+    let bound = left_is_bounded site stops opening before s off o before_run (few-before stops s new (rounds-later site s rounds new run) few) in
+    all_is_delivered site stops before s new rounds formed some r run same few (inr (off, places)) (omega arith)
+
+pub each_is_delivered_within : (site : Site) (stops : ℕ) (opening : State) (before : List Entry) (s new : State) (rounds : List (List Entry)) (added n : ℕ) (task : Task) →
+    site.homes ≡ false → IsFormed site → 0 < length site.layout.agents → IsOpening site opening → Run site opening before s →
+    Rounds site s rounds new → length new.tasks ≡ length s.tasks + added → HaveAtMost stops new → AreOfTwoPlaces new →
+    2 * span site stops * (length site.layout.agents + open_tasks s) + 3 * span site stops * added ≤ length rounds →
+    IsTask s.tasks n task → (later : Task) × IsTask new.tasks n later × (phase later ≡ Phase.Done)
+each_is_delivered_within site stops opening before s new rounds added n task off formed some o before_run run more few places enough there =
+    let r = opening-reached site opening before s o before_run in
+    let bound = left_is_bounded site stops opening before s off o before_run (few-before stops s new (rounds-later site s rounds new run) few) in
+    each_is_delivered_meanwhile site stops before s new rounds added n task formed some r run more few (inr (off, places)) (omega arith) there

@@ -34,6 +34,24 @@ EachIsDeliveredMeanwhile =
     left_to_do site stops s + 3 * span site stops * added ≤ length rounds →
     IsTask s.tasks n task → (later : Task) × IsTask new.tasks n later × (phase later ≡ Phase.Done)
 
+-- Without homes, and from an opening state, the bound in numbers: where each task has its stops at two cells at most, all tasks are
+-- done after two spans of rounds for each agent and each open task.
+abbrev pub AllIsDeliveredWithin : Type 0
+AllIsDeliveredWithin =
+    (site : Site) (stops : ℕ) (opening : State) (before : List Entry) (s new : State) (rounds : List (List Entry)) → site.homes ≡ false →
+    IsFormed site → 0 < length site.layout.agents → IsOpening site opening → Run site opening before s → Rounds site s rounds new →
+    length new.tasks ≡ length s.tasks → HaveAtMost stops new → AreOfTwoPlaces new →
+    2 * span site stops * (length site.layout.agents + open_tasks s) ≤ length rounds → AllDone new
+
+-- While tasks keep coming, too: three spans of rounds more for each that was added meanwhile.
+abbrev pub EachIsDeliveredWithin : Type 0
+EachIsDeliveredWithin =
+    (site : Site) (stops : ℕ) (opening : State) (before : List Entry) (s new : State) (rounds : List (List Entry)) (added n : ℕ) (task : Task) →
+    site.homes ≡ false → IsFormed site → 0 < length site.layout.agents → IsOpening site opening → Run site opening before s →
+    Rounds site s rounds new → length new.tasks ≡ length s.tasks + added → HaveAtMost stops new → AreOfTwoPlaces new →
+    2 * span site stops * (length site.layout.agents + open_tasks s) + 3 * span site stops * added ≤ length rounds →
+    IsTask s.tasks n task → (later : Task) × IsTask new.tasks n later × (phase later ≡ Phase.Done)
+
 -- Tasks of two stops are so.
 abbrev pub TwoStopsAreTwoPlaces : Type 0
 TwoStopsAreTwoPlaces = (s : State) → HaveAtMost 2 s → AreOfTwoPlaces s

@@ -1,5 +1,5 @@
 -- worked rows, on the small map of the core's rows: one delivery in rounds, and an order of three stops that stands still for good
-use Rattle.std.specs.Prelude.{◌≡◌, ℕ, List, [], ◌∷◌}
+use Rattle.std.specs.Prelude.{◌≡◌, ℕ, List, [], ◌∷◌, true}
 use Rattle.wh_core.specs.States.{State, opened, submitted}
 use Rattle.wh_core.specs.Steps.{Run}
 use Rattle.wh_core.specs.Rows.{site_a, cell, client_x, name_a, name_b, entry}
@@ -29,6 +29,12 @@ DeliveredInSix =
     × Rounds (site_a 0 1) s
     (first_round ∷ next_round 2 1 0 ∷ next_round 3 0 0 ∷ next_round 4 0 0 ∷ next_round 5 0 0 ∷ next_round 6 0 1 ∷ []) new
     × (left_to_do (site_a 0 1) 2 new ≡ 0) × AllDone new
+
+-- Where paths go on home an open task weighs one span, of three passes over the 9 cells and one round: 28 are left of the same order.
+abbrev pub LeftWithHomes : Type 0
+LeftWithHomes =
+    left_to_do (record (site_a 0 1) { homes = true }) 2 (submitted client_x (cell 1 0 ∷ cell 3 0 ∷ []) (opened (site_a 0 1).layout 0 (4 ∷ 4 ∷ [])))
+    ≡ 28
 
 -- the order of A, then C, then D, once it was submitted with agents at A and at C
 abbrev pub state_of_three : State

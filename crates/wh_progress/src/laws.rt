@@ -2,6 +2,7 @@
 
 ghost use Rattle.wh_progress.specs.Laws.{AllIsDelivered, EachRoundBrings, AllComesToRest, RoundsFindPaths, OnlyHeldTasksStand, StillIsDone};
 ghost use Rattle.wh_progress.specs.Laws.{LeftIsBounded, HorizonIsBounded, OnlyTasksAdd, RoundsCanBeHad, DueUntilAsked, TwoStopsAreTwoPlaces, EachIsDeliveredMeanwhile};
+ghost use Rattle.wh_progress.specs.Laws.{AllIsDeliveredWithin, EachIsDeliveredWithin};
 
 /// On a well-formed instance where no order can stand still for good (paths go on home to parkings, or each task has its stops at
 /// two cells at most), all tasks are done after as many rounds as are left to do.
@@ -12,6 +13,17 @@ pub fn all_is_delivered()
 /// While tasks keep coming, those that were there are done after three spans of rounds more for each that was added meanwhile.
 pub fn each_is_delivered_meanwhile()
     ensures { EachIsDeliveredMeanwhile }
+{}
+
+/// Without homes, and from an opening state: where each task has its stops at two cells at most, all tasks are done after two spans
+/// of rounds for each agent and each open task.
+pub fn all_is_delivered_within()
+    ensures { AllIsDeliveredWithin }
+{}
+
+/// While tasks keep coming, those that were there are done after three spans of rounds more for each that was added meanwhile.
+pub fn each_is_delivered_within()
+    ensures { EachIsDeliveredWithin }
 {}
 
 /// Each round in which no request is refused for lack of a path brings down what is left to do, or all stands still as it
