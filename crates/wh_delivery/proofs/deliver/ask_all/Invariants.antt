@@ -1,0 +1,10 @@
+use Rattle.std.specs.Prelude.{◌≡◌, List, length}
+use Rattle.wh_event.specs.declared.entry.Entry.{Entry}
+use Rattle.wh_delivery.specs.Deliveries.{GoesOn, HaveAsked}
+use Rattle.wh_delivery.proofs.deliver.ask_all.Given as goal
+
+abbrev pub invariant-loop-agent : goal.invariant-loop-agent
+invariant-loop-agent g l = record {
+  asked : (added : List Entry) × GoesOn l.fn.caller l.fn.warehouse.book added l.warehouse.book × HaveAsked l.fn.warehouse.book.site l.fn.warehouse.book.state l.agent l.rested added l.warehouse.book.state;
+  agents : l.agents ≡ length l.fn.warehouse.book.state.paths;
+}

@@ -1,0 +1,68 @@
+-- how far a book has gone on while agents ask and the clock ticks
+use Rattle.std.specs.Prelude.{◌≡◌, ℕ, ◌+◌, ◌<◌, ◌≤◌, List, ◌++◌, Bool, true, false, length, All}
+use Rattle.wh_points.specs.Points.{Site}
+use Rattle.wh_points.specs.Formed.{IsFormed}
+use Rattle.wh_core.specs.States.{State}
+use Rattle.wh_core.specs.Steps.{Run, IsDue, last_clock}
+use Rattle.wh_event.specs.declared.event.Event.{Event}
+use Rattle.wh_event.specs.declared.entry.Entry.{Entry}
+use Rattle.wh_book.specs.Drafts.{Seen}
+use Rattle.wh_token.specs.Houses.{StaysAt}
+use Rattle.wh_progress.specs.Progress.{HaveAtMost, HasAsked, FindPaths, MayRest, StandsStill, left_to_do}
+use Rattle.wh_delivery.specs.declared.broken_off.BrokenOff.{BrokenOff}
+
+-- an agent asks, or the clock ticks
+abbrev pub AsksOrTicks : Event → Type 0
+AsksOrTicks (Event.Request agent) = Unit {0}
+AsksOrTicks Event.Tick = Unit {0}
+AsksOrTicks event = ⊥
+
+-- the caller has an agent ask, or the clock tick
+pub record IsOf (caller : ℕ) (entry : Entry) : Type 0 where
+  pub caller_is : entry.caller ≡ caller
+  pub event_is : AsksOrTicks entry.event
+
+-- The book has gone on by these entries, of requests and ticks of the caller: its history by them, and its state by a run of them. On a
+-- well-formed instance no request among them was refused for lack of a path.
+pub record GoesOn (caller : ℕ) (old : Seen) (added : List Entry) (new : Seen) : Type 0 where
+  pub stays : StaysAt old new
+  pub history : new.history ≡ old.history ++ added
+  pub run : Run old.site old.state added new.state
+  pub only : All (IsOf caller) added
+  pub served : IsFormed old.site → FindPaths added
+
+-- neither closed nor ticked, and no task added
+pub record IsOnTime (old new : State) : Type 0 where
+  pub closed : new.closed ≡ old.closed
+  pub clock : new.clock ≡ old.clock
+  pub tasks : length new.tasks ≡ length old.tasks
+
+-- one tick, while it was open, and no task added
+pub record IsOneLater (old new : State) : Type 0 where
+  pub not_closed : new.closed ≡ false
+  pub was_open : old.closed ≡ false
+  pub clock : new.clock ≡ old.clock + 1
+  pub tasks : length new.tasks ≡ length old.tasks
+
+-- The first agents have asked, up to so many. Where all were told to rest, nothing has changed, and each was due and may rest. Where one
+-- was not, it did not stand still, or it was closed.
+pub record HaveAsked (site : Site) (old : State) (count : ℕ) (rested : Bool) (added : List Entry) (new : State) : Type 0 where
+  pub asked : (agent : ℕ) → agent < count → HasAsked added agent
+  pub on_time : IsOnTime old new
+  pub still : rested ≡ true → (new ≡ old) × ((agent : ℕ) → agent < count → IsDue site old agent × MayRest site old agent)
+  pub moves : rested ≡ false → old.closed ≡ false → ¬ StandsStill site old
+
+-- After so many ticks: what is left to do has fallen with each of them.
+pub record IsDelivering (caller : ℕ) (old : Seen) (ticks : ℕ) (now : Seen) : Type 0 where
+  pub added : List Entry
+  pub goes : GoesOn caller old added now
+  pub clock : now.state.clock ≡ old.state.clock + ticks
+  pub tasks : length now.state.tasks ≡ length old.state.tasks
+  pub falls : (stops : ℕ) → IsFormed old.site → HaveAtMost stops old.state →
+      ticks + left_to_do old.site stops now.state ≤ left_to_do old.site stops old.state
+
+-- why it was broken off
+abbrev pub IsWhy : BrokenOff → State → Type 0
+IsWhy BrokenOff.NoMemory s = Unit {0}
+IsWhy BrokenOff.Closed s = s.closed ≡ true
+IsWhy BrokenOff.ClockFull s = s.clock ≡ last_clock
