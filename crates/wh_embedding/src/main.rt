@@ -5,11 +5,13 @@
 
 mod day;
 mod mind;
+mod orders;
 mod shift;
 mod stop;
 
 use day::{Halt, Parts, day};
 use mind::Mind;
+use orders::orders;
 use shift::shift;
 use std::alloc::AllocError;
 use std::process::ExitCode;
@@ -51,7 +53,8 @@ fn with_minds<R: AllocGlobal + Print>(rt: &R) -> Result<(), Halt> {
 fn all<R: AllocGlobal + Print>(rt: &R) -> Result<(), Halt> {
     with_boxes(rt)?;
     with_minds(rt)?;
-    shift(rt, rt.alloc())
+    shift(rt, rt.alloc())?;
+    orders(rt, rt.alloc())
 }
 
 fn main(rt: HostRuntime) -> ExitCode {
