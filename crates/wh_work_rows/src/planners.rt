@@ -10,7 +10,7 @@ use std::test::Fail;
 use wh_claims::{Bank, Claim};
 use wh_grid::Cell;
 use wh_path::TimedPath;
-use wh_planner::{Duty, PlanFault, Planner, Scene};
+use wh_planner::{Duty, PlanFault, Plans, Scene};
 use wh_planners::Sharing;
 use wh_shared::SharedFields;
 use wh_timetable::Timetable;
