@@ -83,8 +83,8 @@ client() {
 peer() {
     timeout 30 python3 - "$scratch/$1" "$2" << 'END'
 import os, signal, sys, time
-sys.path.insert(0, '../tools')
-from client import Broken, Connection
+sys.path.insert(0, '../python')
+from warehouse.folder import Broken, Connection
 signal.alarm(20)
 exec(sys.argv[2], {'c': Connection(sys.argv[1]), 'Broken': Broken, 'os': os, 'signal': signal, 'time': time})
 END

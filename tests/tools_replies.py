@@ -285,7 +285,6 @@ def test_a_run_that_is_not_gone_on_with() -> None:
             ([begun, ['entries 0']], kept, 'it goes on with 0 entries, and 1 commands were answered, 1 more were sent'),
             ([begun, ['entries 3']], kept, 'it goes on with 3 entries, and 1 commands were answered, 1 more were sent'),
             ([begun, ['entries 2']], file('other', log_of(GOES[0], 'token 1 = rested')[3:]), 'entry 1, `0 token 1`, is none of what was sent'),
-            ([begun, ['entries 2']], file('short', log_of(GOES[0])[3:].replace('end 1\n', '')), 'short line 4 is no entry of `token 0`'),
             ([begun, ['accepted 0']], kept, '`accepted 0` came in place of `entries N`'),
             ([['entries 8']], kept, 'kept has 8 entries of a run of before, which this script knows nothing of'),
             ([['']], kept, 'came in place of `entries N`')):

@@ -28,13 +28,23 @@ class Connection:
     """
 
     def __init__(self, folder: str, wait: float = 0):
+        self.folder = folder
+        self.commands = self.replies = -1
+        self.greeting: int | None = None    # of the next connection, where it came behind this one's end
+        self.open(wait)
+
+    def open(self, wait: float) -> None:
+        """Opens both pipes; where the next greeting has come already, over the pipe of replies that is open."""
         self.until = time.monotonic() + wait if wait else None
-        self.came = b''
-        self.replies, self.entries = self.greeted(os.path.join(folder, 'out'))
+        self.close(self.greeting is None)
+        if self.greeting is None:
+            self.came = b''
+            self.replies, self.greeting = self.greeted(os.path.join(self.folder, 'out'))
+        self.entries, self.greeting = self.greeting, None
         try:
-            self.commands = self.opened(os.path.join(folder, 'in'), os.O_WRONLY)
+            self.commands = self.opened(os.path.join(self.folder, 'in'), os.O_WRONLY)
         except BaseException:
-            os.close(self.replies)
+            self.close()
             raise
         os.set_blocking(self.commands, True)
 
@@ -98,9 +108,10 @@ class Connection:
                 raise Broken from None
 
     def read(self) -> bytes:
-        """The next line. A first line begins another connection."""
+        """The next line. A greeting begins another connection, which `open` goes on with."""
         line = self.line_of(self.replies, lambda: None)
-        if GREETING.search(line):
+        if found := GREETING.search(line):
+            self.greeting = int(found[1])
             raise Broken
         return line
 
@@ -109,9 +120,14 @@ class Connection:
         self.send(line + b'\n')
         return self.read()
 
-    def close(self) -> None:
-        os.close(self.commands)
-        os.close(self.replies)
+    def close(self, both: bool = True) -> None:
+        """Closes the pipe of commands, and that of replies."""
+        if self.commands >= 0:
+            os.close(self.commands)
+            self.commands = -1
+        if both and self.replies >= 0:
+            os.close(self.replies)
+            self.replies = -1
 
 
 class Folder:
@@ -129,13 +145,9 @@ class Folder:
         self.connection: Connection | None = None
 
     def begin(self, told: int | None = None) -> None:
-        self.connection = self.connected()
+        self.connection = Connection(self.path, self.wait)
         self.entries = self.connection.entries
-
-    def connected(self) -> Connection:
-        connection = Connection(self.path, self.wait)
-        self.greeted(connection.entries)
-        return connection
+        self.greeted(self.entries)
 
     def answers(self, lines: Sequence[str]) -> list[str]:
         return [self.answer(line) for line in lines]
@@ -153,8 +165,9 @@ class Folder:
 
     def come_again(self) -> bool:
         """Whether the line that was sent last stands."""
-        self.drop()
-        self.connection = self.connected()
+        assert self.connection
+        self.connection.open(self.wait)
+        self.greeted(self.connection.entries)
         more = self.connection.entries - self.entries
         if more not in (0, 1):
             raise SessionError(f'{self.connection.entries} entries, where {self.entries} or one more were due')

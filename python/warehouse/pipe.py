@@ -8,7 +8,7 @@ from __future__ import annotations
 from dataclasses import dataclass, field
 from typing import Sequence
 
-from .process import CoreDied, Process, SessionError
+from .process import CoreDied, Process, SessionError, was_killed
 from .replies import NotAReply, Told, is_entry, reply_of, told_of, unplaced, without_cells
 from .texts import number_of
 
@@ -157,7 +157,7 @@ class Pipe:
                 count, entries = self.open(known)
                 return count, entries, self.outstanding() if self.vehicles else []
             except CoreDied as died:
-                if not died.was_killed or not starts_left:
+                if not was_killed(died.status) or not starts_left:
                     raise
         raise AssertionError
 
@@ -175,8 +175,15 @@ class Pipe:
         return told
 
     def end(self) -> bytes:
-        """Ends the input; what the program writes behind its replies, the log or the ledger where it was asked for."""
-        return self.process.end()
+        """Ends the input; what the program writes behind its replies, the log or the ledger where it was asked for. One with a
+        log that was killed before it came to that is started again, a few times: it writes the log's last line."""
+        tail = self.process.end()
+        for _ in range(MOST_STARTS):
+            if self.log is None or not was_killed(self.process.status()):
+                break
+            self.opened_again(self.entries)
+            tail = self.process.end()
+        return tail
 
     def status(self) -> int:
         return self.process.status()

@@ -26,10 +26,10 @@ class CoreDied(SessionError):
         super().__init__(message)
         self.status = status
 
-    @property
-    def was_killed(self) -> bool:
-        """Whether a signal ended it, or the program behind a shell."""
-        return self.status < 0 or self.status > 128
+
+def was_killed(status: int) -> bool:
+    """Whether a signal ended a program, or the program behind a shell."""
+    return status < 0 or status > 128
 
 
 class Process:

@@ -206,7 +206,8 @@ class Session:
         return self.carrier.status()
 
     def kill(self) -> None:
-        """Ends the program where it runs still."""
+        """Ends the program where it runs still; the session is over."""
+        self.ended = True
         self.carrier.drop()
 
     def __enter__(self) -> Session:
