@@ -69,5 +69,10 @@ def main(words: list[str], prog: str | None = None) -> int:
     return status
 
 
-if __name__ == '__main__':
+def entry() -> None:
+    """The script of an installed package."""
     sys.exit(main(sys.argv[1:]))
+
+
+if __name__ == '__main__':
+    entry()

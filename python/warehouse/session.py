@@ -69,26 +69,25 @@ def program() -> str:
 
 
 class Session:
-    """The program behind a carrier. `with` ends it: its input is closed, or it is killed where an exception leaves."""
+    """The program behind a carrier. `with` ends it: its input is closed, or it is killed where an exception leaves.
+
+    instance  an instance, or the file of one; what stands behind its points is not looked at
+    program   the program, or its words before `replay`; the environment's WAREHOUSE names another than the repository's
+    log       the file in which the program keeps the run
+    vehicles  that vehicles are late; then the points need `rule nofollow`, and `at` may be sent
+    told      with a log: from which entry on `begun` has the run's entries (0: all; None: none)
+    replies   how the program writes its replies, of FORMS
+    options   more words for `replay`
+    wait      seconds that may pass without a byte of an answer; with a folder, seconds to a connection (None: any)
+    folder    a client's folder in place of a program: the service's `--replies` is `replies` here
+    process   a program whose words are complete, but for those of the log
+
+    Raises Fault for an instance that cannot be read, SessionError where the session does not begin.
+    """
 
     def __init__(self, instance: Union[Instance, str], program: Union[str, Sequence[str], None] = None, *, log: str | None = None,
                  vehicles: Vehicles | None = None, told: int | None = 0, replies: str = 'placed', options: Iterable[str] = (),
                  wait: float | None = None, folder: str | None = None, process: Process | None = None):
-        """Starts the program, and hands it map and points.
-
-        instance  an instance, or the file of one; what stands behind its points is not looked at
-        program   the program, or its words before `replay`; the environment's WAREHOUSE names another than the repository's
-        log       the file in which the program keeps the run
-        vehicles  that vehicles are late; then the points need `rule nofollow`, and `at` may be sent
-        told      with a log: from which entry on `begun` has the run's entries (0: all; None: none)
-        replies   how the program writes its replies, of FORMS
-        options   more words for `replay`
-        wait      seconds that may pass without a byte of an answer (None: any)
-        folder    a client's folder in place of a program: the service's `--replies` is `replies` here
-        process   a program whose words are complete, but for those of the log
-
-        Raises Fault for an instance that cannot be read, SessionError where the session does not begin.
-        """
         assert replies in FORMS, replies
         self.instance = instance if isinstance(instance, Instance) else read_instance(instance, read_file(instance))
         if vehicles and not self.instance.nofollow:
@@ -103,17 +102,21 @@ class Session:
         if folder is not None:
             self.carrier: Carrier = Folder(folder, wait or 0)
         else:
-            words = process or Process([*words_of(program), 'replay', '--replies', replies, *options,
-                                        *(vehicles.words if vehicles else [])], wait)
-            pipe = Pipe(words, self.instance.text, replies, log, vehicles is not None)
+            words = [*words_of(program), 'replay', '--replies', replies, *options, *(vehicles.words if vehicles else [])]
+            pipe = Pipe(process or Process(words, wait), self.instance.text, replies, log, vehicles is not None)
             self.carrier, self.restarts = pipe, pipe.restarts
+        self.begun = self.begin(told or 0, told)
+
+    def begin(self, first: int, told: int | None) -> list[Entry]:
+        """Begins; the entries that are told again, the first of them at that place."""
         try:
             self.carrier.begin(told)
-            self.begun = [entry for place, text in enumerate(self.carrier.begun, told or 0) if (entry := self.entry_of(place, text))]
+            begun = [self.entry_of(place, text) for place, text in enumerate(self.carrier.begun, first)]
         except BaseException:
             self.carrier.drop()
             raise
         self.place = self.carrier.entries
+        return begun
 
     # ---- the commands
 
