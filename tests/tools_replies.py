@@ -74,6 +74,8 @@ for row in rows:
         sys.exit(9)
     if reply == 'KILLED':
         os.kill(os.getpid(), signal.SIGKILL)
+    if reply == 'BROKEN':
+        sys.exit(3)
     print(reply, flush=True)
 sys.stdin.read()
 '''
@@ -281,7 +283,8 @@ def test_a_run_that_is_not_gone_on_with() -> None:
     kept = file('kept', log_of(*GOES)[3:])
     begun = ['entries 0', GOES[0], 'token 0 = KILLED']
     for lives, name, part in (
-            ([['entries 0', 'submit x A B = KILLED'], ['entries 0', 'submit x A B = KILLED']], kept, 'gave no reply to `submit x A B`'),
+            ([['entries 0', 'submit x A B = KILLED']] * 6, kept, 'gave no reply to `submit x A B`'),
+            ([['entries 0', 'submit x A B = BROKEN']] * 2, kept, 'ended with status 3 and gave no reply to `submit x A B`'),
             ([begun, ['entries 0']], kept, 'it goes on with 0 entries, and 1 commands were answered, 1 more were sent'),
             ([begun, ['entries 3']], kept, 'it goes on with 3 entries, and 1 commands were answered, 1 more were sent'),
             ([begun, ['entries 2']], file('other', log_of(GOES[0], 'token 1 = rested')[3:]), 'entry 1, `0 token 1`, is none of what was sent'),

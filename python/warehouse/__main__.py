@@ -8,29 +8,25 @@ from __future__ import annotations
 import argparse
 import importlib
 import os
+import re
 import sys
+from types import ModuleType
 
 from .process import SessionError
 from .texts import Fault
 
-COMMANDS = {
-    'drive': ('simulate.drive', 'drives an instance to its end, with vehicles that are late where wanted'),
-    'make-instance': ('simulate.make_instance', 'makes a warehouse instance'),
-    'due-script': ('simulate.due_script', 'writes a script that asks only where an agent is due'),
-    'client': ('client', 'a client of a running service'),
-    'play': ('figures.play', 'a page, a picture or a table of a run'),
-    'stats': ('figures.stats', 'figures of runs as CSV'),
-    'join': ('convert.join', 'joins files into one input of the program'),
-    'log-input': ('convert.log_input', 'the input of `verify`, from an instance and a log'),
-    'next-shift': ('convert.next_shift', 'the instance of the next shift'),
-    'import-mapd': ('convert.import_mapd', 'an instance from MAPD files of the AAMAS 2017 authors'),
-    'import-scen': ('convert.import_scen', 'an instance from a MovingAI scenario'),
-    'explain': ('explain', 'what a refusal means'),
-}
+PACKAGES = {'simulate.': 'drive make-instance due-script', '': 'client explain', 'figures.': 'play stats',
+            'convert.': 'join log-input next-shift import-mapd import-scen'}
+COMMANDS = {name: '.' + package + name.replace('-', '_') for package, names in PACKAGES.items() for name in names.split()}
+
+
+def module(name: str) -> ModuleType:
+    return importlib.import_module(COMMANDS[name], __package__)
 
 
 def usage() -> str:
-    rows = [f'    {name:15}{told}' for name, (_, told) in COMMANDS.items()]
+    """Each subcommand with the beginning of its page."""
+    rows = [f'    {name:15}{re.split("[.:,]", module(name).__doc__ or "", maxsplit=1)[0]}' for name in COMMANDS]
     return '\n'.join(['usage: python3 -m warehouse SUBCOMMAND ..', '', *rows, '', 'SUBCOMMAND --help tells more.', ''])
 
 
@@ -43,7 +39,7 @@ def main(words: list[str], prog: str | None = None) -> int:
         sys.stderr.write(f'warehouse: there is no subcommand {words[0]}\n{usage()}')
         return 2
     prog = prog or f'warehouse {words[0]}'
-    command = importlib.import_module(f'.{COMMANDS[words[0]][0]}', __package__)
+    command = module(words[0])
     parser = argparse.ArgumentParser(prog=prog, description=command.__doc__, formatter_class=argparse.RawDescriptionHelpFormatter)
     parser.set_defaults(prog=prog)
     command.add_options(parser)

@@ -14,7 +14,7 @@ from .texts import number_of
 
 FENCE = 'at 999999999 0'             # a report of no vehicle: its answer stands behind all that the lines before it caused
 FENCED = 'refused V2 999999999'
-MOST_STARTS = 5    # of a program that is killed while it begins
+MOST_STARTS = 5                      # of programs in turn that are killed and serve nothing
 OTHER_RUN = 'another program goes on with this run'
 
 
@@ -88,14 +88,14 @@ class Pipe:
         """The answer to each line; all are written at once. Raises CoreDied where the program died and does not go on."""
         answers: list[str | None] = [None] * len(lines)
         died = self.exchange(lines, answers)
+        in_vain = 0    # programs in turn that served nothing
         while died is not None:
-            if self.log is None:
+            if self.log is None or (in_vain and not was_killed(died.status)) or in_vain == MOST_STARTS:
                 raise died
             waiting = answers.count(None)
             self.start_again(lines, answers, died)
             died = self.exchange(lines, answers)
-            if died is not None and answers.count(None) == waiting:
-                raise died    # it served nothing more
+            in_vain = in_vain + 1 if answers.count(None) == waiting else 0
         return [answer for answer in answers if answer is not None]
 
     def exchange(self, lines: Sequence[str], answers: list[str | None]) -> CoreDied | None:

@@ -28,8 +28,8 @@ class CoreDied(SessionError):
 
 
 def was_killed(status: int) -> bool:
-    """Whether a signal ended a program, or the program behind a shell."""
-    return status < 0 or status > 128
+    """Whether somebody ended a program by signal 9 or 15, or the program behind a shell: a fault of its own ends otherwise."""
+    return status in (-9, -15, 128 + 9, 128 + 15)
 
 
 class Process:

@@ -10,7 +10,7 @@ from __future__ import annotations
 
 import re
 from dataclasses import dataclass
-from typing import Callable, Union
+from typing import Callable, ClassVar, Union
 
 from .refusals import SENTENCES
 from .texts import Cell, number_of
@@ -25,21 +25,24 @@ class NotAReply(Exception):
     """What came is none of the program's replies."""
 
 
-def text_of(cells: tuple[Cell, ...]) -> str:
-    return ' '.join(f'{x},{y}' for x, y in cells)
-
-
 def ending(cells: tuple[Cell, ...], steps: int) -> str:
-    return f'path {text_of(cells)}' if cells else f'end {steps}'
+    """The last words of a path."""
+    return 'path ' + ' '.join(f'{x},{y}' for x, y in cells) if cells else f'end {steps}'
+
+
+class Text:
+    """A value whose text is its FORM, with its fields in it."""
+    FORM: ClassVar[str]
+
+    def __str__(self) -> str:
+        return self.FORM.format(**vars(self))
 
 
 @dataclass(frozen=True)
-class Accepted:
+class Accepted(Text):
     """To submit: the order is task `task`; tasks are numbered from 0."""
+    FORM = 'accepted {task}'
     task: int
-
-    def __str__(self) -> str:
-        return f'accepted {self.task}'
 
 
 @dataclass(frozen=True)
@@ -68,49 +71,39 @@ class Parked:
 
 
 @dataclass(frozen=True)
-class Rested:
+class Rested(Text):
     """To token: the same answer comes until an order is accepted or another agent gets a path."""
-
-    def __str__(self) -> str:
-        return 'rested'
+    FORM = 'rested'
 
 
 @dataclass(frozen=True)
-class Clock:
+class Clock(Text):
     """To tick: the clock is `now`; so many tasks had their first, and so many their last visit by this step."""
+    FORM = 'clock {now} picked {picked} dropped {dropped}'
     now: int
     picked: int
     dropped: int
 
-    def __str__(self) -> str:
-        return f'clock {self.now} picked {self.picked} dropped {self.dropped}'
-
 
 @dataclass(frozen=True)
-class Arrived:
+class Arrived(Text):
     """To at: the report stands, also where it was known before."""
+    FORM = 'arrived {agent} {step}'
     agent: int
     step: int
 
-    def __str__(self) -> str:
-        return f'arrived {self.agent} {self.step}'
-
 
 @dataclass(frozen=True)
-class Replaced:
+class Replaced(Text):
     """To replace: the agent has another planner, of so many slots."""
+    FORM = 'replaced {slots}'
     slots: int
 
-    def __str__(self) -> str:
-        return f'replaced {self.slots}'
-
 
 @dataclass(frozen=True)
-class Closed:
+class Closed(Text):
     """To close: nothing changes any more."""
-
-    def __str__(self) -> str:
-        return 'closed'
+    FORM = 'closed'
 
 
 @dataclass(frozen=True)
@@ -129,12 +122,10 @@ class Refused:
 
 
 @dataclass(frozen=True)
-class Lost:
+class Lost(Text):
     """The command was served, and the connection broke before its reply: that stands in the service's log."""
+    FORM = 'lost: {line}'
     line: str
-
-    def __str__(self) -> str:
-        return f'lost: {self.line}'
 
 
 @dataclass(frozen=True)
@@ -149,14 +140,12 @@ class Go:
 
 
 @dataclass(frozen=True)
-class Visited:
+class Visited(Text):
     """Told, behind any reply: the vehicle has come to stop `visit` of the task, from 0."""
+    FORM = 'visited {agent} {task} {visit}'
     agent: int
     task: int
     visit: int
-
-    def __str__(self) -> str:
-        return f'visited {self.agent} {self.task} {self.visit}'
 
 
 Reply = Union[Accepted, Took, Parked, Rested, Clock, Arrived, Replaced, Closed, Refused, Lost]

@@ -36,7 +36,7 @@ moves vehicles would wait there until they are.
 With --log FILE the program keeps the run in FILE, each entry before its reply is told (`replay --log`). Where the program
 ends while commands wait for their replies, it is started again, and goes on: it tells again the entries that it had served
 without a reply (`--told`), each of which must be one of these commands; the others are sent again. A program that ends again
-before it has served anything more is not started a third time. A FILE with a run of before is left as it is: what this
+by itself before it has served anything more is not started a third time; one that is killed is, up to five times. A FILE with a run of before is left as it is: what this
 script knew of that run, it knows no more, so it says so and ends. --save FILE is for a program that knows no --log: it writes
 there, at the end, the log that follows the replies.
 
