@@ -69,8 +69,9 @@ class Kept(Fleet):
         self.stations = [point.name for point in self.instance.points if point.kind == 'station']
 
     def due_orders(self) -> list[Order]:
-        return [Order(self.clock, f'submit c {self.chance.choice(self.stations)} {self.chance.choice(self.stations)}')
-                for _ in range(self.level - len(self.open))]
+        orders = [Order(self.clock, f'submit c {self.chance.choice(self.stations)} {self.chance.choice(self.stations)}')
+                  for _ in range(self.level - len(self.open))]
+        return orders[::-1]    # the last drawn comes first, as in the tables of docs/PERFORMANCE.md
 
 
 @dataclass

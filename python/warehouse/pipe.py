@@ -81,8 +81,15 @@ class Pipe:
         lines = self.process.exchange(f'{FENCE}\n'.encode(), last=FENCED)
         if lines[-1:] != [FENCED]:
             raise self.died('as it began')
-        told = [told_of(line) for line in lines[:-1]]
+        told = [self.told_in(line) for line in lines[:-1]]
         return [one for one in told if one is not None]
+
+    def told_in(self, line: str) -> Told | None:
+        """What a vehicle is told by the line, where it is such a line."""
+        try:
+            return told_of(line) if self.vehicles else None
+        except NotAReply:
+            raise SessionError(f'`{shortened(line)}` tells a vehicle nothing that is known') from None
 
     def answers(self, lines: Sequence[str]) -> list[str]:
         """The answer to each line; all are written at once. Raises CoreDied where the program died and does not go on."""
@@ -123,7 +130,7 @@ class Pipe:
         """The answers among what was said; what vehicles are told is kept."""
         answers = []
         for line in said:
-            told = told_of(line) if self.vehicles else None
+            told = self.told_in(line)
             if told is None:
                 answers.append(line)
             else:
