@@ -295,5 +295,5 @@ def test_nobody_serves() -> None:
 
 
 if __name__ == '__main__':
-    faulthandler.dump_traceback_later(55, exit=True)    # a test that waits for ever says where
+    faulthandler.dump_traceback_later(85, exit=True)    # a test that waits for ever says where
     counting.main(globals(), [name for name in globals() if name.startswith('test_') and name != 'test_refusals_have_a_sentence'], SCRATCH)

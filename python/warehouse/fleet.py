@@ -99,6 +99,7 @@ class Fleet:
         self.rested: list[int | None] = [None] * agents
         self.barred: list[int | None] = [None] * agents
         self.tasks: list[Order] = []     # of each task its order
+        self.stops: list[list[Cell]] = []
         self.open: set[int] = set()
         self.left_out: list[str] = []    # orders that were refused, with their replies
         self.held: int | None = None     # the vehicle for which the clock waits
@@ -174,10 +175,11 @@ class Fleet:
 
     def hear_order(self, order: Order, reply: Reply) -> int | None:
         match reply:
-            case Accepted(task) if task == len(self.tasks):
+            case Accepted(task) if task == len(self.tasks) and self.are_known(order):
                 self.hear(order.line, reply)
                 self.open.add(task)
                 self.tasks.append(order)
+                self.stops.append(self.stops_of(order))
                 self.changes += 1
                 return task
             case Refused(code) if code in LEFT_OUT:
@@ -266,21 +268,37 @@ class Fleet:
         stops = self.stops_of(order)
         return all(end not in stops for other, end in enumerate(self.ends) if other != agent)
 
-    def answer(self, agent: int) -> tuple[int, int | None] | None:
+    def eligible(self) -> tuple[list[int], dict[int, list[int]]]:
+        """The open tasks at whose stops no path ends, which any agent may take, and those that one agent alone may take."""
+        ending: dict[Cell, list[int]] = {}
+        for agent, end in enumerate(self.ends):
+            ending.setdefault(end, []).append(agent)
+        free: list[int] = []
+        own: dict[int, list[int]] = {}
+        for task in sorted(self.open):
+            there = {agent for stop in self.stops[task] for agent in ending.get(stop, ())}
+            if not there:
+                free.append(task)
+            elif len(there) == 1:
+                own.setdefault(there.pop(), []).append(task)
+        return free, own
+
+    def answer(self, agent: int, eligible: tuple[list[int], dict[int, list[int]]] | None = None) -> tuple[int, int | None] | None:
         """What a due agent's request would come to: the distance to the first stop of the task that it would take, and that
         task, the nearest, then the lowest; FAR and None where it would make way; None where it would rest."""
-        eligible = [task for task in sorted(self.open) if self.may_take(agent, self.tasks[task])]
-        if eligible:
-            here = self.ends[agent]
-            return min((self.distance(here, self.instance.cell_of(self.tasks[task].stops[0])), task) for task in eligible)
-        in_the_way = any(self.instance.cell_of(self.tasks[task].stops[-1]) == self.ends[agent] for task in self.open)
-        return (FAR, None) if in_the_way else None
+        free, own = eligible or self.eligible()
+        here = self.ends[agent]
+        tasks = free + own.get(agent, [])
+        if tasks:
+            return min((self.distance(here, self.stops[task][0]), task) for task in tasks)
+        return (FAR, None) if any(self.stops[task][-1] == here for task in self.open) else None
 
     def next_to_ask(self) -> int | None:
         """Of the due agents whose request would not be `rested` the one nearest to the first stop of the order that it would be
         given; ties to the lowest number; those that would only make way come last. None where there is none."""
-        found = [(answer[1] is None, answer[0], agent) for agent in range(len(self.due)) if self.may_ask(agent)
-                 if (answer := self.answer(agent)) is not None]
+        asking = [agent for agent in range(len(self.due)) if self.may_ask(agent)]
+        eligible = self.eligible() if asking else None
+        found = [(answer[1] is None, answer[0], agent) for agent in asking if (answer := self.answer(agent, eligible)) is not None]
         return min(found)[2] if found else None
 
     # ---- the loop

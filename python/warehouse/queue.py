@@ -18,7 +18,7 @@ from typing import Sequence
 
 from .fleet import Fleet, ask_nearest
 from .replies import Took
-from .texts import Order
+from .texts import Fault, Order, is_command
 
 PATIENCE = 200    # ticks
 
@@ -50,8 +50,11 @@ class Queue:
         self.refused: dict[str, str] = {}     # of each key that was refused, with the reply
 
     def put(self, key: str, client: str, stops: Sequence[str], urgent: bool = False, agent: int | None = None) -> bool:
-        """Puts an order in, behind those that are as urgent; False where it stands already. Raises KeyTaken."""
+        """Puts an order in, behind those that are as urgent; False where it stands already. Raises KeyTaken, and Fault where
+        it is no order: names have 1 to 16 letters, digits, _ or -, and 2 to 8 of them are stops."""
         order = Order(0, ' '.join(['submit', client, *stops]))
+        if not is_command(order.line) or len(order.stops) != len(stops):
+            raise Fault(f'`{order.line[:60]}` is no order', key)
         if key in self.orders:
             if self.orders[key] != order:
                 raise KeyTaken(f'{key} stands with `{self.orders[key].line}`')
