@@ -41,7 +41,7 @@ def main(words: list[str], prog: str | None = None) -> int:
     prog = prog or f'warehouse {words[0]}'
     command = module(words[0])
     parser = argparse.ArgumentParser(prog=prog, description=command.__doc__, formatter_class=argparse.RawDescriptionHelpFormatter)
-    parser.set_defaults(prog=prog)
+    parser.set_defaults(prog=prog, refuse=parser.error)
     command.add_options(parser)
     cut = words.index('--') if '--' in words else len(words)
     if getattr(command, 'PASSES_ON', False):

@@ -74,7 +74,7 @@ def judge_options(options: argparse.Namespace) -> None:
         value = getattr(options, name)
         if not low <= value <= high:
             room = ' (room for one shelf, and parkings around)' if name in ('columns', 'rows') and value < low else ''
-            raise Fault(f'--{name} {value}: {low} to {high} can be had{room}')
+            options.refuse(f'--{name} {value}: {low} to {high} can be had{room}')
 
 
 def script(options: argparse.Namespace, stations: int, chance: random.Random) -> None:
