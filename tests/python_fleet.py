@@ -328,6 +328,12 @@ def test_an_order_under_an_agent_at_rest() -> None:
     same((queue.refused, fleet.left_out), ({'k': '`submit x S3 Z` is left out: refused E1 Z'}, ['`submit x S3 Z` is left out: refused E1 Z']))
 
 
+def test_an_order_for_an_agent_that_there_is_not() -> None:
+    for agent in (2, -1):
+        queue, fleet, _ = queued(lambda queue: queue.put('k', 'x', ['S3', 'S0'], agent=agent))
+        same((queue.refused, queue.waiting, fleet.commands), ({'k': f'there is no agent {agent}'}, [], 0))
+
+
 def test_drive_asks_as_it_is_told() -> None:
     instance = file('ends', ENDS + 'submit x S9 S8\n')
     for ask, wanted in (('number', 'makespan 25'), ('nearest', 'makespan 7'), ('hold', 'makespan 7')):

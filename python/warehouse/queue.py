@@ -91,6 +91,10 @@ class Queue:
         for one in list(self.waiting):
             if one.since is None:
                 one.since = fleet.clock
+            if one.agent is not None and not 0 <= one.agent < len(fleet.due):
+                self.waiting.remove(one)
+                self.refused[one.key] = f'there is no agent {one.agent}'
+                continue
             if not fleet.are_known(one.order) or (one.agent is None and fleet.clock - one.since > self.patience):
                 self.hand_in(fleet, one)
         ask_nearest(fleet)
