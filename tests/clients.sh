@@ -5,23 +5,10 @@
 #
 # WAREHOUSE names another program than ./warehouse, which builds it where it has to be built.
 set -u
-warehouse=$(readlink -f -- "${WAREHOUSE:-$(dirname -- "${BASH_SOURCE[0]}")/../warehouse}")
-cd -- "$(dirname -- "${BASH_SOURCE[0]}")" || exit 1
-
-"$warehouse" replay < replay/one_delivery > /dev/null || exit 1    # builds it where it has to be built
-scratch=$(mktemp -d) || exit 1
+source "$(dirname -- "${BASH_SOURCE[0]}")/counting.sh"
+begin_with_program
 service= form=full most=
 trap '[[ -n $service ]] && kill -9 "$service" 2> /dev/null; rm -rf -- "$scratch"' EXIT
-passed=0 failed=0
-
-judge() {
-    if [[ $2 == "$3" ]]; then
-        passed=$((passed + 1))
-    else
-        failed=$((failed + 1))
-        echo "$1: got '$2', wanted '$3'"
-    fi
-}
 
 # Folders with two pipes each, and no log: nothing of a run before.
 #   afresh FOLDER..
@@ -83,8 +70,8 @@ client() {
 peer() {
     timeout 30 python3 - "$scratch/$1" "$2" << 'END'
 import os, signal, sys, time
-sys.path.insert(0, '../tools')
-from client import Broken, Connection
+sys.path.insert(0, '../python')
+from warehouse.folder import Broken, Connection
 signal.alarm(20)
 exec(sys.argv[2], {'c': Connection(sys.argv[1]), 'Broken': Broken, 'os': os, 'signal': signal, 'time': time})
 END

@@ -3,20 +3,27 @@ import sys
 import traceback
 
 
+class Skipped(Exception):
+    """What a test needs is not on this machine; the words say what."""
+
+
 def run(names: dict, left_out=()) -> int:
-    """Tells `N passed, M failed` in a last line, and returns the status: 1 where one failed, else 0."""
-    passed = failed = 0
+    """Tells `N passed, M failed` in a last line, and `, K skipped` where some were, and returns the status: 1 where one failed, else 0."""
+    passed = failed = skipped = 0
     for name, test in list(names.items()):
         if not name.startswith('test_') or name in left_out:
             continue
         try:
             test()
             passed += 1
+        except Skipped as why:
+            skipped += 1
+            print(f'{name}: skipped: {why}')
         except Exception:
             failed += 1
             print(f'{name}:')
             traceback.print_exc(file=sys.stdout)
-    print(f'{passed} passed, {failed} failed')
+    print(f'{passed} passed, {failed} failed' + (f', {skipped} skipped' if skipped else ''))
     return int(failed != 0)
 
 

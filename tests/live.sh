@@ -5,23 +5,10 @@
 #
 # WAREHOUSE names another program than ./warehouse, which builds it where it has to be built.
 set -u
-warehouse=$(readlink -f -- "${WAREHOUSE:-$(dirname -- "${BASH_SOURCE[0]}")/../warehouse}")
-cd -- "$(dirname -- "${BASH_SOURCE[0]}")" || exit 1
-
-runs=${1:-20}
-"$warehouse" replay < replay/one_delivery > /dev/null || exit 1    # builds it where it has to be built
-scratch=$(mktemp -d) || exit 1
+source "$(dirname -- "${BASH_SOURCE[0]}")/counting.sh"
+begin_with_program
 trap 'rm -rf -- "$scratch"' EXIT
-passed=0 failed=0
-
-judge() {
-    if [[ $2 == "$3" ]]; then
-        passed=$((passed + 1))
-    else
-        failed=$((failed + 1))
-        echo "$1: got '$2', wanted '$3'"
-    fi
-}
+runs=${1:-20}
 
 # Map and points of an instance, with its last separator.
 site() {

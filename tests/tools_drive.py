@@ -101,18 +101,20 @@ def test_two_agents_on_one_corridor() -> None:
     same(warehouse(TWO + made, 'verify'), 'run 14\n')
 
 
-# Runs a program, and kills it and itself behind so many lines of it, in the first three lives.
+# Runs a program, and kills it and itself behind so many lines of it, entries told again not counted, in the first three lives.
 KILLER = '''
 import os, subprocess, sys
 state, lines = sys.argv[1], int(sys.argv[2])
 life = int(open(state).read())
 open(state, 'w').write(str(life + 1))
 program = subprocess.Popen(sys.argv[3:], stdout=subprocess.PIPE)
-for number, line in enumerate(program.stdout):
-    if number == lines and life < 3:
+number = 0
+for line in program.stdout:
+    if number == lines and life < 3 and b' = ' not in line:
         program.kill()
         program.wait()
         os.kill(os.getpid(), 9)
+    number += b' = ' not in line
     os.write(1, line)
 sys.exit(program.wait())
 '''

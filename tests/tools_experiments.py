@@ -23,7 +23,8 @@ import counting             # noqa: E402
 import experiments          # noqa: E402
 import experiments_plot     # noqa: E402
 import experiments_reach    # noqa: E402
-import runs                 # noqa: E402
+
+from warehouse.texts import read_instance    # noqa: E402
 
 PROGRAM = os.environ.get('WAREHOUSE', os.path.join(ROOT, 'warehouse'))
 SCRATCH = tempfile.TemporaryDirectory()
@@ -192,7 +193,7 @@ def test_words_that_are_refused() -> None:
 
 def test_orders_are_kept_open_and_ticks_timed() -> None:
     # All between A and A, one step from P: with two open, the first clock hands in two, the next one for the one taken.
-    site = runs.read_instance('row', ROW.replace('station B 3 0\n', '').encode())
+    site = read_instance('row', ROW.replace('station B 3 0\n', '').encode())
     tape = ['submit c A A = accepted 0', 'submit c A A = accepted 1', 'token 0 = took 0 end 1', 'tick = clock 1 picked 1 dropped 1',
             'submit c A A = accepted 2', 'token 0 = took 1 end 0', 'token 0 = took 2 end 0', 'tick = clock 2 picked 0 dropped 0']
     program = stand_in(tape, verify='run 8', log='wlog 2\n', busy=0.02)

@@ -16,9 +16,9 @@ import tempfile
 import counting
 
 ROOT = os.path.dirname(os.path.dirname(os.path.abspath(__file__)))
-sys.path.insert(0, os.path.join(ROOT, 'tools'))
-import cuts    # noqa: E402
-import runs    # noqa: E402
+sys.path.insert(0, os.path.join(ROOT, 'python'))
+from warehouse import cuts    # noqa: E402
+from warehouse.texts import read_instance    # noqa: E402
 PROGRAM = os.environ.get('WAREHOUSE', os.path.join(ROOT, 'warehouse'))
 ENVIRONMENT = {**os.environ, 'WAREHOUSE': PROGRAM}
 SCRATCH = tempfile.TemporaryDirectory()
@@ -142,7 +142,7 @@ def test_points_cut_where_the_program_says_so() -> None:
         free = [(x, y) for y in range(5) for x in range(7) if rows[y][x] == '.']
         points = [f'parking P{n} {x} {y}\n' for n, (x, y) in enumerate(chance.sample(free, 6))]
         instance = 'type t\nheight 5\nwidth 7\nmap\n' + '\n'.join(rows) + '\n%%\n' + ''.join(points) + 'agent P0\n'
-        site = runs.read_instance('made', instance.encode())
+        site = read_instance('made', instance.encode())
         found = cuts.cutting(site)
         floor = cuts.Floor(site)
         pairs = [(a, b) for a in range(6) for b in range(a + 1, 6) if not floor.joined(a, b)]
@@ -211,10 +211,10 @@ def test_mapd_instance() -> None:
 def test_mapd_of_another_shape_is_refused_with_its_line() -> None:
     for old, new, line in (('3,4', '3 4', 1), ('3,4', '3,5', 5), ('3,4', '4,4', 8), ('3,4', '2,4', 7), ('\n2\n', '\n3\n', 2),
                            ('\n1\n', '\n2\n', 3), ('\n50\n', '\n.\n', 4), ('r..@', 'r..T', 6), ('3,4', '0,4', 1), ('3,4', '3,5000', 1)):
-        refused(mapd(MAPD_MAP.replace(old, new, 1), MAPD_TASK), f'mapd.map: line {line}:')
+        refused(mapd(MAPD_MAP.replace(old, new, 1), MAPD_TASK), f'mapd.map line {line}:')
     for old, new, line in (('2\n7', '3\n7', 4), ('2\n7', '1\n7', 3), ('3 0 1', '3 0 2', 3), ('1 0 0\n', '1 0 5\n', 3),
                            ('3 0 1 0 0', '3 0 1 0', 3), ('7', '-7', 2), ('2\n7', '1000001\n7', 1)):
-        refused(mapd(MAPD_MAP, MAPD_TASK.replace(old, new, 1)), f'mapd.task: line {line}:')
+        refused(mapd(MAPD_MAP, MAPD_TASK.replace(old, new, 1)), f'mapd.task line {line}:')
 
 
 def test_mapd_of_too_many_is_refused_with_the_count() -> None:

@@ -1,5 +1,5 @@
 #!/usr/bin/env python3
-"""Tests of tools/drive.py and tools/whereabouts.py against a stand-in for the program, with expected values worked out by hand.
+"""Tests of `drive`, its judge and its session against a stand-in for the program, with expected values worked out by hand.
 
 The stand-in has a tape of commands and replies: it ends with status 9 at a command that is not the tape's, so a tape also
 tells what drive.py sends, and when. The last line is `N passed, M failed`; status 1 where one failed.
@@ -10,9 +10,9 @@ import sys
 import counting
 from tools_drive import A_TO_B, ONE, ROOT, SCRATCH, TWO, drive, figures, file, has, log_of, same, short, ticks, tool
 
-sys.path.insert(0, os.path.join(ROOT, 'tools'))
-from runs import Fault, read_instance    # noqa: E402
-from whereabouts import Whereabouts    # noqa: E402
+sys.path.insert(0, os.path.join(ROOT, 'python'))
+from warehouse.simulate.judge import Whereabouts    # noqa: E402
+from warehouse.texts import Fault, read_instance    # noqa: E402
 
 LONG = ONE.replace('agent P0', '# floor\n' * 20000 + 'agent P0')
 
@@ -51,7 +51,7 @@ def taped(tape: list[str], log: str = '', *words: str, instance: str = ONE + 'su
 
 
 # As the stand-in above, over several lives: of each the tape has the first line, and then commands and replies. At KILLED it is
-# ended by signal 9.
+# ended by signal 9. The entries behind --told are those of the file that --log names.
 LIVES = '''
 import os, signal, sys
 tape = sys.argv[1]
@@ -62,6 +62,10 @@ cut = 0
 while cut < 2:
     cut += sys.stdin.readline() == '%%\\n'
 print(first, flush=True)
+if '--told' in sys.argv:
+    told, log = (sys.argv[sys.argv.index(word) + 1] for word in ('--told', '--log'))
+    for entry in open(log).read().splitlines()[int(told) + 2:int(first.split()[1]) + 2]:
+        print(entry, flush=True)
 for row in rows:
     wanted, reply = row.split(' = ')
     line = sys.stdin.readline().rstrip('\\n')
@@ -70,6 +74,8 @@ for row in rows:
         sys.exit(9)
     if reply == 'KILLED':
         os.kill(os.getpid(), signal.SIGKILL)
+    if reply == 'BROKEN':
+        sys.exit(3)
     print(reply, flush=True)
 sys.stdin.read()
 '''
@@ -277,12 +283,11 @@ def test_a_run_that_is_not_gone_on_with() -> None:
     kept = file('kept', log_of(*GOES)[3:])
     begun = ['entries 0', GOES[0], 'token 0 = KILLED']
     for lives, name, part in (
-            ([['entries 0', 'submit x A B = KILLED'], ['entries 0', 'submit x A B = KILLED']], kept, 'gave no reply to `submit x A B`'),
+            ([['entries 0', 'submit x A B = KILLED']] * 6, kept, 'gave no reply to `submit x A B`'),
+            ([['entries 0', 'submit x A B = BROKEN']] * 2, kept, 'ended with status 3 and gave no reply to `submit x A B`'),
             ([begun, ['entries 0']], kept, 'it goes on with 0 entries, and 1 commands were answered, 1 more were sent'),
             ([begun, ['entries 3']], kept, 'it goes on with 3 entries, and 1 commands were answered, 1 more were sent'),
-            ([begun, ['entries 2']], '/none/such', '1 commands were served whose replies were lost, and /none/such: No such file'),
-            ([begun, ['entries 2']], file('other', log_of(GOES[0], 'token 1 = rested')[3:]), 'other line 4 is no entry of `token 0`'),
-            ([begun, ['entries 2']], file('short', log_of(GOES[0])[3:].replace('end 1\n', '')), 'short line 4 is no entry of `token 0`'),
+            ([begun, ['entries 2']], file('other', log_of(GOES[0], 'token 1 = rested')[3:]), 'entry 1, `0 token 1`, is none of what was sent'),
             ([begun, ['accepted 0']], kept, '`accepted 0` came in place of `entries N`'),
             ([['entries 8']], kept, 'kept holds an earlier run (8 entries)'),
             ([['']], kept, 'came in place of `entries N`')):

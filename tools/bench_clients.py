@@ -18,8 +18,9 @@ import tempfile
 import threading
 import time
 
-sys.path.insert(0, os.path.dirname(os.path.abspath(__file__)))
-from client import Connection    # noqa: E402
+import package    # noqa: F401
+
+from warehouse.folder import Connection
 
 SITE = b"""type octile
 height 3

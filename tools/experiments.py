@@ -50,11 +50,15 @@ from dataclasses import dataclass
 from fractions import Fraction
 from typing import Callable, Iterator, Sequence
 
-import drive
 import experiments_plot
 import experiments_reach
-import runs
-from sections import ROOT, fail, lines_of, sections_of
+from package import ROOT, fail
+
+from warehouse.fleet import Fleet, Stop, by_number
+from warehouse.process import Process, SessionError
+from warehouse.session import Session
+from warehouse.simulate import drive
+from warehouse.texts import Fault, Run, number_of, orders_of, read_instance, read_orders, sections_of
 
 BUILT = os.path.join(ROOT, 'crates', 'warehouse', 'out', 'warehouse')
 
@@ -108,17 +112,17 @@ class Result:
         return None if self.seconds is None else 1e6 * self.seconds / int(self.rows['requests'])
 
 
-class Recorder(drive.Program):
+class Recorder(Process):
     """A program, with what was sent to it and what it replied."""
 
-    def __init__(self, words: list[str], wait: float | None = None):
-        super().__init__(words, wait)
+    def __init__(self, words: list[str]):
+        super().__init__(words)
         self.sent: list[bytes] = []
         self.replies: list[str] = []
 
-    def send(self, text: bytes, lines: int = 0) -> list[str]:
-        self.sent.append(text)
-        said = super().send(text, lines)
+    def exchange(self, data: bytes, count: int = 0, last: str | None = None, more: bool = False) -> list[str]:
+        self.sent.append(data)
+        said = super().exchange(data, count, last, more)
         self.replies += said
         return said
 
@@ -133,7 +137,7 @@ def release_clocks(count: int, frequency: str) -> list[int]:
 def released(made: bytes, frequency: str, nofollow: bool) -> bytes:
     """An instance with the orders of one that make_instance.py made, each released at its clock."""
     cut = sections_of(made)
-    orders = [line for _, line in drive.releases(cut[2].lines)]
+    orders = [order.line for order in orders_of(cut[2].lines)]
     script = [text for clock, order in zip(release_clocks(len(orders), frequency), orders) for text in (f'# @{clock}', order)]
     points = (['rule nofollow'] if nofollow else []) + cut[1].lines
     return ''.join(line + '\n' for line in [*cut[0].lines, '%%', *points, '%%', *script]).encode('latin-1')
@@ -167,21 +171,21 @@ def processor_seconds(words: list[str], given: str) -> float:
 
 def driven(name: str, words: list[str], instance: bytes) -> tuple[Recorder, dict[str, object]]:
     """One run to its end, judged by `verify`; what was sent, and its figures by name."""
-    site = runs.read_instance(name, instance)
-    orders = drive.releases(sections_of(instance)[2].lines)
+    orders = read_orders(name, instance)
     to = Recorder([*words, '--tail', 'log'])
-    fleet = drive.Fleet(to, site, orders, drive.MOST_IN_BATCH)
-    log, why, _ = drive.run(argparse.Namespace(ticks=1_000_000, shift=None, close=True), fleet)
+    core = Session(read_instance(name, instance), replies='short', process=to)
+    fleet = Fleet(core, orders, by_number, drive.MOST_IN_BATCH)
+    log, why, _ = drive.run_fleet(fleet, to, most=1_000_000, close=True)
     if why or fleet.left_out:
         fail(f'{name}: {why or fleet.left_out[0]}')
-    verdict = asked(words[0], 'verify', site.text + log)
+    verdict = asked(words[0], 'verify', fleet.instance.text + log)
     if verdict != f'run {fleet.commands}':
         fail(f'{name}: `verify` says `{verdict}` to {fleet.commands} commands')
-    read = drive.read_log(fleet, log, name, True)
+    read = drive.judged_log(fleet, log, name, True)
     return to, {**dict(drive.figures(fleet, len(orders), read)), 'at_work': f'{at_work(read):.1f}'}
 
 
-def at_work(read: runs.Run) -> float:
+def at_work(read: Run) -> float:
     """How many agents had a task, from taking it to its delivery, in the mean over the ticks up to the last delivery."""
     return sum(task.done - task.taken for task in read.tasks) / max(max(task.done for task in read.tasks), 1)
 
@@ -317,7 +321,7 @@ def words_of(text: str) -> list[str]:
 
 
 def numbers(text: str) -> list[int]:
-    found = [runs.number(word) for word in words_of(text)]
+    found = [number_of(word) for word in words_of(text)]
     if not found or None in found or 0 in found:
         raise argparse.ArgumentTypeError(f'{text}: numbers above 0 with commas between are wanted')
     return found
@@ -388,7 +392,7 @@ if __name__ == '__main__':
     signal.signal(signal.SIGPIPE, signal.SIG_DFL)    # `| head` ends it quietly
     try:
         main()
-    except (runs.Fault, drive.Stop) as fault:
+    except (Fault, Stop, SessionError) as fault:
         fail(str(fault))
     except OSError as error:
         fail(f'{error.filename}: {error.strerror}' if error.filename else str(error.strerror))

@@ -18,12 +18,13 @@ import statistics
 import sys
 
 import experiments_plot
-import runs
-from drive import log_of
-from due_script import releases
-from late import Stop, drive_late
-from sections import ROOT, fail, program, sections_of
-from transcript import read_transcript
+from package import ROOT, fail
+
+from warehouse.fleet import Stop
+from warehouse.session import program
+from warehouse.simulate.drive import log_of
+from warehouse.simulate.late import Plan, drive_late
+from warehouse.texts import Fault, read_file, read_instance, read_log, read_orders, read_transcript
 
 INSTANCE = os.path.join(ROOT, 'examples', 'shelves')
 SPEEDS = [('all alike', 0.0, 0), ('± 30 %', 0.3, 0), ('± 60 %', 0.6, 0), ('± 30 %, one stands 60 s', 0.3, 60)]
@@ -32,24 +33,23 @@ AHEAD = [1, 3]
 
 class Experiment:
     def __init__(self, seeds: int):
-        with open(INSTANCE, 'rb') as file:
-            data = file.read()
-        self.site = runs.read_instance(INSTANCE, data)
-        self.orders = releases(sections_of(data)[2].lines)
+        data = read_file(INSTANCE)
+        self.instance = read_instance(INSTANCE, data)
+        self.orders = read_orders(INSTANCE, data)
         self.seeds = seeds
         self.ticks: set[int] = set()
         self.widest = 0.0    # how far a seed's figure was from the mean of its row
 
     def run(self, seed: int, spread: float, stop: float, ahead: int, behind: int) -> float:
         """Orders in 100 seconds."""
-        words = [program(), 'replay', '--vehicles', '--tail', 'log', '--behind', str(behind), '--ahead', str(ahead)]
         transcript = io.StringIO()
-        late = drive_late(words, self.site, self.orders, seed, spread, stop, transcript)
-        run = runs.read_log(self.site, 'the log', log_of(late.client.tail))
+        plan = Plan(seed, spread, stop, behind, ahead)
+        late = drive_late([program(), 'replay', '--tail', 'log'], self.instance, self.orders, plan, transcript)
+        run = read_log(self.instance, 'the log', log_of(late.core.tail))
         found = read_transcript(run, 'the transcript', transcript.getvalue().encode())
         if found.meetings or found.most_behind > behind or sum(map(len, found.told)) != late.steps:
             fail(f'seed {seed}, spread {spread:g}, ahead {ahead}, behind {behind}: the transcript does not agree')
-        self.ticks.add(late.clock)
+        self.ticks.add(late.fleet.clock)
         return 100 * late.done / late.last_delivery
 
     def mean(self, *how: float) -> float:
@@ -85,7 +85,7 @@ def main() -> None:
 if __name__ == '__main__':
     try:
         main()
-    except (Stop, runs.Fault) as stop:
+    except (Stop, Fault) as stop:
         fail(str(stop))
     except KeyboardInterrupt:
         sys.exit(130)

@@ -9,10 +9,14 @@ import time
 from dataclasses import dataclass, field
 from typing import Callable, NamedTuple, Sequence
 
-import drive
 import experiments_plot
-import runs
-from sections import fail
+from package import fail
+
+from warehouse.fleet import Fleet, Stop, by_number
+from warehouse.process import Process
+from warehouse.session import Session
+from warehouse.simulate import drive
+from warehouse.texts import Instance, Order, read_instance
 
 LATE = 1.0       # seconds of a tick above which it is counted as missed
 QUARTERS = 4
@@ -33,47 +37,41 @@ FLOORS = {
 }
 
 
-class Meter(drive.Program):
-    """A program whose processor time can be read, and the wall time for which it was waited."""
+class Meter(Process):
+    """A program whose processor time can be read, and the wall time for which its replies were waited."""
 
-    def __init__(self, words: list[str], wait: float | None = None):
-        super().__init__(words, wait)
-        # Linux's number for the processor time of all threads of a process, as clock_getcpuclockid(3) gives it
-        self.clock = (~self.process.pid << 3) | 2
-        self.wall = 0.0
+    wall = 0.0
 
-    def ask(self, commands: list[str]) -> list[str]:
+    def exchange(self, data: bytes, count: int = 0, last: str | None = None, more: bool = False) -> list[str]:
         began = time.perf_counter()
         try:
-            return super().ask(commands)
+            return super().exchange(data, count, last, more)
         finally:
             self.wall += time.perf_counter() - began
 
     def processor(self) -> float:
-        return time.clock_gettime(self.clock)
+        # Linux's number for the processor time of all threads of a process, as clock_getcpuclockid(3) gives it
+        return time.clock_gettime((~self.number << 3) | 2)
 
     def memory(self, name: str) -> int:
         """VmRSS or VmHWM in bytes; 0 where the system tells none."""
-        with open(f'/proc/{self.process.pid}/status') as file:
+        with open(f'/proc/{self.number}/status') as file:
             return next((int(line.split()[1]) * 1024 for line in file if line.startswith(name + ':')), 0)
 
 
-class Kept(drive.Fleet):
+class Kept(Fleet):
     """A fleet with as many orders open as are wanted, at each clock."""
 
-    def __init__(self, to: Meter, site: runs.Site, level: int, seed: int):
-        super().__init__(to, site, [], drive.MOST_IN_BATCH)
+    def __init__(self, core: Session, level: int, seed: int):
+        super().__init__(core, policy=by_number, batch=drive.MOST_IN_BATCH)
         self.level = level
         self.chance = random.Random(seed)
-        self.stations = [point.name for point in site.points if point.kind == 'station']
+        self.stations = [point.name for point in self.instance.points if point.kind == 'station']
 
-    def release(self) -> None:
-        short = self.level - len(self.open)
-        self.waiting = [(self.clock, f'submit c {self.chance.choice(self.stations)} {self.chance.choice(self.stations)}')
-                        for _ in range(short)]
-        super().release()
-        if self.left_out:
-            raise drive.Stop(self.left_out[0])
+    def due_orders(self) -> list[Order]:
+        orders = [Order(self.clock, f'submit c {self.chance.choice(self.stations)} {self.chance.choice(self.stations)}')
+                  for _ in range(self.level - len(self.open))]
+        return orders[::-1]    # the last drawn comes first, as in the tables of docs/PERFORMANCE.md
 
 
 @dataclass
@@ -96,38 +94,35 @@ def rank(values: list[float], percent: int) -> float:
 
 def one_tick(fleet: Kept, to: Meter, found: Reached) -> None:
     wall, processor = to.wall, to.processor()
-    fleet.release()
-    fleet.give_token()
+    fleet.policy(fleet)
+    if fleet.left_out:
+        raise Stop(fleet.left_out[0])
     fleet.tick()
     found.wall.append(to.wall - wall)
     found.processor.append(to.processor() - processor)
 
 
-def judge(program: str, site: runs.Site, log: bytes, commands: int, name: str) -> None:
+def judge(program: str, site: Instance, log: bytes, commands: int, name: str) -> None:
     """Ends the script where `verify` does not say that the log is a run of so many commands."""
     done = subprocess.run([program, 'verify'], input=site.text + log, stdout=subprocess.PIPE)
     if done.stdout != f'run {commands}\n'.encode():
         fail(f'{name}: `verify` says {done.stdout!r} to {commands} commands')
 
 
-def reached(name: str, agents: int, site: runs.Site, options: argparse.Namespace) -> Reached:
+def reached(name: str, agents: int, instance: Instance, options: argparse.Namespace) -> Reached:
     to = Meter([options.program, 'replay', '--planner', options.planner, '--tail', 'log'])
     found = Reached(name, agents)
-    try:
-        fleet = Kept(to, site, options.open or agents, options.seed)
-        to.send(site.text)
+    with Session(instance, replies='short', process=to) as core:
+        fleet = Kept(core, options.open or agents, options.seed)
         for tick in range(options.ticks):
             one_tick(fleet, to, found)
             if tick == 0 or (tick + 1) * QUARTERS // options.ticks > tick * QUARTERS // options.ticks:
                 found.memory.append(to.memory('VmRSS'))
         found.most = to.memory('VmHWM')
-        found.requests, found.taken = fleet.requests, len(fleet.accepted) - len(fleet.open)
-        log = drive.log_of(to.tail())
-        if status := to.status():
+        found.requests, found.taken = fleet.requests, len(fleet.tasks) - len(fleet.open)
+        if status := core.end():
             fail(f'{name}, {agents} agents: the program ended with status {status}')
-    finally:
-        to.drop()
-    judge(options.program, site, log, fleet.commands, f'{name}, {agents} agents')
+    judge(options.program, instance, drive.log_of(core.tail), fleet.commands, f'{name}, {agents} agents')
     return found
 
 
@@ -161,7 +156,7 @@ def table(options: argparse.Namespace, make: Callable[[Sequence[str], int, int, 
     for name in options.floors:
         for agents in options.agents or FLOORS[name].agents:
             words = [*FLOORS[name].words, *(['--nofollow'] if options.nofollow else [])]
-            site = runs.read_instance(name, make(words, agents, 0, options.seed))
+            site = read_instance(name, make(words, agents, 0, options.seed))
             found = reached(name, agents, site, options)
             print('| ' + ' | '.join(row(found)) + ' |', flush=True)
             lines.setdefault(name, []).append((agents, 1000 * sum(found.processor) / len(found.processor)))

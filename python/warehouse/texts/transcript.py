@@ -1,7 +1,7 @@
-"""Reads a transcript of `replay --vehicles` for tools/play.py; no program of its own.
+"""Transcripts of `replay --vehicles`: how vehicles carried out a plan late.
 
 A transcript has the lines that the program wrote, each behind the second at which it came: `12.350 go 3 14 20,7`. Such
-a line makes `tools/drive.py --late SEED --transcript FILE`, or `ts -s %.s` behind the program. Lines that tell nothing of
+a line makes `drive --late SEED --transcript FILE`, or `ts -s %.s` behind the program. Lines that tell nothing of
 clock or vehicles are skipped, and what follows a line `%%` is not read.
 
 A vehicle occupies the cells from the step where it has arrived to the last that it was told; where it is told into a cell
@@ -14,7 +14,9 @@ import dataclasses
 import re
 from dataclasses import dataclass, field
 
-import runs
+from .instance import Cell
+from .lines import Fault, lines_of, number_of
+from .log import Run, Task
 
 NUMBERS = {'clock': 1, 'go': 4, 'arrived': 2, 'visited': 3, 'held': 2}    # that are read of a line; `held` is `refused V1`
 OTHER_RUN = 'is this the transcript of another run?'
@@ -25,7 +27,7 @@ class Meeting:
     second: float
     agent: int
     other: int
-    cell: runs.Cell
+    cell: Cell
 
     def __str__(self) -> str:
         return (f'second {self.second:g}: vehicle {self.agent} is told into {self.cell[0]},{self.cell[1]}, '
@@ -36,16 +38,16 @@ class Meeting:
 class State:
     behind: int               # steps behind its plan
     last: int                 # the last step that it was told, or where it is
-    cells: list[runs.Cell]    # that it occupies, from where it is
+    cells: list[Cell]    # that it occupies, from where it is
 
 
 @dataclass
-class Vehicles:
+class Execution:
     """What a transcript tells: seconds, and of each vehicle its steps in their order."""
-    run: runs.Run
+    run: Run
     end: float = 0.0
     ticks: list[float] = field(default_factory=list)                        # when the clock came to 1, 2, ..
-    told: list[list[tuple[float, int]]] = field(default_factory=list)       # each step that leads away, as it is told
+    told: list[list[tuple[float, int]]] = field(default_factory=list)       # each step that leads apath, as it is told
     came: list[list[tuple[float, int]]] = field(default_factory=list)       # each arrival that was not known before
     visits: list[list[tuple[float, int]]] = field(default_factory=list)     # of each task, with the agent
     held: list[tuple[float, int]] = field(default_factory=list)             # ticks refused, and for whom
@@ -69,80 +71,81 @@ class Vehicles:
         came = arrived[-1][1] if arrived else 0
         step = passed(self.run, agent, came, clock)
         ahead = [further for _, further in told[bisect.bisect_right(told, came, key=lambda pair: pair[1]):]]
-        return State(clock - step, ahead[-1] if ahead else step, [self.run.place(agent, further) for further in [came, *ahead]])
+        return State(clock - step, ahead[-1] if ahead else step, [self.run.cell_at(agent, further) for further in [came, *ahead]])
 
-    def tasks(self) -> list[runs.Task]:
+    def tasks(self) -> list[Task]:
         """The log's tasks, with the clocks at which vehicles made their visits."""
         return [dataclasses.replace(task, visits=[bisect.bisect_right(self.ticks, second) for second, _ in visits])
                 for task, visits in zip(self.run.tasks, self.visits)]
 
 
-def passed(run: runs.Run, agent: int, step: int, clock: int) -> int:
+def passed(run: Run, agent: int, step: int, clock: int) -> int:
     """The step of a vehicle that has come to this one: the plan's stays that follow are passed at once."""
-    ways = run.ways[agent]
-    i = bisect.bisect_right(ways, step, key=lambda way: way.clock) - 1
+    paths = run.paths[agent]
+    i = bisect.bisect_right(paths, step, key=lambda path: path.clock) - 1
     while step < clock:
-        way, next_clock = ways[i], ways[i + 1].clock if i + 1 < len(ways) else clock
-        if step >= next_clock and i + 1 < len(ways):
+        path, next_clock = paths[i], paths[i + 1].clock if i + 1 < len(paths) else clock
+        if step >= next_clock and i + 1 < len(paths):
             i += 1
-        elif step - way.clock >= len(way.cells) - 1:
+        elif step - path.clock >= len(path.cells) - 1:
             step = min(clock, next_clock)
-        elif way.cells[step - way.clock] == way.cells[step + 1 - way.clock]:
+        elif path.cells[step - path.clock] == path.cells[step + 1 - path.clock]:
             step += 1
         else:
             break
     return step
 
 
-def read_transcript(run: runs.Run, name: str, data: bytes) -> Vehicles:
+def read_transcript(run: Run, name: str, data: bytes) -> Execution:
     if run.start != 0:
-        raise runs.Fault(f'{name}: the log begins at clock {run.start}, and a run of `replay` at 0')
+        raise Fault(f'the log begins at clock {run.start}, and a run of `replay` at 0', name)
     reader = Reader(run, name)
-    for line in runs.text_lines(data.decode('latin-1')):
+    for line in lines_of(data):
         reader.line += 1
         if not reader.read(line):
             break
     if reader.found.clock == 0:
-        raise runs.Fault(f'{name}: no line `SECONDS clock 1 ..` is in it')
+        raise Fault('no line `SECONDS clock 1 ..` is in it', name)
     return reader.found
 
 
 class Reader:
-    def __init__(self, run: runs.Run, name: str):
+    def __init__(self, run: Run, name: str):
         self.run, self.name, self.line = run, name, 0
-        agents = range(len(run.ways))
-        self.found = Vehicles(run, told=[[] for _ in agents], came=[[] for _ in agents], visits=[[] for _ in run.tasks])
+        agents = range(len(run.paths))
+        self.found = Execution(run, told=[[] for _ in agents], came=[[] for _ in agents], visits=[[] for _ in run.tasks])
         self.reached, self.told = [0 for _ in agents], [0 for _ in agents]
-        self.by_cell: dict[runs.Cell, list[int]] = {}
-        self.cells = [[run.place(agent, 0)] for agent in agents]    # that each occupies, in order
+        self.by_cell: dict[Cell, list[int]] = {}
+        self.cells = [[run.cell_at(agent, 0)] for agent in agents]    # that each occupies, in order
         for agent in agents:
             self.by_cell.setdefault(self.cells[agent][0], []).append(agent)
 
-    def fault(self, words: str) -> runs.Fault:
-        return runs.Fault(f'{self.name} line {self.line}: {words}; {OTHER_RUN}')
+    def fault(self, words: str, other_run: bool = True) -> Fault:
+        return Fault(f'{words}; {OTHER_RUN}' if other_run else words, self.name, self.line)
 
     def read(self, line: str) -> bool:
         """Takes a line; whether more may follow."""
         time, _, text = line.partition(' ')
         if not re.fullmatch(r'\d{1,9}(\.\d{1,9})?', time):
-            raise runs.Fault(f'{self.name} line {self.line}: `{line[:40]}` does not begin with a second')
+            raise self.fault(f'`{line[:40]}` does not begin with a second', False)
         if float(time) < self.found.end:
-            raise runs.Fault(f'{self.name} line {self.line}: the second {time} stands behind {self.found.end:g}')
+            raise self.fault(f'the second {time} stands behind {self.found.end:g}', False)
         self.found.end = float(time)
         if text == '%%':
             return False
         kind, _, rest = ('held ' + text.removeprefix('refused V1 ') if text.startswith('refused V1 ') else text).partition(' ')
         if kind in NUMBERS:
-            self.take(kind, text, [runs.number(word) for word in rest.replace(',', ' ').split(' ')])
+            self.take(kind, text, [number_of(word) for word in rest.replace(',', ' ').split(' ')])
         return True
 
     def take(self, kind: str, text: str, numbers: list[int | None]) -> None:
-        numbers = numbers[:1] if kind == 'clock' else numbers    # the counts are the log's affair
-        if None in numbers or len(numbers) != NUMBERS[kind]:
-            raise runs.Fault(f'{self.name} line {self.line}: `{text[:40]}` is no line of `replay --vehicles`')
-        if kind != 'clock' and numbers[0] >= len(self.told):
-            raise self.fault(f'there is no agent {numbers[0]}')
-        getattr(self, kind)(*numbers)
+        due = numbers[:1] if kind == 'clock' else numbers    # the counts are the log's affair
+        values = [value for value in due if value is not None]
+        if len(values) != len(due) or len(values) != NUMBERS[kind]:
+            raise self.fault(f'`{text[:40]}` is no line of `replay --vehicles`', False)
+        if kind != 'clock' and values[0] >= len(self.told):
+            raise self.fault(f'there is no agent {values[0]}')
+        getattr(self, kind)(*values)
 
     def settle(self, agent: int) -> None:
         self.reached[agent] = passed(self.run, agent, self.reached[agent], self.found.clock)
@@ -159,7 +162,7 @@ class Reader:
         found.most_behind = max(found.most_behind, clock - min(self.reached))
 
     def go(self, agent: int, step: int, x: int, y: int) -> None:
-        place, cell = self.run.place, (x, y)
+        place, cell = self.run.cell_at, (x, y)
         if not self.told[agent] < step <= self.found.clock:
             raise self.fault(f'agent {agent} is told step {step} behind {self.told[agent]}, at clock {self.found.clock}')
         if place(agent, step) != cell or cell == self.cells[agent][-1] or passed(self.run, agent, self.told[agent], step - 1) != step - 1:

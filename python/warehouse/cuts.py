@@ -1,12 +1,11 @@
-"""Which points of an instance cut others, for tools/explain.py: no program of its own.
+"""Which points of an instance cut others, for `explain`: no subcommand of its own.
 
 Two points are joined where a walk leads from one to the other and meets no third point. A point *cuts* where two others that
 are not joined would be, if its cell were one without a point. So where two points of a map in one piece are not joined, some point cuts.
 """
 from __future__ import annotations
 
-import runs
-from runs import Cell, Site
+from .texts import PASSABLE, Cell, Fault, Instance, read_instance
 
 MARGIN = 2            # cells drawn around the points that cut
 MOST_DRAWN = (150, 60)
@@ -20,7 +19,7 @@ def neighbours(cell: Cell) -> tuple[Cell, ...]:
 class Floor:
     """The regions of cells without a point, and what is beside each point: regions, and other points."""
 
-    def __init__(self, site: Site):
+    def __init__(self, site: Instance):
         self.site = site
         self.at = {point.cell: number for number, point in enumerate(site.points)}
         region, count = self.regions()
@@ -79,20 +78,20 @@ class Floor:
         return self.cut_pair(sorted(beside - {number}))
 
 
-def cutting(site: Site) -> list[tuple[int, tuple[int, int]]]:
+def cutting(site: Instance) -> list[tuple[int, tuple[int, int]]]:
     """Each point that cuts, with two that it cuts."""
     floor = Floor(site)
     found = ((number, floor.cuts(number)) for number in range(len(site.points)))
     return [(number, pair) for number, pair in found if pair]
 
 
-def drawing(site: Site, marked: set[int]) -> list[str]:
+def drawing(site: Instance, marked: set[int]) -> list[str]:
     """The floor around the marked points: X a marked point, o another one."""
     cells = [site.points[number].cell for number in marked]
     left, top = (max(min(cell[axis] for cell in cells) - MARGIN, 0) for axis in (0, 1))
     right = min(max(x for x, _ in cells) + MARGIN + 1, site.width, left + MOST_DRAWN[0])
     low = min(max(y for _, y in cells) + MARGIN + 1, site.height, top + MOST_DRAWN[1])
-    rows = [['.' if letter in runs.PASSABLE else '@' for letter in row[left:right]] for row in site.rows[top:low]]
+    rows = [['.' if letter in PASSABLE else '@' for letter in row[left:right]] for row in site.rows[top:low]]
     for number, point in enumerate(site.points):
         x, y = point.cell
         if left <= x < right and top <= y < low:
@@ -103,8 +102,8 @@ def drawing(site: Site, marked: set[int]) -> list[str]:
 def explained(name: str, text: bytes) -> list[str]:
     """All points of an instance that cut others, and where they are."""
     try:
-        site = runs.read_instance(name, text)
-    except runs.Fault as fault:
+        site = read_instance(name, text)
+    except Fault as fault:
         return [str(fault)]
     found = cutting(site)
     if not found:

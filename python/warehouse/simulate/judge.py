@@ -1,44 +1,44 @@
-"""Where each agent is at each clock, by the full replies of a run alone; for tools/drive.py, no program of its own.
+"""Where each agent is at each clock, by the full replies of a run alone; a judge for a fleet.
 
-A command with its full reply is an entry of the log, so it is read as `runs` reads a log, and judged so: a path begins
+A command with its full reply is an entry of the log, so it is read as a log is, and judged so: a path begins
 where the agent stands, each next cell is a neighbour or the same, all are passable, the stops of a task are visited in
 turn, and one that parks ends at its point. Each tick's counts must be those of the cells, and no step may bring two agents
-to one cell, exchange two, or break `rule nofollow`. What is none of that is a `runs.Fault`.
+to one cell, exchange two, or break `rule nofollow`. What is none of that is a `Fault`.
 """
 from __future__ import annotations
 
 import collections
 from typing import TextIO
 
-import runs
+from ..texts import Cell, Fault, Instance, Reader, standing
+from ..texts.log import OTHER_PAIR
 
 
-class Whereabouts(runs.Reader):
+class Whereabouts(Reader):
     """A run as its replies tell it, up to the last one; its lines are written where that is asked for."""
 
-    def __init__(self, site: runs.Site, lines: TextIO | None = None):
-        super().__init__(runs.Run(site), '', 0)
+    def __init__(self, instance: Instance, lines: TextIO | None = None):
+        super().__init__(standing(instance), '', 0)
         self.lines = lines
-        self.cells = [site.points[start].cell for start in site.starts]    # at the clock, and while vehicles go, at the next
-        self.run.ways = [[runs.Way(0, [cell], point=start)] for cell, start in zip(self.cells, site.starts)]
+        self.stands = [paths[0].cells[0] for paths in self.run.paths]    # at the clock, and while vehicles go, at the next
         # how many tasks have their first, and their last visit at a clock to come
         self.picked: collections.Counter[int] = collections.Counter()
         self.dropped: collections.Counter[int] = collections.Counter()
         self.write(0)
 
-    def fault(self, words: str) -> runs.Fault:
-        return runs.Fault(words.removesuffix('; ' + runs.OTHER_PAIR))
+    def fault(self, words: str) -> Fault:
+        return Fault(words.removesuffix('; ' + OTHER_PAIR))
 
     def hear(self, line: str, reply: str) -> None:
         """Takes in a command and its reply."""
         self.entry(f'0 {" ".join(line.split())} = {reply}')
 
-    def adopt(self, caller: int, agent: int, reply: list[str], cells: list[runs.Cell]) -> None:
+    def adopt(self, caller: int, agent: int, reply: list[str], cells: list[Cell]) -> None:
         super().adopt(caller, agent, reply, cells)
-        way = self.run.ways[agent][-1]
-        if way.task is not None:
+        path = self.run.paths[agent][-1]
+        if path.task is not None:
             # a visit made as the path is taken stands in no tick's counts, and no tick comes to that clock
-            visits = self.run.tasks[way.task].visits
+            visits = self.run.tasks[path.task].visits
             self.picked[visits[0]] += 1
             self.dropped[visits[-1]] += 1
 
@@ -47,33 +47,32 @@ class Whereabouts(runs.Reader):
             return False
         clock = self.run.clock
         found = self.picked.pop(clock, 0), self.dropped.pop(clock, 0)
-        if self.run.told[-1] != found:
+        if self.run.counts[-1] != found:
             raise self.fault(f'the cells give {found[0]} picked and {found[1]} dropped')
         return True
 
     def step(self) -> None:
         """The vehicles go to the cells of the next clock; the tick is due when they are there."""
         clock = self.run.clock + 1
-        ways = [ways[-1] for ways in self.run.ways]
-        cells = [way.cells[min(clock - way.clock, len(way.cells) - 1)] for way in ways]
+        cells = [paths[-1].at(clock) for paths in self.run.paths]
         self.judge(clock, cells)
-        self.cells = cells
+        self.stands = cells
         self.write(clock)
 
-    def judge(self, clock: int, cells: list[runs.Cell]) -> None:
+    def judge(self, clock: int, cells: list[Cell]) -> None:
         """Whether the agents may go from their cells to these."""
-        before = {cell: agent for agent, cell in enumerate(self.cells)}
-        after: dict[runs.Cell, int] = {}
+        before = {cell: agent for agent, cell in enumerate(self.stands)}
+        after: dict[Cell, int] = {}
         for agent, cell in enumerate(cells):
             other, there = after.setdefault(cell, agent), before.get(cell, agent)
             if other != agent:
                 raise self.fault(f'agents {other} and {agent} would both be at {cell[0]},{cell[1]} at clock {clock}')
-            if there != agent and cells[there] == self.cells[agent]:
+            if there != agent and cells[there] == self.stands[agent]:
                 raise self.fault(f'agents {min(agent, there)} and {max(agent, there)} would exchange cells at clock {clock}')
-            if there != agent and self.run.site.nofollow:
+            if there != agent and self.run.instance.nofollow:
                 raise self.fault(f'agent {agent} would follow agent {there} to {cell[0]},{cell[1]} at clock {clock}')
 
     def write(self, clock: int) -> None:
         if self.lines is not None:
             # flushed, for who moves vehicles by it
-            print(clock, *(f'{x},{y}' for x, y in self.cells), file=self.lines, flush=True)
+            print(clock, *(f'{x},{y}' for x, y in self.stands), file=self.lines, flush=True)

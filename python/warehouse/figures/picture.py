@@ -1,8 +1,7 @@
-"""Draws runs as SVG for tools/play.py: a still of one clock, or a picture that moves; no program of its own."""
+"""Runs as SVG: a still of one clock, or a picture that moves."""
 from __future__ import annotations
 
-import runs
-from transcript import Vehicles
+from ..texts import BLOCKED, Cell, Execution, Fault, Instance, Run
 
 CELL = 32
 BAND = 30    # below the floor: clock and legend
@@ -22,7 +21,7 @@ def colour(agent: int) -> str:
     return f'hsl({agent * 137.508 % 360:.0f},60%,38%)'
 
 
-def middle(cell: runs.Cell) -> tuple[float, float]:
+def middle(cell: Cell) -> tuple[float, float]:
     return (cell[0] + .5) * CELL, (cell[1] + .5) * CELL
 
 
@@ -38,22 +37,22 @@ def mark(phase: str, x: float, y: float, inner: str = '') -> str:
     return f'<path class="{phase}" d="{shape}"{">" + inner + "</path>" if inner else "/>"}'
 
 
-def frame(site: runs.Site, body: list[str], below: list[str]) -> str:
-    width, height = max(site.width * CELL, 330), site.height * CELL + BAND
+def frame(instance: Instance, body: list[str], below: list[str]) -> str:
+    width, height = max(instance.width * CELL, 330), instance.height * CELL + BAND
     shown = 2 if width < 400 else 1    # a small floor is shown larger
-    aside = (width - site.width * CELL) / 2
+    aside = (width - instance.width * CELL) / 2
     blocked = []
-    for y, row in enumerate(site.rows):
+    for y, row in enumerate(instance.rows):
         x = 0
         while x < len(row):
             end = x
-            while end < len(row) and row[end] in runs.BLOCKED:
+            while end < len(row) and row[end] in BLOCKED:
                 end += 1
             if end > x:
                 blocked.append(f'M{x * CELL},{y * CELL}h{(end - x) * CELL}v{CELL}h{(x - end) * CELL}z')
             x = max(end, x + 1)
     points = []
-    for point in site.points:
+    for point in instance.points:
         x, y = point.cell[0] * CELL, point.cell[1] * CELL
         dash = '' if point.kind == 'station' else ' stroke-dasharray="3 3"'
         points.append(f'<rect class="p" x="{x + 2}" y="{y + 2}" width="{CELL - 4}" height="{CELL - 4}"{dash}/>'
@@ -61,11 +60,11 @@ def frame(site: runs.Site, body: list[str], below: list[str]) -> str:
     legend = []
     for i, phase in enumerate(PHASES):
         x = 88 + 62 * i
-        legend.append(f'<g transform="translate({x},{site.height * CELL + 17}) scale(.4)">{mark(phase, 0, 0)}</g>'
-                      f'<text class="t" x="{x + 9}" y="{site.height * CELL + 21}" style="font-size:10px">{phase}</text>')
+        legend.append(f'<g transform="translate({x},{instance.height * CELL + 17}) scale(.4)">{mark(phase, 0, 0)}</g>'
+                      f'<text class="t" x="{x + 9}" y="{instance.height * CELL + 21}" style="font-size:10px">{phase}</text>')
     return '\n'.join([f'<svg xmlns="http://www.w3.org/2000/svg" viewBox="0 0 {width} {height}" '
                       f'width="{shown * width}" height="{shown * height}">', STYLE, f'<rect class="b" width="{width}" height="{height}"/>',
-                      f'<g transform="translate({aside:g})">', f'<rect class="f" width="{site.width * CELL}" height="{site.height * CELL}"/>',
+                      f'<g transform="translate({aside:g})">', f'<rect class="f" width="{instance.width * CELL}" height="{instance.height * CELL}"/>',
                       f'<path class="w" d="{"".join(blocked)}"/>', *points, *body, '</g>',
                       *legend, *below, '</svg>'])
 
@@ -79,14 +78,14 @@ def load(inner: str = '', opacity: int = 1) -> str:
     return (f'<rect x="4" y="-14" width="9" height="9" fill="#ffd33d" stroke="#000" opacity="{opacity}">{inner}</rect>')
 
 
-def late(vehicles: Vehicles, agent: int, clock: int) -> list[str]:
+def late(vehicles: Execution, agent: int, clock: int) -> list[str]:
     """The cells that a vehicle occupies; where it is behind, the steps it was not told, and a ring at its plan's place."""
     state, marks = vehicles.state(agent, clock), []
     for x, y in map(middle, state.cells):
         marks.append(f'<rect x="{x - CELL * .46:g}" y="{y - CELL * .46:g}" width="{CELL * .92:g}" height="{CELL * .92:g}" '
                      f'fill="{colour(agent)}" fill-opacity=".3" stroke="{colour(agent)}"/>')
     if state.behind:
-        steps = [middle(vehicles.run.place(agent, step)) for step in range(state.last, clock + 1)]
+        steps = [middle(vehicles.run.cell_at(agent, step)) for step in range(state.last, clock + 1)]
         x, y = steps[-1]
         marks.append(f'<path class="y" stroke-dasharray="5 4" stroke="{colour(agent)}" d="M{"L".join("%g,%g" % step for step in steps)}"/>'
                      f'<circle cx="{x:g}" cy="{y:g}" r="{CELL * .3:g}" fill="none" stroke="{colour(agent)}" stroke-width="2.5"/>'
@@ -94,38 +93,39 @@ def late(vehicles: Vehicles, agent: int, clock: int) -> list[str]:
     return marks
 
 
-def still(run: runs.Run, clock: int, vehicles: Vehicles | None = None) -> str:
+def still(run: Run, clock: int, vehicles: Execution | None = None) -> str:
     last = vehicles.clock if vehicles else run.clock
     if not run.start <= clock <= last:
-        raise runs.Fault(f'clock {clock} is none of {run.start} to {last}')
+        raise Fault(f'clock {clock} is none of {run.start} to {last}')
     body, carrying = [], set()
-    for agent in range(len(run.ways)) if vehicles else ():
-        body += late(vehicles, agent, clock)
+    if vehicles:
+        for agent in range(len(run.paths)):
+            body += late(vehicles, agent, clock)
     for task in vehicles.tasks() if vehicles else run.tasks:
         phase = task.phase(clock)
         if phase in ('open', 'assigned', 'carried'):
             made = sum(visit <= clock for visit in task.visits) if phase == 'carried' else 0
-            body.append(mark(phase, *middle(run.site.points[task.stops[made]].cell)))
+            body.append(mark(phase, *middle(run.instance.points[task.stops[made]].cell)))
             if phase == 'carried':
                 carrying.add(task.agent)
-        elif phase == 'done' and clock - task.done < 3:
-            body.append(mark(phase, *middle(run.site.points[task.stops[-1]].cell)))
-    for agent in range(len(run.ways)):
-        way = run.way(agent, clock)
-        ahead = way.cells[clock - way.clock:]
+        elif phase == 'done' and clock - task.visits[-1] < 3:
+            body.append(mark(phase, *middle(run.instance.points[task.stops[-1]].cell)))
+    for agent in range(len(run.paths)):
+        path = run.path_at(agent, clock)
+        ahead = path.cells[clock - path.clock:]
         if len(ahead) > 1:
             line = 'L'.join('%g,%g' % middle(cell) for cell in ahead)
             body.append(f'<path class="y" stroke="{colour(agent)}" d="M{line}"/>')
-    for agent in range(len(run.ways)):
-        x, y = middle(vehicles.state(agent, clock).cells[0] if vehicles else run.place(agent, clock))
+    for agent in range(len(run.paths)):
+        x, y = middle(vehicles.state(agent, clock).cells[0] if vehicles else run.cell_at(agent, clock))
         body.append(f'<g transform="translate({x:g},{y:g})">{body_of(agent, load() if agent in carrying else "")}</g>')
-    return frame(run.site, body, [f'<text class="t" x="6" y="{run.site.height * CELL + 21}">clock {clock}</text>'])
+    return frame(run.instance, body, [f'<text class="t" x="6" y="{run.instance.height * CELL + 21}">clock {clock}</text>'])
 
 
 class Film:
     """A run's clocks as the times of one animation, which holds a while at its end and then begins again."""
 
-    def __init__(self, run: runs.Run, second: float = .8, hold: float = 2.4):
+    def __init__(self, run: Run, second: float = .8, hold: float = 2.4):
         self.run, self.second = run, second
         self.length = max(1, run.clock - run.start) * second + hold
 
@@ -150,7 +150,7 @@ class Film:
 def moves(film: Film, agent: int) -> tuple[str, str]:
     """Where the agent begins, and its way through the film; clocks between which it only stands are left out."""
     run = film.run
-    places = [run.place(agent, clock) for clock in range(run.start, run.clock + 1)]
+    places = [run.cell_at(agent, clock) for clock in range(run.start, run.clock + 1)]
     kept = [i for i, place in enumerate(places)
             if i in (0, len(places) - 1) or places[i - 1] != place or places[i + 1] != place]
     values = ['%g,%g' % middle(places[i]) for i in kept] + ['%g,%g' % middle(places[-1])]
@@ -158,12 +158,12 @@ def moves(film: Film, agent: int) -> tuple[str, str]:
     return values[0], film.animate('<animateTransform attributeName="transform" type="translate"', values, keys)
 
 
-def animated(run: runs.Run) -> str:
-    if (run.clock - run.start + 1) * len(run.ways) > MOST_MOVES:
-        raise runs.Fault('the run is too long for an SVG that moves; a page plays it')
+def animated(run: Run) -> str:
+    if (run.clock - run.start + 1) * len(run.paths) > MOST_MOVES:
+        raise Fault('the run is too long for an SVG that moves; a page plays it')
     film, body = Film(run), []
     for task in run.tasks:
-        cells = [middle(run.site.points[stop].cell) for stop in task.stops]
+        cells = [middle(run.instance.points[stop].cell) for stop in task.stops]
         visits = task.visits + [None] * (len(cells) - len(task.visits))
         spans = [('open', task.submitted, task.taken, cells[0]), ('assigned', task.taken, visits[0], cells[0])]
         spans += [('carried', begin, end, cell) for begin, end, cell in zip(visits, visits[1:], cells[1:])]
@@ -173,14 +173,14 @@ def animated(run: runs.Run) -> str:
             if inner:
                 visible = begin == run.start and begin != end
                 body.append(f'<g opacity="{int(visible)}">{mark(phase, *cell)}{inner}</g>')
-    for agent in range(len(run.ways)):
+    for agent in range(len(run.paths)):
         place, motion = moves(film, agent)
         loads = [load(inner, 0) for task in run.tasks if task.agent == agent and task.visits
                  if (inner := film.shown(task.visits[0], task.done))]
         body.append(f'<g transform="translate({place})">{motion}{body_of(agent, "".join(loads))}</g>')
-    y, below = run.site.height * CELL + 21, []
+    y, below = run.instance.height * CELL + 21, []
     if run.clock - run.start <= 200:
         for clock in range(run.start, run.clock + 1):
             inner = film.shown(clock, clock + 1 if clock < run.clock else None)
             below.append(f'<text class="t" x="6" y="{y}" opacity="{int(clock == run.start)}">clock {clock}{inner}</text>')
-    return frame(run.site, body, below)
+    return frame(run.instance, body, below)

@@ -1,0 +1,1 @@
+"""What a run was: a page that plays it, pictures, tables, figures."""

@@ -1,0 +1,1 @@
+"""Runs that are driven: instances to their ends, with vehicles that are late where wanted, and instances that are made."""

@@ -1,0 +1,122 @@
+"""Makes a warehouse instance, the same for the same seed: a map of shelves, points, and a script.
+
+    make-instance --columns 60 --rows 40 --agents 20 --tasks 200 --seed 7 > instance
+
+The sections map, points and script stand on standard output, separated by lines `%%`. Shelves are blocks of
+blocked cells with aisles around; stations stand beside shelves, parkings along the walls, so that any
+two points are joined by a walk that meets no third one, and there is a parking for each agent: the instance is
+well-formed. `./warehouse check` says so too.
+
+In the script every agent asks for the token at each tick, due or not: much to do for a benchmark, and no model of a
+client (`due-script` writes a script that asks only where an agent is due).
+
+What the program would refuse is not made: the message says why, nothing is written, and the status is 2.
+"""
+from __future__ import annotations
+
+import argparse
+import random
+
+from ..texts import MOST_AGENTS, MOST_POINTS, MOST_SIDE, MOST_TASKS, Cell, Fault
+
+
+def floor(columns: int, rows: int, shelf: int, open_map: bool) -> list[list[str]]:
+    """Rows of '.' and '@': shelves of shelf x 2 cells with aisles of two cells between, up to six columns from each wall."""
+    cells = [['.'] * columns for _ in range(rows)]
+    if open_map:
+        return cells
+    for y in range(3, rows - 4, 4):
+        for x in range(6, columns - 6 - shelf + 1, shelf + 2):
+            for dy in range(2):
+                for dx in range(shelf):
+                    cells[y + dy][x + dx] = '@'
+    return cells
+
+
+def beside_shelves(cells: list[list[str]], columns: int, rows: int) -> list[Cell]:
+    """Passable cells right above a shelf, every third one; the aisle's other row stays free of points."""
+    found = []
+    for y in range(1, rows - 1):
+        for x in range(6, columns - 6, 3):
+            if cells[y][x] == '.' and cells[y + 1][x] == '@':
+                found.append((x, y))
+    return found
+
+
+def along_walls(columns: int, rows: int) -> list[Cell]:
+    """Cells for parkings: each second row of each second column at both sides, then each second cell of the upper wall."""
+    cells = [(x, y) for y in range(0, rows, 2) for x in (0, columns - 1, 2, columns - 3)]
+    # then in the next column of each side, and along the upper wall
+    cells += [(x, y) for y in range(0, rows, 2) for x in (4, columns - 5)]
+    return cells + [(x, 0) for x in range(6, columns - 6, 2)]
+
+
+def add_options(parser: argparse.ArgumentParser) -> None:
+    parser.add_argument('--columns', type=int, default=60)
+    parser.add_argument('--rows', type=int, default=40)
+    parser.add_argument('--shelf', type=int, default=8, help='how many cells a shelf is long')
+    parser.add_argument('--open', action='store_true', help='a map without shelves')
+    parser.add_argument('--agents', type=int, default=20)
+    parser.add_argument('--tasks', type=int, default=200)
+    parser.add_argument('--ticks', type=int, default=1000)
+    parser.add_argument('--every', type=int, default=2, help='a task is submitted every so many ticks')
+    parser.add_argument('--stops', type=int, default=2, help='the most stops of a task')
+    parser.add_argument('--seed', type=int, default=7)
+    parser.add_argument('--nofollow', action='store_true')
+
+
+def judge_options(options: argparse.Namespace) -> None:
+    """Refuses what the program would refuse."""
+    least = 13 if options.open else 12 + max(options.shelf, 1)
+    height = 5 if options.open else 8
+    for name, low, high in (('agents', 1, MOST_AGENTS), ('tasks', 0, MOST_TASKS), ('ticks', 0, 10 ** 9), ('every', 1, 10 ** 9),
+                            ('stops', 2, 8), ('shelf', 1, MOST_SIDE), ('columns', least, MOST_SIDE), ('rows', height, MOST_SIDE)):
+        value = getattr(options, name)
+        if not low <= value <= high:
+            room = ' (room for one shelf, and parkings around)' if name in ('columns', 'rows') and value < low else ''
+            options.refuse(f'--{name} {value}: {low} to {high} can be had{room}')
+
+
+def script(options: argparse.Namespace, stations: int, chance: random.Random) -> None:
+    submitted = 0
+    for tick in range(options.ticks):
+        if tick % options.every == 0 and submitted < options.tasks:
+            count = chance.randint(2, options.stops) if options.stops > 2 else 2
+            stops = [f'S{chance.randrange(stations)}' for _ in range(count)]
+            print(f'submit c{submitted % 5}', *stops)
+            submitted += 1
+        for agent in range(options.agents):
+            print(f'token {agent}')
+        print('tick')
+
+
+def run(options: argparse.Namespace) -> int:
+    judge_options(options)
+    chance = random.Random(options.seed)
+    columns, rows = options.columns, options.rows
+    cells = floor(columns, rows, options.shelf, options.open)
+    stations = beside_shelves(cells, columns, rows)
+    if options.open:
+        stations = [(x, y) for y in range(2, rows - 2, 4) for x in range(6, columns - 6, 4)]
+    chance.shuffle(stations)
+    stations = stations[:MOST_POINTS - options.agents]
+    parkings = along_walls(columns, rows)
+    if len(parkings) < options.agents:
+        raise Fault(f'--agents {options.agents}: a floor of {columns} x {rows} has {len(parkings)} parkings')
+    parkings = parkings[:options.agents]
+
+    print(f'type octile\nheight {rows}\nwidth {columns}\nmap')
+    for row in cells:
+        print(''.join(row))
+    print('%%')
+    if options.nofollow:
+        print('rule nofollow')
+    for i, (x, y) in enumerate(parkings):
+        print(f'parking P{i} {x} {y}')
+    for i, (x, y) in enumerate(stations):
+        print(f'station S{i} {x} {y}')
+    for i in range(options.agents):
+        print(f'agent P{i}')
+    print('%%')
+    script(options, len(stations), chance)
+    return 0
