@@ -14,10 +14,10 @@ returns-in_ok-new-in-Near g c =
     let inner = c.in_ok-new-in-Near.ensures.ok in
     record {
       on_grid =
-          read_made (dyn-1-ghosts g.dyn-1).0 _ (has.at tt) (has.same tt) Bool (λ j v. j.1.fits_map v c.args.parts.grid.value) _ _ _ made
+          read_made (dyn-1-ghosts g.dyn-1).0 _ (has.at tt) (has.same tt) Bool (λ j v. j.1.Plans.fits_map v c.args.parts.grid.value) _ _ _ made
           ∙ same_at _ _ (ap (λ n. n.grid) inner ∙ c.in_ok-sharing-in-Near.ensures.grid);
       has_slots =
-          read_made (dyn-1-ghosts g.dyn-1).0 _ (has.at tt) (has.same tt) ℕ (λ j v. j.1.slot_count v) _ _ _ made
+          read_made (dyn-1-ghosts g.dyn-1).0 _ (has.at tt) (has.same tt) ℕ (λ j v. j.1.Plans.slot_count v) _ _ _ made
           ∙ ap (λ n. claim_amount n.claim) inner ∙ ap claim_amount c.in_ok-sharing-in-Near.ensures.claim;
     }
 
@@ -28,9 +28,9 @@ returns-in_ok-new-in-Patient g c =
     let inner = c.in_ok-new-in-Patient.ensures.ok ∙ c.new-in-Patient.ensures in
     record {
       on_grid =
-          read_made (dyn-1-ghosts g.dyn-1).0 _ (has.at tt) (has.same tt) Bool (λ j v. j.1.fits_map v c.args.parts.grid.value) _ _ _ made
+          read_made (dyn-1-ghosts g.dyn-1).0 _ (has.at tt) (has.same tt) Bool (λ j v. j.1.Plans.fits_map v c.args.parts.grid.value) _ _ _ made
           ∙ same_at _ _ (ap (λ p. p.grid) inner);
       has_slots =
-          read_made (dyn-1-ghosts g.dyn-1).0 _ (has.at tt) (has.same tt) ℕ (λ j v. j.1.slot_count v) _ _ _ made
+          read_made (dyn-1-ghosts g.dyn-1).0 _ (has.at tt) (has.same tt) ℕ (λ j v. j.1.Plans.slot_count v) _ _ _ made
           ∙ ap (λ p. claim_amount p.claim) inner;
     }
