@@ -3,6 +3,7 @@
 ghost use Rattle.std.specs.Prelude.{◌≤◌, IfOk, length};
 ghost use Rattle.std.specs.Arc.{arc_value};
 ghost use Rattle.wh_claims.specs.Bank.{Belongs};
+ghost use Rattle.wh_claims.specs.Claim.{claim_amount};
 ghost use Rattle.wh_points.specs.Points.{IsLayout};
 
 use super::displays::opened;
@@ -88,7 +89,9 @@ pub fn points(alloc: Global, grid: &Grid) -> Result<Points, Fail>
 /// This many slots of the bank.
 fn claim(bank: &Arc<Bank>, seat: &mut BankSeat, slots: u32) -> Result<Claim, Fail>
     requires { Belongs seat.old (arc_value bank.now) }
-    ensures { Belongs seat.new (arc_value bank.now) }
+    ensures seat { Belongs seat.new (arc_value bank.now) }
+    ensures at_least { IfOk result (λ claim. 2 ≤ claim_amount claim) }
+    ensures at_most { IfOk result (λ claim. claim_amount claim ≤ 64) }
 {
     if slots < 2 || slots > 64 {
         return Err("a planner has 2 to 64 slots".into());
