@@ -82,8 +82,8 @@ def test_every_subcommand_has_a_page_and_a_name_in_tools() -> None:
         has(out.decode(), f'    {name} ')
         page, said, status = run_here(name, '--help')
         same((said, status, page.decode().split()[:3]), ('', 0, ['usage:', 'warehouse', name]))
-        link = os.path.join(ROOT, 'tools', name.replace('-', '_') + '.py')
-        same(os.path.realpath(link), os.path.join(ROOT, 'tools', 'by_name.py'))
+        with open(os.path.join(ROOT, 'tools', name.replace('-', '_') + '.py'), encoding='utf-8') as script:
+            has(script.read(), 'from by_name import run')
     same(run_here()[2], 2)
     has(run_here('none')[1], 'there is no subcommand none')
 
