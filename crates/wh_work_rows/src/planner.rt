@@ -55,8 +55,11 @@ fn row(alloc: Global) -> Result<Grid, AllocError> {
 #[test]
 fn a_box_plans_as_the_planner_in_it(rt: HostRuntime) -> Result<(), Fail> {
     let grid = Arc::new(rt.alloc(), row(rt.alloc())?)?;
-    let mut fields = SharedFields::new(rt.alloc(), Arc::try_clone(&grid)?, number(1)?)?;
     let here = Cell { x: 0, y: 0 };
+    if !grid.passable(here) {
+        return Err("both cells are passable".into());
+    }
+    let mut fields = SharedFields::new(rt.alloc(), Arc::try_clone(&grid)?, number(1)?)?;
     let paths = [TimedPath::one(rt.alloc(), here)?];
     let mut planner: Box<dyn Planner> = Box::new(rt.alloc(), Forgetful { slots: 3 })?;
     assert!(rt; planner.slots() == 3);

@@ -43,9 +43,12 @@ fn steps(planned: Result<TimedPath, PlanFault>) -> Option<u64> {
 #[test]
 fn a_path_by_shared_fields_is_shortest(rt: HostRuntime) -> Result<(), Fail> {
     let grid = Arc::new(rt.alloc(), read(rt.alloc(), WALLED)?)?;
+    let loc = Cell { x: 0, y: 5 };
+    if !grid.passable(loc) {
+        return Err("it starts at a passable cell".into());
+    }
     let mut store = SharedFields::new(rt.alloc(), Arc::try_clone(&grid)?, number(4)?)?;
     let mut planner = Sharing::new(rt.alloc(), Arc::try_clone(&grid)?, claim(rt.alloc())?)?;
-    let loc = Cell { x: 0, y: 5 };
     let other = Cell { x: 5, y: 5 };
     let paths = [
         TimedPath::one(rt.alloc(), loc)?,

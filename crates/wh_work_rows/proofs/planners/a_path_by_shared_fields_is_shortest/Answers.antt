@@ -3,6 +3,7 @@ use Rattle.std.proofs.Common.{◌≡◌, ◌≢◌, ℕ, ◌<◌, List, [], ◌�
 use Rattle.wh_grid.specs.declared.cell.Cell.{Cell}
 use Rattle.wh_path.specs.Paths.{path_of, IsFree, AllFree}
 use Rattle.wh_path.proofs.Freedom.{free-sym, free-resting}
+use Rattle.wh_core.proofs.Opening.{walk-one}
 use Rattle.wh_work_rows.proofs.planners.a_path_by_shared_fields_is_shortest.Goals as goal
 
 pair : (p q : List Cell) → IsFree true p q → (i j : ℕ) → i < 2 → j < 2 → i ≢ j →
@@ -23,3 +24,8 @@ pub plan-requires-clause-free : goal.plan-requires-clause-free
 plan-requires-clause-free g c =
     let ne : record { x = 0; y = 5 } ≡ record { x = 5; y = 5 } → ⊥ = λ e. let x : 0 ≡ 5 = ap (λ cell. cell.x) e in absurd (omega (arith, x)) in
     rw c.in_ok-all.ensures (all_free-resting _ _ ne _ _ c.in_ok-one.ensures c.in_ok-one-2.ensures)
+
+pub plan-requires-clause-walk : goal.plan-requires-clause-walk
+plan-requires-clause-walk g c =
+    let here = rw c.deref.ensures at (c.passable.ensures.0 c.if-not-passable.false) in
+    rw (c.in_ok-all.ensures, c.in_ok-one.ensures, c.deref-4.ensures) (walk-one _ _ here)
