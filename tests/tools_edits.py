@@ -232,9 +232,15 @@ def test_what_is_not_refused():
         "tests/edits/high/no_such_text.edit": "file: src/lib.rt\nold: third(a)\nnew: a\n",
         "tests/edits/high/no_such_name.edit": "file: src/lib.rt\nold: second(second(a))\nnew: third(a)\n",
     })
-    status, said = edits(top, "high")
+    # a copy in which `rt ci` has passed is taken as it is, and no other
+    proved = subprocess.run(["rt", "ci"], cwd=f"{SCRATCH.name}/refused", capture_output=True, text=True, check=False)
+    assert proved.returncode == 0, proved.stdout[-2000:]
+    status, said = edits(top, "high", "--over", f"{SCRATCH.name}/words")
+    assert (status, said) == (1, []), said
+    status, said = edits(top, "high", "--over", f"{SCRATCH.name}/refused")
     told = {it.split(":")[0]: it.partition(": ")[2] for it in said}
     assert (status, said[-1]) == (1, "1 passed, 3 failed"), said
+    assert os.path.isdir(f"{SCRATCH.name}/refused/crates/low/out/rlib"), "what was proved stays"
     assert told["high/fourth_is_second.edit"].startswith("refused") and told["high/same.edit"].startswith("NOT REFUSED"), said
     assert told["high/no_such_text.edit"].startswith("BAD EDIT") and told["high/no_such_name.edit"].startswith("BAD EDIT"), said
     assert stamps(top) == {}
