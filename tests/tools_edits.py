@@ -167,6 +167,12 @@ def test_functions_that_an_edit_changes():
     assert of(LOW, "a + STEP", "a", "src/lib.rt").functions == ("a::next",)
 
 
+def test_lines_of_comment_count_nowhere():
+    bare = 'let a = "// y";\nlet b = 1; // one\n  pub clock : ℕ'
+    said = '//! A file. \n\n/// An item.\nlet a = "// y";\n  // why {\nlet b = 1; // one\n\n-- of a clock;\n  pub clock : ℕ\n'
+    assert rounds.without_comments(said) == bare == rounds.without_comments(bare)
+
+
 def test_edits_of_one_round():
     take, give = of(PARTS, "        inner()", "        2"), of(PARTS, "        2\n", "        3\n")
     again = of(PARTS, "            1\n", "            0\n")
@@ -214,6 +220,10 @@ def test_all_are_refused_and_stamped():
     due = lambda: edits(top, "--list")[1][0].partition(": ")[2]
     for path, old, new, wanted in (
         ("crates/low/src/lib.rt", "/// One more.", "/// A comment.", "none"),
+        ("crates/low/src/lib.rt", "//! Sums.", "//! Sums of numbers.\n//!\n//! They are small.", "none"),
+        ("crates/low/src/lib.rt", "    a + STEP\n", "    // the step\n\n    a + STEP\n", "none"),
+        ("crates/low/src/lib.rt", "    requires { a < 99 }", "    // (so that it fits)\n    requires { a < 99 }", "none"),
+        ("crates/high/src/lib.rt", "/// Four more.", "/// Four.\n///\n/// More {", "none"),
         ("crates/low/src/lib.rt", "a + STEP", "STEP + a", "low"),
         ("crates/low/src/lib.rt", "a < 99", "a < 98", "low high"),
         ("crates/high/src/lib.rt", "second(second(a))", "second(second(a)) + 0", "high"),

@@ -16,11 +16,14 @@ proof middle 20.4 900
 proof high 7 1900
 tests high 30 2500
 edits low 9 700
-proof apart 50 800
+proof apart 250 800
+proof warehouse 190 800
 step rt 120 0
+step scripts 33 0
 script run.sh 12 20
 script live.sh 30 6
 """
+USES = {"low": ["std"], "middle": ["low"], "high": ["low", "middle"], "apart": [], "warehouse": ["middle"]}
 
 
 def gate_cpu(*words):
@@ -47,18 +50,24 @@ def test_tables():
     path = f"{SCRATCH.name}/made"
     with open(path, "w", encoding="utf-8") as it:
         it.write(ROWS)
-    lines = "\n".join(tool.tables(tool.read(path), {"low": ["std"], "middle": ["low"], "high": ["low", "middle"], "apart": []})).split("\n")
+    lines = "\n".join(tool.tables(tool.read(path), USES)).split("\n")
     wanted = [
-        "| `apart` | 50 | 0 | 0 | 0.8 |",
+        "| `apart` | 250 | 0 | 0 | 0.8 |",
         "| `high` | 7 | 30 | 0 | 2.5 |",
-        "| all | 117 | 30 | 9 | 2.5 |",
-        "The longest chain of proofs, 67 s: `low`, `middle`, `high`.",
+        "| all | 507 | 30 | 9 | 2.5 |",
+        "The longest chain of proofs, 250 s: `low`, `middle`, `warehouse`.",
         "| `rt` | 2.0 min | |",
         "| `live.sh` | 30 s | 6 s |",
-        "| all scripts | 42 s | 26 s |",
+        "| all scripts, side by side | 33 s | 26 s |",
+        "| `./test` from nothing in 50 minutes on four processors, in 100 on two | 3 min |",
+        "| the program's proofs in 25 minutes on four processors | no less than 4 min: 250 s of work, of which the longest chain is 250 |",
+        "| the longest chain of proofs below 2000 s | 250 s |",
+        "| two proofs above 180 s, no more | 2: `apart`, `warehouse` |",
     ]
     assert not [it for it in wanted if it not in lines], lines
     assert lines.index(wanted[0]) < lines.index("| `low` | 40 | 0 | 9 | 0.7 |") < lines.index(wanted[1])
+    count, memory = tool.machine()
+    assert f"| Aim | Measured, on {count} processors with {memory:.0f} GB |" in lines and 1 <= count and memory > 0.1
 
 
 def test_no_rows():

@@ -2,11 +2,12 @@
 """What the test command costs: processor seconds and memory of each crate's proof, tests and edits, and the time of each script.
 
     tools/gate_cpu.py run ROWS COMMAND..   runs the command, and adds to the file ROWS what its provers took
-    tools/gate_cpu.py table ROWS           prints the rows as tables, the dearest crates first
+    tools/gate_cpu.py table ROWS           prints the rows as tables, the dearest crates first, and the aims beside what was measured
 
 The processes are looked at each second, so what one took in its last second is left out. It reads /proc, so it wants Linux. A row is
 `KIND NAME SECONDS MB`: of a crate its `proof`, `tests` or `edits`, with the most memory of one of its provers; of a `step` (a
-command) its time by the clock; of a `script` the time by the clock, and its processor seconds in the last place.
+command, or all `scripts`) its time by the clock; of a `script` the time by the clock, beside others, and its processor seconds in the
+last place.
 """
 import collections
 import os
@@ -20,6 +21,7 @@ import edit_rounds
 TICKS = os.sysconf("SC_CLK_TCK")
 KINDS = ("proof", "tests", "edits")
 SHOWN = 20  # crates that have a line of their own
+LONG = 180  # seconds above which a crate's proof is named
 ROOT = os.path.dirname(os.path.dirname(os.path.abspath(__file__)))
 
 
@@ -106,6 +108,27 @@ def longest_chain(uses, seconds):
     return max((way(it) for it in uses), key=lambda it: it[1], default=([], 0))
 
 
+def machine():
+    """The processors, and the memory in GB."""
+    return len(os.sched_getaffinity(0)), int(re.search(r"MemTotal:\s+(\d+)", text_of("/proc/meminfo"))[1]) / 1e6
+
+
+def aims(rows, uses):
+    """The lines of the aims: what is to hold, and what was measured."""
+    processors, memory = machine()
+    proofs = {name: it["proof"] for name, it in of_crates(rows).items()}
+    needed = {"warehouse", *edit_rounds.below(uses, "warehouse")} if "warehouse" in uses else set()
+    work, chain = sum(proofs.get(it, 0) for it in needed), longest_chain({it: uses[it] for it in needed}, proofs)[1]
+    long = sorted((it for it in proofs if proofs[it] > LONG), key=proofs.get, reverse=True)
+    clock = sum(seconds for kind, _, seconds, _ in rows if kind == "step") / 60
+    yield f"| Aim | Measured, on {processors} processors with {memory:.0f} GB |\n|---|---|"
+    yield f"| `./test` from nothing in 50 minutes on four processors, in 100 on two | {clock:.0f} min |"
+    yield (f"| the program's proofs in 25 minutes on four processors | no less than {max(work / 4, chain) / 60:.0f} min: "
+           f"{work:.0f} s of work, of which the longest chain is {chain:.0f} |")
+    yield f"| the longest chain of proofs below 2000 s | {longest_chain(uses, proofs)[1]:.0f} s |"
+    yield f"| two proofs above {LONG} s, no more | {len(long)}{': ' if long else ''}{', '.join(f'`{it}`' for it in long)} |"
+
+
 def tables(rows, uses):
     """The lines of the tables."""
     crates = of_crates(rows)
@@ -128,8 +151,9 @@ def tables(rows, uses):
     for kind, name, taken, last in rows:
         if kind == "script":
             yield f"| `{name}` | {taken:.0f} s | {last:.0f} s |"
-    scripts = [(taken, last) for kind, _, taken, last in rows if kind == "script"]
-    yield f"| all scripts | {sum(it for it, _ in scripts):.0f} s | {sum(it for _, it in scripts):.0f} s |"
+    beside = sum(taken for kind, name, taken, _ in rows if (kind, name) == ("step", "scripts"))
+    yield f"| all scripts, side by side | {beside:.0f} s | {sum(last for kind, _, _, last in rows if kind == 'script'):.0f} s |\n"
+    yield from aims(rows, uses)
 
 
 def main():
