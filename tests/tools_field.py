@@ -82,7 +82,7 @@ def test_log_input() -> None:
 def test_every_code_of_the_formats_has_a_sentence() -> None:
     told = dict(line.split(': ', 1) for line in tool('explain.py', '--all')[0].splitlines())
     named = set()
-    for page in ('FORMATS.md', 'USE.md'):
+    for page in ('FORMATS.md', 'PROTOCOL.md', 'CLI.md'):
         with open(os.path.join(ROOT, 'docs', page), encoding='utf-8') as text:
             named |= set(re.findall(r'\b[A-Z][0-9]{1,2}\b', text.read())) - {'S1', 'N0', 'N1', 'P0', 'P1'}
     assert {'M1', 'M7', 'P10', 'C2', 'E10', 'E95', 'B2', 'L1', 'X4', 'X5'} <= named, named
