@@ -54,7 +54,7 @@ GENERATED = {'docs/CLI.md': 'tools/cli_page.py', 'docs/CRATES.md': 'tools/crates
 TERMS = 'SIPP, heuristic, admissible, prioritized, lifelong, livelock, reservation table, swap, write-ahead, fsync, crash, durable, group commit, linearizable, worker pool, AGV, AMR, WMS, VDA 5050, well-formed, endpoint, MAPD, makespan, throughput, acknowledged'
 
 OF_A_DAY = re.compile(r'\b20[0-9]{2}-[01][0-9]-[0-3][0-9]\b|\bcommit (?=[0-9a-f]*[0-9])[0-9a-f]{7,}\b|\bload (?:of )?[0-9]'
-                      r'|\bsince then\b|\bformerly\b|\bused to be\b|\bis gone\b|\bstood before\b|\bas it was before\b', re.ASCII)
+                      r'|\bsince then\b|\bformerly\b|\bused to be\b|\bis gone\b(?! on)|\buntil now\b|\bas it was before\b', re.ASCII)
 COMMAND = re.compile(r'^\$? ?(?:\./|\$WAREHOUSE|tools/|tests/|WAREHOUSE=|rt )', re.MULTILINE)
 LINK = re.compile(r'\]\(([^()\s]+)\)')
 MARKER = re.compile(r'<!-- (run|output|floor|not run)(?::? ([^>]*?))? -->')
@@ -323,8 +323,8 @@ def itself() -> Iterator[tuple[str, str]]:
             ('numbers exact', [bool(differs(one, 'a 1\n', 0)) for one in ('a 1\n', 'a 2\n')], [False, True]),
             ('other words', bool(differs('b 1\n', 'a 1\n', 10)), True),
             ('drawing', instance_of('A.b\n@..\n'), 'type octile\nheight 2\nwidth 3\nmap\n...\n@..\n%%\nparking A 0 0\nstation b 2 0\nagent A\n'),
-            ('days', [bool(OF_A_DAY.search(text)) for text in ('2026-11-29', 'commit 34fce11', 'load 11.9', 'load of 7', 'since then', 'commit of a load', 'a workload 3')],
-             [True, True, True, True, True, False, False])):
+            ('days', [bool(OF_A_DAY.search(text)) for text in ('2026-11-29', 'commit 34fce11', 'load 11.9', 'load of 7', 'since then', 'it is gone', 'is gone on', 'commit of a load', 'a workload 3')],
+             [True, True, True, True, True, True, False, False, False])):
         yield f'itself: {name}', '' if found == wanted else f'found {found!r}, wanted {wanted!r}'
 
 
