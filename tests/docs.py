@@ -49,7 +49,8 @@ MOST_IN_A_PARAGRAPH, MOST_IN_A_CELL = 90, 40
 # Dates, commits and loads stand in these pages alone, and why.
 DATED = {'CHANGELOG.md': 'a list of what changed when'}
 # The pages that a script makes, which is called with --check.
-GENERATED = {'docs/CLI.md': 'tools/cli_page.py', 'docs/CRATES.md': 'tools/crates_page.py', 'docs/EXPERIMENTS.md': 'tools/experiments_page.py'}
+GENERATED = {'docs/CLI.md': 'tools/cli_page.py', 'docs/CRATES.md': 'tools/crates_page.py', 'docs/EXPERIMENTS.md': 'tools/figures_pages.py',
+             'docs/PERFORMANCE.md': 'tools/figures_pages.py'}
 # Terms of the field that the glossary has.
 TERMS = 'SIPP, heuristic, admissible, prioritized, lifelong, livelock, reservation table, swap, write-ahead, fsync, crash, durable, group commit, linearizable, worker pool, AGV, AMR, WMS, VDA 5050, well-formed, endpoint, MAPD, makespan, throughput, acknowledged'
 
