@@ -1,5 +1,5 @@
 #!/usr/bin/env python3
-"""Tests of the documentation: its size, its links, its words, and the commands and drawings that carry a marker.
+"""Tests of the documentation: its size, its links, its words, generated pages, and the commands and drawings that carry a marker.
 
     tests/docs.py                   all; the program that commands run is taken from WAREHOUSE, else ./warehouse
     tests/docs.py --no-program      what needs no program
@@ -12,9 +12,11 @@ A marker is a comment on the last line before a fenced block that is not empty:
                             differ by so much
     <!-- floor: formed -->  the block is a drawing (`.` free, `@` blocked, small letters stations, capitals parkings with an
                             agent), and `check` says so of it
+    <!-- not run: WHY -->   the block's commands are not run here
 
-All commands of a page run in one folder, which has `tools`, `examples` and `warehouse` in it. tests/docs_words has the words
-that pages do not use. The last line is `N passed, M failed`, and the status is 1 where one failed.
+A block with commands of this repository has one of these. All commands of a page run in one folder, which has `tools`, `examples`
+and `warehouse` in it; WAREHOUSE is the program. tests/docs_words has the words that pages do not use. The last line is
+`N passed, M failed`, and the status is 1 where one failed.
 """
 from __future__ import annotations
 
@@ -33,24 +35,30 @@ ROOT = os.path.dirname(os.path.dirname(os.path.abspath(__file__)))
 PROGRAM = os.path.abspath(os.environ.get('WAREHOUSE', os.path.join(ROOT, 'warehouse')))
 MOST_SECONDS = 30    # for one block
 
-# The most words of each page (`wc -w`). The bound of a page only ever falls.
+# The most words of each page (`wc -w`), and of all. A bound only ever falls.
 CAPS = {
-    'README.md': 2350, 'examples/README.md': 550,
-    'docs/ARCHITECTURE.md': 2250, 'docs/CONTRIBUTING.md': 2600, 'docs/DECISIONS.md': 15350, 'docs/DEFINITIONS.md': 7700,
-    'docs/EMBEDDING.md': 910, 'docs/EXPERIMENTS.md': 2600, 'docs/FLEET.md': 7400, 'docs/FORMATS.md': 4500, 'docs/INTEGRATION.md': 900,
-    'docs/LIMITS.md': 2050, 'docs/MODELING.md': 1500, 'docs/PERFORMANCE.md': 2300, 'docs/PROOFS.md': 4450, 'docs/PROVED.md': 7400,
-    'docs/READING.md': 2450, 'docs/RELIABILITY.md': 1400, 'docs/USE.md': 3400,
+    'README.md': 850, 'CHANGELOG.md': 1000, 'examples/README.md': 520,
+    'docs/ALGORITHM.md': 1300, 'docs/ARCHITECTURE.md': 800, 'docs/CLI.md': 1500, 'docs/CONTRIBUTING.md': 2150, 'docs/CRATES.md': 1600,
+    'docs/DECISIONS.md': 2000, 'docs/DEFINITIONS.md': 1850, 'docs/EMBEDDING.md': 800, 'docs/EXPERIMENTS.md': 1100, 'docs/FORMATS.md': 3250,
+    'docs/GLOSSARY.md': 600, 'docs/GUARANTEES.md': 1500, 'docs/INTEGRATION.md': 1500, 'docs/LIMITS.md': 1000, 'docs/MODELING.md': 1500,
+    'docs/OPERATIONS.md': 1600, 'docs/PERFORMANCE.md': 1050, 'docs/PROOFS.md': 1050, 'docs/PROTOCOL.md': 1900, 'docs/READING.md': 1700,
+    'docs/START.md': 950, 'docs/TESTING.md': 850,
 }
-MOST_IN_ALL = 70_800
+MOST_IN_ALL = 30_000
+MOST_IN_A_PARAGRAPH, MOST_IN_A_CELL = 90, 40
 # Dates, commits and loads stand in these pages alone, and why.
-DATED = {
-    'CHANGELOG.md': 'a list of what changed when',
-    'docs/CONTRIBUTING.md': 'names the commit at which times of proofs were taken',
-    'docs/DECISIONS.md': 'says since when a choice holds',
-}
-OF_A_DAY = re.compile(r'\b20[0-9]{2}-[01][0-9]-[0-3][0-9]\b|\bcommit (?=[0-9a-f]*[0-9])[0-9a-f]{7,}\b|\bload (?:of )?[0-9]', re.ASCII)
+DATED = {'CHANGELOG.md': 'a list of what changed when'}
+# The pages that a script makes, which is called with --check.
+GENERATED = {'docs/CLI.md': 'tools/cli_page.py', 'docs/CRATES.md': 'tools/crates_page.py', 'docs/EXPERIMENTS.md': 'tools/figures_pages.py',
+             'docs/PERFORMANCE.md': 'tools/figures_pages.py'}
+# Terms of the field that the glossary has.
+TERMS = 'SIPP, heuristic, admissible, prioritized, lifelong, livelock, reservation table, swap, write-ahead, fsync, crash, durable, group commit, linearizable, worker pool, AGV, AMR, WMS, VDA 5050, well-formed, endpoint, MAPD, makespan, throughput, acknowledged'
+
+OF_A_DAY = re.compile(r'\b20[0-9]{2}-[01][0-9]-[0-3][0-9]\b|\bcommit (?=[0-9a-f]*[0-9])[0-9a-f]{7,}\b|\bload (?:of )?[0-9]'
+                      r'|\bsince then\b|\bformerly\b|\bused to be\b|\bis gone\b(?! on)|\buntil now\b|\bas it was before\b', re.ASCII)
+COMMAND = re.compile(r'^\$? ?(?:\./|\$WAREHOUSE|tools/|tests/|WAREHOUSE=|rt )', re.MULTILINE)
 LINK = re.compile(r'\]\(([^()\s]+)\)')
-MARKER = re.compile(r'<!-- (run|output|floor)(?::? ([^>]*?))? -->')
+MARKER = re.compile(r'<!-- (run|output|floor|not run)(?::? ([^>]*?))? -->')
 NUMBER = re.compile(r'[0-9]+(?:\.[0-9]+)?')
 
 
@@ -70,7 +78,7 @@ def read(page: str) -> str:
 
 def pages() -> list[str]:
     """The pages that have a bound or should have one."""
-    return ['README.md', 'examples/README.md'] + sorted(f'docs/{name}' for name in os.listdir(os.path.join(ROOT, 'docs')) if name.endswith('.md'))
+    return ['README.md', 'CHANGELOG.md', 'examples/README.md'] + sorted(f'docs/{name}' for name in os.listdir(os.path.join(ROOT, 'docs')) if name.endswith('.md'))
 
 
 @functools.lru_cache(None)
@@ -85,15 +93,14 @@ def prose(text: str) -> str:
 
 
 def blocks(text: str) -> Iterator[Block]:
-    """The fenced blocks that have a marker."""
+    """The fenced blocks: their markers' words, or none."""
     marker, first, inside = None, 0, None
     for number, line in enumerate(text.split('\n'), 1):
         if line.startswith('```'):
             if inside is None:
                 inside, first = [], number + 1
             else:
-                if marker:
-                    yield Block(first, marker[1], (marker[2] or '').strip(), '\n'.join(inside) + '\n')
+                yield Block(first, marker[1] if marker else '', (marker[2] or '').strip() if marker else '', '\n'.join(inside) + '\n')
                 inside, marker = None, None
         elif inside is not None:
             inside.append(line)
@@ -128,7 +135,7 @@ def sizes() -> Iterator[tuple[str, str]]:
     total = 0
     for page in pages():
         words, most = len(read(page).split()), CAPS.get(page)
-        total += words if page != 'examples/README.md' else 0
+        total += words
         yield page, '' if most and words <= most else f'{words} words, {most or "no bound"}: cut it, or give it a bound in tests/docs.py'
     yield 'all pages', '' if total <= MOST_IN_ALL else f'{total} words, {MOST_IN_ALL} at most'
     for page in sorted(set(CAPS) - set(pages())):
@@ -137,7 +144,8 @@ def sizes() -> Iterator[tuple[str, str]]:
 
 def links() -> Iterator[tuple[str, str]]:
     """Each relative link leads to a file, and its anchor to a heading."""
-    for page in [*pages(), 'CHANGELOG.md']:
+    reached = {'README.md'}
+    for page in pages():
         text = prose(read(page))
         for link in LINK.finditer(text):
             name, _, anchor = link[1].partition('#')
@@ -145,11 +153,67 @@ def links() -> Iterator[tuple[str, str]]:
                 continue
             target = os.path.normpath(os.path.join(os.path.dirname(page), name)) if name else page
             wrong = ''
+            if page == 'README.md':
+                reached.add(target)
             if not os.path.exists(os.path.join(ROOT, target)):
                 wrong = f'{link[1]}: there is no {target}'
             elif anchor and (not target.endswith('.md') or anchor not in anchors(read(target))):
                 wrong = f'{link[1]}: {target} has no heading of this name'
             yield f'{page}:{line_of(text, link.start())}', wrong
+    for page in pages():
+        yield f'{page}: from README.md', '' if page in reached else 'README.md has no link to it'
+
+
+def paragraphs(text: str) -> Iterator[tuple[int, str]]:
+    """The paragraphs and items of a list, each with its first line's number: what is no table, heading, comment or fenced block."""
+    first, kept, within = 0, [], False
+    for number, line in enumerate([*text.split('\n'), ''], 1):
+        fence = line.lstrip().startswith('```')
+        within ^= fence
+        plain = bool(line.strip()) and not (fence or within or line.startswith(('|', '#', '<!--')))
+        if kept and (not plain or re.match(r'\s*(?:[-*]|[0-9]+\.) ', line)):
+            yield first, ' '.join(kept)
+            kept = []
+        if plain:
+            first, kept = (first, [*kept, line]) if kept else (number, [line])
+
+
+def cells(text: str) -> Iterator[tuple[int, str]]:
+    """The cells of tables, each with its line's number."""
+    within = False
+    for number, line in enumerate(text.split('\n'), 1):
+        within ^= line.lstrip().startswith('```')
+        if line.startswith('|') and not within:
+            yield from ((number, cell) for cell in re.split(r'(?<!\\)\|', line)[1:-1])
+
+
+def lengths() -> Iterator[tuple[str, str]]:
+    """No paragraph and no cell is too long."""
+    for page in pages():
+        for kind, most, parts in (('paragraph', MOST_IN_A_PARAGRAPH, paragraphs), ('cell', MOST_IN_A_CELL, cells)):
+            wrong = [f'line {line}: {len(part.split())}' for line, part in parts(read(page)) if len(part.split()) > most]
+            yield f'{page}: {kind}s', f'{", ".join(wrong)} words, {most} at most' if wrong else ''
+
+
+def markers() -> Iterator[tuple[str, str]]:
+    """Each block with commands of this repository is run, or says why not."""
+    for page in pages():
+        wrong = [f'line {block.line}' for block in blocks(read(page))
+                 if COMMAND.search(block.text) and not block.kind or block.kind == 'not run' and not block.said]
+        yield f'{page}: blocks', f'{", ".join(wrong)}: commands with no marker, or none that says why they are not run' if wrong else ''
+
+
+def generated() -> Iterator[tuple[str, str]]:
+    """Each page that a script makes is what it makes, and the glossary has the terms of the field."""
+    for page, script in GENERATED.items():
+        if not os.path.exists(os.path.join(ROOT, script)):
+            yield page, f'there is no {script}'
+            continue
+        done = subprocess.run([sys.executable, os.path.join(ROOT, script), '--check'], capture_output=True, text=True, timeout=MOST_SECONDS)
+        yield page, (done.stdout + done.stderr).strip() if done.returncode else ''
+    glossary = read('docs/GLOSSARY.md').lower() if 'docs/GLOSSARY.md' in pages() else ''
+    missing = [term for term in TERMS.split(', ') if term.lower() not in glossary]
+    yield 'docs/GLOSSARY.md: terms', f'it lacks {", ".join(missing)}' if missing else ''
 
 
 def days() -> Iterator[tuple[str, str]]:
@@ -159,7 +223,7 @@ def days() -> Iterator[tuple[str, str]]:
             continue
         text = read(page)
         found = OF_A_DAY.search(text)
-        yield page, f'line {line_of(text, found.start())}: `{found[0]}`, and the page is none of those that tell dates' if found else ''
+        yield f'{page}: dates', f'line {line_of(text, found.start())}: `{found[0]}`, and the page is none of those that tell dates' if found else ''
 
 
 def words() -> Iterator[tuple[str, str]]:
@@ -229,6 +293,8 @@ def tried(page: str) -> list[tuple[str, str]]:
     folder, before, found = scratch(), '', []
     try:
         for block in blocks(read(page)):
+            if block.kind in ('', 'not run'):
+                continue
             before, wrong = outcome(block, folder, before)
             found.append((f'{page}:{block.line}: {block.kind}', wrong))
     finally:
@@ -250,13 +316,16 @@ def itself() -> Iterator[tuple[str, str]]:
     for name, found, wanted in (
             ('anchors', anchors(page), {'a-b-c', 'a', 'a-1'}),
             ('prose', LINK.findall(prose(page + '`[a](b)` [c](d)')), ['#a-1', 'd']),
-            ('blocks', list(blocks(page)), [Block(8, 'run', '1', 'false\n'), Block(15, 'output', '10 %', '1\n')]),
+            ('blocks', list(blocks(page)), [Block(8, 'run', '1', 'false\n'), Block(11, '', '', 'no marker [y](z)\n'), Block(15, 'output', '10 %', '1\n')]),
+            ('paragraphs', list(paragraphs('# a\nb c\nd\n- e\n- f\n  g\n| h | i |\n```\nj\n```\nk')), [(2, 'b c d'), (4, '- e'), (5, '- f   g'), (11, 'k')]),
+            ('cells', list(cells('a\n| b \\| c | d |\n```\n| e |\n```')), [(2, ' b \\| c '), (2, ' d ')]),
+            ('commands', [bool(COMMAND.search(text)) for text in ('tools/x', 'a\n./test', '$ rt check', 'rtx', 'a tools/x')], [True, True, True, False, False]),
             ('numbers within', [bool(differs(f'a {n} b\n', 'a 100 b\n', 10)) for n in (90, 89, 110, 111)], [False, True, False, True]),
             ('numbers exact', [bool(differs(one, 'a 1\n', 0)) for one in ('a 1\n', 'a 2\n')], [False, True]),
             ('other words', bool(differs('b 1\n', 'a 1\n', 10)), True),
             ('drawing', instance_of('A.b\n@..\n'), 'type octile\nheight 2\nwidth 3\nmap\n...\n@..\n%%\nparking A 0 0\nstation b 2 0\nagent A\n'),
-            ('days', [bool(OF_A_DAY.search(text)) for text in ('2026-11-29', 'commit 34fce11', 'load 11.9', 'load of 7', 'commit of a load', 'a workload 3')],
-             [True, True, True, True, False, False])):
+            ('days', [bool(OF_A_DAY.search(text)) for text in ('2026-11-29', 'commit 34fce11', 'load 11.9', 'load of 7', 'since then', 'it is gone', 'is gone on', 'commit of a load', 'a workload 3')],
+             [True, True, True, True, True, True, False, False, False])):
         yield f'itself: {name}', '' if found == wanted else f'found {found!r}, wanted {wanted!r}'
 
 
@@ -276,7 +345,7 @@ def main() -> int:
         for page in pages():
             print(f'{len(read(page).split()):6} of {CAPS.get(page, 0):6} {page}')
         return 0
-    checks = [itself, sizes, links, days, words, commands]
+    checks = [itself, sizes, links, lengths, markers, generated, days, words, commands]
     missing = 'it was not asked for' if options.no_program else needs()
     if missing:
         checks.remove(commands)

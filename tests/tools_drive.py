@@ -345,12 +345,12 @@ def test_the_page_names_every_refusal() -> None:
     section = text_of('docs', 'FORMATS.md').split('## Replies')[1].split('## The log')[0]
     codes = set(re.findall(r'\b[CE][0-9]{1,2}\b', section))
     assert {'E1', 'E10', 'C2', 'E90'} <= codes, codes
-    rows = set(re.findall(r'^\| `refused ([A-Z][0-9]+)', text_of('docs', 'FLEET.md'), re.MULTILINE))
+    rows = set(re.findall(r'^\| ?`refused ([A-Z][0-9]+)', text_of('docs', 'PROTOCOL.md'), re.MULTILINE))
     same(codes - rows, set())
 
 
 def test_the_dialogue_of_the_page() -> None:
-    page = text_of('docs', 'FLEET.md')
+    page = text_of('docs', 'PROTOCOL.md')
     spoken = re.findall(r'^> (.*?) +< (.*)$', page.split('<!-- dialogue -->')[1], re.MULTILINE)
     sent, wanted = [line for line, _ in spoken], [reply for _, reply in spoken]
     same(len(sent), 22)

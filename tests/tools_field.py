@@ -82,7 +82,7 @@ def test_log_input() -> None:
 def test_every_code_of_the_formats_has_a_sentence() -> None:
     told = dict(line.split(': ', 1) for line in tool('explain.py', '--all')[0].splitlines())
     named = set()
-    for page in ('FORMATS.md', 'USE.md'):
+    for page in ('FORMATS.md', 'PROTOCOL.md', 'CLI.md'):
         with open(os.path.join(ROOT, 'docs', page), encoding='utf-8') as text:
             named |= set(re.findall(r'\b[A-Z][0-9]{1,2}\b', text.read())) - {'S1', 'N0', 'N1', 'P0', 'P1'}
     assert {'M1', 'M7', 'P10', 'C2', 'E10', 'E95', 'B2', 'L1', 'X4', 'X5'} <= named, named
@@ -171,6 +171,29 @@ def test_explain_beside_a_program() -> None:
         assert m4 not in ran(words)[1]
     same((ran('exit 7')[2], ran('kill -9 $$')[2], ran('kill -15 $$')[2]), (7, -9, -15))
     same(ran("trap 'echo got; exit 9' TERM; kill -15 $PPID; for k in {1..500}; do sleep 0.02; done"), ('got\n', '', 9))
+
+
+def test_explain_beside_check() -> None:
+    explain = [sys.executable, os.path.join(ROOT, 'tools', 'explain.py'), '--run', PROGRAM, 'check']
+    def checked(name: str) -> tuple[str, list[str], int]:
+        with open(name, 'rb') as text:
+            done = subprocess.run(explain, stdin=text, capture_output=True, timeout=30)
+        return done.stdout.decode(), done.stderr.decode().splitlines(), done.returncode
+    example = os.path.join(ROOT, 'examples', 'packing')
+    out, said, status = checked(example)
+    same((out, status, len(said)), ('formed\n', 0, 2))
+    assert said[1].startswith('At most 8 orders can be under way at once: 12 agents, 26 stations, of which orders end at 8'), said
+    with open(example, 'rb') as text:
+        bare = file('i', b'%%\n'.join(text.read().split(b'%%\n')[:2]))
+    assert checked(bare)[1][1].startswith('At most 12 orders can be under way at once: 12 agents, 26 stations ('), checked(bare)
+    out, said, status = checked(file('i', CUT + CUT_POINTS))
+    same((out, said[2], said[-2], status), ('cut H T\n', 'S (x = 2, y = 2) cuts H from T.', '    .........', 1))
+    out, said, status = checked(file('i', CUT + CUT_POINTS.replace('parking H 4 0\n', 'station H 4 0\n')))
+    same((out, len(said), said[0][:4], status), ('few parkings 0 1\n', 1, 'few:', 1))
+    # a pipe cannot be read once more, and a refused input gets its own sentence alone
+    done = subprocess.run(explain, input=(CUT + CUT_POINTS).encode(), capture_output=True, timeout=30)
+    same((done.stdout.decode(), done.stderr.decode(), done.returncode), ('cut H T\n', '', 1))
+    same([line[:3] for line in checked(file('i', CUT + 'station S 1 1\n'))[1]], ['ref', 'P4:'])
 
 
 MAPD_MAP = '3,4\n2\n1\n50\n.e..\nr..@\n..e.\n'
@@ -305,7 +328,7 @@ def test_examples() -> None:
     same(warehouse(joined, 'verify'), ('run 27\n', 0))
 
 
-NEEDS_PROGRAM = {'test_points_cut_where_the_program_says_so', 'test_made_instances_are_formed', 'test_a_written_script_asks_only_where_an_agent_is_due', 'test_examples'}
+NEEDS_PROGRAM = {'test_points_cut_where_the_program_says_so', 'test_explain_beside_check', 'test_made_instances_are_formed', 'test_a_written_script_asks_only_where_an_agent_is_due', 'test_examples'}
 
 
 if __name__ == '__main__':

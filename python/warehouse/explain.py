@@ -6,7 +6,8 @@
     explain 'refused L1 line 7' FILE          FILE is the log file of `replay --log`
     explain 'cut A B' INSTANCE                all points that cut others, and a drawing with them
     explain E6                                a code alone; --all prints every code
-    explain --run PROGRAM WORD..              runs the program, and adds the sentence to a refusal on standard error
+    explain --run PROGRAM WORD..              runs the program, and adds the sentence to a refusal on standard error; to `check` of a
+                                              file also how many orders can be under way at once, or the points that cut others
 
 The program counts lines from 1 in each section anew: M codes in the map, P codes in the points, C codes with a line in
 the scripts of `live`. This adds what stands before. Replies have no line: `refused E1 NAME` is the answer to the command
@@ -15,14 +16,16 @@ at the same place as the reply, where comment lines, lines of blanks and empty l
 from __future__ import annotations
 
 import argparse
+import os
 import re
 import signal
+import stat
 import subprocess
 import sys
 
 from .cuts import explained as cuts_explained
 from .refusals import SENTENCES
-from .texts import Fault, Section, is_command, lines_of, read_file, sections_of, words_of
+from .texts import Fault, Instance, Section, is_command, lines_of, orders_of, read_file, read_instance, sections_of, words_of
 
 NAME = re.compile(r'[\w-]{1,16}', re.ASCII)
 
@@ -124,8 +127,38 @@ def started(words: list[str]) -> subprocess.Popen[bytes]:
     return program
 
 
+def input_again() -> int | None:
+    """From where standard input can be read once more; None where it is no file."""
+    try:
+        return os.lseek(0, 0, os.SEEK_CUR) if stat.S_ISREG(os.fstat(0).st_mode) else None
+    except OSError:
+        return None
+
+
+def orders_at_once(site: Instance, text: bytes) -> str:
+    """How many orders can be under way at once: each holds the station at which it ends."""
+    agents, stations = len(site.starts), sum(point.kind == 'station' for point in site.points)
+    scripts = sections_of(text)[2:3]
+    ends = {order.stops[-1] for order in (orders_of(scripts[0].lines) if scripts else []) if order.stops and site.is_station(order.stops[-1])}
+    said = f'{agents} agents, {stations} stations' + f', of which orders end at {len(ends)}' * bool(ends)
+    most = min(agents, len(ends) or stations)
+    return f'At most {most} orders can be under way at once: {said} (docs/MODELING.md says why).'
+
+
+def beside_check(text: bytes, status: int) -> list[str]:
+    """What is said of an instance beside the verdict of `check`."""
+    site = read_instance('the input', text)
+    if status == 0:
+        return [f'formed: {SENTENCES["formed"]}', orders_at_once(site, text)]
+    if sum(point.kind == 'parking' for point in site.points) < len(site.starts):
+        return [f'few: {SENTENCES["few"]}']
+    return [f'cut: {SENTENCES["cut"]}', *cuts_explained('the input', text)]
+
+
 def run_beside(words: list[str]) -> int:
-    """Runs a program, hands on its standard error, and adds the sentence of a refusal that it ends with; its status."""
+    """Runs a program, hands on its standard error, and adds the sentence of a refusal that it ends with, or what is said beside
+    a verdict of `check`; its status."""
+    begun = input_again() if words[1:] == ['check'] else None
     program, last = started(words), b''
     for last in program.stderr or ():
         sys.stderr.buffer.write(last)
@@ -135,6 +168,13 @@ def run_beside(words: list[str]) -> int:
     if status > 0 and said[:1] == ['refused'] and said[1:2] and said[1] in SENTENCES:
         place = ' (tools/explain.py shows the line)' if 'line' in said else ''
         print(f'{said[1]}: {SENTENCES[said[1]]}{place}', file=sys.stderr)
+    elif begun is not None and status in (0, 1):
+        with open(0, 'rb', closefd=False) as given:
+            given.seek(begun)
+            try:
+                print('\n'.join(beside_check(given.read(), status)), file=sys.stderr)
+            except Fault:
+                pass    # the program read it otherwise than this does, and has said what it found
     if status < 0:    # it was ended by a signal, and so is this
         if -status != signal.SIGKILL:
             signal.signal(-status, signal.SIG_DFL)

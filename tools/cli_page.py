@@ -1,0 +1,144 @@
+#!/usr/bin/env python3
+"""Makes docs/CLI.md and the man page docs/warehouse.1 from the help texts of the program, as tools/help keeps them.
+
+    tools/cli_page.py            writes both
+    tools/cli_page.py --check    writes nothing; status 1 where one differs from what would be written
+
+tests/launcher.sh compares tools/help with the program's own texts. What the help texts do not say stands below, in NOTES.
+"""
+from __future__ import annotations
+
+import os
+import re
+import sys
+
+ROOT = os.path.dirname(os.path.dirname(os.path.abspath(__file__)))
+PAGE, MANUAL = 'docs/CLI.md', 'docs/warehouse.1'
+SUBCOMMANDS = ('check', 'replay', 'verify', 'live')
+
+HEAD = '''# Command line
+
+<!-- Made by tools/cli_page.py from tools/help. Change these, not this page. -->
+
+`./warehouse SUBCOMMAND [options] < input`, from any folder. If the program is missing or older than a source, it is proved and built first; help and `--version` do not wait for that. `tools/look` takes the same arguments and runs the same code, not proved. The input is [sections](FORMATS.md#lines-and-words) separated by lines `%%`. `man -l docs/warehouse.1` shows a manual.
+'''
+
+NOTES = {
+    'check': ('''Prints `formed`, `few parkings HAVE NEED` or `cut A B` ([Modeling](MODELING.md#well-formed-floors)). Everything after the points is ignored.''',),
+    'replay': (
+        '''Reads commands from standard input, live through a pipe or from a file, and writes one reply for each ([Protocol](PROTOCOL.md)). Replies are written before each read that may wait.''',
+        '''`--log FILE`: the first line printed is `entries N`; each entry is synced before its reply is written ([Operations](OPERATIONS.md#stops-and-restarts)).''',
+        '''`--told N` needs `--log`; `--behind` and `--ahead` need `--vehicles`, and that needs `rule nofollow` in the points (`refused V4`). `--behind 1` is a barrier.''',
+        '''`--tail log` writes a line `%%` and the log after the replies, `--tail ledger` a line `%%` and one row for each client. `--slots` and `--bank` bound what planners may keep in memory; they change no reply.''',
+    ),
+    'verify': ('''Prints `run N`, N the number of entries, or `bad L`, the first line of the log that no run has.''',),
+    'live': (
+        '''Three uses. **With `--client`** it serves programs over named pipes ([Operations](OPERATIONS.md#several-clients)); the input is map and points alone, and `--log` is needed. **With `--every` alone** the clients are scripts, read beforehand, and one worker requests and ticks until all is delivered. **With neither** it is a drill of threads: each agent requests and the clock ticks `--turns` times, early requests included, and the run ends whatever is open. It prints the log; no client gets a reply.''',
+        '''The worker of `--every` ends when the clients are done and no order is open or under way; also after `--turns` rounds, when memory runs out, or when the journal is full. The status is 0 in each case: look in the log whether all is delivered.''',
+        '''`--board FILE`: FILE and FILE.new are replaced as a whole, if they are empty or boards; else `refused X6`. Without `--client`, at most 64 clients, agents and clock together.''',
+        '''`--share` and `--replies` need `--client`; `--board-every` needs `--board`; `--turns` beside `--client` needs `--every`. Client numbers and folders are distinct.''',
+    ),
+}
+
+STATUSES = (
+    ('0', 'done. Refused commands are no error; `replay --vehicles` may add `vehicles on their way: N` on standard error'),
+    ('1', 'the input is refused, not well-formed, or the log is no run'),
+    ('2', 'the command line is wrong, or something follows the points of `live --client` (`X7`)'),
+    ('3', 'input, output, log file or board failed (`X1`, `X2`, `X3`, `X5`, `X6`), or a thread (`E93`, `E95`)'),
+    ('4', '`refused E90`: out of memory at the start, or for the log at the end'),
+    ('125', 'from `./warehouse`: the program could not be built'),
+)
+
+TAIL = '''Each refusal is one line on standard error ([Formats](FORMATS.md#standard-error-and-exit-statuses)). On a terminal `./warehouse` adds a sentence, except for `live`; `tools/explain.py 'refused P4 line 2' INSTANCE` explains one and shows the line; `--all` prints every code.
+
+An argument that begins with a hyphen stands in the option's word, as in `--log=-x`. An option given twice, an abbreviation, and an argument that is not UTF-8 are refused.
+
+## Tools
+
+Each is documented by its `--help`.
+
+| To | Run |
+|---|---|
+| join files into one input | `tools/join.py my.map my.points my.orders > my` |
+| make an instance | `tools/make_instance.py --columns 60 --rows 40 --agents 20 --tasks 200 > my` |
+| import an instance of the AAMAS 2017 authors, a MovingAI scenario | `tools/import_mapd.py MAP TASK`, `tools/import_scen.py MAP SCEN --agents 20` |
+| drive an instance to its end | `tools/drive.py my --save run.log` |
+| make a script for `replay` that requests only where an agent is idle | `tools/due_script.py tasks > my` |
+| play a run; see one clock | `tools/play.py my run.log > run.html`, `tools/play.py my run.log --check 137` |
+| have figures as CSV | `tools/stats.py my run.log` |
+| make the input of `verify` | `tools/log_input.py my run.log` |
+| begin the next shift | `tools/next_shift.py run.log my > next` |
+| be a client of a service | `tools/client.py FOLDER` |
+| explain a refusal | `tools/explain.py MESSAGE [INSTANCE]` |
+'''
+
+
+def read(path: str) -> str:
+    with open(os.path.join(ROOT, path), encoding='utf-8') as text:
+        return text.read()
+
+
+def help_of(subcommand: str) -> str:
+    return read(f'tools/help/{subcommand}.txt')
+
+
+def page() -> str:
+    parts = [HEAD]
+    for name in SUBCOMMANDS:
+        notes = '\n\n'.join(NOTES[name])
+        parts.append(f'## {name}\n\n```\n{help_of(name).rstrip()}\n```\n\n{notes}\n')
+    rows = ''.join(f'| {status} | {text} |\n' for status, text in STATUSES)
+    parts.append(f'## Exit statuses\n\n| Status | Means |\n|---|---|\n{rows}\n{TAIL}')
+    return '\n'.join(parts)
+
+
+def plain(text: str) -> str:
+    """Markdown as plain words, escaped for roff."""
+    text = re.sub(r'\[([^]]*)\]\(([^)#]*)[^)]*\)', r'\1 (docs/\2)', text)
+    text = text.replace('`', '').replace('**', '').replace('\\', '\\e').replace('-', '\\-')
+    return re.sub(r"^([.'])", r'\\&\1', text, flags=re.MULTILINE)
+
+
+def option_rows(text: str) -> list[tuple[str, str]]:
+    """The options of a help text: words and description."""
+    rows = re.findall(r'^ +((?:-\w, )?--[\w-]+(?: <\w+>)?)  +(.*)$', text, re.MULTILINE)
+    return [(words, said) for words, said in rows if not words.startswith(('-h', '-V'))]
+
+
+def manual() -> str:
+    version = read('tools/help/version.txt').split()[1]
+    lines = [f'.TH WAREHOUSE 1 "" "warehouse {version}" "User commands"', '.SH NAME',
+             'warehouse \\- proved control core for warehouse fleets', '.SH SYNOPSIS',
+             '.B warehouse', '.I SUBCOMMAND', '[options] < input', '.SH DESCRIPTION',
+             plain('Standard input holds map, points, and what the subcommand reads besides, separated by lines %%.')]
+    for name in SUBCOMMANDS:
+        text = help_of(name)
+        lines += [f'.SH {name.upper()}', plain(text.split('\n', 1)[0]) + '.']
+        for words, said in option_rows(text):
+            lines += ['.TP', f'.B {plain(words)}', plain(said)]
+        for note in NOTES[name]:
+            lines += ['.PP', plain(note)]
+    lines.append('.SH EXIT STATUS')
+    for status, said in STATUSES:
+        lines += ['.TP', f'.B {status}', plain(said)]
+    lines += ['.SH SEE ALSO', plain('README.md, docs/PROTOCOL.md, docs/OPERATIONS.md, docs/FORMATS.md')]
+    return '\n'.join(lines) + '\n'
+
+
+def main() -> int:
+    stale = []
+    for path, made in ((PAGE, page()), (MANUAL, manual())):
+        where = os.path.join(ROOT, path)
+        if sys.argv[1:] == ['--check']:
+            if not os.path.exists(where) or read(path) != made:
+                stale.append(path)
+        else:
+            with open(where, 'w', encoding='utf-8') as text:
+                text.write(made)
+    if stale:
+        print(f'{", ".join(stale)}: run tools/cli_page.py')
+    return 1 if stale else 0
+
+
+if __name__ == '__main__':
+    sys.exit(main())
