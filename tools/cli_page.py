@@ -51,7 +51,7 @@ STATUSES = (
 
 TAIL = '''Each refusal is one line on standard error ([Formats](FORMATS.md#standard-error-and-exit-statuses)). On a terminal `./warehouse` adds a sentence, except for `live`; `tools/explain.py 'refused P4 line 2' INSTANCE` explains one and shows the line; `--all` prints every code.
 
-An argument that begins with a hyphen stands in the option's word, as in `--log=-x`. An option given twice, an abbreviation, and an argument that is not UTF-8 are refused.
+A value that begins with a hyphen is joined to its option, as in `--log=-x`. An option given twice, an abbreviation, and an argument that is not UTF-8 are refused.
 
 ## Tools
 
