@@ -52,7 +52,8 @@ DATED = {'CHANGELOG.md': 'a list of what changed when'}
 GENERATED = {'docs/CLI.md': 'tools/cli_page.py', 'docs/CRATES.md': 'tools/crates_page.py', 'docs/EXPERIMENTS.md': 'tools/figures_pages.py',
              'docs/PERFORMANCE.md': 'tools/figures_pages.py'}
 # Terms of the field that the glossary has.
-TERMS = 'SIPP, heuristic, admissible, prioritized, lifelong, livelock, reservation table, swap, write-ahead, fsync, crash, durable, group commit, linearizable, worker pool, AGV, AMR, WMS, VDA 5050, well-formed, endpoint, MAPD, makespan, throughput, acknowledged'
+TERMS = ('SIPP, heuristic, admissible, prioritized, lifelong, livelock, reservation table, swap, write-ahead, fsync, crash, durable, '
+         'group commit, linearizable, worker pool, AGV, AMR, WMS, VDA 5050, well-formed, endpoint, MAPD, makespan, throughput, acknowledged')
 
 OF_A_DAY = re.compile(r'\b20[0-9]{2}-[01][0-9]-[0-3][0-9]\b|\bcommit (?=[0-9a-f]*[0-9])[0-9a-f]{7,}\b|\bload (?:of )?[0-9]'
                       r'|\bsince then\b|\bformerly\b|\bused to be\b|\bis gone\b(?! on)|\buntil now\b|\bas it was before\b', re.ASCII)

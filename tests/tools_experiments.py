@@ -137,7 +137,7 @@ def test_the_table_of_changes() -> None:
     with contextlib.redirect_stdout(said):
         experiments.print_changes(found, experiments.VARIANTS['near'], experiments.VARIANTS['near-nofollow'], 'T')
         experiments.print_changes(found, experiments.VARIANTS['near'], experiments.VARIANTS['patient'], 'U')
-    same(said.getvalue().splitlines()[3:], ['| Agents | Orders a tick | Makespan | Service, mean | Requests | ms in all |',
+    same(said.getvalue().splitlines()[3:], ['| Agents | Orders a tick | Makespan | Service, mean | Requests | CPU ms, total |',
                                             '|---|---|---|---|---|---|', '| 10 | 2 | +10.0 % | +2.0 % | -25.0 % | +150.0 % |'])
 
 

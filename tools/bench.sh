@@ -235,7 +235,7 @@ desks() {
     done
 }
 
-# Requests that were dear, of growing sizes (tools/floods.py).
+# Requests that are expensive, of growing sizes (tools/floods.py).
 floods() {
     instances    # so that the program is built
     echo

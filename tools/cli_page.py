@@ -51,25 +51,25 @@ STATUSES = (
 
 TAIL = '''Each refusal is one line on standard error ([Formats](FORMATS.md#standard-error-and-exit-statuses)). On a terminal `./warehouse` adds a sentence, except for `live`; `tools/explain.py 'refused P4 line 2' INSTANCE` explains one and shows the line; `--all` prints every code.
 
-An argument that begins with a hyphen stands in the option's word, as in `--log=-x`. An option given twice, an abbreviation, and an argument that is not UTF-8 are refused.
+A value that begins with a hyphen is joined to its option, as in `--log=-x`. An option given twice, an abbreviation, and an argument that is not UTF-8 are refused.
 
 ## Tools
 
 Each is documented by its `--help`.
 
-| To | Run |
+|To|Run|
 |---|---|
-| join files into one input | `tools/join.py my.map my.points my.orders > my` |
-| make an instance | `tools/make_instance.py --columns 60 --rows 40 --agents 20 --tasks 200 > my` |
-| import an instance of the AAMAS 2017 authors, a MovingAI scenario | `tools/import_mapd.py MAP TASK`, `tools/import_scen.py MAP SCEN --agents 20` |
-| drive an instance to its end | `tools/drive.py my --save run.log` |
-| make a script for `replay` that requests only where an agent is idle | `tools/due_script.py tasks > my` |
-| play a run; see one clock | `tools/play.py my run.log > run.html`, `tools/play.py my run.log --check 137` |
-| have figures as CSV | `tools/stats.py my run.log` |
-| make the input of `verify` | `tools/log_input.py my run.log` |
-| begin the next shift | `tools/next_shift.py run.log my > next` |
-| be a client of a service | `tools/client.py FOLDER` |
-| explain a refusal | `tools/explain.py MESSAGE [INSTANCE]` |
+|join files into one input|`tools/join.py my.map my.points my.orders > my`|
+|make an instance|`tools/make_instance.py --columns 60 --rows 40 --agents 20 --tasks 200 > my`|
+|import an instance of the AAMAS 2017 authors, a MovingAI scenario|`tools/import_mapd.py MAP TASK`, `tools/import_scen.py MAP SCEN --agents 20`|
+|drive an instance to its end|`tools/drive.py my --save run.log`|
+|make a script for `replay` that requests only where an agent is idle|`tools/due_script.py tasks > my`|
+|play a run; see one clock|`tools/play.py my run.log > run.html`, `tools/play.py my run.log --check 137`|
+|have figures as CSV|`tools/stats.py my run.log`|
+|make the input of `verify`|`tools/log_input.py my run.log`|
+|begin the next shift|`tools/next_shift.py run.log my > next`|
+|be a client of a service|`tools/client.py FOLDER`|
+|explain a refusal|`tools/explain.py MESSAGE [INSTANCE]`|
 '''
 
 
@@ -87,8 +87,8 @@ def page() -> str:
     for name in SUBCOMMANDS:
         notes = '\n\n'.join(NOTES[name])
         parts.append(f'## {name}\n\n```\n{help_of(name).rstrip()}\n```\n\n{notes}\n')
-    rows = ''.join(f'| {status} | {text} |\n' for status, text in STATUSES)
-    parts.append(f'## Exit statuses\n\n| Status | Means |\n|---|---|\n{rows}\n{TAIL}')
+    rows = ''.join(f'|{status}|{text}|\n' for status, text in STATUSES)
+    parts.append(f'## Exit statuses\n\n|Status|Means|\n|---|---|\n{rows}\n{TAIL}')
     return '\n'.join(parts)
 
 

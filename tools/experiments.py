@@ -17,12 +17,12 @@ The instance is asked of `check`; tools/drive.py's code drives it to its end; it
 `formed`, delivered and `run N` ends the script. What was sent is kept, and `replay` of it must give the same replies.
 
     makespan        the clock of the last delivery
-    service         ticks from an order's release to its delivery: the mean, and the least time that 95 of 100 needed at most
-    at work         agents that have a task, from taking it to its delivery; the mean over the ticks of the makespan
+    service         ticks from an order's release to its delivery: the mean, and p95, the least time that 95 of 100 needed at most
+    busy agents     agents that have a task, from taking it to its delivery; the mean over the ticks of the makespan
     requests        requests for the token, tasks taken or not
-    ms in all       milliseconds of processor time (user and system) of a whole process of `replay` of what was sent, the
+    CPU ms, total   milliseconds of processor time (user and system) of a whole process of `replay` of what was sent, the
                     least of --runs: reading the floor, the orders and the ticks are in it, no pipe and no client is
-    us a request    the same in microseconds, divided by the requests. An answer `rested` costs little and counts as much
+    us per request  the same in microseconds, divided by the requests. An answer `rested` costs little and counts as much
                     as a search, so it falls where many rest. --no-times leaves both out
 
 reach: at each clock as many orders are handed in as make --open of them open (as many as agents, if not named), between
@@ -248,8 +248,8 @@ def change(old: float, new: float) -> str:
 def print_runs(options: argparse.Namespace, plan: Plan) -> list[Result]:
     """A row a run, as it is made."""
     several = len(options.variants) > 1
-    print(head('Agents', 'Orders a tick', *(('Planner', 'Rule') if several else ()), 'Makespan', 'Service, mean', 'Service, 95 of 100',
-               'At work', 'Requests', *(() if options.no_times else ('ms in all', 'us a request'))), flush=True)
+    print(head('Agents', 'Orders a tick', *(('Planner', 'Rule') if several else ()), 'Makespan', 'Service, mean', 'Service, p95',
+               'Busy agents', 'Requests', *(() if options.no_times else ('CPU ms, total', 'us per request'))), flush=True)
     found = []
     for result in results(options, plan):
         rows = result.rows
@@ -268,7 +268,7 @@ def print_changes(found: list[Result], old: Variant, new: Variant, title: str) -
         return
     timed_ones = all(result.seconds is not None for pair in rows for result in pair)
     print(f'\n{title}\n\n' + head('Agents', 'Orders a tick', 'Makespan', 'Service, mean', 'Requests',
-                                  *(('ms in all',) if timed_ones else ())))
+                                  *(('CPU ms, total',) if timed_ones else ())))
     for one, two in rows:
         print(cells(one.agents, one.frequency,
                     *(change(float(one.rows[name]), float(two.rows[name])) for name in ('makespan', 'service_mean', 'requests')),

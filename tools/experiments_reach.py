@@ -146,8 +146,8 @@ def row(found: Reached) -> list[str]:
             f'{found.most / MB:.0f}']
 
 
-HEAD = ('Floor', 'Agents', 'Orders taken', 'Requests a tick', 'Processor ms a tick: mean', '95 of 100', 'most', 'first tick',
-        'Requests a processor second', 'Wall ms a tick: mean', '95 of 100', 'most', 'first tick', 'Missed', 'Memory, MB', 'Most')
+HEAD = ('Floor', 'Agents', 'Orders taken', 'Requests a tick', 'Processor ms a tick: mean', 'p95', 'most', 'first tick',
+        'Requests a processor second', 'Wall ms a tick: mean', 'p95', 'most', 'first tick', 'Missed', 'Memory, MB', 'Most')
 
 
 def table(options: argparse.Namespace, make: Callable[[Sequence[str], int, int, int], bytes]) -> None:

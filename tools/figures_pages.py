@@ -24,7 +24,7 @@ ROOT = os.path.dirname(os.path.dirname(os.path.abspath(__file__)))
 PAGES = [os.path.join(ROOT, 'docs', name) for name in ('EXPERIMENTS.md', 'PERFORMANCE.md')]
 MARKED = re.compile(r'(<!-- (figures|rows): (.*?) -->\n\n)(.*?)(\n<!-- end -->)', re.DOTALL)
 NAMES = {'Agents': 'agents', 'Orders a tick': 'orders_per_tick', 'Planner': 'planner', 'Rule': 'rule', 'Makespan': 'makespan',
-         'Service, mean': 'service_mean', 'Service, 95 of 100': 'service_p95', 'At work': 'busy_agents', 'Requests': 'requests'}
+         'Service, mean': 'service_mean', 'Service, p95': 'service_p95', 'Busy agents': 'busy_agents', 'Requests': 'requests'}
 HEADS = {'agents': 'Agents', 'speeds': 'Speeds', 'seed': 'Seed', 'ahead': '`--ahead`', 'variant': 'Planner, rule',
          'instance': 'Instance', 'subcommand': 'Subcommand', 'seconds': 'Seconds', 'mb': 'MB', 'this_program_millions': 'this program',
          'peer_millions': '`tools/peer`', 'floor': 'Floor', 'orders_taken': 'Orders taken', 'ms_mean': 'Mean ms a tick', 'ms_p95': 'p95',

@@ -1,5 +1,5 @@
 #!/usr/bin/env python3
-"""Writes an instance of which one request is dear for a search that is not careful.
+"""Writes an instance of which one request is expensive for a search that is not careful.
 
   tools/floods.py FAMILY NUMBERS.. > instance
   crates/warehouse/out/warehouse replay < instance
@@ -22,8 +22,8 @@ Families, and their numbers:
   wide N A           an open map of N by N, A agents, one far task each: distance fields of whole maps
   maze N A T         a maze of N by N with its points in dead ends, A agents, T tasks, one a tick, and each agent asks at each tick
 
-All but `unreachable`, `late` and `shut` are well-formed where the numbers are large enough: `warehouse check` tells.
-The last request of an instance is the dear one; of `rests`, `wide` and `maze` none is by itself.
+All but `unreachable`, `late` and `shut` are well-formed where the numbers are large enough: `warehouse check` says so.
+The last request of an instance is the expensive one; of `rests`, `wide` and `maze` none is by itself.
 """
 import os
 import random
