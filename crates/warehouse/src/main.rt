@@ -1,5 +1,6 @@
-//! `warehouse`: tells whether a warehouse of agents on a grid is well-formed, replays a script of commands to it, verifies
-//! the log of a run, and runs clients, agents and a clock over it in threads.
+//! The program: makes the boxed planners, and joins the call of `wh_program` to the process.
+//!
+//! Proved: the planners plan on the grid handed to them and have their claim's slots.
 //!
 //! The logic is in `wh_service`, over any reader and any writer. This file connects it to the process: its words, its
 //! standard streams, and its exit status. It also says how a planner is made, and no crate below knows any kind of planner.

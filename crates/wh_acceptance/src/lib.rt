@@ -1,6 +1,4 @@
-//! The program's libraries from outside, where no call of the program can ask them: readers and writers that fail, the machine
-//! command by command, and the options that words give. What the program can be asked stands in `tests/`. There is nothing here
-//! but tests.
+//! Tests across crates: readers and writers that fail, the machine command by command, the command line.
 #![tactic(auto)]
 
 #[cfg(test)]

@@ -1,4 +1,8 @@
-//! `warehouse live` with running clients, who come in by doors, over a log file.
+//! `warehouse live` with running clients: from reading the instance to the finished log.
+//!
+//! Proved: the run starts from what the log holds; each named client has its rights and share, the worker the rest; old
+//! and new entries are one run, and the file is its log, synced; else the first error in order, and before clients are
+//! served nothing is written (`attend`).
 #![tactic(auto)]
 
 mod attending;

@@ -1,5 +1,8 @@
-//! The published board: the token's holder publishes it, and displays read it without waiting. What a display sees never
-//! goes back. Beside it the book of what was done, which exists in proofs alone.
+//! The published board: a status snapshot that displays read without waiting.
+//!
+//! Proved: a look is the board of a history that is a run and begins with all that this display saw or learnt; it waits
+//! for nobody; of the histories known to two viewers one extends the other (`Viewer::look`, `Viewer::front`,
+//! `Publisher::publish`).
 #![tactic(auto)]
 
 mod board;

@@ -1,5 +1,10 @@
-//! A script of commands and of reports of vehicles, served over two files: the log keeps the entries, and a file of arrivals
-//! beside it the reports that moved vehicles, so that a run and its vehicles go on after a stop.
+//! A script with vehicles over two files: the log, and a file of arrivals beside it, and the run that continues over
+//! both.
+//!
+//! Proved: lines are served as by `wh_dispatch`; entries are synced before reports, and both before what they cause is
+//! written; a report that is not kept moves no vehicle; vehicles are found at the steps that the file names, or a line
+//! or an agent is named. That what a kill leaves of both files fits together is not proved (`convoy`, `find_stand`,
+//! `ride_on`, `laws`).
 #![tactic(auto)]
 
 mod beginning;

@@ -1,4 +1,8 @@
-//! The abstract warehouse: its state, its steps and runs, and the laws over all runs; how far a warehouse goes.
+//! The abstract warehouse: state, step, run, the states with which a run may begin, and the laws over all runs.
+//!
+//! Proved: over every run from a sound state: no collision, each task once, each visit made, each event answered, no
+//! request refused on a well-formed instance; those laws that speak of where paths lead hold once all agents are on
+//! their ways. Runs from an opening are those of Token Passing (`laws`, `homes`, `rows`).
 #![tactic(auto)]
 
 mod bounds;

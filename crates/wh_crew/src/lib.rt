@@ -1,4 +1,8 @@
-//! A crew: a thread for each worker, all over one desk.
+//! Workers as threads over one desk, and one worker for all agents and the clock, guided by a board.
+//!
+//! Proved: the history is a run from an opening and holds each worker's commands, in order, without those missed, each
+//! with a cause; the agents' worker requests for each agent that a board shows idle, or for none if no task is open,
+//! then ticks, and ends as said (`crew`, `look_for_turn`, `run_agents`, `crew_at_pace`).
 #![tactic(auto)]
 
 mod agents;

@@ -1,5 +1,9 @@
-//! The desk: the warehouse behind one lock, shared by client threads. Each caller has a pass, and each call that is answered
-//! is a receipt, which stands in one history for good. After each call the desk publishes its board.
+//! The warehouse behind one lock: passes, receipts, one history.
+//!
+//! Proved: each answered call is a receipt that is in one history for good, after all that its pass had received, with
+//! the clock there; a refusal changes nothing and sets no cell; who finds the journal full knows of a history with an
+//! entry for each cell; at the end each pass knows a prefix of the history (`Desk`, `Journal::enter`, `Desk::meet`,
+//! `Desk::finish`).
 #![tactic(auto)]
 
 mod answer;

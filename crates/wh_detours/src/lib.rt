@@ -1,4 +1,8 @@
-//! Detours round others that stay: a shortest path on the grid without their cells.
+//! A delivery where agents at rest block the way to a stop: the same search on the grid without their cells.
+//!
+//! Proved: the same of a delivery, with a detour or without; the grid without taken cells has just the other cells, on
+//! it the same paths deliver, and a shortest one there is a shortest one. When a detour is made no clause says, since
+//! it changes no length (`deliver_round`, `without_taken`, `barred_ways`, `laws`).
 #![tactic(auto)]
 
 mod barred;

@@ -1,5 +1,9 @@
-//! A script of commands and of reports of vehicles, served line by line: the warehouse goes on, and each vehicle carries out
-//! its agent's part at its own pace.
+//! A script of commands and of vehicles' reports, answered line by line, with vehicles that carry out the plan late.
+//!
+//! Proved: commands are answered as without vehicles, by one run; a tick is refused exactly while a vehicle is the
+//! bound or more behind; after each line every vehicle that may move was granted its step and every visit made was
+//! written, once each, in order; all of it is a run of vehicles over the history's ticks (`dispatch`, `serve`,
+//! `set_out`, `laws`).
 #![tactic(auto)]
 
 mod fleet;

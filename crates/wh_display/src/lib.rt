@@ -1,4 +1,8 @@
-//! What a display is shown of a running warehouse: the text of a board, shown again each time the board has changed.
+//! The text of a board, and a screen or file that shows it again when it has changed.
+//!
+//! Proved: a board has one text; a look shows the text of a board of what the viewer knows, unless nothing changed; a
+//! watch shows boards in turn, each extending the one before, and the last is of all that is known if the last look
+//! succeeded (`text_of_board`, `refresh`, `renew`, `watch`).
 #![tactic(auto)]
 
 mod file_screen;

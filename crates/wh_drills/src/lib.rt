@@ -1,4 +1,4 @@
-//! The fleet with real threads: callers and crews at one desk, and displays that look at its board meanwhile.
+//! Tests with real threads: callers and crews at one desk, displays beside them, clients that reconnect.
 //!
 //! A test asserts once, what a helper tells. What owns a warehouse is dropped by name: a drop at the end of a scope would be proved
 //! anew, part by part, in each function that has one.

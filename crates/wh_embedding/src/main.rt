@@ -1,6 +1,8 @@
-//! The warehouse inside another program: from the text of a map to a run's history, by two ways to hold the planners. One is
-//! boxes, made by a closure here and handed to a function that is generic in the planner; the other is an enum of both
-//! kinds, which may be named anywhere. `docs/EMBEDDING.md` goes through it.
+//! The warehouse inside another program, with planners in boxes and as values of an enum; `docs/EMBEDDING.md` goes
+//! through it.
+//!
+//! Proved: it keeps what the calls require, and the history of its day is a run from an opening, with no request
+//! refused for lack of a path if the instance is well-formed (`warehouse_after`, `Mind`, `work`).
 #![tactic(auto)]
 
 mod day;

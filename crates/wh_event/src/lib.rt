@@ -1,4 +1,8 @@
-//! What is said in a warehouse: commands, events, replies, and the entries of a history.
+//! Commands, events, replies and entries, and their texts.
+//!
+//! Proved: a command line is read exactly if it fits the grammar, skipped and refused lines likewise; a reply's text is
+//! exactly the format's and fits 64 bytes; replies with the same text mean the same (`read_line`, `read_front_into`,
+//! `write_reply`, `replies_tell`).
 #![tactic(auto)]
 
 mod command_line;

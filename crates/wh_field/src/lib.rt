@@ -1,4 +1,9 @@
-//! Distances and routes on the grid, breadth first.
+//! Distances and shortest routes by breadth first: whole fields, lazy ones, growing ones, and one for several cells.
+//!
+//! Proved: a distance is the number of steps of a shortest walk, None exactly if there is no walk; a lazy field answers
+//! the same up to a limit; a growing field's estimate at a level is the distance, or one more than the level; a route
+//! is shortest among all walks that avoid given cells (`Field::dist`, `LazyField`, `GrowingField`, `NearestField`,
+//! `route`).
 #![tactic(auto)]
 
 mod field;

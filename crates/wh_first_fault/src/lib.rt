@@ -1,4 +1,7 @@
-//! The first fault of a map and of a points file: laws that the readers report exactly that one. Nothing runs here.
+//! Laws that the error reported for a map or a points file is its first one. Nothing runs here.
+//!
+//! Proved: the lines before it begin a map, or spell points, none continues with its line, and it is wrong in the way
+//! that its kind says; there is exactly one such line, and none in a valid text (`map_faults_are`, `point_faults_are`).
 #![tactic(auto)]
 
 mod laws;

@@ -1,4 +1,7 @@
-//! Whether an instance is well-formed.
+//! Decides whether an instance is well-formed, over worker threads.
+//!
+//! Proved: the verdict is the only one that the definition allows: well-formed, too few parkings, or the first pair of
+//! points that is cut; so it is the same for any number of workers (`check`).
 #![tactic(auto)]
 
 mod checker;

@@ -1,4 +1,8 @@
-//! The grid of a warehouse: which cells may be walked on, as a MovingAI map tells it.
+//! The grid: cells, which of them are passable, and the reader of MovingAI maps.
+//!
+//! Proved: a map is read exactly if it fits the grammar, with that value; else the first error and its line are
+//! returned, or out of memory, and nothing after that line changes the error; neighbours, passable cells and sameness
+//! are exact (`Grid::read`, `Grid::neighbours`, `Grid::same`).
 #![tactic(auto)]
 
 mod cell;

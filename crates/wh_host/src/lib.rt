@@ -1,5 +1,8 @@
-//! A run that hosts remote clients: a warehouse behind a desk, a journal behind that, and, if asked for, a
-//! worker for all agents and the clock, and boards on a screen.
+//! A run that hosts running clients, with a journal, a worker for all agents and the clock, and boards on a screen.
+//!
+//! Proved: they leave one run that extends the earlier entries; each new entry is one client's, within its rights and
+//! share, or the worker's; a journal that was the log has the lines of all, synced if it is reported whole; a screen
+//! was shown ever longer prefixes (`host_clients`, `run_clients`).
 #![tactic(auto)]
 
 mod beside;

@@ -1,5 +1,8 @@
-//! Whether a log is the history of a warehouse: its entries are judged one after another, from the state alone, and nothing
-//! is planned.
+//! Verification: whether an entry is a step, whether a log is a run, and its first line that is not.
+//!
+//! Proved: whether an entry is a step is decided exactly, from the state alone; a log is called a run exactly if it is
+//! of the format and its entries are a run from the opening that it names; of a text one thing can be said
+//! (`Judge::step`, `verify`, `runs_are_logs`, `verdicts_are_one`).
 #![tactic(auto)]
 
 mod agents;

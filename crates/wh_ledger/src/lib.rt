@@ -1,4 +1,7 @@
-//! The delivery ledger: what the tasks of each client have come to, and its text.
+//! The delivery ledger: tasks counted by client, and its text.
+//!
+//! Proved: a ledger is the count over the whole task list: one row for each client, in order of first tasks, whose four
+//! phases add up; its text is the format's (`DeliveryLedger::of`, `ledger_text`, `laws`).
 #![tactic(auto)]
 
 pub mod laws;

@@ -1,4 +1,7 @@
-//! `warehouse live`: clients, agents and a clock at work in threads, and the log of what they did.
+//! `warehouse live` with scripts: clients, agents and clock at work in threads, and the log of it.
+//!
+//! Proved: the scripts are the sections that were read; the log is the one text of one history, made by these workers
+//! alone; a screen was shown boards of ever longer prefixes of it (`read_clients`, `run_crew`).
 #![tactic(auto)]
 
 mod clients;

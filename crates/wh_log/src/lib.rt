@@ -1,5 +1,8 @@
-//! The log of a warehouse: its history as a strict text, written, read back and told to a judge entry by entry. And how
-//! a reply is told, in the log's own words too.
+//! The log: read, written and followed, as a text or piece by piece; replies in short form or in the log's own words.
+//!
+//! Proved: a log is read exactly if it fits the strict grammar; an error names the first line with which no log begins;
+//! what is written is the content's one text, and reads back as it was; a reply's text determines the reply, its place
+//! and clock (`read_log`, `log_text`, `follow`, `follow_front`, `cuts_are_found`, `replies_are`).
 #![tactic(auto)]
 
 mod bounds;

@@ -1,6 +1,7 @@
-//! Worked rows of the libraries of grids, points, paths, fields and searches, from outside, a file for each.
-//! A crate that has tests is proved twice, so those crates have none. Beside the tests there is `layers`, a plain search that
-//! is proved as well: what the searches of the program find is held beside what it finds.
+//! Tests of the libraries of grids, points, paths, fields and searches; and `layers`, a plain search that is proved as
+//! well.
+//!
+//! Proved: `layers` finds a valid path that none ends earlier than, and none exactly if there is none.
 #![tactic(auto)]
 
 #[cfg(test)]

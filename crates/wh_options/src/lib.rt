@@ -1,4 +1,7 @@
-//! The command line of `warehouse`: which words give which options, and how any other words are refused.
+//! The command line: which arguments give which options, and how all others are refused.
+//!
+//! Proved: arguments give options exactly if they fit the written grammar, each value given and in range, or its
+//! default, and options that go together; else there is the error that applies (`options`, `refusal_of`).
 //!
 //! `options` reads the words, and `refusal_of` tells why words give none. The
 //! grammar of the words stands in `specs/Setting.antt` and `specs/Options.antt`.

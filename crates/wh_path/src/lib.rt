@@ -1,4 +1,7 @@
-//! Timed paths on the grid, and their conflicts.
+//! Timed paths: where an agent is at each time; vertex, swap and following conflicts; lemmas on walks.
+//!
+//! Proved: a path is where it says at every time, resting included; `conflict` finds the first conflict over all times,
+//! and none exactly if two paths are free for ever; being free is mutual and lasts (`conflict`, `TimedPath`, `laws`).
 #![tactic(auto)]
 
 mod ends;

@@ -1,5 +1,7 @@
-//! Clients over named pipes: each has a folder with two of them, `in` for its commands and `out` for its replies. No
-//! contract can say anything of what a file gives or takes, so neither do those here.
+//! Clients over named pipes, `in` and `out` in a folder for each, and how threads blocked in them are released.
+//!
+//! Proved: only that its code does not panic, reads no more than asked for, and sends threads what is `Send`: no
+//! contract says what a pipe gives or takes.
 #![tactic(auto)]
 
 mod connection;

@@ -1,4 +1,7 @@
-//! Duties, scenes, the trait of planners, and where the other agents come to rest.
+//! The trait of planners, valid paths, and static paths.
+//!
+//! Proved: of every planner: a returned path is valid, and there is none only without a static path, also for an agent
+//! under way; a static path gives a valid one, with or without the rule (`Planner::plan`, `laws`).
 #![tactic(auto)]
 
 mod duty;

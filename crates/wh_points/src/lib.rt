@@ -1,4 +1,8 @@
-//! The points of a warehouse: stations and parkings, and where each agent starts.
+//! The endpoints: stations, parkings, where each agent starts; the reader of points files; what a well-formed instance
+//! is.
+//!
+//! Proved: a points file is read exactly if it fits the grammar; what is read has passable, distinct points, distinct
+//! starts and at least one agent; a name is found exactly if a point has it (`Points::read`, `Points::find`).
 #![tactic(auto)]
 
 mod draft;

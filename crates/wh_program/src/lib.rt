@@ -1,5 +1,7 @@
-//! The whole program, from its words and its input to its output and its status: the words are read, what they ask for is done
-//! over the files that they name, and it is told how that ended.
+//! The whole program as one call, from arguments and input to output and status.
+//!
+//! Proved: where the arguments give options, what these ask for was done, and the status says what it came to; else no
+//! input is read. Nothing is said of the bytes of a file or pipe (`run`).
 #![tactic(auto)]
 
 mod attending;

@@ -1,6 +1,7 @@
-//! Worked rows, call by call: where a call is refused for lack of memory, what the value tells is looked at, and the same
-//! call is made again before the next one. With no argument all rows are run, and with the name of a row that one
-//! alone. `tests/calls_made_again.py` runs it with each request for memory refused in turn.
+//! Worked rows, call by call: a call that was refused for lack of memory is made again.
+//!
+//! Proved: it is safe, and keeps what the calls require. `tests/calls_made_again.py` runs it with each request for
+//! memory refused in turn.
 #![tactic(auto)]
 
 mod again;

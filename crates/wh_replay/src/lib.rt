@@ -1,4 +1,8 @@
-//! A script of commands served line by line: each reply is written before the next read that may wait.
+//! A script answered line by line; each reply is written before the next read that may wait.
+//!
+//! Proved: what is written is the output of the bytes read: its commands are one run, the history grows by that run
+//! alone; after an error whole lines were served and none after them, all replies but the last written whole; the clock
+//! of a reply is the run's (`replay`, `clocks_are`).
 #![tactic(auto)]
 
 mod answer;

@@ -1,5 +1,8 @@
-//! One journal behind a desk that many threads call. Each entry of the history is appended to it in the history's order, and a
-//! receipt is told only when its entry's line is synced. While lines are appended and synced, calls go on.
+//! One journal behind a desk: entries are appended in order, and acknowledged once synced, one sync for all who wait.
+//!
+//! Proved: a receipt that is returned is in a run that its pass knows, and the lines of this run up to it were synced;
+//! a refused call changed nothing; after an error nothing is appended (`Scribe::call`, `Scribe::keeps`,
+//! `Scribe::into_journal`).
 #![tactic(auto)]
 
 mod calling;

@@ -1,4 +1,9 @@
-//! What is searched for, by which estimates, and a pass for a path that has no more steps than are estimated.
+//! What is searched for and by which heuristics; the greedy depth-first descent for a path of just as many steps as the
+//! heuristic says.
+//!
+//! Proved: a path that the descent finds is valid and none, however long, ends earlier; where it finds none, each has
+//! more steps than the heuristic at the start; kept memory has room for at most 8,192 entries. A descent that may be
+//! given up says nothing where it finds none (`find_straight`, `try_straight`, `first_end`, `SearchMemory`).
 #![tactic(auto)]
 
 pub mod errand;

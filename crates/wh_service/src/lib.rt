@@ -1,5 +1,9 @@
-//! The services of the program, each under the name of its subcommand: `check`, `verify`, `replay`, `live`, over any reader
-//! and any writer.
+//! The subcommands `check`, `verify`, `replay` and `live`, over any reader and writer, generic in the planner.
+//!
+//! Proved: each reads its sections, or reports the first error in order; the run is from an opening with the options'
+//! slots, or from what the log holds; replies, log or ledger are what was written, and in a file each reply was synced
+//! first; on a well-formed instance no request is refused for lack of a path (`replay`, `serve_kept`, `serve_late`,
+//! `serve_convoy`, `check`, `verify`, `live`).
 //!
 //! `replay` and `live` are handed how one planner is made, so that they work with planners of any type, and make none
 //! themselves.

@@ -1,4 +1,8 @@
-//! The warehouse's run as a plan that vehicles carry out late, and the lines of those who drive them.
+//! The warehouse's run as a plan that vehicles carry out late; the line of a report, the texts for vehicles.
+//!
+//! Proved: each run of the warehouse is such a plan, so all laws of `wh_drive` hold; vehicles are always at passable
+//! cells, no two at one; a line is a report exactly if it has that form; the vehicle furthest behind is named if it is
+//! at least the bound behind (`laws`, `read_report`, `put_notice`, `answer_report`, `late`).
 #![tactic(auto)]
 
 mod driving;

@@ -1,5 +1,4 @@
-//! Worked rows of the libraries of texts, lines, words, events, logs and the edge, from outside, a file for each.
-//! There is nothing here but tests: a crate that has tests is proved twice, so those crates have none.
+//! Tests of the libraries of texts, lines, words, events, logs and the edge, a file for each.
 #![tactic(auto)]
 
 #[cfg(test)]

@@ -1,5 +1,4 @@
-//! Worked rows of the libraries of tasks, states, planners, judges and late vehicles, from outside, a file for each.
-//! There is nothing here but tests: a crate that has tests is proved twice, so those crates have none.
+//! Tests of the libraries of tasks, states, planners, judges and late vehicles, a file for each.
 #![tactic(auto)]
 
 #[cfg(test)]
