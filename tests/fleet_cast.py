@@ -9,10 +9,20 @@ import os
 import random
 import socket
 import subprocess
+import sys
 import time
 
 ROOT = os.path.dirname(os.path.dirname(os.path.abspath(__file__)))
 BROKER = '/usr/sbin/mosquitto'
+ENVIRONMENT = {**os.environ, 'PYTHONPATH': os.path.join(ROOT, 'python')}
+
+
+def python_with_paho() -> str:
+    """A Python that sees paho-mqtt, '' where there is none."""
+    for python in (sys.executable, '/usr/bin/python3'):
+        if subprocess.run([python, '-c', 'import paho.mqtt.client'], capture_output=True).returncode == 0:
+            return python
+    return ''
 
 
 def free_port() -> int:
@@ -48,6 +58,10 @@ class Judge:
                     self.loads[what, of] += 1
                 elif what == 'in':
                     inside.setdefault(of, float(second))
+                elif what == 'here':
+                    # a kill came between its arrival and that line, and it told nobody before this one
+                    for cell in set(inside) - set(of.split(',')):
+                        cells[cell].append((inside.pop(cell), float(second), vehicle))
                 else:
                     cells[of].append((inside.pop(of), float(second), vehicle))
                     self.stays += 1
@@ -65,7 +79,7 @@ class Cast:
                  words: tuple = ()):
         self.folder, self.instance, self.program, self.starts, self.rows = folder, instance, program, starts, rows
         self.step, self.handling, self.leaves, self.more = step, handling, leaves, list(words)
-        self.port = free_port()
+        self.port, self.python = free_port(), python_with_paho()
         self.running: dict[str, subprocess.Popen] = {}
         self.errors = open(os.path.join(folder, 'errors'), 'ab')
         self.conf = os.path.join(folder, 'mosquitto.conf')
@@ -78,19 +92,19 @@ class Cast:
         return os.path.join(self.folder, 'run.log')
 
     def words(self, name: str) -> list:
-        tool, port = os.path.join(ROOT, 'tools', 'py'), ['--port', str(self.port)]
+        tool, port = [self.python, '-m', 'warehouse'], ['--port', str(self.port)]
         if name == 'broker':
             return [BROKER, '-c', self.conf]
         if name == 'adapter':
-            return [tool, 'vda5050', self.instance, '--log', self.log, '--program', self.program, '--step', str(self.step), '--silent', '6', *port, *self.more]
+            return [*tool, 'vda5050', self.instance, '--log', self.log, '--program', self.program, '--step', str(self.step), '--silent', '6', *port, *self.more]
         if name == 'feed':
-            return [tool, 'vda5050-orders', os.path.join(self.folder, 'orders.csv'), *port]
+            return [*tool, 'vda5050-orders', os.path.join(self.folder, 'orders.csv'), *port]
         x, y = self.starts[int(name[1:])]
-        return [tool, 'vda5050-vehicle', name, '--start', f'{x},{y}', '--world', self.folder, '--rows', str(self.rows), '--pace', str(self.step),
+        return [*tool, 'vda5050-vehicle', name, '--start', f'{x},{y}', '--world', self.folder, '--rows', str(self.rows), '--pace', str(self.step),
                 '--handling', str(self.handling * self.step), '--leaves', str(self.leaves), '--seed', name[1:], *port]
 
     def start(self, name: str) -> None:
-        self.running[name] = subprocess.Popen(self.words(name), stdin=subprocess.DEVNULL, stdout=self.errors, stderr=self.errors)
+        self.running[name] = subprocess.Popen(self.words(name), stdin=subprocess.DEVNULL, stdout=self.errors, stderr=self.errors, env=ENVIRONMENT)
 
     def start_all(self) -> None:
         self.start('broker')
@@ -107,7 +121,11 @@ class Cast:
         adapter = self.running['adapter'].pid
         try:
             with open(f'/proc/{adapter}/task/{adapter}/children') as file:
-                os.kill(int(file.read().split()[0]), 9)
+                core = int(file.read().split()[0])
+            with open(f'/proc/{core}/cmdline', 'rb') as file:
+                if b'replay' not in file.read():
+                    return False
+            os.kill(core, 9)
         except (OSError, IndexError):
             return False
         return True
@@ -169,7 +187,7 @@ def run_fleet(cast: Cast, orders: int, kills: int, seed: int, limit: float, low:
     chaos = Chaos(cast, kills, seed, low, high)
     cast.start_all()
     answers = open(os.path.join(cast.folder, 'answers'), 'wb')
-    feed = subprocess.Popen(cast.words('feed'), stdin=subprocess.DEVNULL, stdout=answers, stderr=cast.errors)
+    feed = subprocess.Popen(cast.words('feed'), stdin=subprocess.DEVNULL, stdout=answers, stderr=cast.errors, env=ENVIRONMENT)
     fell: list[str] = []
     try:
         while feed.poll() is None and time.monotonic() - began < limit:

@@ -260,17 +260,17 @@ class Adapter:
             vehicle.wrong = ''
             if vehicle.state is None or content['timestamp'] >= vehicle.state['timestamp']:
                 vehicle.state, vehicle.heard = content, message.came
+                self.judge_position(vehicle, content.get('agvPosition'))
                 self.next_look = 0.0
-        position = content.get('agvPosition')
-        if position and position['positionInitialized']:
-            self.judge_position(vehicle, position)
 
-    def judge_position(self, vehicle: Vehicle, position: Json) -> None:
+    def judge_position(self, vehicle: Vehicle, position: Json | None) -> None:
         """Whether the vehicle is where its node is, or on the way to the next."""
         cell, layout = vehicle.cell, self.settings.layout
-        off = layout.off(cell, position) if cell is not None else 0.0
         vehicle.off = ''
-        if cell is not None and off > 2 * layout.side and position['mapId'] == layout.name:
+        if cell is None or position is None or not position['positionInitialized'] or position['mapId'] != layout.name:
+            return
+        off = layout.off(cell, position)
+        if off > 2 * layout.side:
             x, y = layout.metres(cell)
             vehicle.off = f'says {position["x"]:.2f}, {position["y"]:.2f}, which is {off:.2f} m from {node_name(cell)} at {x:g}, {y:g}'
 

@@ -30,7 +30,7 @@ class Writer:
             name, first = named, vehicle.base
         else:
             again = named.again + 1 if named is not None and sends is Sends.AGAIN and (named.leg, named.begin) == (leg.number, node) else 0
-            name, first = Name(vehicle.run, leg.number, node, again), node
+            name, first = Name(vehicle.run, vehicle.agent, leg.number, node, again), node
         update = leg.told - name.begin
         if sends is Sends.UPDATE and first >= leg.told:
             return None

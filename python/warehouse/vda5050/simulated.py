@@ -4,7 +4,7 @@
 
 What is physical survives its process in FOLDER/v3.json: the cell where it is, the one it is on its way to, its loads. Its order does
 not: one that was killed comes back with none. FOLDER/v3.trace has each cell that it occupied, from when to when, and each pick and drop,
-by the machine's monotonic clock.
+by the machine's monotonic clock; `here` at a new start the cells where it is.
 
 It takes orders and updates as the standard has it: an update must begin at the last released node, a new order only when idle and where
 it stands. It also misbehaves: speeds differ, states come twice, and with --leaves it is away from the broker now and then.
@@ -41,6 +41,8 @@ class World:
         if os.path.exists(self.path):
             with open(self.path) as file:
                 self.cell, self.toward, self.loads = json.load(file)
+            # a kill may have come before its last line: it is in these cells, and in no other
+            self.note('here', ','.join(filter(None, (self.cell, self.toward))))
         else:
             self.note('in', start)
             self.keep()

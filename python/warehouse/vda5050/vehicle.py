@@ -28,15 +28,16 @@ class Sends(Enum):
 
 
 class Name(NamedTuple):
-    """An `orderId` of this adapter: the list's name and the run's number, the path's number, the node of the path where the order begins,
-    and how often one that began there was called back or failed."""
+    """An `orderId` of this adapter: the list's name and the run's number, the agent, its path's number, the node of the path where the
+    order begins, and how often one that began there was called back or failed."""
     run: str
+    agent: int
     leg: int
     begin: int
     again: int = 0
 
     def __str__(self) -> str:
-        return f'{self.run}.{self.leg}.{self.begin}.{self.again}'
+        return f'{self.run}.{self.agent}.{self.leg}.{self.begin}.{self.again}'
 
 
 @dataclass
@@ -107,7 +108,7 @@ class Vehicle:
         """Its order's name, where that is of this adapter's list of keys."""
         run, *words = (self.state or {}).get('orderId', '').split('.')
         numbers = [number_of(word) for word in words]
-        if run.split('-')[0] != self.run.split('-')[0] or len(numbers) != 3 or None in numbers:
+        if run.split('-')[0] != self.run.split('-')[0] or len(numbers) != 4 or None in numbers or numbers[0] != self.agent:
             return None
         return Name(run, *(number or 0 for number in numbers))
 
