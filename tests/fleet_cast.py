@@ -156,6 +156,7 @@ class Chaos:
     def __init__(self, cast: Cast, kills: int, seed: int, low: float, high: float):
         self.cast, self.kills, self.low, self.high = cast, kills, low, high
         self.random = random.Random(seed)
+        self.kinds: list[str] = []    # that come next, so that each has its turn
         self.killed: collections.Counter = collections.Counter()
         self.next = time.monotonic() + 3
         self.to_start: list[tuple[float, str]] = []
@@ -167,7 +168,9 @@ class Chaos:
                 self.cast.start(name)
         if now < self.next or sum(self.killed.values()) >= self.kills:
             return
-        kind = self.random.choice(self.KINDS)
+        if not self.kinds:
+            self.kinds = self.random.sample(self.KINDS, len(self.KINDS))
+        kind = self.kinds[-1]
         name = f'v{self.random.randrange(len(self.cast.starts))}' if kind == 'vehicle' else kind
         if any(name == other or (kind == 'core' and other == 'adapter') for _, other in self.to_start):
             return
@@ -177,7 +180,7 @@ class Chaos:
         else:
             self.cast.kill(name)
             self.to_start.append((now + self.random.uniform(0, 1.5), name))
-        self.killed[kind] += 1
+        self.killed[self.kinds.pop()] += 1
         self.next = now + self.random.uniform(self.low, self.high)
 
 
