@@ -27,7 +27,7 @@ def module(name: str) -> ModuleType:
 
 def usage() -> str:
     """Each subcommand with the beginning of its page."""
-    rows = [f'    {name:15}{re.split("[.:,]", module(name).__doc__ or "", maxsplit=1)[0]}' for name in COMMANDS]
+    rows = [f'    {name:16}{re.split("[.:,]", module(name).__doc__ or "", maxsplit=1)[0]}' for name in COMMANDS]
     return '\n'.join(['usage: python3 -m warehouse SUBCOMMAND ..', '', *rows, '', 'SUBCOMMAND --help tells more.', ''])
 
 
