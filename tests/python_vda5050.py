@@ -363,7 +363,7 @@ ROWS = [('out of use', seen(out=True), 'is out of use'), ('unheard', seen(state=
         ('at rest', seen(errors=[{'errorType': 'motor', 'errorLevel': 'WARNING'}]), ''),
         ('stopped', seen(safetyState={'eStop': 'MANUAL', 'fieldViolation': False}), 'emergency stop MANUAL'), ('paused', seen(paused=True), 'is paused'),
         ('failed', seen(orderId='r-1.0.1.0.0', orderUpdateId=0, actionStates=FAILED), 'action r-1.0.1.0.0.0 failed: no load'),
-        ('called back', seen(orderId='r-1.0.1.0.0', orderUpdateId=2), ''), ('under way', seen(**GOES), ''), ('ending', seen(**GOES | {'orderId': 'r-1.0.0.0.0'}), ''),
+        ('called back', seen(orderId='r-1.0.1.0.0', orderUpdateId=2), ''), ('called back', seen(orderId='r-1.0.1.0.0', actionStates=FAILED, called=8.0, sent_at=7.0), ''), ('under way', seen(**GOES), ''), ('ending', seen(**GOES | {'orderId': 'r-1.0.0.0.0'}), ''),
         ('at rest', seen(), ''), ('at rest', seen(leg=None), '')]
 
 
@@ -730,7 +730,7 @@ def test_a_log_of_another_client_is_refused() -> None:
 
 def test_a_lost_vehicle_and_its_return() -> None:
     """All halt, and the others deliver what they can; what it carries waits for it; once it is back it is delivered, once."""
-    patches = [mock.patch.object(handover, 'SETTLED', 0.1), mock.patch.object(handover, 'FRESH', 0.5), mock.patch.object(loop, 'CALLS', 0.02),
+    patches = [mock.patch.object(handover, 'SETTLED', 0.1), mock.patch.object(handover, 'FRESH', 0.5), mock.patch.object(handover, 'SURE', 0.1), mock.patch.object(loop, 'CALLS', 0.02),
                mock.patch('warehouse.vda5050.simulated.STATES', 0.05), mock.patch.object(loop, 'LOOKS', 0.02)]
     with contextlib.ExitStack() as stack:
         for patch in patches:
@@ -764,7 +764,8 @@ def test_a_lost_vehicle_and_its_return() -> None:
 
 
 def test_out_and_back_by_command() -> None:
-    patches = [mock.patch.object(handover, 'SETTLED', 0.1), mock.patch.object(loop, 'CALLS', 0.02), mock.patch('warehouse.vda5050.simulated.STATES', 0.05)]
+    patches = [mock.patch.object(handover, 'SETTLED', 0.1), mock.patch.object(handover, 'SURE', 0.1), mock.patch.object(loop, 'CALLS', 0.02),
+               mock.patch('warehouse.vda5050.simulated.STATES', 0.05)]
     with contextlib.ExitStack() as stack:
         for patch in patches:
             stack.enter_context(patch)

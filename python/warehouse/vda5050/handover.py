@@ -17,6 +17,7 @@ if TYPE_CHECKING:
 
 SETTLED = 5.0    # seconds after a start or a broker's return before anything is called lost: what was sent before may be on its way
 FRESH = 5.0      # seconds: a state that is no older counts as of now
+SURE = 1.0       # seconds after which what was sent is heard, where the vehicle answers
 ANOTHER = -1     # wanted for no vehicle in particular: one stands where the plan does not have it
 GONE = ('lost', 'unheard')
 
@@ -30,6 +31,7 @@ class Handover:
         self.asked: dict[int, bool] = {}     # by an operator
         self.halts = False
         self.began = 0.0
+        self.back: dict[int, float] = {}     # of vehicles out of use that are there again: when they were called back
 
     def want(self, agent: int, out: bool) -> None:
         """An operator's word."""
@@ -54,13 +56,16 @@ class Handover:
     def wanted_of(self, vehicle: Vehicle, now: float) -> list[tuple[int, bool]]:
         """What follows for one vehicle."""
         agent, after = vehicle.agent, self.adapter.settings.out_after
-        is_there = vehicle.state is not None and not vehicle.is_broken and now - vehicle.heard < FRESH
+        is_there = self.is_there(vehicle, now)
         if vehicle.out:
-            is_back = is_there and vehicle.is_idle and self.asked.get(agent) is not True
+            is_back = is_there and vehicle.is_idle and vehicle.heard > self.back.get(agent, now) + SURE and self.asked.get(agent) is not True
             return [(agent, False)] if is_back else []
         if self.asked.get(agent) is True or (vehicle.row in GONE and now - vehicle.since > after):
             return [(agent, True)]
         return [(ANOTHER, False)] if vehicle.row == 'astray' and vehicle.is_idle and is_there and now - vehicle.since > after else []
+
+    def is_there(self, vehicle: Vehicle, now: float) -> bool:
+        return vehicle.state is not None and not vehicle.is_broken and now - vehicle.heard < FRESH
 
     def in_use(self) -> list[Vehicle]:
         """Those that are to be in use in the next run."""
@@ -68,13 +73,24 @@ class Handover:
 
     def stands(self, vehicle: Vehicle) -> bool:
         """Whether it stands at a node, and nothing that was sent to it is on its way."""
-        return vehicle.has_heard and vehicle.is_idle and not vehicle.is_broken and vehicle.heard > self.began + 1 and vehicle.cell is not None
+        has_heard = vehicle.has_heard or vehicle.out    # one that is back was called back, and said so since
+        return has_heard and vehicle.is_idle and not vehicle.is_broken and vehicle.heard > self.began + SURE and vehicle.cell is not None
 
     def calls_back(self, vehicle: Vehicle) -> bool:
         """Whether its order is to be cancelled: one that has not answered what was sent last gets that again first."""
-        if vehicle.out and vehicle.state is not None and not vehicle.is_broken and not vehicle.is_idle:
-            return True    # its order is of a run that has ended
+        if vehicle.out:
+            return self.calls_back_once(vehicle)
         return self.halts and not vehicle.out and vehicle.has_heard and not vehicle.is_idle
+
+    def calls_back_once(self, vehicle: Vehicle) -> bool:
+        """One that is out of use, and there again, may have an order of a run that has ended, or get one that was on its way: it is called
+        back as it comes, which it hears behind all that was sent before, and as long as it is at something."""
+        if not self.is_there(vehicle, vehicle.now):
+            self.back.pop(vehicle.agent, None)
+            return False
+        is_new = vehicle.agent not in self.back
+        self.back.setdefault(vehicle.agent, vehicle.now)
+        return is_new or not vehicle.is_idle
 
     def keeps(self, vehicle: Vehicle) -> bool:
         """Whether it gets no order now."""
@@ -98,7 +114,7 @@ class Handover:
         adapter.is_open = False
         book.begin_run(Opening(book.opening.number + 1, cells, sorted(blocked - taken), out, carried))
         adapter.open()
-        self.wanted, self.halts = {}, False
+        self.wanted, self.halts, self.back = {}, False, {}
         self.asked = {agent: is_out for agent, is_out in self.asked.items() if is_out}
         adapter.alarm('hand-over', '')
         names = ' '.join(adapter.vehicles[agent].serial for agent in out) or 'none'
