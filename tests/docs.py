@@ -265,7 +265,7 @@ def differs(found: str, wanted: str, percent: float) -> str:
 def scratch() -> str:
     """A folder in which commands of a page run."""
     folder = tempfile.mkdtemp()
-    for name in ('tools', 'examples', 'docs'):
+    for name in ('dev', 'tools', 'examples', 'docs'):
         os.symlink(os.path.join(ROOT, name), os.path.join(folder, name))
     os.symlink(PROGRAM, os.path.join(folder, 'warehouse'))
     return folder

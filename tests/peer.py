@@ -4,7 +4,7 @@ replies, and then the log, which has each cell of each path.
 
     tests/peer.py --runs 200 --seed 1
 
-The peer, tools/peer, is built by g++ into a temporary folder; with --check it checks its own paths too. Each run makes
+The peer, dev/peer, is built by g++ into a temporary folder; with --check it checks its own paths too. Each run makes
 an instance by tools/make_instance.py from its seed: mostly a small site, with shelves or without. Most lose stations
 and cells, and have agents that start at stations, so that agents stand in each other's way; then some tokens are left
 out, others change their order, and odd lines come in. A run whose outputs differ is printed with its seed and the first
@@ -157,7 +157,7 @@ def main():
     with tempfile.TemporaryDirectory() as scratch:
         peer = os.path.join(scratch, 'peer')
         build = ['g++', '-O2', '-march=x86-64-v2', '-std=c++17', '-Wall', '-Wextra'] + ['-DCHECK'] * options.check
-        subprocess.run(build + ['-o', peer, os.path.join(ROOT, 'tools/peer/main.cpp')], check=True)
+        subprocess.run(build + ['-o', peer, os.path.join(ROOT, 'dev/peer/main.cpp')], check=True)
         for seed in range(options.seed, options.seed + options.runs):
             text = instance(random.Random(seed), options.lanes)
             done = [replayed(words, text, options.seconds)

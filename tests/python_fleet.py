@@ -206,6 +206,21 @@ def test_the_end_of_a_run() -> None:
         has(str(stop), '`refused C1` came to `submit x A`: This line is no command')
 
 
+def test_helper_orders_only_where_asked_for() -> None:
+    # The order A C D of the test above. Agent 0 is sent to B, the one station that is free, 4 steps off, and is at 1,1 one step after; so
+    # agent 1 is there at two and at A at three, then 2 steps to C and 4 to D.
+    text = TWO.replace('agent P0\nagent P1', 'agent A\nagent C')
+    with session(text, options=['--tail', 'log']) as core:
+        fleet = Fleet(core, orders('0 x A C D'), helpers=True)
+        why = fleet.run()
+        core.end()
+    tasks = judged(text, core.tail.decode().split('%%\n')[1])
+    same((why, [(task['client'], task['agent'], task['visits']) for task in tasks]), ('', [('x', 1, [3, 5, 9]), ('helper', 0, [4, 4])]))
+    # where nothing is free there is no help, and it ends
+    with session(text.replace('station B 3 0\n', 'parking B 3 0\n')) as core:
+        has(Fleet(core, orders('0 x A C D'), helpers=True).run(), 'at clock 0 all agents stand, 1 orders are open')
+
+
 def test_a_fleet_over_a_run_that_began_before() -> None:
     """A client that is killed at any clock, and one that begins anew over the log, come to the run of one that is not."""
     given = orders('0 x S0 S9', '0 y S7 S2', '3 z S4 S5', '9 w S8 S1')

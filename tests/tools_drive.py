@@ -166,8 +166,10 @@ def test_an_order_released_later() -> None:
 def test_an_order_that_waits_for_another() -> None:
     # Both end at B. Agent 0 takes the first, and B is where its path ends, so agent 1 rests, and is not asked again while
     # nothing changes. At 6 agent 0 is at B, takes the second: 4 steps to C and 4 back, so it is delivered at 14.
-    found, _, status = drive(TWO + 'submit x A B\nsubmit y C B\n')
+    found, _, status = drive(TWO + 'submit x A B\nsubmit y C B\n', '--ask', 'number')
     same((found, status), (figures(2, 14, '10.00', 14, '14.29', 14, 19, 3), 0))
+    # nearest first, who would rest is not asked: one request less
+    same(drive(TWO + 'submit x A B\nsubmit y C B\n')[::2], (figures(2, 14, '10.00', 14, '14.29', 14, 18, 2), 0))
 
 
 ROW = 'type t\nheight 1\nwidth 5\nmap\n.....\n%%\nparking P0 0 0\nparking P1 2 0\nstation A 3 0\nstation B 4 0\nagent P0\nagent P1\n%%\n'
@@ -175,7 +177,9 @@ ROW = 'type t\nheight 1\nwidth 5\nmap\n.....\n%%\nparking P0 0 0\nparking P1 2 0
 
 def test_no_path_now() -> None:
     # agent 1 stands between agent 0 and A, so agent 0 is refused E6; agent 1 goes one step to A and one to B
-    same(drive(ROW + 'submit x A B\n')[::2], (figures(1, 2, '2.00', 2, '50.00', 2, 5, 2, 1), 0))
+    same(drive(ROW + 'submit x A B\n', '--ask', 'number')[::2], (figures(1, 2, '2.00', 2, '50.00', 2, 5, 2, 1), 0))
+    # agent 1, one step from A, is the nearest
+    same(drive(ROW + 'submit x A B\n')[::2], (figures(1, 2, '2.00', 2, '50.00', 2, 4, 1), 0))
 
 
 def test_no_path_ever() -> None:
@@ -189,12 +193,12 @@ def test_no_path_ever() -> None:
 def test_an_order_of_three_stops_that_nobody_may_take() -> None:
     # Agent 0 is at A and agent 1 at C, so for each the other's path ends at a stop, and neither is at D, the delivery.
     instance = TWO.replace('agent P0\nagent P1', 'agent A\nagent C') + 'submit x A C D\n'
-    found, said, status = drive(instance)
+    found, said, status = drive(instance, '--ask', 'number')
     same((found, status), ('orders 1 accepted 1 done 0 ticks 0 commands 3 requests 2 refused 0', 1))
     has(said, 'at clock 0 all agents stand, 1 orders are open')
     # Once agent 0 is sent to B, 4 steps off, agent 1 may take it: agent 0 is at 1,1 one step after, so agent 1 is there at
     # two and at A at three, then 2 steps to C and 4 to D. All that begins at clock 2.
-    same(drive(instance + '# @2\nsubmit move B B\n')[::2], (figures(2, 11, '7.50', 11, '18.18', 11, 17, 4), 0))
+    same(drive(instance + '# @2\nsubmit move B B\n', '--ask', 'number')[::2], (figures(2, 11, '7.50', 11, '18.18', 11, 17, 4), 0))
 
 
 def test_a_bound_on_ticks() -> None:

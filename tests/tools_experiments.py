@@ -1,5 +1,5 @@
 #!/usr/bin/env python3
-"""Tests of tools/experiments.py, with expected values worked out by hand.
+"""Tests of dev/experiments.py, with expected values worked out by hand.
 
     tests/tools_experiments.py            all; what runs the program takes it from WAREHOUSE, else ./warehouse
     tests/tools_experiments.py --no-program
@@ -17,7 +17,7 @@ import tempfile
 import xml.etree.ElementTree as tree
 
 ROOT = os.path.dirname(os.path.dirname(os.path.abspath(__file__)))
-sys.path.insert(0, os.path.join(ROOT, 'tools'))
+sys.path.insert(0, os.path.join(ROOT, 'dev'))
 sys.dont_write_bytecode = True
 import counting             # noqa: E402
 import experiments          # noqa: E402
@@ -92,7 +92,7 @@ def refused(call, *words) -> str:
 
 
 def tool(*words: str) -> tuple[str, str, int]:
-    done = subprocess.run([sys.executable, os.path.join(ROOT, 'tools', 'experiments.py'), *words], capture_output=True, timeout=30)
+    done = subprocess.run([sys.executable, os.path.join(ROOT, 'dev', 'experiments.py'), *words], capture_output=True, timeout=30)
     assert b'Traceback' not in done.stderr, done.stderr.decode()
     return done.stdout.decode(), done.stderr.decode(), done.returncode
 

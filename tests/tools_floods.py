@@ -1,5 +1,5 @@
 #!/usr/bin/env python3
-"""Tests that no request floods: instances of tools/floods.py, each with little time and memory.
+"""Tests that no request floods: instances of dev/floods.py, each with little time and memory.
 
     tests/tools_floods.py            the program is taken from WAREHOUSE, else ./warehouse
 
@@ -20,7 +20,7 @@ MEMORY, SECONDS = 700 << 20, 10    # of address space, with the program's own
 
 
 def made(*words: object) -> str:
-    return subprocess.run([sys.executable, os.path.join(ROOT, 'tools', 'floods.py'), *map(str, words)], capture_output=True,
+    return subprocess.run([sys.executable, os.path.join(ROOT, 'dev', 'floods.py'), *map(str, words)], capture_output=True,
                           text=True, check=True).stdout
 
 
@@ -197,7 +197,7 @@ def test_a_maze_is_well_formed() -> None:
 
 def test_families_and_numbers_are_wanted() -> None:
     for words in ((), ('flood', '1'), ('door', '64'), ('door', '64', 'x'), ('ring', '9', '9', '9')):
-        done = subprocess.run([sys.executable, os.path.join(ROOT, 'tools', 'floods.py'), *words], capture_output=True)
+        done = subprocess.run([sys.executable, os.path.join(ROOT, 'dev', 'floods.py'), *words], capture_output=True)
         assert (done.returncode, done.stdout) == (2, b''), words
 
 

@@ -47,7 +47,7 @@ sys.exit(int(status))
 
 def taped(tape: list[str], log: str = '', *words: str, instance: str = ONE + 'submit x A B\n', status: int = 0) -> tuple[str, str, int]:
     stand_in = [sys.executable, file('stand_in.py', STAND_IN), file('tape', '\n'.join(tape) + '\n'), file('tail', log), str(status)]
-    return drive(instance, '--program', ' '.join(stand_in), *words)
+    return drive(instance, '--ask', 'number', '--program', ' '.join(stand_in), *words)
 
 
 # As the stand-in above, over several lives: of each the tape has the first line, and then commands and replies. At KILLED it is

@@ -199,7 +199,7 @@ def test_the_program_is_killed_and_goes_on() -> None:
     write_file(script, b''.join(orders))
     for seed in (2, 3):
         file = files()
-        found = late(seed, '--spread', '0.5', '--ahead', '3', '--log', file, '--kills', '6', script=(script,))
+        found = late(seed, '--spread', '0.5', '--ahead', '3', '--log', file, '--kills', '6', '--ask', 'number', script=(script,))
         same((found['orders'], found['done'], found['killed']), ('10', '10', '6'))
         log = read_file(file)
         done = subprocess.run([PROGRAM, 'verify'], input=text[0] + b'%%\n' + text[1] + RULE.encode() + b'%%\n' + log, capture_output=True)

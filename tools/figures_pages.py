@@ -1,7 +1,7 @@
 #!/usr/bin/env python3
 """Makes the tables of docs/EXPERIMENTS.md and docs/PERFORMANCE.md from the figures that are kept in docs/*.csv.
 
-    tools/experiments.py small --no-times | tools/figures_pages.py --take small     the figures of a run into its CSV file
+    dev/experiments.py small --no-times | tools/figures_pages.py --take small     the figures of a run into its CSV file
     tools/figures_pages.py                                                          the CSV files into the pages
     tools/figures_pages.py --check                                                  status 1 where a page differs
 
@@ -27,7 +27,7 @@ NAMES = {'Agents': 'agents', 'Orders a tick': 'orders_per_tick', 'Planner': 'pla
          'Service, mean': 'service_mean', 'Service, p95': 'service_p95', 'Busy agents': 'busy_agents', 'Requests': 'requests'}
 HEADS = {'agents': 'Agents', 'speeds': 'Speeds', 'seed': 'Seed', 'ahead': '`--ahead`', 'variant': 'Planner, rule',
          'instance': 'Instance', 'subcommand': 'Subcommand', 'seconds': 'Seconds', 'mb': 'MB', 'this_program_millions': 'this program',
-         'peer_millions': '`tools/peer`', 'floor': 'Floor', 'orders_taken': 'Orders taken', 'ms_mean': 'Mean ms a tick', 'ms_p95': 'p95',
+         'peer_millions': '`dev/peer`', 'floor': 'Floor', 'orders_taken': 'Orders taken', 'ms_mean': 'Mean ms a tick', 'ms_p95': 'p95',
          'ms_most': 'Most', 'ms_first_tick': 'First tick', 'mb_most': 'Most MB', 'clients': 'Clients',
          'memory_line_by_line': 'log in memory, line by line', 'memory_all_in_one_write': 'all lines in one write',
          'disk_line_by_line': 'log on a disk, line by line', 'disk_all_in_one_write': 'all lines in one write'}

@@ -16,8 +16,9 @@ from .process import SessionError
 from .texts import Fault
 
 PACKAGES = {'simulate.': 'drive make-instance due-script', '': 'client explain', 'figures.': 'play stats',
-            'convert.': 'join log-input next-shift import-mapd import-scen'}
-COMMANDS = {name: '.' + package + name.replace('-', '_') for package, names in PACKAGES.items() for name in names.split()}
+            'convert.': 'join log-input next-shift import-mapd import-scen import-mrp import-lif export'}
+COMMANDS = {name: '.' + package + name.replace('-', '_') for package, names in PACKAGES.items() for name in names.split()} | {
+    'vda5050': '.vda5050.adapter', 'vda5050-vehicle': '.vda5050.simulated', 'vda5050-orders': '.vda5050.feed'}
 
 
 def module(name: str) -> ModuleType:
@@ -26,7 +27,7 @@ def module(name: str) -> ModuleType:
 
 def usage() -> str:
     """Each subcommand with the beginning of its page."""
-    rows = [f'    {name:15}{re.split("[.:,]", module(name).__doc__ or "", maxsplit=1)[0]}' for name in COMMANDS]
+    rows = [f'    {name:16}{re.split("[.:,]", module(name).__doc__ or "", maxsplit=1)[0]}' for name in COMMANDS]
     return '\n'.join(['usage: python3 -m warehouse SUBCOMMAND ..', '', *rows, '', 'SUBCOMMAND --help tells more.', ''])
 
 

@@ -22,6 +22,7 @@ from .texts import Cell, Fault, Instance, Order
 
 LEFT_OUT = ('E1', 'E2', 'E3')    # refusals of an order that end no run
 MOST_FIELDS = 1024               # distance fields that are kept
+HELPER = 'helper'                # the client of helper orders
 FAR = 1 << 30                    # the distance where there is no walk
 
 
@@ -81,11 +82,13 @@ class Fleet:
     """
 
     def __init__(self, core: Session, orders: Iterable[Order] = (), policy: Callable[[Fleet], None] | None = None, batch: int = 1,
-                 judge: Judge | None = None, listen: Callable[[str, Reply], None] | None = None):
+                 judge: Judge | None = None, listen: Callable[[str, Reply], None] | None = None, helpers: bool = False):
         """`orders` by their release; `batch` is how many commands are written at once; `judge` sees what the fleet goes by, and
-        `listen` is called with each command and its reply before that."""
+        `listen` is called with each command and its reply before that. With `helpers` a standstill is ended by orders of the client
+        `helper`, as `help` says."""
         self.core, self.instance, self.batch, self.judge, self.listen = core, core.instance, batch, judge, listen
-        self.policy = policy or nearest_first
+        self.policy, self.helpers = policy or nearest_first, helpers
+        self.helped: set[tuple[int, int]] = set()    # open orders, and whom a helper order sent away for each
         self.waiting = deque(orders)
         self.distance = Distances(self.instance)
         agents = len(self.instance.starts)
@@ -301,6 +304,25 @@ class Fleet:
         found = [(answer[1] is None, answer[0], agent) for agent in asking if (answer := self.answer(agent, eligible)) is not None]
         return min(found)[2] if found else None
 
+    # ---- a standstill
+
+    def help(self) -> bool:
+        """Sends an agent at rest away from a stop of an open order, which two bar to each other, say: hands in `submit helper S S` for the
+        nearest station S where nobody's path ends and no open order stops, and asks for it, once for each agent and order. False where
+        there is no such agent, or station."""
+        taken = {*self.ends, *(cell for task in self.open for cell in self.stops[task])}
+        free = [point for point in self.instance.points if point.kind == 'station' and point.cell not in taken]
+        for task in sorted(self.open):
+            for agent, end in enumerate(self.ends):
+                near = [(self.distance(end, point.cell), point.name) for point in free] if end in self.stops[task] else []
+                if near and (task, agent) not in self.helped and min(near)[0] < FAR:
+                    self.helped.add((task, agent))
+                    name = min(near)[1]
+                    helper, = self.hand_in([Order(self.clock, f'submit {HELPER} {name} {name}')])
+                    reply, = self.request([agent])
+                    return isinstance(reply, Took) and reply.task == helper
+        return False
+
     # ---- the loop
 
     def run(self, most: int | None = None, shift: int | None = None) -> str:
@@ -314,7 +336,7 @@ class Fleet:
                 self.policy(self)
             if self.is_done() or (over and not self.under_way()):
                 return ''
-            if self.open and self.stands():
+            if self.open and self.stands() and not (self.helpers and not over and self.help()):
                 return f'at clock {self.clock} all agents stand, {len(self.open)} orders are open, and no reply can differ any more'
             if most is not None and self.clock >= most:
                 return (f'at clock {self.clock} it was not at its end (--ticks): {self.pending()} orders not released, '

@@ -15,7 +15,7 @@ refused or never handed in are not in it: put those that are still wanted behind
 It refuses, with one line on standard error, status 1 and nothing on standard output,
 
     where a task is under way (assigned or carried), or an agent has steps left: how many ticks more, with no token,
-    bring all agents to rest is told (docs/FLEET.md says how to end a shift)
+    bring all agents to rest is told (docs/OPERATIONS.md says how to end a shift)
     where an agent rests at no point, or two at one
     where LOG has no end line, is no log, or does not fit INSTANCE: its agents, stations, paths, or counts of visits
 

@@ -13,9 +13,12 @@ N on, and ends when nobody moves: `next-shift` takes such a log with the orders 
 An order is a line `submit ..`, released at clock T where a line `# @T` stands before it, else at the clock at which it
 stands (the number of `tick` lines before it). The other lines of the script are left out.
 
-Who is asked first is --ask's: `number`, all who may ask in the order of their numbers; `nearest`, the one that is nearest to the
-first stop of the order that it would take, until nobody is left who would not rest; `hold`, as nearest, but an order waits
-while an agent under way could be at its first stop sooner.
+Who is asked first is --ask's: `nearest`, the one that is nearest to the first stop of the order that it would take, until
+nobody is left who would not rest; `number`, all who may ask in the order of their numbers; `hold`, as nearest, but an order
+waits while an agent under way could be at its first stop sooner.
+
+Where no later reply can differ, as where two agents at rest bar an order to each other, it ends; with --helpers it hands in
+`submit helper S S` instead, which sends one of them to another station, once for each order and agent.
 
 `took N path X,Y X,Y ..` and `parked P path X,Y ..` tell the agent's cell at each clock from now on: cell k of the path at
 clock T + k. With the last index K it has no steps left when the clock is K higher; with K = 0 at once. So it asks when it
@@ -89,12 +92,13 @@ def add_options(parser: argparse.ArgumentParser) -> None:
     add('instance', metavar='INSTANCE', help='a file with the sections map and points, and a script')
     add('script', metavar='SCRIPT', nargs='?', help="orders, in place of INSTANCE's third section")
     add('--program', metavar="'WORDS'", default=shlex.join([program(), 'replay']), help='the program and its words (%(default)s)')
-    add('--ask', choices=sorted(POLICIES), default='number', help='who is asked first (%(default)s)')
+    add('--ask', choices=sorted(POLICIES), default='nearest', help='who is asked first (%(default)s)')
     add('--replies', choices=('full', 'short'), default='full', help='whether replies tell cells (%(default)s)')
     add('--cells', metavar='FILE', help="write each agent's cell at each clock there; - is the standard output")
     add('--batch', type=int, default=1, metavar='N', help=f'commands sent at once, 1 to {MOST_IN_BATCH} (1)')
     add('--ticks', type=int, default=1_000_000, metavar='N', help='end at this clock (%(default)s)')
     add('--shift', type=int, metavar='N', help='from clock N on ask no more, and end when nobody moves')
+    add('--helpers', action='store_true', help='at a standstill, hand in orders of the client `helper` that send agents out of the way')
     add('--close', action='store_true', help='send `close` at the end')
     add('--log', metavar='FILE', help='the program keeps the run there, and goes on with it where it ends')
     add('--save', metavar='FILE', help='write the log there at the end, for a program that knows no --log')
@@ -108,6 +112,7 @@ def judge_options(options: argparse.Namespace) -> None:
         (not 1 <= options.batch <= MOST_IN_BATCH, f'--batch {options.batch}: 1 to {MOST_IN_BATCH} commands can be sent at once'),
         (options.cells is not None and options.replies == 'short', '--cells: short replies tell no cells'),
         (options.log is not None and options.save is not None, '--save: with --log the log stands there'),
+        (options.helpers and options.late is not None, '--helpers: not with --late'),
         (options.transcript is not None and options.late is None, '--transcript: it is for --late'),
         (options.late is not None and not 0 <= options.spread <= 0.9, f'--spread {options.spread:g}: 0 to 0.9 is wanted'),
         (options.kills and (options.late is None or options.log is None), '--kills: goes with --late and --log'),
@@ -239,7 +244,7 @@ def drive(options: argparse.Namespace, instance: Instance, orders: list[Order], 
     except SessionError as error:
         tell(options, [str(error), no_log], figures(None, len(orders), None))
         return b'', 2
-    fleet = Fleet(core, orders, POLICIES[options.ask], options.batch, whereabouts)
+    fleet = Fleet(core, orders, POLICIES[options.ask], options.batch, whereabouts, helpers=options.helpers)
     log, why, status = run_fleet(fleet, process, options.log, options.ticks, options.shift, options.close)
     said = [*map(str, core.restarts), *fleet.left_out, *([why] if why else []), *([] if log else [no_log])]
     for line in said:

@@ -1,9 +1,9 @@
 #!/usr/bin/env bash
 # Times whole runs of the program on seeded instances, and counts the instructions of its parts, and prints the figures as
 # Markdown: the machine, its load, then a table of the least of several runs. docs/PERFORMANCE.md keeps what it printed.
-# Where there is a g++, the unproved peer in tools/peer runs the three warehouses too.
+# Where there is a g++, the unproved peer in dev/peer runs the three warehouses too.
 #
-#   tools/bench.sh [all|parts|instructions|runs|desks|floods]        RUNS=5 tools/bench.sh runs
+#   dev/bench.sh [all|parts|instructions|runs|desks|floods]        RUNS=5 dev/bench.sh runs
 #
 # The parts and the instructions want valgrind, and each of their runs is made once. It builds what is not built. Run it on a machine that does
 # nothing else; instructions do not depend on that.
@@ -235,7 +235,7 @@ desks() {
     done
 }
 
-# Requests that are expensive, of growing sizes (tools/floods.py).
+# Requests that are expensive, of growing sizes (dev/floods.py).
 floods() {
     instances    # so that the program is built
     echo

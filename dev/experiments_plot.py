@@ -1,4 +1,4 @@
-"""Line plots as SVG, light and dark as the reader's system is, for tools/experiments.py."""
+"""Line plots as SVG, light and dark as the reader's system is, for dev/experiments.py."""
 from __future__ import annotations
 
 import math

@@ -2,8 +2,8 @@
 """Tells where the time of a crate's proof went, by function, from what `rt` keeps of it.
 
     cd crates/wh_points && rm -rf out && rt check --jobs 1     # one job, from nothing, on a quiet machine
-    tools/profile.py wh_points --top 20
-    tools/profile.py --all --top 100                           # every crate that has kept work
+    dev/profile.py wh_points --top 20
+    dev/profile.py --all --top 100                           # every crate that has kept work
 
 A check writes one file for each module that it has checked, into crates/CRATE/out/incremental, one after
 the other where it has one job. So the gap between the times of two files is what the later one took, the

@@ -2,8 +2,8 @@
 """The table and the plot of docs/EXPERIMENTS.md for vehicles that are late: orders in 100 seconds of the simulation, by how far a
 vehicle may be behind and how far ahead it is told, at several spreads of speed.
 
-    tools/experiments_late.py --plots docs              examples/shelves, seeds 1 to 5
-    tools/experiments_late.py --seeds 1 --behind 1,8
+    dev/experiments_late.py --plots docs              examples/shelves, seeds 1 to 5
+    dev/experiments_late.py --seeds 1 --behind 1,8
 
 The program is that of WAREHOUSE, else ./warehouse. Each run is that of `tools/drive.py examples/shelves --late SEED ..`, which
 judges that no two vehicles meet; its transcript is read again against the log, as by `tools/play.py --vehicles .. --check`. A run

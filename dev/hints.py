@@ -1,7 +1,7 @@
 #!/usr/bin/env python3
 """Writes the hints on inlining of the sources (`#[inline(always)]`, `#[cold]` and the like) into a module of LLVM.
 
-    tools/hints.py MODULE.ll FOLDER.. > HINTED.ll
+    dev/hints.py MODULE.ll FOLDER.. > HINTED.ll
 
 FOLDER holds crates, each with a folder src/. `rt try` leaves hints out of its module, and a build of proved crates has
 them, so tools/unproved puts them back. A function is told by its crate, its module and its name; of two of one name in

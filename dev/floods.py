@@ -1,7 +1,7 @@
 #!/usr/bin/env python3
 """Writes an instance of which one request is expensive for a search that is not careful.
 
-  tools/floods.py FAMILY NUMBERS.. > instance
+  dev/floods.py FAMILY NUMBERS.. > instance
   crates/warehouse/out/warehouse replay < instance
 
 Families, and their numbers:

@@ -2,7 +2,7 @@
 // `replay` prints, without its options; with the word `log`, what `replay --tail log` prints. It is a yardstick for the
 // product's speed and an oracle for tests/peer.py.
 //
-//   g++ -O2 -march=x86-64-v2 -std=c++17 -Wall -Wextra -o peer tools/peer/main.cpp
+//   g++ -O2 -march=x86-64-v2 -std=c++17 -Wall -Wextra -o peer dev/peer/main.cpp
 //   ./peer < examples/deliveries
 //
 // It is one unit, so that the compiler sees all of it at once.

@@ -1,4 +1,4 @@
-"""How far one process goes: an hour of ticks with orders kept coming, for tools/experiments.py."""
+"""How far one process goes: an hour of ticks with orders kept coming, for dev/experiments.py."""
 from __future__ import annotations
 
 import argparse
