@@ -101,7 +101,7 @@ instructions() {
     echo '|---|---|---|---|---|---|---|---|'
     totals 'the program' "$program" replay --planner near
     if command -v g++ > /dev/null; then
-        g++ -O2 -march=x86-64-v2 -std=c++17 -o "$folder/peer" "$root/tools/peer/main.cpp"
+        g++ -O2 -march=x86-64-v2 -std=c++17 -o "$folder/peer" "$root/dev/peer/main.cpp"
         totals 'the peer in C++' "$folder/peer" replay
     fi
 }
@@ -129,7 +129,7 @@ with_log() {
 # The three warehouses by the peer, a plain program in C++ with the same rules and methods.
 peers() {
     command -v g++ > /dev/null || return 0
-    g++ -O2 -march=x86-64-v2 -std=c++17 -o "$folder/peer" "$root/tools/peer/main.cpp"
+    g++ -O2 -march=x86-64-v2 -std=c++17 -o "$folder/peer" "$root/dev/peer/main.cpp"
     local program=$folder/peer
     row 'small warehouse, by the peer in C++' "$folder/small" replay
     row 'large warehouse, by the peer in C++' "$folder/large" replay
@@ -164,9 +164,9 @@ instances() {
     $make --columns 2048 --rows 2048 --open --agents 16 --tasks 32 --ticks 100 > "$folder/wider"
     $make --columns 1024 --rows 1024 --open --agents 100 --tasks 0 --ticks 0 > "$folder/wide"
     walled < "$folder/wide" > "$folder/cut"
-    python3 "$root/tools/floods.py" maze 81 40 300 > "$folder/maze"
-    python3 "$root/tools/floods.py" blocked 16000 20 > "$folder/barred"
-    python3 "$root/tools/floods.py" rests 1000 20 3000 > "$folder/rests"
+    python3 "$root/dev/floods.py" maze 81 40 300 > "$folder/maze"
+    python3 "$root/dev/floods.py" blocked 16000 20 > "$folder/barred"
+    python3 "$root/dev/floods.py" rests 1000 20 3000 > "$folder/rests"
 }
 
 whole_runs() {
@@ -248,7 +248,7 @@ floods() {
         'ring 1001 301' 'ring 2001 601' 'ring 4096 4094' 'blocked 1000 20' 'blocked 4000 20' 'blocked 16000 20' 'wide 512 16' \
         'wide 1024 16' 'wide 2048 16'; do
         # shellcheck disable=SC2086
-        python3 "$root/tools/floods.py" $words > "$folder/flood"
+        python3 "$root/dev/floods.py" $words > "$folder/flood"
         row "$words" "$folder/flood" replay --planner near
     done
     $make --columns 4096 --rows 4096 --open --agents 2 --tasks 1 --ticks 1 > "$folder/flood"
