@@ -233,8 +233,8 @@ def test_messages_are_judged_with_their_places() -> None:
             same(fault_in(schema(topic), {key: value for key, value in message.items() if key != name}), f'/{name} is missing')
     for topic, change, words in WRONG:
         has(str(fault_in(schema(topic), VALID[topic] | change)), words)
-    for payload, words in ((b'', 't: the message is no JSON'), (b'\xff\x00', 't: the message is no JSON'), (b'[1', 't: the message is no JSON'),
-                           (b'7', 't: the message is no object'), (b'{"x": NaN}', 't: the message is no JSON: NaN'), (b'[' * 100000, 't: the message is no JSON'),
+    for payload, words in ((b'', 't: it is no JSON'), (b'\xff\x00', 't: it is no JSON'), (b'[1', 't: it is no JSON'),
+                           (b'7', 't: the text is no object'), (b'{"x": NaN}', 't: it is no JSON: NaN'), (b'[' * 100000, 't: it is no JSON'),
                            (b'"' + b'a' * (1 << 20) + b'"', 't: the message has 1048578 bytes')):
         try:
             read_message('state', 't', payload)
@@ -536,10 +536,10 @@ def test_wrong_messages_are_a_line_each() -> None:
     floor.until(lambda: floor.delivered('k'))
     said = floor.said.getvalue()
     assert 'Traceback' not in said, said
-    for line in ('vda5050: warehouse/order: the message is no JSON', 'vda5050: warehouse/order: /id is `$(touch x)`, and not as', 'vda5050: warehouse/order: /stops is missing',
+    for line in ('vda5050: warehouse/order: it is no JSON', 'vda5050: warehouse/order: /id is `$(touch x)`, and not as', 'vda5050: warehouse/order: /stops is missing',
                  'vda5050: warehouse/command: /command is none of', 'vda5050: warehouse/command: there is no vehicle v9', '`out` wants a vehicle, and the option --out-after',
-                 f'{topic}state: /timestamp is missing', f'{topic}connection: the message is no object', f'{topic}factsheet: /typeSpecification is missing',
-                 f'{topic}visualization: the message is no JSON'):
+                 f'{topic}state: /timestamp is missing', f'{topic}connection: the text is no object', f'{topic}factsheet: /typeSpecification is missing',
+                 f'{topic}visualization: it is no JSON'):
         same((line, said.count(line)), (line, 1))
     floor.end()
 
