@@ -30,7 +30,8 @@ sys.dont_write_bytecode = True
 from warehouse import Fault, Vehicles, read_instance, read_orders    # noqa: E402
 from warehouse.__main__ import main    # noqa: E402
 from warehouse.vda5050 import broker as broker_module, handover, loop    # noqa: E402
-from warehouse.vda5050.adapter import read_fleet    # noqa: E402
+from warehouse.process import CoreDied, NoProgram    # noqa: E402
+from warehouse.vda5050.adapter import may_begin_later, read_fleet    # noqa: E402
 from warehouse.vda5050.book import Book, Opening    # noqa: E402
 from warehouse.vda5050.broker import CONNECTED, Message, client_of    # noqa: E402
 from warehouse.vda5050.feed import Feed, read_table    # noqa: E402
@@ -691,6 +692,11 @@ def test_a_core_that_finds_a_full_disk() -> None:
         once_each(floor, ['k1', 'k2'])
 
 
+def test_which_beginnings_are_tried_again() -> None:
+    # 3: another program has the log, or the disk is full; 9: killed; 1: the map is wrong, and would be again
+    same([may_begin_later(error) for error in (CoreDied('', 3), CoreDied('', -9), CoreDied('', 1), CoreDied('', 2), NoProgram(''))], [True, True, False, False, False])
+
+
 def test_a_list_of_keys_that_finds_a_full_disk() -> None:
     floor = Floor('fullkeys', TWO)
     keys, real = floor.adapter.book.file, os.write
@@ -760,6 +766,44 @@ def test_a_lost_vehicle_and_its_return() -> None:
             same(floor.adapter.book.opening.out, [])
             floor.until(lambda: floor.delivered(*keys), 40)
             has(floor.said.getvalue(), f'vda5050: all vehicles halt, for v{agent}', f'run 2 begins; out of use: v{agent};', 'run 3 begins; out of use: none; 0 cells blocked')
+            once_each(floor, keys)
+
+
+def test_one_that_stands_between_nodes_goes_to_the_next_first() -> None:
+    """A vehicle that is killed on its way, and comes back with no order, occupies two cells: no run begins while it does, neither where it is
+    in use, nor where it was taken out and is back."""
+    patches = [mock.patch.object(handover, 'SETTLED', 0.1), mock.patch.object(handover, 'FRESH', 0.5), mock.patch.object(handover, 'SURE', 0.1),
+               mock.patch.object(loop, 'CALLS', 0.02), mock.patch('warehouse.vda5050.simulated.STATES', 0.05), mock.patch.object(loop, 'LOOKS', 0.02)]
+    with contextlib.ExitStack() as stack:
+        for patch in patches:
+            stack.enter_context(patch)
+        for is_out in (False, True):
+            floor, keys = busy_floor(f'between-{is_out}', out_after=0.3, silent=0.4, pace=0.05)
+            floor.until(lambda: any(vehicle.drives for vehicle in floor.vehicles), 30)
+            between = next(agent for agent, vehicle in enumerate(floor.vehicles) if vehicle.drives)
+            gone = (between + 1) % len(floor.vehicles) if not is_out else between
+            lost = floor.vehicles[gone]
+            lost.broker.up = False
+            if is_out:
+                floor.vehicles[gone] = types.SimpleNamespace(turn=lambda: None, world=lost.world)    # it stops where it is
+            else:
+                floor.kill_vehicle(between)
+                assert floor.vehicles[between].world.toward
+                floor.vehicles[gone] = types.SimpleNamespace(turn=lambda: None, world=lost.world)
+            stood, toward = floor.vehicles[between].world.cell, floor.vehicles[between].world.toward
+            floor.until(lambda: floor.adapter.book.opening.number == 2, 30)
+            opening = floor.adapter.book.opening
+            if is_out:
+                assert cell_of(toward) in opening.blocked, (toward, opening)
+            else:
+                assert opening.cells[between] != cell_of(stood), (stood, toward, opening)
+            floor.bus.lines.remove(lost.broker)
+            lost.world.trace.close()
+            floor.vehicles[gone] = floor.vehicle(gone)    # back, with no order
+            floor.until(lambda: floor.adapter.book.opening.number == 3, 30)
+            if is_out:
+                same(floor.adapter.book.opening.cells[between], cell_of(toward))
+            floor.until(lambda: floor.delivered(*keys), 60)
             once_each(floor, keys)
 
 
