@@ -5,21 +5,19 @@ by itself.
 The program is that of WAREHOUSE, else ./warehouse. The last line is `N passed, M failed`, and `, K skipped` where a test needs what is not
 here; status 1 where one failed.
 """
-import contextlib
 import csv
-import io
 import json
 import os
 import sys
 
 import counting
+from python_package import run_here
 from tools_drive import ROOT, SCRATCH, file, has, same, text_of, tool, warehouse
 
 sys.path.insert(0, os.path.join(ROOT, 'python'))
 sys.dont_write_bytecode = True
 
 from warehouse import Fault, read_instance, read_log    # noqa: E402
-from warehouse.__main__ import main    # noqa: E402
 from warehouse.convert.block_yaml import read_yaml    # noqa: E402
 from warehouse.convert.plans import Grid, Plan, Visit, judge_plan    # noqa: E402
 
@@ -30,14 +28,8 @@ PATHS = [['0,1', '1,1', '1,0', '1,1', '2,1', '3,1', '3,0', '3,0', '3,0', '3,0'],
 
 def ran(*words: str) -> tuple[str, str, int]:
     """Standard output, standard error and status of a subcommand in this process."""
-    out, said = io.TextIOWrapper(io.BytesIO(), encoding='latin-1'), io.StringIO()
-    with contextlib.redirect_stdout(out), contextlib.redirect_stderr(said):
-        try:
-            status = main(list(words))
-        except SystemExit as end:
-            status = end.code
-    out.flush()
-    return out.buffer.getvalue().decode('latin-1'), said.getvalue(), status
+    out, said, status = run_here(*words)
+    return out.decode('latin-1'), said, status
 
 
 def export(kind: str, *words: str) -> str:
@@ -246,7 +238,7 @@ def test_wrong_files_are_refused_with_their_place() -> None:
                         (schedule.replace('x: 1', 'x: one'), 'of agent0 is no x, y and t')):
         has(refusal(read_schedule, 's', text.encode(), ['agent0']), words)
     result = json.loads(export('planviz', DELIVERIES, LOG))
-    for change, words in (({'actionModel': 'MAPF_T'}, 'the file/actionModel is none of MAPF'), ({'actualPaths': ['R,X', 'W']}, 'the file/actualPaths/0 is `R,X`'), ({'makespan': 8}, 'makespan is 8, and its plan gives 9'),
+    for change, words in (({'actionModel': 'MAPF_T'}, '/actionModel is none of MAPF'), ({'actualPaths': ['R,X', 'W']}, '/actualPaths/0 is `R,X`'), ({'makespan': 8}, 'makespan is 8, and its plan gives 9'),
                           ({'events': [[2, 0, 0, 1]]}, 'numTaskFinished is 2, and its plan gives 0'), ({'events': [[2, 0, 7, 1]]}, 'the event at time 2 names agent 0 and task 7'),
                           ({'tasks': [[0, 0, [1]]]}, 'a task is no [NUMBER, RELEASE'), ({'teamSize': 3}, 'teamSize is 3, and its plan gives 2')):
         has(refusal(read_result, 'r', json.dumps(result | change).encode()), 'r: ', words)
@@ -260,7 +252,7 @@ def test_wrong_files_are_refused_with_their_place() -> None:
     for data, words in ((changed(nodes=moved), 'l: node 1_0 at 1.9, 2.5 lies on no grid of 1 m'), (changed(nodes=nodes + nodes[:1]), 'l: two nodes have one nodeId'),
                         (changed(edges=edges[1:]), 'l: no edge leads from 1_0 to its neighbour 1_1'), (changed(edges=[*edges, edges[0] | {'endNodeId': '9_9'}]), 'ends at a node that is none'),
                         (changed(edges=[*edges, edges[0] | {'endNodeId': '3_2'}]), 'leads to no neighbour'), (changed(stations=stations + stations[:1]), 'l: station A stands twice'),
-                        (changed(nodes=[]), 'l: /layouts/0/nodes has 0 elements'), (b'[]', 'l: the message is no object'), (b'{', 'l: it is no JSON')):
+                        (changed(nodes=[]), 'l: /layouts/0/nodes has 0 elements'), (b'[]', 'l: the text is no object'), (b'{', 'l: it is no JSON')):
         has(refusal(read_floor, 'l', data, 1.0), words)
     instance = read_instance('i', text_of('examples', 'deliveries').encode())
     head, tasks = ','.join(COLUMNS), ','.join(TASKS)

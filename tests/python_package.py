@@ -61,6 +61,16 @@ def test_the_standard_library_alone() -> None:
                 assert name.split('.')[0] in sys.stdlib_module_names, (path, name)
 
 
+def test_no_shell_is_given_a_name() -> None:
+    for path in MODULES:
+        with open(path) as text:
+            tree = ast.parse(text.read())
+        for node in ast.walk(tree):
+            if isinstance(node, ast.Call):
+                assert not any(word.arg == 'shell' for word in node.keywords), path
+                assert not (isinstance(node.func, ast.Attribute) and node.func.attr in ('system', 'popen', 'getoutput', 'getstatusoutput')), path
+
+
 def test_sizes() -> None:
     for path in MODULES:
         with open(path) as text:

@@ -30,7 +30,8 @@ sys.dont_write_bytecode = True
 from warehouse import Fault, Vehicles, read_instance, read_orders    # noqa: E402
 from warehouse.__main__ import main    # noqa: E402
 from warehouse.vda5050 import broker as broker_module, handover, loop    # noqa: E402
-from warehouse.vda5050.adapter import read_fleet    # noqa: E402
+from warehouse.process import CoreDied, NoProgram    # noqa: E402
+from warehouse.vda5050.adapter import may_begin_later, read_fleet    # noqa: E402
 from warehouse.vda5050.book import Book, Opening    # noqa: E402
 from warehouse.vda5050.broker import CONNECTED, Message, client_of    # noqa: E402
 from warehouse.vda5050.feed import Feed, read_table    # noqa: E402
@@ -233,8 +234,8 @@ def test_messages_are_judged_with_their_places() -> None:
             same(fault_in(schema(topic), {key: value for key, value in message.items() if key != name}), f'/{name} is missing')
     for topic, change, words in WRONG:
         has(str(fault_in(schema(topic), VALID[topic] | change)), words)
-    for payload, words in ((b'', 't: the message is no JSON'), (b'\xff\x00', 't: the message is no JSON'), (b'[1', 't: the message is no JSON'),
-                           (b'7', 't: the message is no object'), (b'{"x": NaN}', 't: the message is no JSON: NaN'), (b'[' * 100000, 't: the message is no JSON'),
+    for payload, words in ((b'', 't: it is no JSON'), (b'\xff\x00', 't: it is no JSON'), (b'[1', 't: it is no JSON'),
+                           (b'7', 't: the text is no object'), (b'{"x": NaN}', 't: it is no JSON: NaN'), (b'[' * 100000, 't: it is no JSON'),
                            (b'"' + b'a' * (1 << 20) + b'"', 't: the message has 1048578 bytes')):
         try:
             read_message('state', 't', payload)
@@ -536,10 +537,10 @@ def test_wrong_messages_are_a_line_each() -> None:
     floor.until(lambda: floor.delivered('k'))
     said = floor.said.getvalue()
     assert 'Traceback' not in said, said
-    for line in ('vda5050: warehouse/order: the message is no JSON', 'vda5050: warehouse/order: /id is `$(touch x)`, and not as', 'vda5050: warehouse/order: /stops is missing',
+    for line in ('vda5050: warehouse/order: it is no JSON', 'vda5050: warehouse/order: /id is `$(touch x)`, and not as', 'vda5050: warehouse/order: /stops is missing',
                  'vda5050: warehouse/command: /command is none of', 'vda5050: warehouse/command: there is no vehicle v9', '`out` wants a vehicle, and the option --out-after',
-                 f'{topic}state: /timestamp is missing', f'{topic}connection: the message is no object', f'{topic}factsheet: /typeSpecification is missing',
-                 f'{topic}visualization: the message is no JSON'):
+                 f'{topic}state: /timestamp is missing', f'{topic}connection: the text is no object', f'{topic}factsheet: /typeSpecification is missing',
+                 f'{topic}visualization: it is no JSON'):
         same((line, said.count(line)), (line, 1))
     floor.end()
 
@@ -691,6 +692,11 @@ def test_a_core_that_finds_a_full_disk() -> None:
         once_each(floor, ['k1', 'k2'])
 
 
+def test_which_beginnings_are_tried_again() -> None:
+    # 3: another program has the log, or the disk is full; 9: killed; 1: the map is wrong, and would be again
+    same([may_begin_later(error) for error in (CoreDied('', 3), CoreDied('', -9), CoreDied('', 1), CoreDied('', 2), NoProgram(''))], [True, True, False, False, False])
+
+
 def test_a_list_of_keys_that_finds_a_full_disk() -> None:
     floor = Floor('fullkeys', TWO)
     keys, real = floor.adapter.book.file, os.write
@@ -760,6 +766,44 @@ def test_a_lost_vehicle_and_its_return() -> None:
             same(floor.adapter.book.opening.out, [])
             floor.until(lambda: floor.delivered(*keys), 40)
             has(floor.said.getvalue(), f'vda5050: all vehicles halt, for v{agent}', f'run 2 begins; out of use: v{agent};', 'run 3 begins; out of use: none; 0 cells blocked')
+            once_each(floor, keys)
+
+
+def test_one_that_stands_between_nodes_goes_to_the_next_first() -> None:
+    """A vehicle that is killed on its way, and comes back with no order, occupies two cells: no run begins while it does, neither where it is
+    in use, nor where it was taken out and is back."""
+    patches = [mock.patch.object(handover, 'SETTLED', 0.1), mock.patch.object(handover, 'FRESH', 0.5), mock.patch.object(handover, 'SURE', 0.1),
+               mock.patch.object(loop, 'CALLS', 0.02), mock.patch('warehouse.vda5050.simulated.STATES', 0.05), mock.patch.object(loop, 'LOOKS', 0.02)]
+    with contextlib.ExitStack() as stack:
+        for patch in patches:
+            stack.enter_context(patch)
+        for is_out in (False, True):
+            floor, keys = busy_floor(f'between-{is_out}', out_after=0.3, silent=0.4, pace=0.05)
+            floor.until(lambda: any(vehicle.drives for vehicle in floor.vehicles), 30)
+            between = next(agent for agent, vehicle in enumerate(floor.vehicles) if vehicle.drives)
+            gone = (between + 1) % len(floor.vehicles) if not is_out else between
+            lost = floor.vehicles[gone]
+            lost.broker.up = False
+            if is_out:
+                floor.vehicles[gone] = types.SimpleNamespace(turn=lambda: None, world=lost.world)    # it stops where it is
+            else:
+                floor.kill_vehicle(between)
+                assert floor.vehicles[between].world.toward
+                floor.vehicles[gone] = types.SimpleNamespace(turn=lambda: None, world=lost.world)
+            stood, toward = floor.vehicles[between].world.cell, floor.vehicles[between].world.toward
+            floor.until(lambda: floor.adapter.book.opening.number == 2, 30)
+            opening = floor.adapter.book.opening
+            if is_out:
+                assert cell_of(toward) in opening.blocked, (toward, opening)
+            else:
+                assert opening.cells[between] != cell_of(stood), (stood, toward, opening)
+            floor.bus.lines.remove(lost.broker)
+            lost.world.trace.close()
+            floor.vehicles[gone] = floor.vehicle(gone)    # back, with no order
+            floor.until(lambda: floor.adapter.book.opening.number == 3, 30)
+            if is_out:
+                same(floor.adapter.book.opening.cells[between], cell_of(toward))
+            floor.until(lambda: floor.delivered(*keys), 60)
             once_each(floor, keys)
 
 

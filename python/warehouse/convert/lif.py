@@ -8,9 +8,9 @@ from __future__ import annotations
 import json
 from dataclasses import dataclass
 
+from ..json_texts import Json, read_json
 from ..texts import MOST_SIDE, Cell, Fault, Instance
 from ..vda5050.layout import Layout, node_name
-from ..vda5050.schema import Json, fault_in
 
 NAME: Json = {'type': 'string', 'minLength': 1}
 PLACE: Json = {'type': 'object', 'required': ['x', 'y'], 'properties': {'x': {'type': 'number'}, 'y': {'type': 'number'}}}
@@ -64,13 +64,7 @@ def beside(cell: Cell) -> tuple[Cell, ...]:
 def read_floor(name: str, data: bytes, side: float) -> Floor:
     """The first layout of a file as a grid of cells of that side. Raises Fault where it is none: nodes off the grid or at one place, an edge
     that leads to no neighbour or one way alone, neighbours with no edge between."""
-    try:
-        value: Json = json.loads(data)
-    except (ValueError, RecursionError) as error:
-        raise Fault(f'it is no JSON: {str(error)[:80]}', name) from None
-    if fault := fault_in(FORM, value, ''):
-        raise Fault(fault, name)
-    layout = value['layouts'][0]
+    layout = read_json(name, data, FORM)['layouts'][0]
     places = places_of(name, layout, side)
     judge_edges(name, layout, places)
     stations: dict[str, Cell] = {}

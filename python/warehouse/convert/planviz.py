@@ -9,8 +9,8 @@ from __future__ import annotations
 import json
 from typing import Any
 
+from ..json_texts import Json, read_json
 from ..texts import Cell, Fault, Run
-from ..vda5050.schema import Json, fault_in
 from .plans import Plan, Visit, plan_of
 
 STEPS: dict[str, Cell] = {'W': (0, 0), 'R': (1, 0), 'L': (-1, 0), 'D': (0, 1), 'U': (0, -1)}
@@ -45,12 +45,7 @@ def text_of(run: Run) -> str:
 
 def read_result(name: str, data: bytes) -> tuple[Plan, Json]:
     """The plan of a result file, and the file. Raises Fault where it is none, or its numbers are not those of its plan."""
-    try:
-        result: Json = json.loads(data)
-    except (ValueError, RecursionError) as error:
-        raise Fault(f'it is no JSON: {str(error)[:80]}', name) from None
-    if fault := fault_in(FORM, result, 'the file'):
-        raise Fault(fault, name)
+    result = read_json(name, data, FORM)
     plan = Plan([path_of(start, actions) for start, actions in zip(result['start'], result['actualPaths'])])
     try:
         plan.tasks = [stops_of(task) for task in result['tasks']]

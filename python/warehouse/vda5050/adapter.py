@@ -31,7 +31,8 @@ import signal
 import sys
 import time
 
-from ..process import NoProgram, SessionError
+from ..fleet import Stop
+from ..process import CoreDied, SessionError, was_killed
 from ..session import Vehicles
 from ..texts import Fault, Instance, read_file, read_instance
 from .book import Book
@@ -103,6 +104,11 @@ def connect(options: argparse.Namespace) -> Mqtt:
     return Mqtt(f'{options.prefix}-adapter-{os.path.basename(options.log)}', address, options.prog)
 
 
+def may_begin_later(error: Exception) -> bool:
+    """Whether the core may begin at another try: the one of an adapter that was killed has the log still, or the disk is full."""
+    return isinstance(error, CoreDied) and (error.status == NO_CORE or was_killed(error.status))
+
+
 def interrupted(number: int, frame: object) -> None:
     raise KeyboardInterrupt
 
@@ -116,12 +122,14 @@ def run(options: argparse.Namespace) -> int:
     adapter = Adapter(instance, settings_of(options, instance), broker, book, vehicles)
     signal.signal(signal.SIGTERM, interrupted)
     try:
-        adapter.open()
-    except (SessionError, NoProgram) as error:
-        print(f'{options.prog}: the core does not begin: {error}', file=sys.stderr)
-        return NO_CORE
-    broker.start()
-    try:
+        try:
+            adapter.open()
+        except (SessionError, Stop) as error:
+            if not may_begin_later(error):
+                print(f'{options.prog}: the core does not begin: {error}', file=sys.stderr)
+                return NO_CORE
+            adapter.fail(str(error), time.monotonic())
+        broker.start()
         while True:
             adapter.go_on(time.monotonic())
     except KeyboardInterrupt:

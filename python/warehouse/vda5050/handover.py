@@ -58,7 +58,7 @@ class Handover:
         agent, after = vehicle.agent, self.adapter.settings.out_after
         is_there = self.is_there(vehicle, now)
         if vehicle.out:
-            is_back = is_there and vehicle.is_idle and vehicle.heard > self.back.get(agent, now) + SURE and self.asked.get(agent) is not True
+            is_back = is_there and vehicle.is_idle and self.is_at_node(vehicle) and vehicle.heard > self.back.get(agent, now) + SURE and self.asked.get(agent) is not True
             return [(agent, False)] if is_back else []
         if self.asked.get(agent) is True or (vehicle.row in GONE and now - vehicle.since > after):
             return [(agent, True)]
@@ -74,7 +74,22 @@ class Handover:
     def stands(self, vehicle: Vehicle) -> bool:
         """Whether it stands at a node, and nothing that was sent to it is on its way."""
         has_heard = vehicle.has_heard or vehicle.out    # one that is back was called back, and said so since
-        return has_heard and vehicle.is_idle and not vehicle.is_broken and vehicle.heard > self.began + SURE and vehicle.cell is not None
+        is_told = vehicle.is_idle and not vehicle.is_broken and vehicle.heard > self.began + SURE
+        return has_heard and is_told and vehicle.cell is not None and self.is_at_node(vehicle)
+
+    def is_at_node(self, vehicle: Vehicle) -> bool:
+        """Whether it is not between two nodes, where one that was killed can stand. One that says no position must not."""
+        return vehicle.apart <= self.adapter.settings.layout.tolerance
+
+    def next_cell(self, vehicle: Vehicle) -> Cell | None:
+        """The cell that one that is out of use, and there again, stands in beside its own: of those that are blocked for such vehicles."""
+        layout, cell, state = self.adapter.settings.layout, vehicle.cell, vehicle.state
+        if vehicle.agent not in self.back or not vehicle.is_idle or self.is_at_node(vehicle) or cell is None or state is None:
+            return None
+        near = [(layout.off(other, state['agvPosition']), other) for other in self.adapter.book.opening.blocked
+                if abs(other[0] - cell[0]) + abs(other[1] - cell[1]) == 1]
+        off, found = min(near, default=(layout.side, cell))
+        return found if off < layout.side else None
 
     def calls_back(self, vehicle: Vehicle) -> bool:
         """Whether its order is to be cancelled: one that has not answered what was sent last gets that again first."""
@@ -93,8 +108,8 @@ class Handover:
         return is_new or not vehicle.is_idle
 
     def keeps(self, vehicle: Vehicle) -> bool:
-        """Whether it gets no order now."""
-        return self.halts and vehicle.has_heard
+        """Whether it gets no order now. One that stands between two nodes gets its own, and is called back at the next."""
+        return self.halts and vehicle.has_heard and self.is_at_node(vehicle)
 
     # ---- the next run
 

@@ -37,6 +37,11 @@ class Layout:
         x, y = self.metres(cell)
         return math.hypot(position['x'] - x, position['y'] - y)
 
+    @property
+    def tolerance(self) -> float:
+        """Metres from a node's middle within which a vehicle stands at the node, and not on its way to another."""
+        return max(self.deviation, self.side / 4)
+
     def misfits(self, sheet: Json) -> str:
         """Why a vehicle of this factsheet cannot be told into cells, with numbers; '' where it can.
 

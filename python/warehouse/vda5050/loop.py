@@ -21,6 +21,7 @@ from .dispatch import Dispatch
 from .handover import Handover
 from .layout import Layout, node_name
 from .opening import instance_of
+from . import orders
 from .orders import Writer
 from .plan import Leg, Plan
 from .schema import Json, read_message
@@ -266,10 +267,10 @@ class Adapter:
     def judge_position(self, vehicle: Vehicle, position: Json | None) -> None:
         """Whether the vehicle is where its node is, or on the way to the next."""
         cell, layout = vehicle.cell, self.settings.layout
-        vehicle.off = ''
+        vehicle.off, vehicle.apart = '', 0.0
         if cell is None or position is None or not position['positionInitialized'] or position['mapId'] != layout.name:
             return
-        off = layout.off(cell, position)
+        off = vehicle.apart = layout.off(cell, position)
         if off > 2 * layout.side:
             x, y = layout.metres(cell)
             vehicle.off = f'says {position["x"]:.2f}, {position["y"]:.2f}, which is {off:.2f} m from {node_name(cell)} at {x:g}, {y:g}'
@@ -369,6 +370,8 @@ class Adapter:
         self.call_pause(vehicle, now)
         if row.sends is Sends.CANCEL or self.handover.calls_back(vehicle):
             self.call_back(vehicle, now)
+        elif vehicle.out:
+            self.send_on(vehicle, now)
         elif row.sends is not Sends.NOTHING and not self.handover.keeps(vehicle):
             self.send(vehicle, row.sends, now)
 
@@ -379,6 +382,15 @@ class Adapter:
             name, update, body = due
             self.publish(vehicle, 'order', {'orderId': str(name), 'orderUpdateId': update, **body})
             vehicle.sent, vehicle.sent_at = (name, update), now
+
+    def send_on(self, vehicle: Vehicle, now: float) -> None:
+        """To the next node, where one that is out of use and there again stands between two."""
+        cell, to = vehicle.cell, self.handover.next_cell(vehicle)
+        if cell is not None and to is not None and now - vehicle.sent_at > orders.RESEND:
+            leg = Leg(0, 0, [0, 1], [cell, to], told=1)
+            name = Name(vehicle.run, vehicle.agent, 0, 0, 0 if vehicle.named is None else vehicle.named.again + 1)
+            self.publish(vehicle, 'order', {'orderId': str(name), 'orderUpdateId': 1, **self.writer.body(vehicle, leg, name, 0)})
+            vehicle.sent, vehicle.sent_at = (name, 1), now
 
     def call_pause(self, vehicle: Vehicle, now: float) -> None:
         """Pauses it, or lets it go on, until it says so."""

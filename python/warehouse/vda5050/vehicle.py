@@ -59,6 +59,7 @@ class Vehicle:
     called: float = 0.0                  # when it was called back last
     asked: float = 0.0                   # when its factsheet was asked for
     off: str = ''                        # that it is not where it says
+    apart: float = 0.0                   # metres from its node's middle, 0 where it does not say
     since: float = 0.0                   # when the row of the table began to hold that holds now
     row: str = ''
     # as of the last look
