@@ -107,12 +107,13 @@ class Line:
 class Floor:
     """A fleet in this process. What adapters say is in `said`."""
 
-    def __init__(self, name: str, text: str, out_after: float = 0.0, program: str = PROGRAM, pace: float = 0.004, cell: float = 1.0, silent: float = 40.0):
+    def __init__(self, name: str, text: str, out_after: float = 0.0, program: str = PROGRAM, pace: float = 0.004, cell: float = 1.0, silent: float = 40.0,
+                 helpers: bool = False):
         self.folder = os.path.join(SCRATCH.name, name)
         os.mkdir(self.folder)
         self.instance = read_instance(name, text.encode()).with_nofollow()
         self.settings = Settings(os.path.join(self.folder, 'run.log'), program, Vehicles(4, 3), Layout(self.instance.height, cell, cell / 20), step=pace,
-                                 silent=silent, out_after=out_after)
+                                 silent=silent, out_after=out_after, helpers=helpers)
         self.bus, self.pace, self.said = Bus(), pace, io.StringIO()
         self.desk = self.bus.client()
         self.desk.subscribe([('warehouse/order/+', 1), ('warehouse/status', 0)])
@@ -522,6 +523,20 @@ def test_more_than_two_stops() -> None:
                 kinds |= {(node['nodeId'], action['actionId'][-1]): action['actionType'] for action in node['actions']}
     same(sorted(kinds.items()), [(('1_0', '0'), 'pick'), (('3_0', '3'), 'drop'), (('3_2', '1'), 'visit'), (('3_2', '2'), 'visit')])
     floor.end()
+
+
+def test_a_standstill_and_helper_orders() -> None:
+    # agents at A and C bar an order A C D to each other: alarmed, and with helpers one is sent away, with nothing to pick or drop
+    text = TWO.replace('agent P0\nagent P1', 'agent A\nagent C')
+    floor = Floor('stands', text)
+    floor.order('k', 'A', 'C', 'D')
+    floor.until(lambda: floor.adapter.alarms.get('standstill') == '1 orders are open, and no agent can take one')
+    floor.end()
+    floor = Floor('helped', text, helpers=True)
+    floor.order('k', 'A', 'C', 'D')
+    floor.until(lambda: floor.delivered('k', 'helper-1-1') and 'standstill' not in floor.adapter.alarms)
+    has(floor.said.getvalue(), 'vda5050: standstill: is well again')
+    same(sorted(floor.end().loads), [('drop', 'k'), ('pick', 'k')])
 
 
 def test_wrong_messages_are_a_line_each() -> None:

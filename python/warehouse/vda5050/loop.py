@@ -9,7 +9,7 @@ import time
 from dataclasses import dataclass
 from datetime import datetime, timezone
 
-from ..fleet import Stop
+from ..fleet import HELPER, Stop
 from ..process import SessionError
 from ..replies import Go, Parked, Reply, Took
 from ..session import Session, Vehicles
@@ -21,8 +21,7 @@ from .dispatch import Dispatch
 from .handover import Handover
 from .layout import Layout, node_name
 from .opening import instance_of
-from . import orders
-from .orders import Writer
+from .orders import RESEND, Writer
 from .plan import Leg, Plan
 from .schema import Json, read_message
 from .vehicle import Name, Sends, Vehicle, row_of
@@ -51,6 +50,7 @@ class Settings:
     horizon: int = 12
     silent: float = 40.0
     out_after: float = 0.0
+    helpers: bool = False
     said: str = 'vda5050'
 
 
@@ -75,7 +75,7 @@ class Adapter:
         self.restarts = self.starts = 0
         self.is_open = False
         self.tried, self.pause = 0.0, 1.0        # when the core was begun last, and how long until the next try
-        self.next_tick = self.next_look = self.next_status = 0.0
+        self.next_tick = self.next_look = self.next_status = self.next_help = 0.0
         self.up = time.monotonic()               # since when the broker is there
         broker.subscribe([*((f'{self.topic(vehicle)}{name}', quality) for vehicle in vehicles
                             for name, quality in (('state', 0), ('connection', 1), ('visualization', 0), ('factsheet', 0))),
@@ -189,6 +189,7 @@ class Adapter:
                     self.next_tick = max(self.next_tick + self.settings.step, now - self.settings.step)
                 self.fleet.policy(self.fleet)
             self.take_told()
+            self.help(now)
         for restart in self.core.restarts[self.restarts:]:
             self.tell(str(restart))
             self.restarts += 1
@@ -201,6 +202,16 @@ class Adapter:
         self.taken.clear()
         self.write()
         self.pause = 1.0
+
+    def help(self, now: float) -> None:
+        """Alarms a standstill; ends it by a helper order where that is asked for."""
+        if now < self.next_help:
+            return
+        self.next_help = now + 1
+        stands = bool(self.fleet.open) and not any(self.plan.under_way()) and self.fleet.stands()
+        self.alarm('standstill', f'{len(self.fleet.open)} orders are open, and no agent can take one' if stands else '')
+        if stands and self.settings.helpers:
+            self.fleet.help()
 
     def write(self) -> None:
         try:
@@ -342,7 +353,8 @@ class Adapter:
         if leg.came < vehicle.node <= leg.told and row_of(vehicle).reports:
             self.reports[vehicle.agent] = max(self.reports.get(vehicle.agent, 0), leg.steps[vehicle.node])
         if transport is not None and vehicle.node <= leg.told:
-            self.desk.make(transport, transport.first + sum(at < vehicle.node for at in leg.visits))
+            passed = vehicle.node + (transport.client == HELPER)
+            self.desk.make(transport, transport.first + sum(at < passed for at in leg.visits))
             if 'loads' in state:
                 self.by_load(vehicle, leg)
 
@@ -386,7 +398,7 @@ class Adapter:
     def send_on(self, vehicle: Vehicle, now: float) -> None:
         """To the next node, where one that is out of use and there again stands between two."""
         cell, to = vehicle.cell, self.handover.next_cell(vehicle)
-        if cell is not None and to is not None and now - vehicle.sent_at > orders.RESEND:
+        if cell is not None and to is not None and now - vehicle.sent_at > RESEND:
             leg = Leg(0, 0, [0, 1], [cell, to], told=1)
             name = Name(vehicle.run, vehicle.agent, 0, 0, 0 if vehicle.named is None else vehicle.named.again + 1)
             self.publish(vehicle, 'order', {'orderId': str(name), 'orderUpdateId': 1, **self.writer.body(vehicle, leg, name, 0)})
@@ -445,8 +457,6 @@ class Adapter:
         if self.is_open:
             held = self.fleet.held
             status |= {'clock': self.fleet.clock, 'open': len(self.fleet.open), 'held': None if held is None else self.vehicles[held].serial}
-            stands = bool(self.fleet.open) and not any(self.plan.under_way()) and self.fleet.stands()
-            self.alarm('standstill', f'{len(self.fleet.open)} orders are open, and no agent can take one' if stands else '')
         self.broker.publish(f'{self.settings.prefix}/status', json.dumps(status), 0, True)
 
     def end(self) -> None:
