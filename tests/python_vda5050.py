@@ -635,9 +635,9 @@ def test_a_failed_action_is_alarmed_and_tried_again() -> None:
         floor.end()
 
 
-def busy_floor(name: str, **named) -> tuple[Floor, list[str]]:
-    """Twelve agents of a small floor, and twenty orders that are sent at once."""
-    text, _, _ = tool('make_instance.py', '--columns', '24', '--rows', '16', '--shelf', '4', '--agents', '6', '--tasks', '20', '--seed', '5')
+def busy_floor(name: str, tasks: int = 20, **named) -> tuple[Floor, list[str]]:
+    """Six agents on a small floor, and orders that are sent at once."""
+    text, _, _ = tool('make_instance.py', '--columns', '24', '--rows', '16', '--shelf', '4', '--agents', '6', '--tasks', str(tasks), '--seed', '5')
     floor = Floor(name, text, **named)
     orders = read_orders('i', text.encode())
     for number, order in enumerate(orders):
@@ -793,7 +793,7 @@ def test_one_that_stands_between_nodes_goes_to_the_next_first() -> None:
         for patch in patches:
             stack.enter_context(patch)
         for is_out in (False, True):
-            floor, keys = busy_floor(f'between-{is_out}', out_after=0.3, silent=0.4, pace=0.05)
+            floor, keys = busy_floor(f'between-{is_out}', 10, out_after=0.3, silent=0.4, pace=0.02)
             floor.until(lambda: any(vehicle.drives for vehicle in floor.vehicles), 30)
             between = next(agent for agent, vehicle in enumerate(floor.vehicles) if vehicle.drives)
             gone = (between + 1) % len(floor.vehicles) if not is_out else between
