@@ -311,7 +311,7 @@ def test_an_order_by_hand() -> None:
          [('0_1', 0, True, []), ('1_1', 2, True, []), ('1_0', 4, True, ['pick']), ('1_1', 6, False, []), ('2_1', 8, False, []), ('3_1', 10, False, [])])
     same([(edge['edgeId'], edge['sequenceId'], edge['released']) for edge in body['edges']],
          [('0_1-1_1', 1, True), ('1_1-1_0', 3, True), ('1_0-1_1', 5, False), ('1_1-2_1', 7, False), ('2_1-3_1', 9, False)])
-    same(body['nodes'][2]['actions'], [{'actionType': 'pick', 'actionId': 'r-1.0.1.0.0.0', 'blockingType': 'HARD', 'actionParameters': [
+    same(body['nodes'][2]['actions'], [{'actionType': 'pick', 'actionId': 'r-1.0.1.0.0.0:k', 'blockingType': 'HARD', 'actionParameters': [
         {'key': 'stationName', 'value': 'A'}, {'key': 'loadId', 'value': 'k'}]}])
     same(fault_in(schema('order'), HEAD | {'orderId': str(name), 'orderUpdateId': update} | body), None)
     # once it has that, and is told further, the update begins at the last node that it was released to
@@ -520,7 +520,7 @@ def test_more_than_two_stops() -> None:
     for topic, text in floor.bus.log:
         if topic.endswith('/order') and topic.startswith('uagv/'):
             for node in json.loads(text)['nodes']:
-                kinds |= {(node['nodeId'], action['actionId'][-1]): action['actionType'] for action in node['actions']}
+                kinds |= {(node['nodeId'], action['actionId'][-3]): action['actionType'] for action in node['actions']}
     same(sorted(kinds.items()), [(('1_0', '0'), 'pick'), (('3_0', '3'), 'drop'), (('3_2', '1'), 'visit'), (('3_2', '2'), 'visit')])
     floor.end()
 
@@ -820,6 +820,29 @@ def test_one_that_stands_between_nodes_goes_to_the_next_first() -> None:
                 same(floor.adapter.book.opening.cells[between], cell_of(toward))
             floor.until(lambda: floor.delivered(*keys), 60)
             once_each(floor, keys)
+
+
+def test_what_a_lost_vehicle_did_meanwhile_is_known_when_it_is_back() -> None:
+    """It picks and drops what it was told to, while nobody hears it: neither is handed in again, nor done again."""
+    patches = [mock.patch.object(handover, 'SETTLED', 0.1), mock.patch.object(handover, 'FRESH', 0.5), mock.patch.object(handover, 'SURE', 0.1),
+               mock.patch.object(loop, 'CALLS', 0.02), mock.patch('warehouse.vda5050.simulated.STATES', 0.05), mock.patch.object(loop, 'LOOKS', 0.02)]
+    with contextlib.ExitStack() as stack:
+        for patch in patches:
+            stack.enter_context(patch)
+        # agent 0 stands at A; the order's pickup is there, and its delivery C two steps on: within what a vehicle is told at once
+        floor = Floor('meanwhile', TWO.replace('agent P0', 'agent A') + '', out_after=0.3, silent=0.4, pace=0.05)
+        floor.order('k', 'A', 'C')
+        vehicle = floor.vehicles[0]
+        floor.until(lambda: len([node for node in vehicle.nodes if node['released']]) == 2)
+        same((vehicle.world.cell, vehicle.world.loads), ('1_0', []))
+        vehicle.broker.up = False
+        floor.until(lambda: floor.adapter.book.opening.number == 2, 30)
+        floor.until(lambda: not vehicle.world.loads and vehicle.world.cell == '1_2' and vehicle.busy is None)
+        same((floor.adapter.book.transports['k'].made, floor.adapter.book.opening.carried, floor.adapter.book.left()), (0, {'k': 0}, []))
+        vehicle.broker.up = True
+        floor.until(lambda: floor.adapter.book.opening.number == 3 and floor.delivered('k'), 30)
+        same(len(floor.adapter.fleet.tasks), 0)
+        once_each(floor, ['k'])
 
 
 def test_out_and_back_by_command() -> None:

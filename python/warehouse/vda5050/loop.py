@@ -312,9 +312,10 @@ class Adapter:
         vehicle.limit = self.settings.silent + max(0.0, self.up - vehicle.heard)    # a broker's own fall does not count
         state, named = vehicle.state, vehicle.named
         if state is not None and not vehicle.is_broken:
+            if named is not None:
+                self.take_actions(vehicle, named)
             if vehicle.has_our_order and named is not None:
                 self.finish_before(vehicle, named)
-                self.take_actions(vehicle, named)
             self.place(vehicle)
         vehicle.leg = self.plan.current(vehicle.agent)
 
@@ -325,14 +326,14 @@ class Adapter:
             self.plan.drop(vehicle.agent, 1)
 
     def take_actions(self, vehicle: Vehicle, named: Name) -> None:
-        """What of its order's actions has ended."""
-        leg = next((leg for leg in self.plan.legs[vehicle.agent] if leg.number == named.leg), None)
-        transport = None if leg is None or leg.task is None else self.book.of_task(leg.task)
-        if transport is None or vehicle.state is None:
-            return
-        for action in vehicle.state['actionStates']:
-            name, _, visit = action['actionId'].rpartition('.')
-            if name == str(named) and visit.isdecimal() and action['actionStatus'] == 'FINISHED':
+        """What of its order's actions has ended, also of a run before where the order waits for this vehicle."""
+        for action in vehicle.state['actionStates'] if vehicle.state else ():
+            name, _, key = action['actionId'].partition(':')
+            order, _, visit = name.rpartition('.')
+            transport = self.book.transports.get(key)
+            if transport is None or order != str(named) or not visit.isdecimal() or action['actionStatus'] != 'FINISHED':
+                continue
+            if f'{self.book.name}-{transport.run}' == named.run:
                 self.desk.make(transport, min(transport.first + int(visit) + 1, len(transport.stops)))
 
     def place(self, vehicle: Vehicle) -> None:
