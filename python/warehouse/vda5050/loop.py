@@ -11,7 +11,7 @@ from datetime import datetime, timezone
 
 from ..fleet import HELPER, Stop
 from ..process import SessionError
-from ..replies import Go, Parked, Reply, Took
+from ..replies import Arrived, Go, Parked, Reply, Took
 from ..session import Session, Vehicles
 from ..texts import Fault, Instance, read_arrivals, read_file
 from .book import Book
@@ -108,6 +108,7 @@ class Adapter:
             raise
         for vehicle in self.vehicles:
             vehicle.out = vehicle.agent in opening.out
+        self.reports.clear()    # of the run before, it may be: what still holds comes again at the next look
         self.is_open, self.restarts, self.starts = True, 0, self.starts + 1
         self.desk.hand_in_left(self.fleet, lambda agent: instance.points[instance.starts[agent]].name)
         self.take_told()
@@ -226,13 +227,14 @@ class Adapter:
         rows = list(self.reports.items())
         for first in range(0, len(rows), MOST_REPORTS):
             part = rows[first:first + MOST_REPORTS]
-            self.core.ask_all([f'at {agent} {step}' for agent, step in part])
-            for agent, step in part:
+            for (agent, step), reply in zip(part, self.core.ask_all([f'at {agent} {step}' for agent, step in part])):
+                del self.reports[agent]
+                if not isinstance(reply, Arrived):
+                    self.tell(f'{self.vehicles[agent].serial}: its step {step} is not taken: {reply}')
+                    continue
                 self.plan.arrived(agent, step)
                 if self.fleet.held == agent:
                     self.fleet.held = None
-                if self.reports.get(agent) == step:
-                    del self.reports[agent]
         if rows:
             self.take_told()
             self.next_look = 0.0
