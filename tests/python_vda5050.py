@@ -29,7 +29,7 @@ sys.dont_write_bytecode = True
 
 from warehouse import Fault, Vehicles, read_instance, read_orders    # noqa: E402
 from warehouse.__main__ import main    # noqa: E402
-from warehouse.vda5050 import broker as broker_module, handover, loop    # noqa: E402
+from warehouse.vda5050 import broker as broker_module, handover, loop, simulated    # noqa: E402
 from warehouse.process import CoreDied, NoProgram    # noqa: E402
 from warehouse.vda5050.adapter import may_begin_later, read_fleet    # noqa: E402
 from warehouse.vda5050.book import Book, Opening    # noqa: E402
@@ -635,6 +635,23 @@ def test_a_failed_action_is_alarmed_and_tried_again() -> None:
         floor.end()
 
 
+def test_what_was_done_before_a_kill_is_seen_by_loads() -> None:
+    """A vehicle is killed behind a pick, or a drop, of which it said nothing: it comes back with no order, and is not told to do it again."""
+    for kind, left in (('pick', ['drop']), ('drop', [])):
+        floor = Floor(f'loads-{kind}', TWO)
+        vehicle = floor.vehicles[0]
+        floor.order('k', 'A', 'B')
+        floor.until(lambda: vehicle.busy is not None and vehicle.busy[2].get('actionType') == kind)
+        vehicle.world.handle(vehicle.busy[2])
+        floor.kill_vehicle(0)
+        before = len(floor.bus.log)
+        floor.until(lambda: floor.delivered('k'))
+        sent = {action['actionType'] for topic, text in floor.bus.log[before:] if topic.endswith('v0/order') for node in json.loads(text)['nodes']
+                for action in node['actions']}
+        same((kind, sorted(sent)), (kind, left))
+        same(sorted(floor.end().loads), [('drop', 'k'), ('pick', 'k')])
+
+
 def busy_floor(name: str, tasks: int = 20, **named) -> tuple[Floor, list[str]]:
     """Six agents on a small floor, and orders that are sent at once."""
     text, _, _ = tool('make_instance.py', '--columns', '24', '--rows', '16', '--shelf', '4', '--agents', '6', '--tasks', str(tasks), '--seed', '5')
@@ -749,13 +766,19 @@ def test_a_log_of_another_client_is_refused() -> None:
 
 # ---------------------------------------------------------------------------------------- a lost vehicle
 
+@contextlib.contextmanager
+def quick():
+    """Tenths of seconds in place of the adapter's seconds."""
+    with contextlib.ExitStack() as stack:
+        for where, name, value in ((handover, 'SETTLED', 0.1), (handover, 'FRESH', 0.5), (handover, 'SURE', 0.1), (loop, 'CALLS', 0.02), (loop, 'LOOKS', 0.02),
+                                   (simulated, 'STATES', 0.05)):
+            stack.enter_context(mock.patch.object(where, name, value))
+        yield
+
+
 def test_a_lost_vehicle_and_its_return() -> None:
     """All halt, and the others deliver what they can; what it carries waits for it; once it is back it is delivered, once."""
-    patches = [mock.patch.object(handover, 'SETTLED', 0.1), mock.patch.object(handover, 'FRESH', 0.5), mock.patch.object(handover, 'SURE', 0.1), mock.patch.object(loop, 'CALLS', 0.02),
-               mock.patch('warehouse.vda5050.simulated.STATES', 0.05), mock.patch.object(loop, 'LOOKS', 0.02)]
-    with contextlib.ExitStack() as stack:
-        for patch in patches:
-            stack.enter_context(patch)
+    with quick():
         for kill in (False, True):
             floor, keys = busy_floor(f'lost-{kill}', out_after=0.3, silent=0.4, pace=0.01)
             floor.until(lambda: any(vehicle.world.loads for vehicle in floor.vehicles), 30)
@@ -785,27 +808,22 @@ def test_a_lost_vehicle_and_its_return() -> None:
 
 
 def test_one_that_stands_between_nodes_goes_to_the_next_first() -> None:
-    """A vehicle that is killed on its way, and comes back with no order, occupies two cells: no run begins while it does, neither where it is
-    in use, nor where it was taken out and is back."""
-    patches = [mock.patch.object(handover, 'SETTLED', 0.1), mock.patch.object(handover, 'FRESH', 0.5), mock.patch.object(handover, 'SURE', 0.1),
-               mock.patch.object(loop, 'CALLS', 0.02), mock.patch('warehouse.vda5050.simulated.STATES', 0.05), mock.patch.object(loop, 'LOOKS', 0.02)]
-    with contextlib.ExitStack() as stack:
-        for patch in patches:
-            stack.enter_context(patch)
+    """A vehicle that is killed on its way, and comes back with no order, occupies two cells: no run begins while it does, neither where that
+    is while all halt, nor where it was taken out and is back."""
+    with quick():
         for is_out in (False, True):
-            floor, keys = busy_floor(f'between-{is_out}', 10, out_after=0.3, silent=0.4, pace=0.02)
+            floor, keys = busy_floor(f'between-{is_out}', 10 if is_out else 4, out_after=0.3, silent=0.4, pace=0.02 if is_out else 0.2)
             floor.until(lambda: any(vehicle.drives for vehicle in floor.vehicles), 30)
-            between = next(agent for agent, vehicle in enumerate(floor.vehicles) if vehicle.drives)
-            gone = (between + 1) % len(floor.vehicles) if not is_out else between
-            lost = floor.vehicles[gone]
+            gone = next(agent for agent, vehicle in enumerate(floor.vehicles) if vehicle.drives)
+            lost, between = floor.vehicles[gone], gone
             lost.broker.up = False
-            if is_out:
-                floor.vehicles[gone] = types.SimpleNamespace(turn=lambda: None, world=lost.world)    # it stops where it is
-            else:
+            floor.vehicles[gone] = types.SimpleNamespace(turn=lambda: None, world=lost.world, drives=False)    # it stops where it is
+            if not is_out:
+                floor.until(lambda: floor.adapter.handover.halts and any(vehicle.drives for vehicle in floor.vehicles), 30)
+                between = next(agent for agent, vehicle in enumerate(floor.vehicles) if vehicle.drives)
                 floor.kill_vehicle(between)
-                assert floor.vehicles[between].world.toward
-                floor.vehicles[gone] = types.SimpleNamespace(turn=lambda: None, world=lost.world)
             stood, toward = floor.vehicles[between].world.cell, floor.vehicles[between].world.toward
+            assert toward, (between, stood)
             floor.until(lambda: floor.adapter.book.opening.number == 2, 30)
             opening = floor.adapter.book.opening
             if is_out:
@@ -824,11 +842,7 @@ def test_one_that_stands_between_nodes_goes_to_the_next_first() -> None:
 
 def test_what_a_lost_vehicle_did_meanwhile_is_known_when_it_is_back() -> None:
     """It picks and drops what it was told to, while nobody hears it: neither is handed in again, nor done again."""
-    patches = [mock.patch.object(handover, 'SETTLED', 0.1), mock.patch.object(handover, 'FRESH', 0.5), mock.patch.object(handover, 'SURE', 0.1),
-               mock.patch.object(loop, 'CALLS', 0.02), mock.patch('warehouse.vda5050.simulated.STATES', 0.05), mock.patch.object(loop, 'LOOKS', 0.02)]
-    with contextlib.ExitStack() as stack:
-        for patch in patches:
-            stack.enter_context(patch)
+    with quick():
         # agent 0 stands at A; the order's pickup is there, and its delivery C two steps on: within what a vehicle is told at once
         floor = Floor('meanwhile', TWO.replace('agent P0', 'agent A') + '', out_after=0.3, silent=0.4, pace=0.05)
         floor.order('k', 'A', 'C')
@@ -846,11 +860,7 @@ def test_what_a_lost_vehicle_did_meanwhile_is_known_when_it_is_back() -> None:
 
 
 def test_out_and_back_by_command() -> None:
-    patches = [mock.patch.object(handover, 'SETTLED', 0.1), mock.patch.object(handover, 'SURE', 0.1), mock.patch.object(loop, 'CALLS', 0.02),
-               mock.patch('warehouse.vda5050.simulated.STATES', 0.05)]
-    with contextlib.ExitStack() as stack:
-        for patch in patches:
-            stack.enter_context(patch)
+    with quick():
         floor, keys = busy_floor('out', out_after=30, pace=0.01)
         floor.until(lambda: len(floor.answers) == len(keys), 30)
         floor.desk.publish('warehouse/command', '{"command": "out", "vehicle": "v2"}')
