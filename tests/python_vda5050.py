@@ -512,6 +512,23 @@ def test_what_is_sent_is_valid_and_what_is_told_is_true() -> None:
     floor.end()
 
 
+def test_a_broker_that_lost_all_is_told_again() -> None:
+    floor = Floor('again', TWO)
+    floor.order('k', 'A', 'B')
+    floor.until(lambda: floor.delivered('k'))
+    # its delivery was told to nobody, or the broker has lost it; a new adapter, and any new connection, tells it
+    for kill in (True, False):
+        floor.answers.clear()
+        floor.bus.retained.clear()
+        if kill:
+            floor.kill_adapter()
+        else:
+            floor.adapter.broker.inbox.append(Message(CONNECTED, b'', time.monotonic()))
+        floor.until(lambda: floor.delivered('k'), 5)
+        same(floor.bus.retained['warehouse/order/k'], json.dumps({'id': 'k', 'state': 'delivered', 'run': 1, 'task': 0, 'agent': 0}, separators=(',', ':')))
+    floor.end()
+
+
 def test_more_than_two_stops() -> None:
     floor = Floor('stops', TWO)
     floor.order('k', 'A', 'D', 'D', 'B')
@@ -955,6 +972,13 @@ def test_the_feed() -> None:
     for key, answer in (('k1', '{"state": "accepted"}'), ('k9', '{"state": "accepted"}'), ('k1', 'noise'), ('k2', '{"state": "refused", "why": "no"}'), ('k1', '7')):
         desk.publish(f'warehouse/order/{key}', answer)
     same((feed.turn(0), feed.is_done()), (['k1 accepted', 'k2 refused no'], False))
+    # what is answered, and not at its end, is sent again much later: the last answer may be lost with its broker
+    sent = len(bus.log)
+    feed.rows['k1'].sent -= 4
+    feed.turn(0)
+    feed.rows['k1'].sent -= 12
+    feed.turn(0)
+    same([text for _, text in bus.log[sent:]], ['{"id": "k1", "stops": ["B", "A"]}'])
     desk.publish('warehouse/order/k1', '{"state": "delivered"}')
     same((feed.turn(0), feed.is_done()), (['k1 delivered'], True))
 
