@@ -130,6 +130,15 @@ class Cast:
             return False
         return True
 
+    def processor_seconds(self, name: str) -> float:
+        """What the process has used since its last start."""
+        try:
+            with open(f'/proc/{self.running[name].pid}/stat') as file:
+                words = file.read().rpartition(')')[2].split()
+        except OSError:
+            return 0.0
+        return (int(words[11]) + int(words[12])) / os.sysconf('SC_CLK_TCK')
+
     def end(self) -> None:
         for name, process in self.running.items():
             if name not in ('broker', 'adapter'):
@@ -204,6 +213,8 @@ def run_fleet(cast: Cast, orders: int, kills: int, seed: int, limit: float, low:
                     cast.start(name)
             time.sleep(0.05)
     finally:
+        used = {name: cast.processor_seconds(name) for name in ('adapter', 'broker')}
+        seconds = round(time.monotonic() - began, 1)
         feed.kill()
         feed.wait()
         answers.close()
@@ -214,7 +225,7 @@ def run_fleet(cast: Cast, orders: int, kills: int, seed: int, limit: float, low:
     with open(os.path.join(cast.folder, 'answers'), encoding='utf-8') as told:
         last = dict(line.split()[:2] for line in told.read().splitlines())
     judge = Judge(cast.folder)
-    return {'seconds': round(time.monotonic() - began, 1), 'told': collections.Counter(last.values()), 'killed': dict(chaos.killed), 'fell': fell,
+    return {'seconds': seconds, 'processor seconds': used, 'told': collections.Counter(last.values()), 'killed': dict(chaos.killed), 'fell': fell,
             'stays': judge.stays, 'wrong': judge.wrong, 'dropped': len(judge.dropped()), 'orders': orders}
 
 

@@ -29,7 +29,7 @@ sys.dont_write_bytecode = True
 
 from warehouse import Fault, Vehicles, read_instance, read_orders    # noqa: E402
 from warehouse.__main__ import main    # noqa: E402
-from warehouse.vda5050 import broker as broker_module, handover, loop    # noqa: E402
+from warehouse.vda5050 import broker as broker_module, handover, loop, simulated    # noqa: E402
 from warehouse.process import CoreDied, NoProgram    # noqa: E402
 from warehouse.vda5050.adapter import may_begin_later, read_fleet    # noqa: E402
 from warehouse.vda5050.book import Book, Opening    # noqa: E402
@@ -107,12 +107,13 @@ class Line:
 class Floor:
     """A fleet in this process. What adapters say is in `said`."""
 
-    def __init__(self, name: str, text: str, out_after: float = 0.0, program: str = PROGRAM, pace: float = 0.004, cell: float = 1.0, silent: float = 40.0):
+    def __init__(self, name: str, text: str, out_after: float = 0.0, program: str = PROGRAM, pace: float = 0.004, cell: float = 1.0, silent: float = 40.0,
+                 helpers: bool = False):
         self.folder = os.path.join(SCRATCH.name, name)
         os.mkdir(self.folder)
         self.instance = read_instance(name, text.encode()).with_nofollow()
         self.settings = Settings(os.path.join(self.folder, 'run.log'), program, Vehicles(4, 3), Layout(self.instance.height, cell, cell / 20), step=pace,
-                                 silent=silent, out_after=out_after)
+                                 silent=silent, out_after=out_after, helpers=helpers)
         self.bus, self.pace, self.said = Bus(), pace, io.StringIO()
         self.desk = self.bus.client()
         self.desk.subscribe([('warehouse/order/+', 1), ('warehouse/status', 0)])
@@ -310,7 +311,7 @@ def test_an_order_by_hand() -> None:
          [('0_1', 0, True, []), ('1_1', 2, True, []), ('1_0', 4, True, ['pick']), ('1_1', 6, False, []), ('2_1', 8, False, []), ('3_1', 10, False, [])])
     same([(edge['edgeId'], edge['sequenceId'], edge['released']) for edge in body['edges']],
          [('0_1-1_1', 1, True), ('1_1-1_0', 3, True), ('1_0-1_1', 5, False), ('1_1-2_1', 7, False), ('2_1-3_1', 9, False)])
-    same(body['nodes'][2]['actions'], [{'actionType': 'pick', 'actionId': 'r-1.0.1.0.0.0', 'blockingType': 'HARD', 'actionParameters': [
+    same(body['nodes'][2]['actions'], [{'actionType': 'pick', 'actionId': 'r-1.0.1.0.0.0:k', 'blockingType': 'HARD', 'actionParameters': [
         {'key': 'stationName', 'value': 'A'}, {'key': 'loadId', 'value': 'k'}]}])
     same(fault_in(schema('order'), HEAD | {'orderId': str(name), 'orderUpdateId': update} | body), None)
     # once it has that, and is told further, the update begins at the last node that it was released to
@@ -511,6 +512,23 @@ def test_what_is_sent_is_valid_and_what_is_told_is_true() -> None:
     floor.end()
 
 
+def test_a_broker_that_lost_all_is_told_again() -> None:
+    floor = Floor('again', TWO)
+    floor.order('k', 'A', 'B')
+    floor.until(lambda: floor.delivered('k'))
+    # its delivery was told to nobody, or the broker has lost it; a new adapter, and any new connection, tells it
+    for kill in (True, False):
+        floor.answers.clear()
+        floor.bus.retained.clear()
+        if kill:
+            floor.kill_adapter()
+        else:
+            floor.adapter.broker.inbox.append(Message(CONNECTED, b'', time.monotonic()))
+        floor.until(lambda: floor.delivered('k'), 5)
+        same(floor.bus.retained['warehouse/order/k'], json.dumps({'id': 'k', 'state': 'delivered', 'run': 1, 'task': 0, 'agent': 0}, separators=(',', ':')))
+    floor.end()
+
+
 def test_more_than_two_stops() -> None:
     floor = Floor('stops', TWO)
     floor.order('k', 'A', 'D', 'D', 'B')
@@ -519,9 +537,23 @@ def test_more_than_two_stops() -> None:
     for topic, text in floor.bus.log:
         if topic.endswith('/order') and topic.startswith('uagv/'):
             for node in json.loads(text)['nodes']:
-                kinds |= {(node['nodeId'], action['actionId'][-1]): action['actionType'] for action in node['actions']}
+                kinds |= {(node['nodeId'], action['actionId'][-3]): action['actionType'] for action in node['actions']}
     same(sorted(kinds.items()), [(('1_0', '0'), 'pick'), (('3_0', '3'), 'drop'), (('3_2', '1'), 'visit'), (('3_2', '2'), 'visit')])
     floor.end()
+
+
+def test_a_standstill_and_helper_orders() -> None:
+    # agents at A and C bar an order A C D to each other: alarmed, and with helpers one is sent away, with nothing to pick or drop
+    text = TWO.replace('agent P0\nagent P1', 'agent A\nagent C')
+    floor = Floor('stands', text)
+    floor.order('k', 'A', 'C', 'D')
+    floor.until(lambda: floor.adapter.alarms.get('standstill') == '1 orders are open, and no agent can take one')
+    floor.end()
+    floor = Floor('helped', text, helpers=True)
+    floor.order('k', 'A', 'C', 'D')
+    floor.until(lambda: floor.delivered('k', 'helper-1-1') and 'standstill' not in floor.adapter.alarms)
+    has(floor.said.getvalue(), 'vda5050: standstill: is well again')
+    same(sorted(floor.end().loads), [('drop', 'k'), ('pick', 'k')])
 
 
 def test_wrong_messages_are_a_line_each() -> None:
@@ -620,9 +652,26 @@ def test_a_failed_action_is_alarmed_and_tried_again() -> None:
         floor.end()
 
 
-def busy_floor(name: str, **named) -> tuple[Floor, list[str]]:
-    """Twelve agents of a small floor, and twenty orders that are sent at once."""
-    text, _, _ = tool('make_instance.py', '--columns', '24', '--rows', '16', '--shelf', '4', '--agents', '6', '--tasks', '20', '--seed', '5')
+def test_what_was_done_before_a_kill_is_seen_by_loads() -> None:
+    """A vehicle is killed behind a pick, or a drop, of which it said nothing: it comes back with no order, and is not told to do it again."""
+    for kind, left in (('pick', ['drop']), ('drop', [])):
+        floor = Floor(f'loads-{kind}', TWO)
+        vehicle = floor.vehicles[0]
+        floor.order('k', 'A', 'B')
+        floor.until(lambda: vehicle.busy is not None and vehicle.busy[2].get('actionType') == kind)
+        vehicle.world.handle(vehicle.busy[2])
+        floor.kill_vehicle(0)
+        before = len(floor.bus.log)
+        floor.until(lambda: floor.delivered('k'))
+        sent = {action['actionType'] for topic, text in floor.bus.log[before:] if topic.endswith('v0/order') for node in json.loads(text)['nodes']
+                for action in node['actions']}
+        same((kind, sorted(sent)), (kind, left))
+        same(sorted(floor.end().loads), [('drop', 'k'), ('pick', 'k')])
+
+
+def busy_floor(name: str, tasks: int = 20, **named) -> tuple[Floor, list[str]]:
+    """Six agents on a small floor, and orders that are sent at once."""
+    text, _, _ = tool('make_instance.py', '--columns', '24', '--rows', '16', '--shelf', '4', '--agents', '6', '--tasks', str(tasks), '--seed', '5')
     floor = Floor(name, text, **named)
     orders = read_orders('i', text.encode())
     for number, order in enumerate(orders):
@@ -734,13 +783,19 @@ def test_a_log_of_another_client_is_refused() -> None:
 
 # ---------------------------------------------------------------------------------------- a lost vehicle
 
+@contextlib.contextmanager
+def quick():
+    """Tenths of seconds in place of the adapter's seconds."""
+    with contextlib.ExitStack() as stack:
+        for where, name, value in ((handover, 'SETTLED', 0.1), (handover, 'FRESH', 0.5), (handover, 'SURE', 0.1), (loop, 'CALLS', 0.02), (loop, 'LOOKS', 0.02),
+                                   (simulated, 'STATES', 0.05)):
+            stack.enter_context(mock.patch.object(where, name, value))
+        yield
+
+
 def test_a_lost_vehicle_and_its_return() -> None:
     """All halt, and the others deliver what they can; what it carries waits for it; once it is back it is delivered, once."""
-    patches = [mock.patch.object(handover, 'SETTLED', 0.1), mock.patch.object(handover, 'FRESH', 0.5), mock.patch.object(handover, 'SURE', 0.1), mock.patch.object(loop, 'CALLS', 0.02),
-               mock.patch('warehouse.vda5050.simulated.STATES', 0.05), mock.patch.object(loop, 'LOOKS', 0.02)]
-    with contextlib.ExitStack() as stack:
-        for patch in patches:
-            stack.enter_context(patch)
+    with quick():
         for kill in (False, True):
             floor, keys = busy_floor(f'lost-{kill}', out_after=0.3, silent=0.4, pace=0.01)
             floor.until(lambda: any(vehicle.world.loads for vehicle in floor.vehicles), 30)
@@ -770,27 +825,22 @@ def test_a_lost_vehicle_and_its_return() -> None:
 
 
 def test_one_that_stands_between_nodes_goes_to_the_next_first() -> None:
-    """A vehicle that is killed on its way, and comes back with no order, occupies two cells: no run begins while it does, neither where it is
-    in use, nor where it was taken out and is back."""
-    patches = [mock.patch.object(handover, 'SETTLED', 0.1), mock.patch.object(handover, 'FRESH', 0.5), mock.patch.object(handover, 'SURE', 0.1),
-               mock.patch.object(loop, 'CALLS', 0.02), mock.patch('warehouse.vda5050.simulated.STATES', 0.05), mock.patch.object(loop, 'LOOKS', 0.02)]
-    with contextlib.ExitStack() as stack:
-        for patch in patches:
-            stack.enter_context(patch)
+    """A vehicle that is killed on its way, and comes back with no order, occupies two cells: no run begins while it does, neither where that
+    is while all halt, nor where it was taken out and is back."""
+    with quick():
         for is_out in (False, True):
-            floor, keys = busy_floor(f'between-{is_out}', out_after=0.3, silent=0.4, pace=0.05)
+            floor, keys = busy_floor(f'between-{is_out}', 10 if is_out else 4, out_after=0.3, silent=0.4, pace=0.02 if is_out else 0.2)
             floor.until(lambda: any(vehicle.drives for vehicle in floor.vehicles), 30)
-            between = next(agent for agent, vehicle in enumerate(floor.vehicles) if vehicle.drives)
-            gone = (between + 1) % len(floor.vehicles) if not is_out else between
-            lost = floor.vehicles[gone]
+            gone = next(agent for agent, vehicle in enumerate(floor.vehicles) if vehicle.drives)
+            lost, between = floor.vehicles[gone], gone
             lost.broker.up = False
-            if is_out:
-                floor.vehicles[gone] = types.SimpleNamespace(turn=lambda: None, world=lost.world)    # it stops where it is
-            else:
+            floor.vehicles[gone] = types.SimpleNamespace(turn=lambda: None, world=lost.world, drives=False)    # it stops where it is
+            if not is_out:
+                floor.until(lambda: floor.adapter.handover.halts and any(vehicle.drives for vehicle in floor.vehicles), 30)
+                between = next(agent for agent, vehicle in enumerate(floor.vehicles) if vehicle.drives)
                 floor.kill_vehicle(between)
-                assert floor.vehicles[between].world.toward
-                floor.vehicles[gone] = types.SimpleNamespace(turn=lambda: None, world=lost.world)
             stood, toward = floor.vehicles[between].world.cell, floor.vehicles[between].world.toward
+            assert toward, (between, stood)
             floor.until(lambda: floor.adapter.book.opening.number == 2, 30)
             opening = floor.adapter.book.opening
             if is_out:
@@ -807,12 +857,27 @@ def test_one_that_stands_between_nodes_goes_to_the_next_first() -> None:
             once_each(floor, keys)
 
 
+def test_what_a_lost_vehicle_did_meanwhile_is_known_when_it_is_back() -> None:
+    """It picks and drops what it was told to, while nobody hears it: neither is handed in again, nor done again."""
+    with quick():
+        # agent 0 stands at A; the order's pickup is there, and its delivery C two steps on: within what a vehicle is told at once
+        floor = Floor('meanwhile', TWO.replace('agent P0', 'agent A') + '', out_after=0.3, silent=0.4, pace=0.05)
+        floor.order('k', 'A', 'C')
+        vehicle = floor.vehicles[0]
+        floor.until(lambda: len([node for node in vehicle.nodes if node['released']]) == 2)
+        same((vehicle.world.cell, vehicle.world.loads), ('1_0', []))
+        vehicle.broker.up = False
+        floor.until(lambda: floor.adapter.book.opening.number == 2, 30)
+        floor.until(lambda: not vehicle.world.loads and vehicle.world.cell == '1_2' and vehicle.busy is None)
+        same((floor.adapter.book.transports['k'].made, floor.adapter.book.opening.carried, floor.adapter.book.left()), (0, {'k': 0}, []))
+        vehicle.broker.up = True
+        floor.until(lambda: floor.adapter.book.opening.number == 3 and floor.delivered('k'), 30)
+        same(len(floor.adapter.fleet.tasks), 0)
+        once_each(floor, ['k'])
+
+
 def test_out_and_back_by_command() -> None:
-    patches = [mock.patch.object(handover, 'SETTLED', 0.1), mock.patch.object(handover, 'SURE', 0.1), mock.patch.object(loop, 'CALLS', 0.02),
-               mock.patch('warehouse.vda5050.simulated.STATES', 0.05)]
-    with contextlib.ExitStack() as stack:
-        for patch in patches:
-            stack.enter_context(patch)
+    with quick():
         floor, keys = busy_floor('out', out_after=30, pace=0.01)
         floor.until(lambda: len(floor.answers) == len(keys), 30)
         floor.desk.publish('warehouse/command', '{"command": "out", "vehicle": "v2"}')
@@ -907,6 +972,13 @@ def test_the_feed() -> None:
     for key, answer in (('k1', '{"state": "accepted"}'), ('k9', '{"state": "accepted"}'), ('k1', 'noise'), ('k2', '{"state": "refused", "why": "no"}'), ('k1', '7')):
         desk.publish(f'warehouse/order/{key}', answer)
     same((feed.turn(0), feed.is_done()), (['k1 accepted', 'k2 refused no'], False))
+    # what is answered, and not at its end, is sent again much later: the last answer may be lost with its broker
+    sent = len(bus.log)
+    feed.rows['k1'].sent -= 4
+    feed.turn(0)
+    feed.rows['k1'].sent -= 12
+    feed.turn(0)
+    same([text for _, text in bus.log[sent:]], ['{"id": "k1", "stops": ["B", "A"]}'])
     desk.publish('warehouse/order/k1', '{"state": "delivered"}')
     same((feed.turn(0), feed.is_done()), (['k1 delivered'], True))
 

@@ -61,6 +61,7 @@ def add_options(parser: argparse.ArgumentParser) -> None:
     add('--horizon', type=int, default=12, metavar='NODES', help='nodes beyond the base that an order tells (%(default)s)')
     add('--silent', type=float, default=SILENT, metavar='SECONDS', help='a vehicle of which no state comes for so long is lost (%(default)s)')
     add('--out-after', type=float, default=0.0, metavar='SECONDS', help='plan around a vehicle that is lost for so long (never)')
+    add('--helpers', action='store_true', help='at a standstill, send vehicles out of the way by orders of the client `helper`')
 
 
 def judge_options(options: argparse.Namespace) -> None:
@@ -95,7 +96,7 @@ def read_fleet(name: str | None, agents: int) -> list[Vehicle]:
 def settings_of(options: argparse.Namespace, instance: Instance) -> Settings:
     deviation = options.cell / 20 if options.deviation is None else options.deviation
     return Settings(options.log, options.program, Vehicles(options.behind, options.ahead), Layout(instance.height, options.cell, deviation),
-                    options.prefix, options.step, options.horizon, options.silent, options.out_after, options.prog)
+                    options.prefix, options.step, options.horizon, options.silent, options.out_after, options.helpers, options.prog)
 
 
 def connect(options: argparse.Namespace) -> Mqtt:
@@ -129,6 +130,9 @@ def run(options: argparse.Namespace) -> int:
                 print(f'{options.prog}: the core does not begin: {error}', file=sys.stderr)
                 return NO_CORE
             adapter.fail(str(error), time.monotonic())
+        while not adapter.is_open:    # another adapter may have the log still, and the broker
+            adapter.go_on(time.monotonic())
+            time.sleep(0.1)
         broker.start()
         while True:
             adapter.go_on(time.monotonic())

@@ -9,6 +9,8 @@ from .book import Book, Transport
 from .plan import Plan
 from .schema import Json
 
+MOST_TOLD = 10_000    # orders whose answers are told again to a broker that comes
+
 
 class Desk:
     """Keys, and what is told of each. `answer(key, message, retain)` tells a client."""
@@ -97,9 +99,11 @@ class Desk:
             self.tell(plan, one)
 
     def tell_all(self, plan: Plan) -> None:
-        """To a broker that may have lost what it kept: all that are not delivered, and those that were since this start."""
-        for one in self.book.transports.values():
-            if not one.is_delivered or one.key in self.told:
+        """To a broker that may have lost what it kept, or never got it: all that are not delivered, and the last ones that are."""
+        transports = list(self.book.transports.values())
+        late = len(transports) - MOST_TOLD
+        for number, one in enumerate(transports):
+            if number >= late or not one.is_delivered:
                 self.tell(plan, one, True)
 
 

@@ -3,9 +3,10 @@ from __future__ import annotations
 
 from typing import Callable, Iterator, Sequence
 
-from ..fleet import Fleet
+from ..fleet import HELPER, Fleet
 from ..replies import Clock, Entry, Reply
 from ..session import Session
+from ..texts import Order
 from .book import Book, Opening
 
 
@@ -24,6 +25,17 @@ class Dispatch(Fleet):
             yield clock, entry
             if isinstance(entry.reply, Clock):
                 clock = entry.reply.now
+
+    def hand_in(self, orders: Sequence[Order]) -> list[int | None]:
+        """As a fleet's; a helper order gets its line in the list of keys first."""
+        number = len(self.tasks)
+        is_helper = len(orders) == 1 and orders[0].client == HELPER and self.book.of_task(number) is None
+        if is_helper:
+            self.book.put(f'{HELPER}-{self.opening.number}-{number}', HELPER, orders[0].stops, number)
+        tasks = super().hand_in(orders)
+        if is_helper and tasks == [None]:
+            self.book.free(self.opening.number, number)
+        return tasks
 
     def may_ask(self, agent: int) -> bool:
         if not super().may_ask(agent) or agent in self.opening.out:

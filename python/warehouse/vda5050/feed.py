@@ -23,7 +23,9 @@ from ..texts import Fault, read_file
 from .broker import Broker, Mqtt, add_broker_options, address_of
 from .schema import Json, fault_in, schema
 
-AGAIN = 3.0    # seconds without an answer
+AGAIN = 3.0     # seconds without an answer
+LATER = 15.0    # seconds without another answer, where that may be lost with its broker
+ENDS = ('delivered', 'refused')
 
 
 @dataclass
@@ -86,17 +88,17 @@ class Feed:
             except ValueError:
                 answer = None
             if row and isinstance(answer, dict) and answer.get('state') not in (None, row.state):
-                row.state = str(answer['state'])
+                row.state, row.sent = str(answer['state']), time.monotonic()
                 said.append(' '.join([key, row.state, *([str(answer['why'])] if 'why' in answer else [])]))
         now = time.monotonic()
         for row in self.rows.values():
-            if not row.state and now - self.began >= row.at and now - row.sent > AGAIN:
+            if row.state not in ENDS and now - self.began >= row.at and now - row.sent > (LATER if row.state else AGAIN):
                 row.sent = now
                 self.broker.publish(f'{self.prefix}/order', json.dumps(row.order), 1)
         return said
 
     def is_done(self) -> bool:
-        return all(row.state in ('delivered', 'refused') for row in self.rows.values())
+        return all(row.state in ENDS for row in self.rows.values())
 
 
 def add_options(parser: argparse.ArgumentParser) -> None:

@@ -9,9 +9,9 @@ import time
 from dataclasses import dataclass
 from datetime import datetime, timezone
 
-from ..fleet import Stop
+from ..fleet import HELPER, Stop
 from ..process import SessionError
-from ..replies import Go, Parked, Reply, Took
+from ..replies import Arrived, Go, Parked, Reply, Took
 from ..session import Session, Vehicles
 from ..texts import Fault, Instance, read_arrivals, read_file
 from .book import Book
@@ -21,8 +21,7 @@ from .dispatch import Dispatch
 from .handover import Handover
 from .layout import Layout, node_name
 from .opening import instance_of
-from . import orders
-from .orders import Writer
+from .orders import RESEND, Writer
 from .plan import Leg, Plan
 from .schema import Json, read_message
 from .vehicle import Name, Sends, Vehicle, row_of
@@ -51,6 +50,7 @@ class Settings:
     horizon: int = 12
     silent: float = 40.0
     out_after: float = 0.0
+    helpers: bool = False
     said: str = 'vda5050'
 
 
@@ -75,7 +75,7 @@ class Adapter:
         self.restarts = self.starts = 0
         self.is_open = False
         self.tried, self.pause = 0.0, 1.0        # when the core was begun last, and how long until the next try
-        self.next_tick = self.next_look = self.next_status = 0.0
+        self.next_tick = self.next_look = self.next_status = self.next_help = 0.0
         self.up = time.monotonic()               # since when the broker is there
         broker.subscribe([*((f'{self.topic(vehicle)}{name}', quality) for vehicle in vehicles
                             for name, quality in (('state', 0), ('connection', 1), ('visualization', 0), ('factsheet', 0))),
@@ -108,6 +108,7 @@ class Adapter:
             raise
         for vehicle in self.vehicles:
             vehicle.out = vehicle.agent in opening.out
+        self.reports.clear()    # of the run before, it may be: what still holds comes again at the next look
         self.is_open, self.restarts, self.starts = True, 0, self.starts + 1
         self.desk.hand_in_left(self.fleet, lambda agent: instance.points[instance.starts[agent]].name)
         self.take_told()
@@ -189,6 +190,7 @@ class Adapter:
                     self.next_tick = max(self.next_tick + self.settings.step, now - self.settings.step)
                 self.fleet.policy(self.fleet)
             self.take_told()
+            self.help(now)
         for restart in self.core.restarts[self.restarts:]:
             self.tell(str(restart))
             self.restarts += 1
@@ -201,6 +203,16 @@ class Adapter:
         self.taken.clear()
         self.write()
         self.pause = 1.0
+
+    def help(self, now: float) -> None:
+        """Alarms a standstill; ends it by a helper order where that is asked for."""
+        if now < self.next_help:
+            return
+        self.next_help = now + 1
+        stands = bool(self.fleet.open) and not any(self.plan.under_way()) and self.fleet.stands()
+        self.alarm('standstill', f'{len(self.fleet.open)} orders are open, and no agent can take one' if stands else '')
+        if stands and self.settings.helpers:
+            self.fleet.help()
 
     def write(self) -> None:
         try:
@@ -215,13 +227,14 @@ class Adapter:
         rows = list(self.reports.items())
         for first in range(0, len(rows), MOST_REPORTS):
             part = rows[first:first + MOST_REPORTS]
-            self.core.ask_all([f'at {agent} {step}' for agent, step in part])
-            for agent, step in part:
+            for (agent, step), reply in zip(part, self.core.ask_all([f'at {agent} {step}' for agent, step in part])):
+                del self.reports[agent]
+                if not isinstance(reply, Arrived):
+                    self.tell(f'{self.vehicles[agent].serial}: its step {step} is not taken: {reply}')
+                    continue
                 self.plan.arrived(agent, step)
                 if self.fleet.held == agent:
                     self.fleet.held = None
-                if self.reports.get(agent) == step:
-                    del self.reports[agent]
         if rows:
             self.take_told()
             self.next_look = 0.0
@@ -301,9 +314,10 @@ class Adapter:
         vehicle.limit = self.settings.silent + max(0.0, self.up - vehicle.heard)    # a broker's own fall does not count
         state, named = vehicle.state, vehicle.named
         if state is not None and not vehicle.is_broken:
+            if named is not None:
+                self.take_actions(vehicle, named)
             if vehicle.has_our_order and named is not None:
                 self.finish_before(vehicle, named)
-                self.take_actions(vehicle, named)
             self.place(vehicle)
         vehicle.leg = self.plan.current(vehicle.agent)
 
@@ -314,14 +328,14 @@ class Adapter:
             self.plan.drop(vehicle.agent, 1)
 
     def take_actions(self, vehicle: Vehicle, named: Name) -> None:
-        """What of its order's actions has ended."""
-        leg = next((leg for leg in self.plan.legs[vehicle.agent] if leg.number == named.leg), None)
-        transport = None if leg is None or leg.task is None else self.book.of_task(leg.task)
-        if transport is None or vehicle.state is None:
-            return
-        for action in vehicle.state['actionStates']:
-            name, _, visit = action['actionId'].rpartition('.')
-            if name == str(named) and visit.isdecimal() and action['actionStatus'] == 'FINISHED':
+        """What of its order's actions has ended, also of a run before where the order waits for this vehicle."""
+        for action in vehicle.state['actionStates'] if vehicle.state else ():
+            name, _, key = action['actionId'].partition(':')
+            order, _, visit = name.rpartition('.')
+            transport = self.book.transports.get(key)
+            if transport is None or order != str(named) or not visit.isdecimal() or action['actionStatus'] != 'FINISHED':
+                continue
+            if f'{self.book.name}-{transport.run}' == named.run:
                 self.desk.make(transport, min(transport.first + int(visit) + 1, len(transport.stops)))
 
     def place(self, vehicle: Vehicle) -> None:
@@ -342,7 +356,8 @@ class Adapter:
         if leg.came < vehicle.node <= leg.told and row_of(vehicle).reports:
             self.reports[vehicle.agent] = max(self.reports.get(vehicle.agent, 0), leg.steps[vehicle.node])
         if transport is not None and vehicle.node <= leg.told:
-            self.desk.make(transport, transport.first + sum(at < vehicle.node for at in leg.visits))
+            passed = vehicle.node + (transport.client == HELPER)
+            self.desk.make(transport, transport.first + sum(at < passed for at in leg.visits))
             if 'loads' in state:
                 self.by_load(vehicle, leg)
 
@@ -386,7 +401,7 @@ class Adapter:
     def send_on(self, vehicle: Vehicle, now: float) -> None:
         """To the next node, where one that is out of use and there again stands between two."""
         cell, to = vehicle.cell, self.handover.next_cell(vehicle)
-        if cell is not None and to is not None and now - vehicle.sent_at > orders.RESEND:
+        if cell is not None and to is not None and now - vehicle.sent_at > RESEND:
             leg = Leg(0, 0, [0, 1], [cell, to], told=1)
             name = Name(vehicle.run, vehicle.agent, 0, 0, 0 if vehicle.named is None else vehicle.named.again + 1)
             self.publish(vehicle, 'order', {'orderId': str(name), 'orderUpdateId': 1, **self.writer.body(vehicle, leg, name, 0)})
@@ -445,8 +460,6 @@ class Adapter:
         if self.is_open:
             held = self.fleet.held
             status |= {'clock': self.fleet.clock, 'open': len(self.fleet.open), 'held': None if held is None else self.vehicles[held].serial}
-            stands = bool(self.fleet.open) and not any(self.plan.under_way()) and self.fleet.stands()
-            self.alarm('standstill', f'{len(self.fleet.open)} orders are open, and no agent can take one' if stands else '')
         self.broker.publish(f'{self.settings.prefix}/status', json.dumps(status), 0, True)
 
     def end(self) -> None:

@@ -4,6 +4,7 @@ from __future__ import annotations
 from dataclasses import dataclass
 from typing import Callable
 
+from ..fleet import HELPER
 from .book import Transport
 from .layout import Layout, longest_order, node_name
 from .plan import Leg
@@ -58,11 +59,11 @@ class Writer:
         return {'nodes': nodes, 'edges': edges}
 
     def actions(self, leg: Leg, name: Name, node: int) -> list[Json]:
-        """What is to be done at a node: the visits that are not made."""
+        """What is to be done at a node: the visits that are not made. Where a helper order leads nothing is to be done."""
         transport = None if leg.task is None else self.transport_of(leg.task)
-        if transport is None:
+        if transport is None or transport.client == HELPER:
             return []
-        return [self.action(transport, f'{name}.{visit}', visit + transport.first) for visit in leg.visits_at(node)
+        return [self.action(transport, f'{name}.{visit}:{transport.key}', visit + transport.first) for visit in leg.visits_at(node)
                 if visit + transport.first >= transport.made]
 
     def action(self, transport: Transport, name: str, stop: int) -> Json:
