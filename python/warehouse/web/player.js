@@ -242,7 +242,7 @@ function player(root) {
     $('agent').textContent = picked < 0 ? 'click one' : about(picked, V ? now : t);
   }
   function panelLate() {
-    let late = 0, most = 0, who = -1; const held = V.held.find(h => h[0] <= now * 100 && now * 100 < h[1]);
+    let late = 0, most = 0, who = -1; const held = V.held.find(h => h[0] <= now * 100 && (h[1] < 0 || now * 100 < h[1]));
     for (let a = 0; a < N; a++) { const b = vehicle(a, now).behind; late += b > 0; if (b > most) { most = b; who = a; } }
     $('behind').textContent = late ? `${late} of ${N}` : 'none'; $('most').textContent = late ? `${most} (vehicle ${who})` : '0';
     $('held').textContent = held ? `waits for vehicle ${held[2]}` : 'runs';
@@ -332,7 +332,7 @@ function player(root) {
     for (const [a, w] of ways) { R.ways[a].push(w); note(w); }
     if (V) {
       const {end, ticks, go, came, visits, held, most} = vehicles;
-      Object.assign(V, {end, held, most}); V.ticks.push(...ticks);
+      Object.assign(V, {end, most}); V.held = V.held.filter(h => !held.some(k => k[0] == h[0])).concat(held); V.ticks.push(...ticks);
       while (V.visits.length < R.tasks.length) V.visits.push([]);
       for (const [a, t, step] of go) V.go[a].push([t, step]);
       for (const [a, t, step] of came) V.at[a].push([t, step]);
