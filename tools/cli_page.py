@@ -20,7 +20,7 @@ HEAD = '''# Command line
 
 <!-- Made by tools/cli_page.py from tools/help. Change these, not this page. -->
 
-`./warehouse SUBCOMMAND [options] < input`, from any folder. If the program is missing or older than a source, it is proved and built first; help and `--version` do not wait for that. `tools/look` takes the same arguments and runs the same code, not proved. The input is [sections](FORMATS.md#lines-and-words) separated by lines `%%`. `man -l docs/warehouse.1` shows a manual.
+`./warehouse SUBCOMMAND [options] < input`, from any folder. If the program is missing, or its sources changed since, it is proved and built first; help and `--version` do not wait for that. `tools/look` takes the same arguments and runs the same code, not proved. The input is [sections](FORMATS.md#lines-and-words) separated by lines `%%`. `man -l docs/warehouse.1` shows a manual.
 '''
 
 NOTES = {

@@ -4,10 +4,11 @@
     play examples/deliveries run.out > run.html
 
 INSTANCE has the sections map and points; LOG is a log, or the output of `replay --tail log`, where what stands before
-the log is skipped; `-` is the standard input. Without LOG the agents stand at their starts. The page needs no network;
+the log is skipped; `-` is the standard input. Without LOG the agents stand at their starts. The page needs no network, and
+shows where agents wait (key h: waits of the plan, as `stats` counts them, up to the moment shown);
 a log without its end line is played as far as it goes, and marked CUT.
 
-When a stop is viinstanced no log says: it is redone from the paths and compared with the counts `picked P dropped Q` of
+When a stop is visited no log says: it is redone from the paths and compared with the counts `picked P dropped Q` of
 each tick. Where they differ the page has a red banner. A visit made as a path is taken stands in no tick's counts.
 The state at a clock is the one after all entries of that clock. Phases of a task: open, assigned (an agent is on its
 way to the first stop), carried, done.
@@ -15,10 +16,13 @@ way to the first stop), carried, done.
     --verify [PROGRAM]  has `PROGRAM verify` judge the log, and the page tells its answer (default: the environment's
                         WAREHOUSE, or ./warehouse at the repository's top); without it the page tells no verdict
     --svg T             a still of clock T as SVG on standard output
-    --animate           the whole run as an SVG that moves by itself; for small runs
+    --animate           the whole run as an SVG that moves by itself; for a few hundred ticks
     --check [T ..]      no picture: a line `clock T cells X,Y .. phases LETTERS` for each of the clocks, or for all: the
                         cell of each agent, and o, a, c or d for each task (`-` where there is none); then whether the
                         counts agree, and `cut` where the log has no end. Status 1 where they do not agree.
+
+    --beside INSTANCE2 LOG2
+                        the page plays a second run beside the first, by one clock, which is counted from each run's first
 
     --vehicles TRANSCRIPT
                         also the vehicles that carried out the plan late, from what `replay --vehicles` told, each line behind
@@ -33,7 +37,6 @@ A mistake in what was given is one line on standard error with the file's line, 
 from __future__ import annotations
 
 import argparse
-import bisect
 import json
 import os
 import subprocess
@@ -41,34 +44,12 @@ import sys
 from typing import Any
 
 from ..session import program
-from ..texts import PASSABLE, Cell, Execution, Fault, Instance, Run, log_text, read_file, read_instance, read_log, read_transcript, standing
+from ..texts import Execution, Fault, Instance, Run, log_text, read_file, read_instance, read_log, read_transcript, standing
+from .. import web
+from ..web.data import data_of, differences
 from . import picture
 
-HERE = os.path.dirname(os.path.abspath(__file__))
 FAULT = 1
-LETTERS = {(0, 0): '.', (1, 0): 'R', (-1, 0): 'L', (0, 1): 'D', (0, -1): 'U'}
-
-
-def letters(cells: list[Cell]) -> str:
-    """A path as a letter for each step."""
-    return ''.join(LETTERS[b[0] - a[0], b[1] - a[1]] for a, b in zip(cells, cells[1:]))
-
-
-def run_lengths(rows: list[str]) -> str:
-    """How many cells are passable, then how many blocked, and so on, row by row."""
-    lengths, free = [0], True
-    for row in rows:
-        for cell in row:
-            if (cell in PASSABLE) != free:
-                free = not free
-                lengths.append(0)
-            lengths[-1] += 1
-    return ' '.join(map(str, lengths))
-
-
-def differences(run: Run) -> list[str]:
-    return [f'clock {clock}: the log counts picked {told[0]} dropped {told[1]}, the paths give picked {found[0]} dropped {found[1]}'
-            for clock, told, found in run.differences()]
 
 
 def late_row(vehicles: Execution, clock: int) -> str:
@@ -114,43 +95,11 @@ def verdict(program: str, instance: Instance, log: bytes) -> str:
     return answer
 
 
-def data_of_vehicles(vehicles: Execution | None) -> dict[str, Any] | None:
-    """Seconds are in hundredths."""
-    if vehicles is None:
-        return None
-    pairs = [[[[round(100 * second), step] for second, step in steps] for steps in lists] for lists in (vehicles.told, vehicles.came)]
-    waits: list[list[int]] = []    # from a refused tick to the next that was made
-    for second, agent in vehicles.held:
-        until = bisect.bisect_right(vehicles.ticks, second)
-        end = round(100 * vehicles.second(until))
-        if not waits or waits[-1][1] != end:
-            waits.append([round(100 * second), end, agent])
-    return {'end': round(100 * vehicles.end), 'ticks': [round(100 * second) for second in vehicles.ticks], 'go': pairs[0],
-            'at': pairs[1], 'visits': [[round(100 * second) for second, _ in visits] for visits in vehicles.visits],
-            'held': waits, 'most': vehicles.most_behind, 'meetings': [str(meeting) for meeting in vehicles.meetings[:20]]}
-
-
-def data_of(run: Run, title: str, verified: str | None, vehicles: Execution | None) -> dict[str, Any]:
-    instance = run.instance
-    return {
-        'title': title, 'width': instance.width, 'height': instance.height, 'floor': run_lengths(instance.rows),
-        'nofollow': instance.nofollow, 'start': run.start, 'clock': run.clock, 'cut': run.cut, 'entries': run.entries,
-        'verified': verified, 'differ': differences(run)[:20], 'answers': dict(run.answers),
-        'points': [[point.kind[0], point.name, *point.cell] for point in instance.points],
-        # of each path: its clock, first cell, task, point (-1: none) and letters
-        'ways': [[[path.clock, *path.cells[0], -1 if path.task is None else path.task, -1 if path.point is None else path.point,
-                   letters(path.cells)] for path in paths] for paths in run.paths],
-        'tasks': [[task.client, task.stops, task.submitted, -1 if task.agent is None else task.agent,
-                   -1 if task.taken is None else task.taken, task.visits] for task in run.tasks],
-        'events': run.events, 'vehicles': data_of_vehicles(vehicles),
-    }
-
-
-def page(run: Run, title: str, verified: str | None, vehicles: Execution | None) -> str:
-    with open(os.path.join(HERE, 'play.html'), encoding='utf-8') as file:
-        template = file.read()
-    text = json.dumps(data_of(run, title, verified, vehicles), separators=(',', ':')).replace('<', '\\u003c')
-    return template.replace('/*RUN*/', text, 1)
+def page(runs: list[dict[str, Any]]) -> str:
+    """The player with these runs in it."""
+    texts = [json.dumps(run, separators=(',', ':')).replace('<', '\\u003c') for run in runs]
+    data = [f'<script type="application/json" id="{name}">{text}</script>' for name, text in zip(('run', 'beside'), texts)]
+    return web.page('\n'.join([*data, f"<script>\n{web.asset('player.js')}</script>", f"<script>\n{web.asset('finished.js')}</script>"]))
 
 
 def add_options(parser: argparse.ArgumentParser) -> None:
@@ -158,10 +107,26 @@ def add_options(parser: argparse.ArgumentParser) -> None:
     parser.add_argument('log', metavar='LOG', nargs='?')
     parser.add_argument('--verify', metavar='PROGRAM', nargs='?', const=program())
     parser.add_argument('--vehicles', metavar='TRANSCRIPT')
+    parser.add_argument('--beside', metavar=('INSTANCE2', 'LOG2'), nargs=2)
     kind = parser.add_mutually_exclusive_group()
     kind.add_argument('--svg', metavar='T', type=int)
     kind.add_argument('--animate', action='store_true')
     kind.add_argument('--check', metavar='T', type=int, nargs='*')
+
+
+def title(instance: str, log: str | None) -> str:
+    return ', '.join(os.path.basename(name) for name in (instance, log) if name)
+
+
+def beside(options: argparse.Namespace) -> list[dict[str, Any]]:
+    """The run that `--beside` names, or none."""
+    if not options.beside:
+        return []
+    name, log = options.beside
+    instance = read_instance(name, read_file(name))
+    data = read_file(log)
+    verified = verdict(options.verify, instance, log_text(log, data)[1]) if options.verify else None
+    return [data_of(read_log(instance, log, data), title(name, log), verified, None)]
 
 
 def run(options: argparse.Namespace) -> int:
@@ -171,6 +136,8 @@ def run(options: argparse.Namespace) -> int:
     if options.vehicles and (data is None or options.animate):
         raise Fault('--vehicles: it wants LOG, and no --animate')
     vehicles = read_transcript(found, options.vehicles, read_file(options.vehicles)) if options.vehicles else None
+    if options.beside and (data is None or options.vehicles or options.animate or options.svg is not None or options.check is not None):
+        raise Fault('--beside: it wants LOG, and a page without --vehicles')
     verified = None
     if options.verify and data is not None:
         verified = verdict(options.verify, instance, log_text(options.log, data)[1])
@@ -185,5 +152,5 @@ def run(options: argparse.Namespace) -> int:
     elif options.animate:
         print(picture.animated(found))
     else:
-        print(page(found, os.path.basename(options.instance), verified, vehicles))
+        print(page([data_of(found, title(options.instance, options.log if options.beside else None), verified, vehicles), *beside(options)]))
     return 0

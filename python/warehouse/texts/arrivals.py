@@ -1,7 +1,11 @@
 """The file of arrivals, FILE.at: what vehicles have reported over all stops of a run."""
 from __future__ import annotations
 
-from .lines import Fault, number_of
+import re
+
+from .lines import MOST_NUMBER, Fault
+
+REPORT = re.compile(rb'at ([0-9]{1,10}) ([0-9]{1,10})')
 
 
 def read_arrivals(name: str, data: bytes, agents: int) -> list[int]:
@@ -10,13 +14,11 @@ def read_arrivals(name: str, data: bytes, agents: int) -> list[int]:
     Raises Fault where a line is no report, or of an agent that there is not.
     """
     steps = [0] * agents
-    lines = data.decode('latin-1').split('\n')[:-1]
-    for number, line in enumerate(lines, 1):
-        word, *rest = line.split(' ')
-        values = [number_of(part) for part in rest]
-        if word != 'at' or len(values) != 2 or None in values:
-            raise Fault(f'`{line[:40]}` is no line `at AGENT STEP`', name, number)
-        agent, step = (value or 0 for value in values)
+    for number, line in enumerate(data.split(b'\n')[:-1], 1):
+        found = REPORT.fullmatch(line)
+        agent, step = map(int, found.groups()) if found else (0, MOST_NUMBER + 1)
+        if max(agent, step) > MOST_NUMBER:
+            raise Fault(f'`{line[:40].decode("latin-1")}` is no line `at AGENT STEP`', name, number)
         if agent >= agents:
             raise Fault(f'there is no agent {agent}', name, number)
         steps[agent] = max(steps[agent], step)

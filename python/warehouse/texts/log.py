@@ -144,6 +144,7 @@ class Reader:
         self.first = line + 1
         self.ended = False
         self.events: list[tuple[Any, ...]] = []    # with keys in front that sort them
+        self.known: dict[str, Cell] = {}           # passable cells by their words
 
     def fault(self, words: str) -> Fault:
         return Fault(words, self.name, self.line)
@@ -234,6 +235,17 @@ class Reader:
 
     def cells(self, agent: int, words: list[str], stands: Cell) -> list[Cell]:
         """The cells of a path that begins where the agent stands."""
+        known = self.known
+        cells = [cell for word in words if (cell := known.get(word))]
+        if len(cells) < len(words) or any(abs(x - u) + abs(y - v) > 1 for (x, y), (u, v) in zip(cells, cells[1:])):
+            cells = self.new_cells(agent, words)
+        if cells[0] != stands:
+            raise self.fault(f'the path of agent {agent} begins at {words[0]}, and it stands at {stands[0]},{stands[1]}; '
+                             + OTHER_PAIR)
+        return cells
+
+    def new_cells(self, agent: int, words: list[str]) -> list[Cell]:
+        """A path's cells, each looked at; those that are right are known from then on."""
         cells: list[Cell] = []
         for word in words:
             x, _, y = word.partition(',')
@@ -246,9 +258,7 @@ class Reader:
             if not self.run.instance.is_passable(cell):
                 raise self.fault(f'the path of agent {agent} meets {word}, no passable cell of the map; {OTHER_PAIR}')
             cells.append(cell)
-        if cells[0] != stands:
-            raise self.fault(f'the path of agent {agent} begins at {words[0]}, and it stands at {stands[0]},{stands[1]}; '
-                             + OTHER_PAIR)
+            self.known[word] = cell
         return cells
 
     def adopt(self, caller: int, agent: int, reply: list[str], cells: list[Cell]) -> None:
@@ -276,13 +286,15 @@ class Reader:
     def visit(self, agent: int, number: int, cells: list[Cell]) -> None:
         """When the path comes to each stop of the task, in turn."""
         task, points = self.run.tasks[number], self.run.instance.points
-        for k, cell in enumerate(cells):
-            while len(task.visits) < len(task.stops) and cell == points[task.stops[len(task.visits)]].cell:
+        try:
+            k = 0
+            for stop in task.stops:
+                k = cells.index(points[stop].cell, k)
                 task.visits.append(self.run.clock + k)
-        if len(task.visits) < len(task.stops):
+        except ValueError:
             missed = points[task.stops[len(task.visits)]]
             raise self.fault(f'the path of agent {agent} does not come to {missed.name} at {missed.cell[0]},{missed.cell[1]}, '
-                             f'a stop of its task {number}; {OTHER_PAIR}')
+                             f'a stop of its task {number}; {OTHER_PAIR}') from None
 
     def on_tick(self, caller: int, words: list[str], reply: list[str]) -> bool:
         run = self.run
