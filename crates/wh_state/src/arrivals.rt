@@ -18,7 +18,7 @@ use wh_path::TimedPath;
 use wh_tasks::{Arrived, Foretold, Load, TaskSet, arrive, foretell};
 
 /// How many tasks arrivals pick up, and how many they deliver.
-#[derive(Clone, Copy, PartialEq, Eq)]
+#[derive(Clone, Copy, Debug, PartialEq, Eq)]
 pub struct Arrivals {
     pub picked: u32,
     pub dropped: u32,
