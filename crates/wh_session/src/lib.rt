@@ -13,4 +13,4 @@ pub use fault::{End, Round, SessionFault};
 pub use keeper::{KeepFault, Keeper};
 pub use keepers::{Memory, NoKeeper};
 pub use machine::{Halt, Machine};
-pub use session::serve;
+pub use session::{serve, serve_round};

@@ -87,32 +87,95 @@ fn serve_part<R: Read, W: Write, M: Machine, K: Keeper>(
     }
 }
 
+/// Serves rounds, to the end or until no whole line waits.
 fn serve_all<R: Read, W: Write, M: Machine, K: Keeper>(
     lines: &mut Lines<R>,
     writer: &mut W,
     machine: &mut M,
     keeper: &mut K,
-) -> Result<End, SessionFault>
+    to_end: bool,
+) -> Result<Round, SessionFault>
     requires open { lines.old.failed ≡ false }
     requires safe { K.is_safe (K.holds keeper.old) }
     requires stands { SomeStands M.stands machine.old }
-    ensures ok { IfOk result (λ end. ServesFrom M.stands M.serves K.keeps M.serves_last K.single (2 ^ 64 - 1) (round_of end) lines.old lines.new machine.old machine.new (W.contents writer.old) (W.contents writer.new) (K.holds keeper.old) (K.holds keeper.new)) }
+    ensures ok { IfOk result (λ round. ServesFrom M.stands M.serves K.keeps M.serves_last K.single (2 ^ 64 - 1) round lines.old lines.new machine.old machine.new (W.contents writer.old) (W.contents writer.new) (K.holds keeper.old) (K.holds keeper.new)) }
     ensures safe { OnOk result (K.is_safe (K.holds keeper.new)) }
     ensures fault { IfErr result (λ fault. StopsFrom M.stands M.serves M.halts K.keeps K.leaves M.serves_last K.single M.may_end fault lines.old lines.new machine.old machine.new (W.contents writer.old) (W.contents writer.new) (K.holds keeper.old) (K.holds keeper.new)) }
     ensures starved { IfErr result (λ fault. fault ≡ SessionFault.NoMemory → M.may_starve ≡ true) }
-    ensures over { IfOk result (λ end. end ≡ End.Over → M.may_end ≡ true) }
+    ensures over { IfOk result (λ round. round ≡ Round.Over → M.may_end ≡ true) }
+    ensures settled { IfOk result (λ round. round ≢ Round.More) }
+    ensures ended { to_end ≡ true → IfOk result (λ round. round ≢ Round.Served) }
 {
     let mut line = CommandLine::new();
     for _ in 0..u64::MAX {
         match serve_part(lines, writer, &mut line, machine, keeper) {
             Ok(Round::More) => continue,
-            Ok(Round::Served) => {}
-            Ok(Round::Ended) => return Ok(End::Input),
-            Ok(Round::Over) => return Ok(End::Over),
+            Ok(Round::Served) => {
+                if !to_end {
+                    return Ok(Round::Served);
+                }
+            }
+            Ok(Round::Ended) => return Ok(Round::Ended),
+            Ok(Round::Over) => return Ok(Round::Over),
             Err(fault) => return Err(fault),
         }
     }
     Err(SessionFault::Endless)
+}
+
+fn serve_until<R: Read, W: Write, M: Machine, K: Keeper>(
+    lines: &mut Lines<R>,
+    writer: &mut W,
+    machine: &mut M,
+    keeper: &mut K,
+    to_end: bool,
+) -> Result<Round, SessionFault>
+    requires safe { K.is_safe (K.holds keeper.old) }
+    requires stands { SomeStands M.stands machine.old }
+    ensures ok { IfOk result (λ round. ServesFrom M.stands M.serves K.keeps M.serves_last K.single (2 ^ 64 - 1) round lines.old lines.new machine.old machine.new (W.contents writer.old) (W.contents writer.new) (K.holds keeper.old) (K.holds keeper.new)) }
+    ensures ended { to_end ≡ true → IfOk result (λ round. round ≢ Round.Served) }
+    ensures settled { IfOk result (λ round. round ≢ Round.More) }
+    ensures safe { OnOk result (K.is_safe (K.holds keeper.new)) }
+    ensures fault { IfErr result (λ fault. StopsFrom M.stands M.serves M.halts K.keeps K.leaves M.serves_last K.single M.may_end fault lines.old lines.new machine.old machine.new (W.contents writer.old) (W.contents writer.new) (K.holds keeper.old) (K.holds keeper.new)) }
+    ensures starved { IfErr result (λ fault. fault ≡ SessionFault.NoMemory → M.may_starve ≡ true) }
+    ensures over { IfOk result (λ round. round ≡ Round.Over → M.may_end ≡ true) }
+    ensures failed { OnErr result (lines.new.failed ≡ true) }
+    ensures again { lines.old.failed ≡ true → (result ≡ Err SessionFault.Broken) × (lines.new ≡ lines.old) × (machine.new ≡ machine.old) × (keeper.new ≡ keeper.old) × Keeps (W.contents writer.old) (W.contents writer.new) }
+{
+    if lines.has_failed() {
+        return Err(SessionFault::Broken);
+    }
+    match serve_all(lines, writer, machine, keeper, to_end) {
+        Ok(round) => Ok(round),
+        Err(fault) => {
+            lines.fail();
+            Err(fault)
+        }
+    }
+}
+
+/// Serves the next line, for which it may wait, and each further whole line that waits, in one round or, where the machine has no room
+/// for all or each line is a round, in several. So all is kept and told when the next line may have to be waited for.
+pub fn serve_round<R: Read, W: Write, M: Machine, K: Keeper>(
+    lines: &mut Lines<R>,
+    writer: &mut W,
+    machine: &mut M,
+    keeper: &mut K,
+) -> Result<Round, SessionFault>
+    requires safe { K.is_safe (K.holds keeper.old) }
+    requires stands { SomeStands M.stands machine.old }
+    ensures ok { IfOk result (λ round. ServesFrom M.stands M.serves K.keeps M.serves_last K.single (2 ^ 64 - 1) round lines.old lines.new machine.old machine.new (W.contents writer.old) (W.contents writer.new) (K.holds keeper.old) (K.holds keeper.new)) }
+    ensures settled { IfOk result (λ round. round ≢ Round.More) }
+    ensures safe { OnOk result (K.is_safe (K.holds keeper.new)) }
+    ensures fault { IfErr result (λ fault. StopsFrom M.stands M.serves M.halts K.keeps K.leaves M.serves_last K.single M.may_end fault lines.old lines.new machine.old machine.new (W.contents writer.old) (W.contents writer.new) (K.holds keeper.old) (K.holds keeper.new)) }
+    // Memory ends no session whose machine cannot starve.
+    ensures starved { IfErr result (λ fault. fault ≡ SessionFault.NoMemory → M.may_starve ≡ true) }
+    ensures over { IfOk result (λ round. round ≡ Round.Over → M.may_end ≡ true) }
+    // After a fault there is nothing more.
+    ensures failed { OnErr result (lines.new.failed ≡ true) }
+    ensures again { lines.old.failed ≡ true → (result ≡ Err SessionFault.Broken) × (lines.new ≡ lines.old) × (machine.new ≡ machine.old) × (keeper.new ≡ keeper.old) × Keeps (W.contents writer.old) (W.contents writer.new) }
+{
+    serve_until(lines, writer, machine, keeper, false)
 }
 
 /// Serves the lines that are left in the reader, to its end, or until the service is over. In rounds: lines are served, then what is
@@ -137,14 +200,9 @@ pub fn serve<R: Read, W: Write, M: Machine, K: Keeper>(
     ensures failed { OnErr result (lines.new.failed ≡ true) }
     ensures again { lines.old.failed ≡ true → (result ≡ Err SessionFault.Broken) × (lines.new ≡ lines.old) × (machine.new ≡ machine.old) × (keeper.new ≡ keeper.old) × Keeps (W.contents writer.old) (W.contents writer.new) }
 {
-    if lines.has_failed() {
-        return Err(SessionFault::Broken);
-    }
-    match serve_all(lines, writer, machine, keeper) {
-        Ok(end) => Ok(end),
-        Err(fault) => {
-            lines.fail();
-            Err(fault)
-        }
+    match serve_until(lines, writer, machine, keeper, true) {
+        Ok(Round::Over) => Ok(End::Over),
+        Ok(_) => Ok(End::Input),
+        Err(fault) => Err(fault),
     }
 }

@@ -12,6 +12,10 @@ loop-init g c = record {
   stands = c.requires.stands;
 }
 
+pub returns-then-not-to_end-clause-ok : goal.returns-then-not-to_end-clause-ok
+returns-then-not-to_end-clause-ok g c =
+    finish_from g.M.Machine.serves g.M.Machine.halts g.K.Keeper.is_safe g.K.Keeper.keeps g.K.Keeper.leaves g.met.K.Keeper.kept_safe g.met.K.Keeper.keeps_none g.met.K.Keeper.keeps_both g.M.Machine.serves_last g.K.Keeper.single g.M.Machine.may_end g.M.Machine.stands g.M.Machine.says g.M.Machine.logs c.args.lines.now c.loop.lines c.args.machine.now c.loop.machine (g.W.Write.contents c.args.writer.now) (g.W.Write.contents c.loop.writer) (g.K.Keeper.holds c.args.keeper.now) (g.K.Keeper.holds c.loop.keeper) c.loop.counter c.loop.invariant.follows c.serve_part.new.lines c.serve_part.new.machine (g.W.Write.contents c.serve_part.new.writer) (g.K.Keeper.holds c.serve_part.new.keeper) Served 18446744073709551615 (omega (arith, c.loop-test.true)) (rw c.in-Ok-Served.field-0-is at c.in-Ok-Served.ensures.ok)
+
 pub returns-in-Ok-Ended-clause-ok : goal.returns-in-Ok-Ended-clause-ok
 returns-in-Ok-Ended-clause-ok g c =
     finish_from g.M.Machine.serves g.M.Machine.halts g.K.Keeper.is_safe g.K.Keeper.keeps g.K.Keeper.leaves g.met.K.Keeper.kept_safe g.met.K.Keeper.keeps_none g.met.K.Keeper.keeps_both g.M.Machine.serves_last g.K.Keeper.single g.M.Machine.may_end g.M.Machine.stands g.M.Machine.says g.M.Machine.logs c.args.lines.now c.loop.lines c.args.machine.now c.loop.machine (g.W.Write.contents c.args.writer.now) (g.W.Write.contents c.loop.writer) (g.K.Keeper.holds c.args.keeper.now) (g.K.Keeper.holds c.loop.keeper) c.loop.counter c.loop.invariant.follows c.serve_part.new.lines c.serve_part.new.machine (g.W.Write.contents c.serve_part.new.writer) (g.K.Keeper.holds c.serve_part.new.keeper) Ended 18446744073709551615 (omega (arith, c.loop-test.true)) (rw c.in-Ok-Ended.field-0-is at c.in-Ok-Ended.ensures.ok)

@@ -1,6 +1,6 @@
 use Rattle.std.proofs.Common.{◌∙◌, sym}
 use Rattle.wh_session.proofs.Proceeding.{before_from, failed_from}
-use Rattle.wh_session.proofs.session.serve.Goals as goal
+use Rattle.wh_session.proofs.session.serve_until.Goals as goal
 
 pub returns-then-has_failed-clause-fault : goal.returns-then-has_failed-clause-fault
 returns-then-has_failed-clause-fault g c =
