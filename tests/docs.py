@@ -37,11 +37,11 @@ MOST_SECONDS = 30    # for one block
 CAPS = {
     'README.md': 2350, 'examples/README.md': 550,
     'docs/ARCHITECTURE.md': 2250, 'docs/CONTRIBUTING.md': 2600, 'docs/DECISIONS.md': 15800, 'docs/DEFINITIONS.md': 7900,
-    'docs/EMBEDDING.md': 910, 'docs/EXPERIMENTS.md': 2600, 'docs/FLEET.md': 7500, 'docs/FORMATS.md': 4500, 'docs/INTEGRATION.md': 900,
+    'docs/EMBEDDING.md': 910, 'docs/EXPERIMENTS.md': 2600, 'docs/FLEET.md': 7400, 'docs/FORMATS.md': 4500, 'docs/INTEGRATION.md': 900,
     'docs/LIMITS.md': 2050, 'docs/MODELING.md': 1500, 'docs/PERFORMANCE.md': 2300, 'docs/PROOFS.md': 4450, 'docs/PROVED.md': 7500,
     'docs/READING.md': 2450, 'docs/RELIABILITY.md': 1400, 'docs/USE.md': 3400,
 }
-MOST_IN_ALL = 70_800
+MOST_IN_ALL = 71_600
 # Dates, commits and loads stand in these pages alone, and why.
 DATED = {
     'CHANGELOG.md': 'a list of what changed when',
