@@ -1,0 +1,19 @@
+//! One loop that serves lines, generic in the machine that serves a line and in what keeps its records before anything is told.
+//!
+//! Proved: of whole lines, what is to be kept is kept and synced, then what they are told is written; after an error, which
+//! rounds were told whole, what became of the last one, and a true cause (`serve`, `serve_round`). No program calls it yet.
+#![tactic(auto)]
+
+mod fault;
+mod gathering;
+mod keeper;
+mod keepers;
+mod machine;
+mod session;
+mod stepping;
+
+pub use fault::{End, Round, SessionFault};
+pub use keeper::{KeepFault, Keeper};
+pub use keepers::{Memory, NoKeeper};
+pub use machine::{Halt, Machine};
+pub use session::{serve, serve_round};
