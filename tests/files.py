@@ -93,6 +93,37 @@ def standing(folder: str, *but: str) -> dict[str, bytes | None]:
     return {name: read_file(folder + name) for name in sorted(os.listdir(folder)) if name not in but and os.path.isfile(folder + name)}
 
 
+def test_a_log_that_others_change_is_told_no_more() -> None:
+    for name, change in CHANGES.items():
+        file = afresh() + 'run.log'
+        life = Life(CROSS, file)
+        life.send(SITE + b'tick\ntick\ntick\n')
+        demand(life.await_lines(4), name)
+        change(file)
+        left = standing(os.path.dirname(file) + '/')
+        life.send(b'tick\ntick\n')
+        while not life.ended:
+            demand(life.turn(WAIT), f'{name}: it says nothing')
+        same((name, life.end(), life.errors), (name, 3, b'refused X5\n'))
+        same((name, bytes(life.said)), (name, b'entries 0\n' + b''.join(TICKED % clock for clock in (1, 2, 3))))
+        # and what others made of it is left so
+        same((name, standing(os.path.dirname(file) + '/')), (name, left))
+
+
+def test_a_file_of_arrivals_that_others_change() -> None:
+    for name, change in CHANGES.items():
+        file = afresh() + 'run.log'
+        life = Life(CROSS, file, ('--vehicles', '--behind', '1000'))
+        life.send(NOFOLLOW + b'submit x A B\ntoken 0\ntick\ntick\n')
+        demand(life.await_lines(5), name)
+        change(file + '.at')
+        life.send(b'at 0 1\n')
+        while not life.ended:
+            demand(life.turn(WAIT), f'{name}: it says nothing')
+        same((name, life.end(), life.errors), (name, 3, b'refused X5\n'))
+        demand(b'arrived' not in life.said, f'{name}: {bytes(life.said)!r}')
+
+
 @contextmanager
 def service(room: str, *words: str, site: bytes = ALONE) -> Iterator[subprocess.Popen]:
     """`live` over room/log, which is killed behind the test where it has not ended."""
@@ -117,6 +148,20 @@ def ask(folder: str, *lines: str) -> bytes:
     """What a client is told that sends these lines."""
     text = ''.join(line + '\n' for line in lines).encode()
     return subprocess.run([CLIENT, folder, '--wait', str(WAIT)], input=text, capture_output=True, timeout=WAIT + 10).stdout
+
+
+def test_a_log_that_others_change_under_a_service() -> None:
+    for name, change in CHANGES.items():
+        room = afresh('c0')
+        with service(room, '--client', f'0={room}c0:all') as running:
+            same((name, ask(room + 'c0', 'tick', 'tick')), (name, b'entries 0\n' + TICKED % 1 + TICKED % 2))
+            change(room + 'log')
+            # the connection ends without a reply, and the service with it: nobody comes to serve again
+            peer = subprocess.Popen([CLIENT, room + 'c0', '--wait', '2'], stdin=subprocess.PIPE, stdout=subprocess.PIPE, stderr=subprocess.DEVNULL)
+            said = peer.communicate(b'tick\n', timeout=WAIT)[0]
+            same((name, said), (name, b'entries 2\n'))
+            same((name, ended(running, room)[1]), (name, 3))
+            demand(b'refused X5' in read_file(room + 'errors'), name)
 
 
 # ------------------------------------------------------------------------------------------ standard streams
@@ -210,6 +255,13 @@ def test_mode_of_a_board() -> None:
         room = afresh()
         same(lives(room, umask=mask), (b'', 0))
         same(mode(room + 'board'), board)
+
+
+def test_modes_of_the_files_of_a_run() -> None:
+    for mask, kept, _ in MASKS:
+        file = afresh() + 'run.log'
+        same(replay(NOFOLLOW, '--log', file, '--vehicles', umask=mask)[1:], (b'', 0))
+        same([mode(file + end) for end in ('', '.site', '.at')], [kept] * 3)
 
 
 if __name__ == '__main__':
