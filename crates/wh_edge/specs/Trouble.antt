@@ -58,8 +58,6 @@ told trouble.Unkept = codes "X5"
 told (trouble.NoPipes client) = codes "X5 " ++ decimal client
 told trouble.Unshown = codes "X6"
 told trouble.Scripted = codes "X7"
-told trouble.OwnOutput = codes "X9"
-told trouble.Unmanned = codes "V5"
 told trouble.MayFollow = codes "V4"
 told trouble.NoMemory = codes "E90"
 
@@ -95,7 +93,5 @@ status_of trouble.Unkept = status.Failed
 status_of (trouble.NoPipes client) = status.Failed
 status_of trouble.Unshown = status.Failed
 status_of trouble.Scripted = status.CommandLine
-status_of trouble.OwnOutput = status.Failed
-status_of trouble.Unmanned = status.Refused
 status_of trouble.MayFollow = status.Refused
 status_of trouble.NoMemory = status.NoMemory

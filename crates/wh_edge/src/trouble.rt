@@ -78,10 +78,6 @@ pub enum Trouble {
     Unshown,
     /// Sections follow the site, where clients come in elsewhere.
     Scripted,
-    /// Standard output or standard error is a file of the run, which would be written over.
-    OwnOutput,
-    /// Vehicles have carried out the run so far, and the words name none.
-    Unmanned,
     /// The points let agents follow each other: vehicles that follow in a ring would stand still for ever.
     MayFollow,
     /// Out of memory.
@@ -185,8 +181,6 @@ impl Trouble {
             Trouble::NoPipes { client } => put_number(&mut line, b"X5 ", u64::from(client)),
             Trouble::Unshown => put(&mut line, b"X6"),
             Trouble::Scripted => put(&mut line, b"X7"),
-            Trouble::OwnOutput => put(&mut line, b"X9"),
-            Trouble::Unmanned => put(&mut line, b"V5"),
             Trouble::MayFollow => put(&mut line, b"V4"),
             Trouble::NoMemory => put(&mut line, b"E90"),
         }
@@ -202,9 +196,9 @@ impl Trouble {
             Trouble::Map(_) | Trouble::Points(_) | Trouble::Script(_) => Status::Refused,
             Trouble::Short { .. } | Trouble::Raced { .. } => Status::Refused,
             Trouble::SectionTooLong | Trouble::TooManyWorkers => Status::Refused,
-            Trouble::Log { .. } | Trouble::MayFollow | Trouble::Unmanned => Status::Refused,
+            Trouble::Log { .. } | Trouble::MayFollow => Status::Refused,
             Trouble::Broken | Trouble::Endless | Trouble::Unwritten => Status::Failed,
-            Trouble::NoThread | Trouble::Differs | Trouble::OwnOutput => Status::Failed,
+            Trouble::NoThread | Trouble::Differs => Status::Failed,
             Trouble::Unkept | Trouble::NoPipes { .. } | Trouble::Unshown => Status::Failed,
             Trouble::Scripted => Status::CommandLine,
             Trouble::NoMemory => Status::NoMemory,

@@ -32,7 +32,7 @@ const NO_SITES: [(&[u8], &[u8]); 5] = [
 ];
 
 /// Troubles, each with its text and the number of its status.
-const TROUBLES: [(Trouble, &[u8], u8); 11] = [
+const TROUBLES: [(Trouble, &[u8], u8); 9] = [
     (
         Trouble::Points(Fault {
             kind: FaultKind::RuleTwice,
@@ -49,8 +49,6 @@ const TROUBLES: [(Trouble, &[u8], u8); 11] = [
     (Trouble::Unshown, b"refused X6\n", 3),
     (Trouble::Scripted, b"refused X7\n", 2),
     (Trouble::MayFollow, b"refused V4\n", 1),
-    (Trouble::Unmanned, b"refused V5\n", 1),
-    (Trouble::OwnOutput, b"refused X9\n", 3),
 ];
 
 /// Whether the input is no site, and this is told.
