@@ -169,6 +169,25 @@ def test_a_log_that_others_change_under_a_service() -> None:
 STREAMS = {'<&-': 1, '>&-': 2, '2>&-': 4}
 
 
+# ---------------------------------------------------------------------------------------------------- FILE.at
+
+def test_a_foreign_file_is_no_file_of_arrivals() -> None:
+    for text in (b'my only password', b'at 0 0x', b'at 1', b'\0', b' ', b'at 0 0\r'):
+        for linked in (False, True):
+            file = afresh() + 'run.log'
+            held = file + ('.secret' if linked else '.at')
+            write_file(held, text)
+            if linked:
+                os.symlink(held, file + '.at')
+            same((text, *replay(NOFOLLOW, '--log', file, '--vehicles')), (text, b'', b'refused L1 at line 1\n', 1))
+            same((text, read_file(held), read_file(file), read_file(file + '.site')), (text, text, None, None))
+    for length in range(len(b'at 0 0\n') + 1):
+        file = afresh() + 'run.log'
+        write_file(file + '.at', b'at 0 0\n'[:length])
+        same(replay(NOFOLLOW, '--log', file, '--vehicles'), (b'entries 0\n', b'', 0))
+        same(read_file(file + '.at'), b'at 0 0\n')
+
+
 # ------------------------------------------------------------------------------------------------ clients' folders
 
 def test_a_reply_that_ends_with_closed_is_not_the_end() -> None:
