@@ -46,7 +46,9 @@ def rules_of(folders):
 
 
 def main():
-    module, *folders = sys.argv[1:]
+    module, *folders = sys.argv[1:] or ['']
+    if not folders or module.startswith('-'):
+        sys.exit(__doc__)
     rules = rules_of(folders)
     hinted = 0
     with open(module) as lines:

@@ -7,6 +7,10 @@ use Rattle.wh_continue.specs.Running.{LeavesFront, Opens}
 abbrev pub first_arrival : List ℕ
 first_arrival = codes "at 0 0" ++ 10 ∷ []
 
+-- bytes that are that line, or a beginning of it, or none
+abbrev pub IsBeginning : List ℕ → Type 0
+IsBeginning text = (rest : List ℕ) × (first_arrival ≡ text ++ rest)
+
 -- The file holds this many bytes of what it held; or, where these are none, that line alone.
 abbrev pub BeginsArrivals : ℕ → (file holds : Option (List ℕ)) → Type 0
 BeginsArrivals bytes file holds = ((bytes ≡ 0) × Opens file holds first_arrival) ⊎ ((bytes ≢ 0) × (holds ≡ front_of bytes file))

@@ -4,6 +4,7 @@ use Rattle.wh_text.specs.Lines.{IsLine}
 use Rattle.wh_book.specs.Drafts.{Seen}
 use Rattle.wh_arrivals.specs.Arrivals.{TellsSteps, IsFirstBad}
 use Rattle.wh_arrivals.specs.Standing.{Stand, ComesTooEarly}
+use Rattle.wh_convoy.specs.Beginning.{IsBeginning}
 use Rattle.wh_convoy.specs.declared.finding.Stood.{Stood}
 use Rattle.wh_convoy.specs.declared.finding.StoodFault.{StoodFault}
 use Rattle.wh_convoy.specs.declared.finding.StoodFault.TheVariants.{BadLine, Astray, NoMemory}
@@ -26,7 +27,8 @@ abbrev pub steps_of : Seen → ℕ
 steps_of book = book.state.clock - book.opening.clock
 
 -- The text tells the steps at which the vehicles have arrived, none beyond the clock's; there they stand, and were told nothing
--- beyond. A file that was not begun tells so of a plan with no step.
+-- beyond. A file in which no line stands whole tells so of a plan with no step, and only where it is empty or holds a beginning of the
+-- line that such a file begins with: no other is taken for one.
 pub record StandsBy (book : Seen) (ahead : ℕ) (text : List ℕ) (stood : Stood) : Type 0 where
   pub steps : List ℕ
   pub tells : TellsSteps (length book.state.paths) text steps
@@ -34,6 +36,7 @@ pub record StandsBy (book : Seen) (ahead : ℕ) (text : List ℕ) (stood : Stood
   pub stand : Stand book ahead steps stood.order
   pub whole : IsWhole text stood.bytes
   pub begun : stood.bytes ≡ 0 → steps_of book ≡ 0
+  pub own : stood.bytes ≡ 0 → IsBeginning text
 
 -- by these steps the agent's vehicle has come further than the clock, or too early to a cell
 pub record IsAstray (book : Seen) (ahead : ℕ) (text : List ℕ) (agent : ℕ) : Type 0 where
@@ -41,9 +44,9 @@ pub record IsAstray (book : Seen) (ahead : ℕ) (text : List ℕ) (agent : ℕ) 
   pub tells : TellsSteps (length book.state.paths) text steps
   pub why : ((agent < length steps) × (steps_of book < slice_index steps agent)) ⊎ (book.site.layout.nofollow ≡ true → ComesTooEarly book ahead steps agent)
 
--- no whole line stands there, and the plan has steps
+-- no whole line stands there, and the plan has steps, or the bytes are another's
 abbrev pub IsLost : Seen → List ℕ → Type 0
-IsLost book text = IsLine text × (0 < steps_of book)
+IsLost book text = IsLine text × ((0 < steps_of book) ⊎ (IsBeginning text → ⊥))
 
 -- why they cannot go on; when out of memory, nothing is said
 abbrev pub IsWhyNotStood : Seen → ℕ → List ℕ → StoodFault → Type 0

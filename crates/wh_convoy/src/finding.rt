@@ -1,8 +1,9 @@
 //! Where vehicles stand as a run goes on, by the text of its file of arrivals.
 #![tactic(auto)]
 
-ghost use Rattle.std.specs.Prelude.{◌≡◌, ◌-◌, ◌<◌, ◌≤◌, ℕ, IfErr, IfNone, IfOk, IfSome, length, slice_index};
+ghost use Rattle.std.specs.Prelude.{◌≡◌, ◌-◌, ◌<◌, ◌≤◌, ℕ, IfErr, IfNone, IfOk, IfSome, false, length, slice_index, true};
 ghost use Rattle.wh_dispatch.specs.SettingOut.{SomeInStep};
+ghost use Rattle.wh_convoy.specs.Beginning.{IsBeginning};
 ghost use Rattle.wh_convoy.specs.Standing.{IsWhole, StandsBy, IsWhyNotStood};
 
 use std::alloc::Global;
@@ -24,7 +25,7 @@ pub struct Stood {
 #[derive(Clone, Copy, Debug, PartialEq, Eq)]
 pub enum StoodFault {
     /// L1: the first line, from 1, that is no report, or one of an agent that there is not; or line 1 where none stands there
-    /// though the clock has gone on.
+    /// though the clock has gone on, or what stands there is no beginning of a file of arrivals.
     BadLine(u64),
     /// L1: the vehicle of this agent has come further than the clock, or to a cell that another's is to leave before.
     Astray(u32),
@@ -41,6 +42,14 @@ fn whole_bytes(text: &[u8]) -> usize
         rest = after;
     }
     text.len() - rest.len()
+}
+
+/// Whether bytes are a beginning of the line that a file of arrivals begins with, or none.
+fn is_beginning(text: &[u8]) -> bool
+    ensures beginning { result ≡ true → IsBeginning text.now }
+    ensures other { result ≡ false → IsBeginning text.now → ⊥ }
+{
+    b"at 0 0\n".starts_with(text)
 }
 
 /// The first agent that has come further than this.
@@ -65,7 +74,8 @@ fn steps_so_far(book: &Book) -> u64
 }
 
 /// Where the vehicles of a run stand, by the text of its file of arrivals, of which the end may have been cut. One may be told `ahead`
-/// cells ahead from now on. Nothing changes.
+/// cells ahead from now on. A text with no whole line is taken for that of a file that was not begun only where it is a beginning of one.
+/// Nothing changes.
 pub fn find_stand(alloc: Global, book: &Book, ahead: u64, text: &[u8]) -> Result<Stood, StoodFault>
     requires some { 1 ≤ ahead }
     ensures ok { IfOk result (StandsBy book.now ahead text.now) }
@@ -80,7 +90,7 @@ pub fn find_stand(alloc: Global, book: &Book, ahead: u64, text: &[u8]) -> Result
     };
     let most = steps_so_far(book);
     let bytes = whole_bytes(text);
-    if bytes == 0 && most > 0 {
+    if bytes == 0 && (most > 0 || !is_beginning(text)) {
         return Err(StoodFault::BadLine(1));
     }
     if let Some(agent) = first_beyond(steps.as_slice(), most) {

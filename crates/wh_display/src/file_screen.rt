@@ -5,15 +5,24 @@ ghost use Rattle.std.specs.Prelude.{◌∷◌, [], OnOk, OnErr};
 ghost use Rattle.wh_display.specs.Screens.{Shows};
 
 use crate::screen::{Screen, ShowFault};
-use std::fs;
-use std::fs::{File, Files, metadata};
-use std::io::{Read, Write};
+use std::fs::{File, Files, OpenOptions, symlink_metadata};
+use std::io::{ErrorKind, Read, Write};
+use std::os::unix::fs::{MetadataExt, OpenOptionsExt};
+use std::{fs, io};
 
 /// How a board begins.
 const HEAD: &[u8; 7] = b"wboard ";
 
-/// A file that is replaced as a whole: a reader sees one text or another, never a part of one. Anything there that is not a
-/// board, such as a log by another name or a pipe, is not replaced. It tells nothing of what was shown, since others may write there.
+/// All may read a board.
+const ALL_MAY_READ: u32 = 0o644;
+
+/// A file of zeros that is longer is no board.
+const MOST_ZEROS: u64 = 1_048_576;
+
+/// A file that is replaced as a whole: a reader sees one text or another, never a part of one, also after a power cut. Anything
+/// there that is not a board, such as a log by another name, a link or a pipe, is not replaced; a file that is empty or all zeros is a
+/// board that was not written. The text is written into a file that was made for it, so no link is followed. It tells nothing of
+/// what was shown, since others may write there.
 #[derive(Drop)]
 pub struct FileScreen<'a, T: Files<File = File>> {
     files: &'a T,
@@ -32,47 +41,99 @@ impl<'a, T: Files<File = File>> FileScreen<'a, T> {
     }
 }
 
-/// Whether a text may take this name: nothing stands there, or a file that is empty or a board.
-fn may_take<T: Files<File = File>>(files: &T, path: &str) -> bool {
-    let Ok(found) = metadata(files, path) else {
-        return true;
-    };
-    if !found.file_type().is_file() {
-        return false;
+/// What stands at a name.
+#[derive(Clone, Copy, Debug, PartialEq, Eq)]
+enum Found {
+    Nothing,
+    /// A board, or what is left of one that was not written to its end.
+    Board,
+    Other,
+}
+
+/// Whether the rest of a file is all zeros.
+fn is_all_zeros(file: &mut File) -> io::Result<bool> {
+    let mut room = [0; 4_096];
+    for _ in 0..u64::MAX {
+        let count = file.read(&mut room)?;
+        if count == 0 {
+            return Ok(true);
+        }
+        if room[..count].iter().any(|byte| *byte != 0) {
+            return Ok(false);
+        }
     }
-    let Ok(mut file) = File::open(files, path) else {
-        return false;
-    };
+    Ok(false)
+}
+
+/// Whether a file of this length holds a board, the beginning of one, or zeros.
+fn holds_board(file: &mut File, length: u64) -> io::Result<bool> {
     let mut head = [0; HEAD.len()];
-    match file.read(&mut head) {
-        Ok(0) => true,
-        Ok(_) => head == *HEAD,
-        Err(_) => false,
+    let count = file.read(&mut head)?;
+    if HEAD.starts_with(&head[..count]) {
+        return Ok(true);
+    }
+    if length > MOST_ZEROS || head[..count].iter().any(|byte| *byte != 0) {
+        return Ok(false);
+    }
+    is_all_zeros(file)
+}
+
+/// What stands at a name. A file is opened for both ways, which waits for nobody, and is judged only where it is the one that
+/// has the name itself, and not one behind a link.
+fn find<T: Files<File = File>>(files: &T, path: &str) -> io::Result<Found> {
+    let named = match symlink_metadata(files, path) {
+        Ok(named) => named,
+        Err(error) if error.kind() == ErrorKind::NotFound => return Ok(Found::Nothing),
+        Err(error) => return Err(error),
+    };
+    if !named.is_file() {
+        return Ok(Found::Other);
+    }
+    let mut file = OpenOptions::new().read(true).write(true).open(files, path)?;
+    let held = file.metadata()?;
+    if !held.is_file() || held.dev() != named.dev() || held.ino() != named.ino() {
+        return Ok(Found::Other);
+    }
+    if holds_board(&mut file, held.len())? {
+        Ok(Found::Board)
+    } else {
+        Ok(Found::Other)
     }
 }
 
-/// Rewrites a file.
-fn write_anew<T: Files<File = File>>(files: &T, path: &str, text: &[u8]) -> Result<(), ShowFault> {
-    let Ok(mut file) = File::create(files, path) else {
-        return Err(ShowFault::Unshown);
-    };
-    match file.write_all(text) {
-        Ok(()) => Ok(()),
-        Err(_) => Err(ShowFault::Unshown),
+/// Makes a file of this name, which holds the text, and syncs it. A board that was left there goes first.
+fn write_anew<T: Files<File = File>>(files: &T, path: &str, text: &[u8]) -> io::Result<()> {
+    match find(files, path)? {
+        Found::Nothing => {}
+        Found::Board => fs::remove_file(files, path)?,
+        Found::Other => return Err(io::Error::from(ErrorKind::AlreadyExists)),
     }
+    let mut file = OpenOptions::new()
+        .write(true)
+        .create_new(true)
+        .mode(ALL_MAY_READ)
+        .open(files, path)?;
+    file.write_all(text)?;
+    file.sync_all()
+}
+
+/// Puts a text into a file that holds a board or is not there, by way of another one beside it.
+fn replace<T: Files<File = File>>(
+    files: &T,
+    path: &str,
+    beside: &str,
+    text: &[u8],
+) -> io::Result<()> {
+    if find(files, path)? == Found::Other {
+        return Err(io::Error::from(ErrorKind::AlreadyExists));
+    }
+    write_anew(files, beside, text)?;
+    fs::rename(files, beside, path)
 }
 
 impl<'a, T: Files<File = File>> Screen for FileScreen<'a, T> {
     fn show(&mut self, text: &[u8]) -> Result<(), ShowFault> {
-        let beside = self.beside.as_str();
-        if !may_take(self.files, self.path) || !may_take(self.files, beside) {
-            return Err(ShowFault::Unshown);
-        }
-        match write_anew(self.files, beside, text) {
-            Ok(()) => {}
-            Err(fault) => return Err(fault),
-        }
-        match fs::rename(self.files, beside, self.path) {
+        match replace(self.files, self.path, self.beside.as_str(), text) {
             Ok(()) => Ok(()),
             Err(_) => Err(ShowFault::Unshown),
         }

@@ -8,12 +8,16 @@ ghost use Rattle.wh_log.specs.Sources.{AddsPiece};
 use crate::journal::{Journal, JournalFault};
 use crate::log_file::{LogFile, LogFileFault};
 use std::alloc::Global;
-use std::fs::{File, Files, OpenOptions};
+use std::fs::{File, Files, OpenOptions, metadata};
 use std::io;
 use std::io::{ErrorKind, Read, Seek, SeekFrom};
+use std::os::unix::fs::{MetadataExt, OpenOptionsExt};
 use std::path::Path;
 use wh_log::{PIECE, Source, SourceFault};
 use wh_replay::write_all;
+
+/// Who may read and write a file that is made: its owner alone.
+const OWNER_ALONE: u32 = 0o600;
 
 /// A file that is open and locked. What is appended goes after its last byte.
 #[derive(Drop)]
@@ -38,12 +42,15 @@ enum Standing {
 ///
 /// `text`, or the first piece that is read, opens what stands there, never empties it, and locks it before a byte is read; one that
 /// another has locked, or that is no regular file, is `Unread`, and is left as it is. Where nothing stands, nothing is made, and the
-/// text is empty. `put` writes one byte over another, and syncs. `cut` makes the file where nothing stood, sets its length, and syncs
-/// it and its folder. Both fail, and touch nothing, where nothing was read before, where the file had fewer bytes as it was opened, and
-/// where another made the file or changed its length since.
+/// text is empty. `put` writes one byte over another, and syncs. `cut` makes the file where nothing stood, for its owner alone, sets its
+/// length, and syncs it and its folder. Both fail, and touch nothing, where nothing was read before, where the file had fewer bytes as it
+/// was opened, and where another made the file or changed its length since.
+///
+/// No call succeeds on a file that is not the one at the path any more, or has another length than was written to it: one that others
+/// renamed, removed, replaced, cut or wrote to. It is looked at before each byte is written, and after each sync, and is left as it is.
 ///
 /// After a sync that failed, a later one may succeed although bytes were lost, so from the first fault on each call fails and
-/// no byte is written. On the first fault of `append` or `sync` the file is set back to its length at the last sync, where
+/// no byte is written. On the first fault of a write or a sync the file is set back to its length at the last sync, where
 /// that can be done: it then holds what was synced, and nothing more. That may be less than a journal that tells its
 /// bytes says it holds then, and is no less than was synced.
 #[derive(Drop)]
@@ -117,6 +124,7 @@ fn make<R: Files<File = File>>(files: &R, path: Path<'_>) -> io::Result<File> {
         .read(true)
         .write(true)
         .create_new(true)
+        .mode(OWNER_ALONE)
         .open(files, path)?;
     match lock(&file) {
         Ok(()) => Ok(file),
@@ -144,8 +152,14 @@ impl OpenLog {
         }
     }
 
-    fn append(&mut self, bytes: &[u8]) -> Result<(), JournalFault> {
-        if !self.is_cut {
+    /// Appends bytes to the file at this path, where it still is this one.
+    fn append<R: Files<File = File>>(
+        &mut self,
+        files: &R,
+        path: Path<'_>,
+        bytes: &[u8],
+    ) -> Result<(), JournalFault> {
+        if !self.is_cut || !self.is_still_at(files, path) {
             return Err(JournalFault);
         }
         if self.write_at(self.length, bytes).is_err() {
@@ -156,7 +170,12 @@ impl OpenLog {
         Ok(())
     }
 
-    fn sync(&mut self) -> Result<(), JournalFault> {
+    /// Syncs the file, which then still is the one at this path.
+    fn sync<R: Files<File = File>>(
+        &mut self,
+        files: &R,
+        path: Path<'_>,
+    ) -> Result<(), JournalFault> {
         if !self.is_cut {
             return Err(JournalFault);
         }
@@ -165,6 +184,9 @@ impl OpenLog {
             return Err(JournalFault);
         }
         self.safe = self.length;
+        if !self.is_still_at(files, path) {
+            return Err(JournalFault);
+        }
         Ok(())
     }
 
@@ -177,33 +199,48 @@ impl OpenLog {
         }
     }
 
-    /// Whether the file still is as long as it was.
-    fn is_unchanged(&self) -> io::Result<bool> {
-        Ok(self.file.metadata()?.len() == self.length)
+    /// Whether the file still is the one at this path, and as long as it was.
+    fn is_still_at<R: Files<File = File>>(&self, files: &R, path: Path<'_>) -> bool {
+        match (self.file.metadata(), metadata(files, path)) {
+            (Ok(held), Ok(named)) => {
+                held.len() == self.length && held.dev() == named.dev() && held.ino() == named.ino()
+            }
+            _ => false,
+        }
     }
 
-    /// Writes a byte over another, where the file still is as long as it was, and syncs.
-    fn put(&mut self, place: u64, byte: u8) -> io::Result<()> {
-        if !self.is_unchanged()? || place >= self.length {
+    /// Writes a byte over another, where the file still is the one at this path and as long as it was, and syncs.
+    fn put<R: Files<File = File>>(
+        &mut self,
+        files: &R,
+        path: Path<'_>,
+        place: u64,
+        byte: u8,
+    ) -> io::Result<()> {
+        if !self.is_still_at(files, path) || place >= self.length {
             return Err(io::Error::from(ErrorKind::InvalidInput));
         }
         self.write_at(place, [byte].as_slice())?;
         self.file.sync_all()
     }
 
-    /// Lets go what was not synced, where that can be done.
+    /// Lets go what was not synced, where that can be done. One that others cut is not made longer.
     fn set_back(&mut self) {
-        drop(self.file.set_len(self.safe));
+        if let Ok(held) = self.file.metadata() {
+            if held.len() > self.safe {
+                drop(self.file.set_len(self.safe));
+            }
+        }
     }
 
-    /// Cuts the file to a length, where it still is as long as it was, and syncs it and its folder.
+    /// Cuts the file to a length, where it still is the one at this path and as long as it was, and syncs it and its folder.
     fn cut<R: Files<File = File>>(
         &mut self,
         files: &R,
         path: Path<'_>,
         length: u64,
     ) -> io::Result<()> {
-        if !self.is_unchanged()? || length > self.length {
+        if !self.is_still_at(files, path) || length > self.length {
             return Err(io::Error::from(ErrorKind::InvalidInput));
         }
         self.file.set_len(length)?;
@@ -216,7 +253,7 @@ impl OpenLog {
     }
 }
 
-impl<'a, R> FileJournal<'a, R> {
+impl<'a, R: Files<File = File>> FileJournal<'a, R> {
     /// The journal of the file at a path. Nothing is opened yet.
     pub fn new(files: &'a R, path: Path<'a>) -> FileJournal<'a, R>
         ensures { ⟦<FileJournal<'a, R> as Journal>⟧.failed result ≡ false }
@@ -235,9 +272,7 @@ impl<'a, R> FileJournal<'a, R> {
     {
         self.has_failed
     }
-}
 
-impl<'a, R: Files<File = File>> FileJournal<'a, R> {
     /// Reads what stands at the path, whether it was opened before or not.
     fn read(&mut self, alloc: Global) -> io::Result<Vec<u8>>
         ensures { self.new.has_failed ≡ self.old.has_failed }
@@ -299,7 +334,7 @@ impl<'a, R: Files<File = File>> FileJournal<'a, R> {
     }
 }
 
-impl<'a, R> Journal for FileJournal<'a, R> {
+impl<'a, R: Files<File = File>> Journal for FileJournal<'a, R> {
     ghost failed = { λ j. j.has_failed };
 
     fn append(&mut self, bytes: &[u8]) -> Result<(), JournalFault> {
@@ -307,7 +342,7 @@ impl<'a, R> Journal for FileJournal<'a, R> {
             return Err(JournalFault);
         }
         if let Standing::Found(log) = &mut self.standing {
-            if log.append(bytes).is_ok() {
+            if log.append(self.files, self.path, bytes).is_ok() {
                 return Ok(());
             }
         }
@@ -320,7 +355,7 @@ impl<'a, R> Journal for FileJournal<'a, R> {
             return Err(JournalFault);
         }
         if let Standing::Found(log) = &mut self.standing {
-            if log.sync().is_ok() {
+            if log.sync(self.files, self.path).is_ok() {
                 return Ok(());
             }
         }
@@ -353,7 +388,7 @@ impl<'a, R: Files<File = File>> LogFile for FileJournal<'a, R> {
             return Err(JournalFault);
         }
         if let Standing::Found(log) = &mut self.standing {
-            if log.put(place as u64, byte).is_ok() {
+            if log.put(self.files, self.path, place as u64, byte).is_ok() {
                 return Ok(());
             }
         }
