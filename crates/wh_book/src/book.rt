@@ -82,33 +82,9 @@ impl Book {
         ensures history { IfOk result (λ book. book.history ≡ []) }
     {
         let _agents = setting.agents();
-        let first_slots = match Vec::from_slice(alloc, slots.as_slice()) {
-            Ok(first_slots) => first_slots,
-            Err(error) => {
-                drop(slots);
-                drop(setting);
-                return Err(error);
-            }
-        };
-        let starts = match setting.starts(alloc) {
-            Ok(starts) => starts,
-            Err(error) => {
-                drop(first_slots);
-                drop(slots);
-                drop(setting);
-                return Err(error);
-            }
-        };
-        let floor = match FleetState::open(alloc, setting.grid(), clock, starts.as_slice(), slots) {
-            Ok(floor) => floor,
-            Err(error) => {
-                drop(starts);
-                drop(first_slots);
-                drop(setting);
-                return Err(error);
-            }
-        };
-        drop(starts);
+        let first_slots = Vec::from_slice(alloc, slots.as_slice())?;
+        let starts = setting.starts(alloc)?;
+        let floor = FleetState::open(alloc, setting.grid(), clock, starts.as_slice(), slots)?;
         Ok(Book {
             setting,
             first_clock: clock,

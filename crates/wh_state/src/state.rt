@@ -69,41 +69,15 @@ impl FleetState {
         ensures { IfOk result (λ floor. floor.state ≡ standing_at starts.now clock slots.items) }
     {
         let cells = grid.width() as usize * grid.height() as usize;
-        let mut paths = match Timetable::empty(alloc, cells) {
-            Ok(paths) => paths,
-            Err(error) => {
-                drop(slots);
-                return Err(error);
-            }
-        };
+        let mut paths = Timetable::empty(alloc, cells)?;
         let mut loads = Vec::new(alloc);
         for start in starts {
-            if let Err(error) = stand(alloc, &mut paths, &mut loads, *start) {
-                drop(loads);
-                drop(paths);
-                drop(slots);
-                return Err(error);
-            }
+            paths.add(TimedPath::one(alloc, *start)?)?;
+            loads.push(Load::None)?;
         }
-        let tasks = match no_tasks(alloc, grid, starts) {
-            Ok(tasks) => tasks,
-            Err(error) => {
-                drop(loads);
-                drop(paths);
-                drop(slots);
-                return Err(error);
-            }
-        };
-        let dues = match Dues::never(alloc, starts.len()) {
-            Ok(dues) => dues,
-            Err(error) => {
-                drop(tasks);
-                drop(loads);
-                drop(paths);
-                drop(slots);
-                return Err(error);
-            }
-        };
+        let ends = PathEnds::of(alloc, grid.width(), grid.height(), starts)?;
+        let tasks = TaskSet::new(alloc, grid.width(), grid.height(), ends)?;
+        let dues = Dues::never(alloc, starts.len())?;
         Ok(FleetState {
             clock,
             closed: false,
@@ -329,31 +303,6 @@ impl FleetState {
             agent,
         );
     }
-}
-
-/// One more agent, which stands at a cell and carries nothing. Fails when out of memory.
-fn stand(
-    alloc: Global,
-    paths: &mut Timetable,
-    loads: &mut Vec<Load>,
-    cell: Cell,
-) -> Result<(), AllocError>
-    ensures paths { OnOk result (paths.new ≡ paths.old ++ (cell ∷ []) ∷ []) }
-    ensures loads { OnOk result (loads.new.items ≡ loads.old.items ++ Burden.None ∷ []) }
-{
-    paths.add(TimedPath::one(alloc, cell)?)?;
-    loads.push(Load::None)?;
-    Ok(())
-}
-
-/// No task, where an agent stands at each of these cells. Fails when out of memory.
-fn no_tasks(alloc: Global, grid: &Grid, starts: &[Cell]) -> Result<TaskSet, AllocError>
-    requires few { length starts.now ≤ 256 }
-    ensures tasks { IfOk result (λ set. set.tasks ≡ []) }
-    ensures ends { IfOk result (λ set. set.ends ≡ starts.now) }
-{
-    let ends = PathEnds::of(alloc, grid.width(), grid.height(), starts)?;
-    TaskSet::new(alloc, grid.width(), grid.height(), ends)
 }
 
 /// An agent goes by a path from now on, and ends where that ends.

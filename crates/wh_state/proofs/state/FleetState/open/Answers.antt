@@ -8,7 +8,7 @@ invariant_of-result c =
     let all = take_all c.loop-start.start-index c.args.starts.now c.loop-start-test.false in
     let paths = rw all at c.loop-start.invariant.paths in
     let loads = rw all at c.loop-start.invariant.loads in
-    rw (paths, loads, c.in-Ok-no_tasks.ensures.ends, c.in-Ok-no_tasks.ensures.tasks) (
+    rw (paths, loads, c.in_ok-tasks.ensures.ends, c.in_ok-ends.ensures, c.in_ok-tasks.ensures.tasks) (
       sound-opening c.args.clock c.args.starts.now c.args.slots.items c.requires.clock c.requires.few c.requires.seats,
-      due-opening c.args.clock c.args.starts.now c.in-Ok-never.dues c.in-Ok-never.ensures,
+      due-opening c.args.clock c.args.starts.now c.in_ok-dues.dues c.in_ok-dues.ensures,
     )
