@@ -411,6 +411,8 @@ def test_keys_at_every_byte() -> None:
         if whole == 8:
             again.settle(0)
             same((again.transports['c'].run, again.of_task(0)), (0, None))
+        again.put_aside('e', 'c', ['A', 'B'])
+        same([one.key for one in again.left()][-1], 'e')
         again.write([{'key': 'd', 'run': 9, 'task': 0, 'client': 'c', 'stops': ['A', 'B'], 'first': 0}])
         again.close()
         has(open(keys.path, 'rb').read().decode().splitlines()[-1], '"key":"d"')
@@ -809,6 +811,15 @@ def test_a_lost_vehicle_and_its_return() -> None:
             if kill:
                 floor.kill_adapter()
             blocked = floor.adapter.book.opening.blocked
+            # an order to a stop that is blocked in this run is taken, and waits; the adapter may be killed meanwhile
+            shut = next((point.name for point in floor.instance.points if point.kind == 'station' and point.cell in blocked), None)
+            if shut:
+                floor.order('waits', shut, shut)
+                floor.until(lambda: 'waits' in floor.answers)
+                same(floor.answers.pop('waits'), {'id': 'waits', 'state': 'accepted'})
+                keys.append('waits')
+                if kill:
+                    floor.kill_adapter()
             # everything but what it carries, and what stops where it may be, or where it rests
             stuck = {key for key in keys if key == load or floor.adapter.book.transports[key].run != 2
                      or any(floor.instance.cell_of(stop) in [*blocked, floor.adapter.book.opening.cells[agent]] for stop in floor.adapter.book.transports[key].stops)}

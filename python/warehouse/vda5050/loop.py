@@ -63,7 +63,7 @@ class Adapter:
     def __init__(self, instance: Instance, settings: Settings, broker: Broker, book: Book, vehicles: list[Vehicle]):
         self.base, self.settings, self.broker, self.book, self.vehicles = instance, settings, broker, book, vehicles
         self.by_name = {(vehicle.maker, vehicle.serial): vehicle for vehicle in vehicles}
-        self.desk = Desk(book, self.answer)
+        self.desk = Desk(instance, book, self.answer)
         self.writer = Writer(settings.layout, book.of_task, settings.horizon)
         self.handover = Handover(self)
         self.reports: dict[int, int] = {}        # steps that states tell, not reported yet
