@@ -811,15 +811,6 @@ def test_a_lost_vehicle_and_its_return() -> None:
             if kill:
                 floor.kill_adapter()
             blocked = floor.adapter.book.opening.blocked
-            # an order to a stop that is blocked in this run is taken, and waits; the adapter may be killed meanwhile
-            shut = next((point.name for point in floor.instance.points if point.kind == 'station' and point.cell in blocked), None)
-            if shut:
-                floor.order('waits', shut, shut)
-                floor.until(lambda: 'waits' in floor.answers)
-                same(floor.answers.pop('waits'), {'id': 'waits', 'state': 'accepted'})
-                keys.append('waits')
-                if kill:
-                    floor.kill_adapter()
             # everything but what it carries, and what stops where it may be, or where it rests
             stuck = {key for key in keys if key == load or floor.adapter.book.transports[key].run != 2
                      or any(floor.instance.cell_of(stop) in [*blocked, floor.adapter.book.opening.cells[agent]] for stop in floor.adapter.book.transports[key].stops)}
@@ -881,10 +872,15 @@ def test_what_a_lost_vehicle_did_meanwhile_is_known_when_it_is_back() -> None:
         floor.until(lambda: floor.adapter.book.opening.number == 2, 30)
         floor.until(lambda: not vehicle.world.loads and vehicle.world.cell == '1_2' and vehicle.busy is None)
         same((floor.adapter.book.transports['k'].made, floor.adapter.book.opening.carried, floor.adapter.book.left()), (0, {'k': 0}, []))
+        # C is blocked in this run, since the vehicle may be there: an order to it is taken, and waits for the next one, also over a kill
+        floor.order('w', 'D', 'C')
+        floor.until(lambda: floor.answers.get('w') == {'id': 'w', 'state': 'accepted'})
+        floor.kill_adapter()
+        same([one.key for one in floor.adapter.book.left()], ['w'])
         vehicle.broker.up = True
-        floor.until(lambda: floor.adapter.book.opening.number == 3 and floor.delivered('k'), 30)
-        same(len(floor.adapter.fleet.tasks), 0)
-        once_each(floor, ['k'])
+        floor.until(lambda: floor.adapter.book.opening.number == 3 and floor.delivered('k', 'w'), 30)
+        same([order.line for order in floor.adapter.fleet.tasks], ['submit vda5050 D C'])
+        once_each(floor, ['k', 'w'])
 
 
 def test_out_and_back_by_command() -> None:
