@@ -126,7 +126,7 @@ def by_hand() -> None:
 
     def test() -> None:
         run(text, options.orders, options.kills, options.step, options.handling, options.leaves, ('--out-after', '2') if options.lost is not None else (),
-            options.seed, options.limit, (1.0, 5.0), each)
+            options.seed, options.limit, (0.5, 3.0), each)
     sys.exit(counting.run({'test_by_hand': test}))
 
 

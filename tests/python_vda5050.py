@@ -411,6 +411,8 @@ def test_keys_at_every_byte() -> None:
         if whole == 8:
             again.settle(0)
             same((again.transports['c'].run, again.of_task(0)), (0, None))
+        again.put_aside('e', 'c', ['A', 'B'])
+        same([one.key for one in again.left()][-1], 'e')
         again.write([{'key': 'd', 'run': 9, 'task': 0, 'client': 'c', 'stops': ['A', 'B'], 'first': 0}])
         again.close()
         has(open(keys.path, 'rb').read().decode().splitlines()[-1], '"key":"d"')
@@ -870,10 +872,15 @@ def test_what_a_lost_vehicle_did_meanwhile_is_known_when_it_is_back() -> None:
         floor.until(lambda: floor.adapter.book.opening.number == 2, 30)
         floor.until(lambda: not vehicle.world.loads and vehicle.world.cell == '1_2' and vehicle.busy is None)
         same((floor.adapter.book.transports['k'].made, floor.adapter.book.opening.carried, floor.adapter.book.left()), (0, {'k': 0}, []))
+        # C is blocked in this run, since the vehicle may be there: an order to it is taken, and waits for the next one, also over a kill
+        floor.order('w', 'D', 'C')
+        floor.until(lambda: floor.answers.get('w') == {'id': 'w', 'state': 'accepted'})
+        floor.kill_adapter()
+        same([one.key for one in floor.adapter.book.left()], ['w'])
         vehicle.broker.up = True
-        floor.until(lambda: floor.adapter.book.opening.number == 3 and floor.delivered('k'), 30)
-        same(len(floor.adapter.fleet.tasks), 0)
-        once_each(floor, ['k'])
+        floor.until(lambda: floor.adapter.book.opening.number == 3 and floor.delivered('k', 'w'), 30)
+        same([order.line for order in floor.adapter.fleet.tasks], ['submit vda5050 D C'])
+        once_each(floor, ['k', 'w'])
 
 
 def test_out_and_back_by_command() -> None:

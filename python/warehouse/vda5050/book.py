@@ -5,6 +5,7 @@ have is not handed in. So no kill loses an order that was answered, and none is 
 
     {"book": 1, "name": "3fa9c2d1"}                                  once; the name begins each `orderId`
     {"key": "o17", "run": 1, "task": 4, "client": "wms", "stops": ["S3", "S9"], "first": 0}
+    {"key": "o18", "run": 0, "task": 0, ..}                          it waits for a run in which its stops are stations
     {"key": "o17", "made": 2}                                        visits that are made; all of them: it is delivered
     {"run": 2, "cells": [..], "blocked": [..], "out": [3], "carried": {"o17": 3}}    another run begins where vehicles stand
 
@@ -24,7 +25,7 @@ CELLS: Json = {'type': 'array', 'items': {'type': 'array', 'minItems': 2, 'items
 LINES: Json = {
     'name': {'required': ['book', 'name'], 'properties': {'book': {'enum': [1]}, 'name': {'type': 'string'}}},
     'order': {'required': ['key', 'run', 'task', 'client', 'stops', 'first'],
-              'properties': {'key': {'type': 'string'}, 'run': {'type': 'integer', 'minimum': 1}, 'task': {'type': 'integer', 'minimum': 0},
+              'properties': {'key': {'type': 'string'}, 'run': {'type': 'integer', 'minimum': 0}, 'task': {'type': 'integer', 'minimum': 0},
                              'client': {'type': 'string'}, 'stops': {'type': 'array', 'items': {'type': 'string'}, 'minItems': 2},
                              'first': {'type': 'integer', 'minimum': 0}}},
     'made': {'required': ['key', 'made'], 'properties': {'key': {'type': 'string'}, 'made': {'type': 'integer', 'minimum': 0}}},
@@ -68,6 +69,7 @@ class Book:
         self.path, self.name = path, ''
         self.transports: dict[str, Transport] = {}
         self.by_task: dict[tuple[int, int], str] = {}
+        self.aside: set[str] = set()    # keys that were taken while they could not be handed in
         self.opening = Opening()
         try:
             self.file = os.open(path, os.O_RDWR | os.O_CREAT | os.O_APPEND, 0o600)
@@ -122,6 +124,9 @@ class Book:
 
     def enter(self, row: Json) -> Transport:
         """An order that is handed in, or is about to be: of the same run and task the last one counts."""
+        if row['run'] == 0:
+            self.aside.add(row['key'])
+            return self.transports.setdefault(row['key'], Transport(row['key'], row['client'], row['stops']))
         if self.by_task.get((row['run'], row['task']), row['key']) != row['key']:
             self.free(row['run'], row['task'])
         known = self.transports.setdefault(row['key'], Transport(row['key'], row['client'], row['stops']))
@@ -135,10 +140,16 @@ class Book:
         self.write([row])
         return self.enter(row)
 
+    def put_aside(self, key: str, client: str, stops: list[str]) -> Transport:
+        """Writes that this order waits for another run."""
+        row: Json = {'key': key, 'run': 0, 'task': 0, 'client': client, 'stops': stops, 'first': 0}
+        self.write([row])
+        return self.enter(row)
+
     def free(self, run: int, task: int) -> None:
         """That task was not made: the order waits again where it stood in a run before, else its key is free."""
         key = self.by_task.pop((run, task))
-        if key in self.by_task.values():
+        if key in self.by_task.values() or key in self.aside:
             self.transports[key].run, self.transports[key].task = 0, -1
         else:
             del self.transports[key]

@@ -152,5 +152,6 @@ class Mqtt:
         return batch
 
     def end(self) -> None:
+        self.up = None    # its end is no news
         self.client.disconnect()
         self.client.loop_stop()

@@ -4,7 +4,7 @@ from __future__ import annotations
 from typing import Callable
 
 from ..fleet import Fleet
-from ..texts import Fault, Order
+from ..texts import Fault, Instance, Order
 from .book import Book, Transport
 from .plan import Plan
 from .schema import Json
@@ -15,8 +15,8 @@ MOST_TOLD = 10_000    # orders whose answers are told again to a broker that com
 class Desk:
     """Keys, and what is told of each. `answer(key, message, retain)` tells a client."""
 
-    def __init__(self, book: Book, answer: Callable[[str, Json, bool], None]):
-        self.book, self.answer = book, answer
+    def __init__(self, base: Instance, book: Book, answer: Callable[[str, Json, bool], None]):
+        self.base, self.book, self.answer = base, book, answer
         self.unwritten: dict[str, int] = {}    # visits that are made, and not in the file yet
         self.told: dict[str, Json] = {}        # of each key what was told last
 
@@ -34,6 +34,10 @@ class Desk:
             return
         if not 2 <= len(stops) <= 8:
             self.answer(key, {'id': key, 'state': 'refused', 'why': f'{len(stops)} stops, and 2 to 8 can be'}, False)
+            return
+        if not all(map(fleet.instance.is_station, stops)) and all(map(self.base.is_station, stops)):
+            # a stop lies where a vehicle that is out of use may be: the order waits for the next run
+            self.tell(plan, self.book.put_aside(key, client, stops))
             return
         transport = self.book.put(key, client, stops, len(fleet.tasks))
         why = self.hand_in(fleet, transport, stops)

@@ -63,12 +63,13 @@ class Adapter:
     def __init__(self, instance: Instance, settings: Settings, broker: Broker, book: Book, vehicles: list[Vehicle]):
         self.base, self.settings, self.broker, self.book, self.vehicles = instance, settings, broker, book, vehicles
         self.by_name = {(vehicle.maker, vehicle.serial): vehicle for vehicle in vehicles}
-        self.desk = Desk(book, self.answer)
+        self.desk = Desk(instance, book, self.answer)
         self.writer = Writer(settings.layout, book.of_task, settings.horizon)
         self.handover = Handover(self)
         self.reports: dict[int, int] = {}        # steps that states tell, not reported yet
         self.taken: list[int] = []               # tasks that were taken, not told yet
         self.heads: dict[str, int] = {}
+        self.changed: set[int] = set()           # agents of which something is new since the last look
         self.paused: set[int] = set()            # vehicles that are to be paused
         self.resumed: set[int] = set()
         self.alarms: dict[str, str] = {}
@@ -129,13 +130,13 @@ class Adapter:
         if isinstance(reply, Took):
             self.taken.append(reply.task)
         if isinstance(reply, (Took, Parked)):
-            self.next_look = 0.0
+            self.changed.add(int(line.split(' ')[1]))
 
     def take_told(self) -> None:
         for one in self.core.take_told():
             if isinstance(one, Go):
                 self.plan.told(one)
-                self.next_look = 0.0
+                self.changed.add(one.agent)
 
     def made(self, task: int) -> int:
         """How many visits of a task of this run are made."""
@@ -196,8 +197,10 @@ class Adapter:
             self.restarts += 1
         if now >= self.next_look:
             self.next_look = now + LOOKS
-            for vehicle in self.vehicles:
-                self.serve(vehicle, now)
+            self.changed.update(range(len(self.vehicles)))
+        for agent in sorted(self.changed):
+            self.serve(self.vehicles[agent], now)
+        self.changed.clear()
         for task in self.taken:
             self.desk.tell_task(self.plan, task)
         self.taken.clear()
@@ -233,11 +236,11 @@ class Adapter:
                     self.tell(f'{self.vehicles[agent].serial}: its step {step} is not taken: {reply}')
                     continue
                 self.plan.arrived(agent, step)
+                self.changed.add(agent)
                 if self.fleet.held == agent:
                     self.fleet.held = None
         if rows:
             self.take_told()
-            self.next_look = 0.0
 
     # ---- from the broker
 
@@ -275,7 +278,7 @@ class Adapter:
             if vehicle.state is None or content['timestamp'] >= vehicle.state['timestamp']:
                 vehicle.state, vehicle.heard = content, message.came
                 self.judge_position(vehicle, content.get('agvPosition'))
-                self.next_look = 0.0
+                self.changed.add(vehicle.agent)
 
     def judge_position(self, vehicle: Vehicle, position: Json | None) -> None:
         """Whether the vehicle is where its node is, or on the way to the next."""

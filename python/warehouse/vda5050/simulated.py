@@ -1,12 +1,12 @@
 """A simulated VDA 5050 vehicle: a process of its own with its own clock, for tests and demonstrations.
 
-    vda5050-vehicle v3 --start 12,7 --world FOLDER
+    vda5050-vehicle v3 --start 12,7 --rows 40 --world FOLDER
 
 What is physical survives its process in FOLDER/v3.json: the cell where it is, the one it is on its way to, its loads. Its order does
 not: one that was killed comes back with none. FOLDER/v3.trace has each cell that it occupied, from when to when, and each pick and drop,
 by the machine's monotonic clock; `here` at a new start the cells where it is.
 
-It takes orders and updates as the standard has it: an update must begin at the last released node, a new order only when idle and where
+Its position in metres wants the adapter's --cell, and how many --rows the map has. It takes orders and updates as the standard has it: an update must begin at the last released node, a new order only when idle and where
 it stands. It also misbehaves: speeds differ, states come twice, and with --leaves it is away from the broker now and then.
 """
 from __future__ import annotations
@@ -307,6 +307,7 @@ def run(options: argparse.Namespace) -> int:
     start = cell_of(options.start.replace(',', '_'))
     if start is None or not math.isfinite(options.pace) or options.pace < 0:
         raise Fault(f'--start {options.start}: X,Y is wanted')
+    os.makedirs(options.world, exist_ok=True)
     address: Address = address_of(options)
     topic = f'uagv/v2/{options.maker}/{options.serial}/connection'
     will = json.dumps(header({}, 'connection', options.maker, options.serial) | {'connectionState': 'CONNECTIONBROKEN'})
