@@ -59,7 +59,7 @@ class Feed:
         self.lock = threading.Condition()
         self.events: deque[bytes] = deque(maxlen=MOST_EVENTS)
         self.sent = self.pages = 0      # events since the server began, and pages that listen
-        self.number = 0                 # of the run that they continue
+        self.number = -1                # of the run that they continue
         self.said: dict[str, Any] = {}
         self.said_at = 0.0
 

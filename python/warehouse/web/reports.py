@@ -1,8 +1,8 @@
 """Vehicles by their reports: where each is, which cells it occupies, and what it has visited.
 
 Which cells a vehicle was granted stands in no file. It follows from the log and the reports by the one rule of grants: a cell is
-granted once all that the plan has there earlier have left it, at most `--ahead` of them beyond the last report. Times are hundredths
-of a second since the page's server began.
+granted once all that the plan has there earlier have left it, at most `--ahead` steps of the plan beyond the last report. Times are
+hundredths of a second since the page's server began.
 """
 from __future__ import annotations
 
@@ -86,7 +86,8 @@ class Vehicles:
             for step in range(self.arrived[agent], clock + 1):
                 due.setdefault(run.cell_at(agent, step), []).append((step, agent))
         for agent in late:
-            while len(self.granted[agent]) < self.ahead and (stays := passed(run, agent, self.last(agent), clock)) < clock:
+            most = min(clock, self.reached[agent] + self.ahead)
+            while (stays := passed(run, agent, self.last(agent), clock)) < most:
                 if any(other != agent and earlier <= stays for earlier, other in due[run.cell_at(agent, stays + 1)]):
                     break
                 self.grant(agent, stays + 1)
