@@ -457,9 +457,13 @@ def test_a_browser_shows_names_as_text() -> None:
 # ------------------------------------------------------------------------------------- frames, by hand
 
 FRAMES = """
-const took = [], n = 300, pixel = document.querySelector('.map').getContext('2d');
-for (let i = 0; i < n; i++) { const b = performance.now(); bar.go(players[0].T * (i + .5) / n); pixel.getImageData(0, 0, 1, 1); took.push(performance.now() - b); }
-took.sort((a, b) => a - b); document.body.dataset.frames = `median ${took[n / 2].toFixed(1)} ms, 95th percentile ${took[Math.ceil(.95 * n) - 1].toFixed(1)} ms, most ${took[n - 1].toFixed(1)} ms`;
+// Ten stretches of the run, each played for 30 frames, five times over; a frame's own time is that of the script that draws it. The
+// least of five is what the frame takes where nothing else has the processor.
+const n = 300, rounds = Array.from({length: 5}, () => Array.from({length: n}, (_, i) => {
+  const b = performance.now(); bar.go(players[0].T * (Math.floor(i / 30) + .5) / 10 + i % 30 * .27); return performance.now() - b;
+}));
+const told = list => { list.sort((a, b) => a - b); return `median ${list[n / 2].toFixed(1)} ms, 95th percentile ${list[Math.ceil(.95 * n) - 1].toFixed(1)} ms`; };
+document.body.dataset.frames = `least of five: ${told(rounds[0].map((_, i) => Math.min(...rounds.map(r => r[i]))))}; once: ${told(rounds[0])}`;
 """
 
 

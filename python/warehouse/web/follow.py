@@ -90,7 +90,7 @@ class Follower:
         taken = [event[4] for event in events if event[2] == 'took']
         self.kept += range(tasks, len(run.tasks))
         self.plan(taken)
-        events = sorted(self.visits(clock, now) + events, key=lambda event: event[0])    # at a clock the tick's visits come first
+        events = sorted(self.visits(clock, now) + events, key=lambda event: int(event[0]))    # at a clock the tick's visits come first
         self.events += events
         self.moved = now
         if self.is_new:
