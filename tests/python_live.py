@@ -364,6 +364,26 @@ def test_a_page_that_goes_away() -> None:
         pages[0].close()
 
 
+def test_what_is_old_is_dropped() -> None:
+    """After a long rest: no old paths, reports or tasks, and a page that begins then draws vehicles where they are."""
+    log = new(''.join(LINES[:-1]).replace('0 close = closed\n', ''))
+    file(os.path.basename(log) + '.at', 'at 0 0\nat 0 6\nat 1 9\n')
+    floor = Follower(read_instance(DELIVERIES, read_file(DELIVERIES)), 'deliveries', log)
+    floor.look()
+    floor.began -= 2000    # more than half an hour ago
+    floor.look()
+    append(log, ''.join(f'0 tick = clock {clock} picked 0 dropped 0\n' for clock in range(10, 3000)))
+    floor.look()
+    floor.began -= 2000
+    append(log, ''.join(f'0 tick = clock {clock} picked 0 dropped 0\n' for clock in range(3000, 3100)))
+    floor.look()
+    run = floor.begun()
+    same((run['tasks'], [len(ways) for ways in run['ways']], run['vehicles']['go']), ([], [1, 1], [[], []]))
+    base = run['vehicles']['base']
+    same((base >= 2999, [came[0][1] >= base for came in run['vehicles']['at']], floor.vehicles.cells(0), floor.vehicles.behind()), (True, [True, True], [(3, 0)], [0, 0]))
+    same((floor.done, floor.events, floor.vehicles.visits), (2, [], {}))
+
+
 def test_it_listens_at_home() -> None:
     same(run_here('--help').count('127.0.0.1') > 1, True)
     for words, told in ((['/none', 'log'], '/none'), ([DELIVERIES, 'log', '--port', '70000'], '--port'), ([DELIVERIES, 'log', '--ahead', '0'], '--ahead')):
