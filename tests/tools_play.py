@@ -144,6 +144,23 @@ def test_pictures_are_xml():
     assert len(root.findall('.//{*}animateTransform')) == 2
 
 
+def test_two_runs_side_by_side():
+    status, page, errors = tool('play.py', INSTANCE, LOG, '--beside', INSTANCE, LOG)
+    assert (status, errors) == (0, ''), errors
+    second = json.loads(re.search(r'<script type="application/json" id="beside">(.*?)</script>', page, re.S)[1])
+    first = data_of(page)
+    assert first['title'] == second['title'] == 'deliveries, deliveries.log' and first == second
+    assert 'id="beside"' not in tool('play.py', INSTANCE, LOG)[1] and data_of(tool('play.py', INSTANCE, LOG)[1])['title'] == 'deliveries'
+    for words, told in ((['--beside', INSTANCE, LOG, '--animate'], 'it wants LOG, and a page'), (['--beside', SHELVES, LOG], 'line 2: the log has 2 agents')):
+        status, out, errors = tool('play.py', INSTANCE, LOG, *words)
+        assert (status, out) == (1, '') and told in errors, errors
+
+
+def test_waits_are_in_the_page():
+    # agent 1 waits once, at 3,1 from clock 3 to 4: the letter `.` of its path, which the heat map counts
+    assert [way[5] for ways in data_of(tool('play.py', INSTANCE, LOG)[1])['ways'] for way in ways] == ['', 'RUDRRU', '', 'LDU.DULLD']
+
+
 def test_figures_worked_by_hand():
     status, out, errors = tool('stats.py', '--no-header', INSTANCE, LOG)
     assert (status, out, errors) == (0, f'{LOG},{FIGURES}\n', ''), out
@@ -321,6 +338,8 @@ def test_shelves_at_random_clocks():
     status, out, _ = tool('play.py', SHELVES, name, '--check', *map(str, clocks))
     assert out.splitlines()[:-1] == [rows[clock] for clock in clocks]
     assert status == 0 and out.splitlines()[-1] == f'counts agree in {max(rows)} ticks'
+    # some hundred ticks as a picture that moves by itself
+    assert max(rows) > 400 and len(tool('play.py', SHELVES, name, '--animate')[1].encode()) < 500_000
 
 
 if __name__ == '__main__':

@@ -65,6 +65,8 @@ Each is documented by its `--help`.
 |drive an instance to its end|`tools/drive.py my --save run.log`|
 |make a script for `replay` that requests only where an agent is idle|`tools/due_script.py tasks > my`|
 |play a run; see one clock|`tools/play.py my run.log > run.html`, `tools/play.py my run.log --check 137`|
+|compare two runs, side by side|`tools/play.py my one.log --beside my two.log > both.html`|
+|watch a floor while it runs|`tools/dashboard.py my run.log`|
 |have figures as CSV|`tools/stats.py my run.log`|
 |make the input of `verify`|`tools/log_input.py my run.log`|
 |begin the next shift|`tools/next_shift.py run.log my > next`|

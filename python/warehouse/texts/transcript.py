@@ -47,7 +47,7 @@ class Execution:
     run: Run
     end: float = 0.0
     ticks: list[float] = field(default_factory=list)                        # when the clock came to 1, 2, ..
-    told: list[list[tuple[float, int]]] = field(default_factory=list)       # each step that leads apath, as it is told
+    told: list[list[tuple[float, int]]] = field(default_factory=list)       # each step that leads away, as it is told
     came: list[list[tuple[float, int]]] = field(default_factory=list)       # each arrival that was not known before
     visits: list[list[tuple[float, int]]] = field(default_factory=list)     # of each task, with the agent
     held: list[tuple[float, int]] = field(default_factory=list)             # ticks refused, and for whom

@@ -26,6 +26,7 @@ import os
 import signal
 import threading
 import time
+import traceback
 from collections import deque
 from http.server import BaseHTTPRequestHandler, ThreadingHTTPServer
 from typing import Any
@@ -59,14 +60,18 @@ class Feed:
         self.lock = threading.Condition()
         self.events: deque[bytes] = deque(maxlen=MOST_EVENTS)
         self.sent = self.pages = 0      # events since the server began, and pages that listen
-        self.number = 0                 # of the run that they continue
+        self.number = -1                # of the run that they continue
         self.said: dict[str, Any] = {}
         self.said_at = 0.0
 
     def follow(self) -> None:
         while True:
             with self.lock:
-                self.look()
+                try:
+                    self.look()
+                except Exception as error:    # /health says so, and the page stays
+                    self.floor.fault = f'{type(error).__name__}: {error}'
+                    traceback.print_exc()
             time.sleep(LOOK)
 
     def look(self) -> None:
@@ -81,6 +86,14 @@ class Feed:
             self.events.append(event('more', (news or {}) | {'live': page}))
             self.sent += 1
             self.say(page)
+
+    def join(self, more: int) -> bool:
+        """A page comes, or goes; whether there is room."""
+        with self.lock:
+            if self.pages + more > MOST_PAGES:
+                return False
+            self.pages += more
+            return True
 
     def say(self, page: dict[str, Any]) -> None:
         self.said, self.said_at = page, time.monotonic()
@@ -139,21 +152,20 @@ class Handler(BaseHTTPRequestHandler):
     def events(self) -> None:
         """Sends what is new until the page has gone."""
         feed, self.close_connection = self.feed, True
-        if feed.pages >= MOST_PAGES:
+        if not feed.join(1):
             return self.answer('text/plain; charset=utf-8', f'{MOST_PAGES} pages are open\n', 503)
-        self.head(200, 'text/event-stream')
-        self.send_header('Connection', 'close')
-        self.end_headers()
         seen = -1
-        feed.pages += 1
         try:
+            self.head(200, 'text/event-stream')
+            self.send_header('Connection', 'close')
+            self.end_headers()
             while True:
                 data, seen = feed.after(seen)
                 self.wfile.write(data)
         except OSError:
             pass    # it has gone
         finally:
-            feed.pages -= 1
+            feed.join(-1)
 
     def log_message(self, *_: Any) -> None:
         pass

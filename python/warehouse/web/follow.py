@@ -31,7 +31,7 @@ class Follower:
         self.log, self.reports = Tail(self.name, end=True), Tail(self.name + '.at')
         self.reader = Reader(standing(self.instance), self.name, 0)
         self.vehicles: Vehicles | None = None
-        self.fault, self.is_new, self.dropped = '', True, 0
+        self.fault, self.unread, self.is_new, self.dropped = '', '', True, 0
         self.steps = [0] * len(self.instance.starts)            # by the reports
         self.events: list[tuple[Any, ...]] = []
         self.kept: list[int] = []                               # tasks that a page may need
@@ -53,8 +53,13 @@ class Follower:
 
     def look(self) -> dict[str, Any] | None:
         """What is new for those who have the rest, or None."""
-        reports = self.reports.look()    # first: the log has all that a report is about
-        lines = self.log.look()
+        try:
+            reports = self.reports.look()    # first: the log has all that a report is about
+            lines = self.log.look()
+        except OSError as error:
+            self.unread = f'{error.filename}: {error.strerror}'
+            return None
+        self.unread = ''
         if lines is None or reports is None or (self.reports.is_there and not self.vehicles and not self.is_new):
             self.forget()
             self.number += 1
@@ -90,7 +95,7 @@ class Follower:
         taken = [event[4] for event in events if event[2] == 'took']
         self.kept += range(tasks, len(run.tasks))
         self.plan(taken)
-        events += self.visits(clock, now)
+        events = sorted(self.visits(clock, now) + events, key=lambda event: int(event[0]))    # at a clock the tick's visits come first
         self.events += events
         self.moved = now
         if self.is_new:

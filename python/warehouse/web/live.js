@@ -2,7 +2,7 @@
 // The page of a running floor: the player, fed by the server's events. What it is sent comes from files, so all of it is set as text.
 const WINDOW = 600, p = player(document.querySelector('.run')), bar = controls(document.querySelector('footer'), [p]);
 const $ = name => document.querySelector('.' + name), text = (kind, words, name = '') => Object.assign(document.createElement(kind), {textContent: words, className: name});
-const MOST_ROWS = 12;
+const MOST_ROWS = 8;
 let source = null, begun = false;
 function row(...cells) { const tr = document.createElement('tr'); tr.append(...cells.map(words => text('td', words))); return tr; }
 // Orders that wait, the oldest first; their age is in ticks.

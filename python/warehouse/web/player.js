@@ -46,7 +46,9 @@ function player(root) {
     return step;
   }
   // A vehicle: the plan's clock, the step where it is, the cells that it occupies, and between which two it is how far.
-  function vehicle(a, m) {
+  let seenAt = -1, seen = [];
+  function vehicle(a, m) { if (m != seenAt) { seenAt = m; seen = []; } return seen[a] ??= vehicleAt(a, m); }
+  function vehicleAt(a, m) {
     const at = V.at[a], go = V.go[a], t = m * 100, clock = clockAt(m), i = upTo(at, t, e => e[0]), came = i ? at[i - 1][1] : 0;
     const step = passed(a, came, clock), first = upTo(go, came, e => e[1]), told = upTo(go, t, e => e[0]), cells = [cell(a, came)];
     for (let g = first; g < told; g++) cells.push(cell(a, go[g][1]));
@@ -77,7 +79,7 @@ function player(root) {
     busiest = 1; for (let t = 0; t <= T; t++) busiest = Math.max(busiest, counts[0][t] + counts[1][t] + counts[2][t]);
     own = V && Array.from({length: N}, () => []);
     if (V) { for (const x of X) if (x.agent >= 0) own[x.agent].push(x); for (const list of own) list.sort((x, y) => x.taken - y.taken); }
-    liveAt = -1; listed = ''; charted = -1;
+    liveAt = seenAt = -1; listed = ''; charted = -1;
   }
   let liveAt = -1, live = [];
   function liveTasks(t) {
@@ -382,14 +384,18 @@ function player(root) {
 // The bar below: one clock for all runs of the page, each of which ends where its log does.
 function controls(root, players) {
   const $ = name => root.querySelector('.' + name), SPEEDS = [1, 2, 4, 8, 16, 32, 64, 200], first = players[0];
-  let now = 0, playing = false, speed = 4, last = 0, following = false;
+  let now = 0, playing = false, speed = 4, last = 0, following = false, linking = 0;
   const T = () => Math.max(...players.map(p => p.T)), base = () => first.base, strips = players.map(() => $('strips').appendChild(document.createElement('canvas')));
   const self = {show, go, fresh, get now() { return now; }, get playing() { return playing; }, get following() { return following; }, follow, onstep: () => {}};
   function show() {
     for (const p of players) p.show(now);
     $('clock').textContent = players.map(p => p.saying()).join(' | '); $('slider').max = T(); $('slider').value = now; players.forEach((p, i) => p.strip(strips[i], T()));
   }
-  function link() { if (!following) try { history.replaceState(null, '', `#t=${Math.floor(now) + base()}` + (first.picked < 0 ? '' : `&a=${first.picked}`)); } catch (e) { } }
+  // The address says what is shown, once nothing has changed for a moment.
+  function link() {
+    clearTimeout(linking);
+    if (!following) linking = setTimeout(() => { try { history.replaceState(null, '', `#t=${Math.floor(now) + base()}` + (first.picked < 0 ? '' : `&a=${first.picked}`)); } catch (e) { } }, 200);
+  }
   function go(t) { now = Math.max(0, Math.min(T(), t)); following = following && now >= T(); pressed(); show(); if (!playing) link(); }
   function run(on) {
     if (on && now >= T()) now = 0;

@@ -1,8 +1,8 @@
 """Vehicles by their reports: where each is, which cells it occupies, and what it has visited.
 
 Which cells a vehicle was granted stands in no file. It follows from the log and the reports by the one rule of grants: a cell is
-granted once all that the plan has there earlier have left it, at most `--ahead` of them beyond the last report. Times are hundredths
-of a second since the page's server began.
+granted once all that the plan has there earlier have left it, at most `--ahead` steps of the plan beyond the last report. Times are
+hundredths of a second since the page's server began.
 """
 from __future__ import annotations
 
@@ -61,7 +61,7 @@ class Vehicles:
 
     def cells(self, agent: int) -> list[Cell]:
         """That it occupies, from where it has arrived."""
-        return [self.run.cell_at(agent, step) for step in (self.arrived[agent], *self.granted[agent])]
+        return [self.run.cell_at(agent, step) for step in (self.reached[agent], *self.granted[agent])]
 
     def meetings(self) -> list[str]:
         """Cells that two vehicles occupy now, which nobody is ever granted."""
@@ -83,10 +83,11 @@ class Vehicles:
         late = [agent for agent, behind in enumerate(self.behind()) if behind > 0]
         due: dict[Cell, list[Pair]] = {}
         for agent in late:
-            for step in range(self.arrived[agent], clock + 1):
+            for step in range(self.reached[agent], clock + 1):
                 due.setdefault(run.cell_at(agent, step), []).append((step, agent))
         for agent in late:
-            while len(self.granted[agent]) < self.ahead and (stays := passed(run, agent, self.last(agent), clock)) < clock:
+            most = min(clock, self.reached[agent] + self.ahead)
+            while (stays := passed(run, agent, self.last(agent), clock)) < most:
                 if any(other != agent and earlier <= stays for earlier, other in due[run.cell_at(agent, stays + 1)]):
                     break
                 self.grant(agent, stays + 1)
@@ -143,6 +144,7 @@ class Vehicles:
         del self.ticks[:older]
         for agent, came in enumerate(self.came):
             del came[:max(0, sum(second <= since for second, _ in came) - 1)]
+            came[0] = (came[0][0], passed(self.run, agent, came[0][1], self.base))    # stays are passed: no older path is needed
             self.go[agent] = [(second, step) for second, step in self.go[agent] if step > came[0][1]]
 
     def forget(self, tasks: set[int]) -> None:

@@ -48,8 +48,8 @@ class Status:
     def alarms(self) -> list[str]:
         """What somebody should look at now."""
         floor, found = self.floor, []
-        if floor.fault:
-            found.append(f'the files cannot be followed: {floor.fault}')
+        if floor.fault or floor.unread:
+            found.append(f'the files cannot be read: {floor.fault or floor.unread}')
         elif not floor.log.is_there:
             found.append(f'there is no log {floor.name}')
         if floor.vehicles:
