@@ -13,12 +13,12 @@ judge() {
 }
 
 # Sets `warehouse` to the program and `scratch` to an empty folder, and goes to the script's own. WAREHOUSE names another program
-# than ./warehouse, which builds it where it has to be built.
+# than the one that the gate built.
 begin_with_program() {
     local here
     here=$(dirname -- "${BASH_SOURCE[0]}")
-    warehouse=$(readlink -f -- "${WAREHOUSE:-$here/../warehouse}")
+    warehouse=$(readlink -f -- "${WAREHOUSE:-$here/../crates/warehouse/out/warehouse}")
+    [[ -x $warehouse ]] || { echo "no program: set WAREHOUSE, or run ./test"; echo '0 passed, 1 failed'; exit 1; }
     cd -- "$here" || exit 1
-    "$warehouse" replay < replay/one_delivery > /dev/null || exit 1    # builds it where it has to be built
     scratch=$(mktemp -d) || exit 1
 }

@@ -1,7 +1,7 @@
 #!/usr/bin/env python3
 """Tests of the documentation: its size, its links, its words, generated pages, and the commands and drawings that carry a marker.
 
-    tests/docs.py                   all; the program that commands run is taken from WAREHOUSE, else ./warehouse
+    tests/docs.py                   all; the program that commands run is taken from WAREHOUSE, else the one that the gate built
     tests/docs.py --no-program      what needs no program
     tests/docs.py --words           how many words each page has, and its bound
 
@@ -32,7 +32,7 @@ from concurrent.futures import ThreadPoolExecutor
 from typing import Iterator, NamedTuple
 
 ROOT = os.path.dirname(os.path.dirname(os.path.abspath(__file__)))
-PROGRAM = os.path.abspath(os.environ.get('WAREHOUSE', os.path.join(ROOT, 'warehouse')))
+PROGRAM = os.path.abspath(os.environ.get('WAREHOUSE') or os.path.join(ROOT, 'crates/warehouse/out/warehouse'))
 MOST_SECONDS = 30    # for one block
 
 # The most words of each page (`wc -w`), and of all. A bound only ever falls.

@@ -7,7 +7,7 @@ chance moments and started again. Then every order is delivered once, no two veh
     tests/python_broker.py --orders 60 --vehicles 60 --step 1  by hand, on a floor of 90 by 60
     tests/python_broker.py --orders 200 --kills 30 --lost 3    by hand: vehicle 3 stands still from second 40 to 100
 
-The program is that of WAREHOUSE, else ./warehouse. The last line is `N passed, M failed`, and `, K skipped` where there is no broker or no
+The program is that of WAREHOUSE, else the one that the gate built. The last line is `N passed, M failed`, and `, K skipped` where there is no broker or no
 paho-mqtt; status 1 where one failed.
 """
 import argparse

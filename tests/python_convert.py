@@ -2,7 +2,7 @@
 """Tests of the package's exports and imports, with expected values worked out by hand, and by a judge of this file that reads the formats
 by itself.
 
-The program is that of WAREHOUSE, else ./warehouse. The last line is `N passed, M failed`, and `, K skipped` where a test needs what is not
+The program is that of WAREHOUSE, else the one that the gate built. The last line is `N passed, M failed`, and `, K skipped` where a test needs what is not
 here; status 1 where one failed.
 """
 import csv

@@ -1,6 +1,6 @@
 #!/usr/bin/env python3
 """Tests of the package's fleets, policies and queue, with expected values worked out by hand, and by a judge of this file that reads
-a log by itself. The program is that of WAREHOUSE, else ./warehouse.
+a log by itself. The program is that of WAREHOUSE, else the one that the gate built.
 
 The last line is `N passed, M failed`; status 1 where one failed.
 """

@@ -4,7 +4,7 @@
     tests/python_live.py [--no-program]
     tests/python_live.py --frames INSTANCE LOG [TRANSCRIPT]    what the player takes for each of 300 frames, in headless Chromium
 
-The program is that of WAREHOUSE, else ./warehouse. The last line is `N passed, M failed`, and `, K skipped` where a test needs what is
+The program is that of WAREHOUSE, else the one that the gate built. The last line is `N passed, M failed`, and `, K skipped` where a test needs what is
 not here; status 1 where one failed.
 """
 from __future__ import annotations

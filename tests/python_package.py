@@ -1,7 +1,7 @@
 #!/usr/bin/env python3
 """Tests of the Python package as a whole: types, form, subcommands, launcher, and the loop of docs/INTEGRATION.md.
 
-The program is that of WAREHOUSE, else ./warehouse. The last line is `N passed, M failed`, and `, K skipped` where a test needs what is
+The program is that of WAREHOUSE, else the one that the gate built. The last line is `N passed, M failed`, and `, K skipped` where a test needs what is
 not here; status 1 where one failed.
 """
 import ast

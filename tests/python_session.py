@@ -1,5 +1,5 @@
 #!/usr/bin/env python3
-"""Tests of the package's sessions, with expected values worked out by hand. The program is that of WAREHOUSE, else ./warehouse.
+"""Tests of the package's sessions, with expected values worked out by hand. The program is that of WAREHOUSE, else the one that the gate built.
 
 The last line is `N passed, M failed`; status 1 where one failed.
 """

@@ -2,7 +2,7 @@
 """Tests of the VDA 5050 adapter without a broker: messages, the table of states, the list of keys, files and options.
 tests/python_vda5050_fleet.py has whole fleets, tests/python_broker.py the real parts.
 
-The program is that of WAREHOUSE, else ./warehouse. The last line is `N passed, M failed`, and `, K skipped` where a test needs what is not
+The program is that of WAREHOUSE, else the one that the gate built. The last line is `N passed, M failed`, and `, K skipped` where a test needs what is not
 here; status 1 where one failed.
 """
 import contextlib

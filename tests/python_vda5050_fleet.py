@@ -2,7 +2,7 @@
 """Tests of the VDA 5050 adapter without a broker: whole fleets in this process, over a bus of its own, with the core and the adapter
 killed, and a vehicle lost. tests/python_broker.py has the real parts.
 
-The program is that of WAREHOUSE, else ./warehouse. The last line is `N passed, M failed`, and `, K skipped` where a test needs what is not
+The program is that of WAREHOUSE, else the one that the gate built. The last line is `N passed, M failed`, and `, K skipped` where a test needs what is not
 here; status 1 where one failed.
 """
 import contextlib

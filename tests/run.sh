@@ -1,12 +1,12 @@
 #!/usr/bin/env bash
 # Runs the built program on each case of replay, check, tail and verify: NAME is its input, NAME.args its arguments (one
 # word a line), NAME.stdout what it must write; NAME.stderr (none: nothing) and NAME.status (none: 0) likewise. WAREHOUSE
-# names another program than ./warehouse, which builds it where it has to be built.
+# names another program than the one that the gate built.
 set -u
-warehouse=$(readlink -f -- "${WAREHOUSE:-$(dirname -- "${BASH_SOURCE[0]}")/../warehouse}")
+warehouse=$(readlink -f -- "${WAREHOUSE:-$(dirname -- "${BASH_SOURCE[0]}")/../crates/warehouse/out/warehouse}")
+[[ -x $warehouse ]] || { echo "no program: set WAREHOUSE, or run ./test"; echo '0 passed, 1 failed'; exit 1; }
 cd -- "$(dirname -- "${BASH_SOURCE[0]}")" || exit 1
 
-"$warehouse" replay < replay/one_delivery > /dev/null || exit 1    # builds it where it has to be built
 scratch=$(mktemp -d) || exit 1
 trap 'rm -rf -- "$scratch"' EXIT
 passed=0 failed=0

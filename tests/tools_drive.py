@@ -1,7 +1,7 @@
 #!/usr/bin/env python3
 """Tests of tools/drive.py, with expected values worked out by hand.
 
-    tests/tools_drive.py            all; what runs the program takes it from WAREHOUSE, else ./warehouse
+    tests/tools_drive.py            all; what runs the program takes it from WAREHOUSE, else the one that the gate built
     tests/tools_drive.py --no-program
 
 tests/tools_replies.py has those that need no program but a stand-in. The last line is `N passed, M failed`; status 1 where
@@ -16,7 +16,7 @@ import tempfile
 import counting
 
 ROOT = os.path.dirname(os.path.dirname(os.path.abspath(__file__)))
-PROGRAM = os.environ.get('WAREHOUSE', os.path.join(ROOT, 'warehouse'))
+PROGRAM = os.environ.get('WAREHOUSE') or os.path.join(ROOT, 'crates/warehouse/out/warehouse')
 ENVIRONMENT = {**os.environ, 'WAREHOUSE': PROGRAM}
 SCRATCH = tempfile.TemporaryDirectory()
 

@@ -1,7 +1,7 @@
 #!/usr/bin/env python3
 """Tests of dev/experiments.py, with expected values worked out by hand.
 
-    tests/tools_experiments.py            all; what runs the program takes it from WAREHOUSE, else ./warehouse
+    tests/tools_experiments.py            all; what runs the program takes it from WAREHOUSE, else the one that the gate built
     tests/tools_experiments.py --no-program
 
 A stand-in for the program answers `check` and `verify` with one text, and a replay from a tape of commands and replies: at
@@ -26,7 +26,7 @@ import experiments_reach    # noqa: E402
 
 from warehouse.texts import read_instance    # noqa: E402
 
-PROGRAM = os.environ.get('WAREHOUSE', os.path.join(ROOT, 'warehouse'))
+PROGRAM = os.environ.get('WAREHOUSE') or os.path.join(ROOT, 'crates/warehouse/out/warehouse')
 SCRATCH = tempfile.TemporaryDirectory()
 
 # One agent at the left end of a row of five cells; A is one step away, B three.

@@ -1,7 +1,7 @@
 #!/usr/bin/env python3
 """Tests of the scripts that make, join and explain inputs, with expected values worked out by hand.
 
-    tests/tools_field.py            all; what runs the program takes it from WAREHOUSE, else ./warehouse
+    tests/tools_field.py            all; what runs the program takes it from WAREHOUSE, else the one that the gate built
     tests/tools_field.py --no-program
 
 The last line is `N passed, M failed`, and the status is 1 where one failed.
@@ -19,7 +19,7 @@ ROOT = os.path.dirname(os.path.dirname(os.path.abspath(__file__)))
 sys.path.insert(0, os.path.join(ROOT, 'python'))
 from warehouse import cuts    # noqa: E402
 from warehouse.texts import read_instance    # noqa: E402
-PROGRAM = os.environ.get('WAREHOUSE', os.path.join(ROOT, 'warehouse'))
+PROGRAM = os.environ.get('WAREHOUSE') or os.path.join(ROOT, 'crates/warehouse/out/warehouse')
 ENVIRONMENT = {**os.environ, 'WAREHOUSE': PROGRAM}
 SCRATCH = tempfile.TemporaryDirectory()
 SITE = b'type t\nheight 1\nwidth 4\nmap\n....\n'

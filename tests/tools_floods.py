@@ -1,7 +1,7 @@
 #!/usr/bin/env python3
 """Tests that no request floods: instances of dev/floods.py, each with little time and memory.
 
-    tests/tools_floods.py            the program is taken from WAREHOUSE, else ./warehouse
+    tests/tools_floods.py            the program is taken from WAREHOUSE, else the one that the gate built
 
 When the last request of each ends was worked out by hand, or is told by a search of this script's own, one layer of
 time after another, over the paths that the log has. And a log of many rests is judged as quickly as they were served. The
@@ -15,7 +15,7 @@ import sys
 import counting
 
 ROOT = os.path.dirname(os.path.dirname(os.path.abspath(__file__)))
-PROGRAM = os.environ.get('WAREHOUSE', os.path.join(ROOT, 'warehouse'))
+PROGRAM = os.environ.get('WAREHOUSE') or os.path.join(ROOT, 'crates/warehouse/out/warehouse')
 MEMORY, SECONDS = 700 << 20, 10    # of address space, with the program's own
 
 

@@ -1,7 +1,7 @@
 #!/usr/bin/env python3
 """Tests of tools/next_shift.py, with expected values worked out by hand.
 
-    tests/tools_next_shift.py            all; what runs the program takes it from WAREHOUSE, else ./warehouse
+    tests/tools_next_shift.py            all; what runs the program takes it from WAREHOUSE, else the one that the gate built
     tests/tools_next_shift.py --no-program
 
 The floor is that of examples/deliveries (tests/tools_drive.py); of examples/shelves, where nobody works out 200 paths, the

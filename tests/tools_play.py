@@ -345,6 +345,6 @@ def test_shelves_at_random_clocks():
 if __name__ == '__main__':
     parser = argparse.ArgumentParser(description=__doc__, formatter_class=argparse.RawDescriptionHelpFormatter)
     parser.add_argument('--shelves', metavar='LOG', help='a log of examples/shelves, in place of running the program')
-    parser.add_argument('--program', default=os.environ.get('WAREHOUSE', os.path.join(ROOT, 'warehouse')))
+    parser.add_argument('--program', default=os.environ.get('WAREHOUSE') or os.path.join(ROOT, 'crates/warehouse/out/warehouse'))
     OPTIONS = parser.parse_args()
     sys.exit(counting.run(globals()))

@@ -1,7 +1,7 @@
 #!/usr/bin/env python3
 """Tests of `replay --vehicles`, with expected values worked out by hand, and of tools/drive.py --late.
 
-    tests/vehicles.py           the program is that of WAREHOUSE, else ./warehouse
+    tests/vehicles.py           the program is that of WAREHOUSE, else the one that the gate built
 
 The last line is `N passed, M failed`; status 1 where one failed.
 """
