@@ -3,7 +3,7 @@
 # Markdown: the machine, its load, then a table of the least of several runs. docs/PERFORMANCE.md keeps what it printed.
 # Where there is a g++, the unproved peer in dev/peer runs the three warehouses too.
 #
-#   dev/bench.sh [all|parts|instructions|runs|desks|floods]        RUNS=5 dev/bench.sh runs
+#   dev/bench.sh [all|parts|instructions|runs|floods]        RUNS=5 dev/bench.sh runs
 #
 # The parts and the instructions want valgrind, and each of their runs is made once. It builds what is not built. Run it on a machine that does
 # nothing else; instructions do not depend on that.
@@ -206,35 +206,6 @@ whole_runs() {
     fi
 }
 
-# Entries a second of the clients of `live`, 64,000 requests dealt to them, beside one worker for the agents and the clock;
-# with a board that is shown in a file, and with none.
-desks() {
-    instances    # so that the program is built
-    $make --columns 35 --rows 21 --agents 2 --tasks 0 --ticks 0 > "$folder/floor"
-    echo
-    echo '| Clients | Board | Entries | Seconds | Entries a second | Memory, MB | Status |'
-    echo '|---|---|---|---|---|---|---|'
-    local clients board figures entries
-    for clients in 1 8 63; do
-        awk -v clients="$clients" '
-            { print }
-            END {
-                for (client = 0; client < clients; client++) {
-                    if (client > 0) print "%%"
-                    for (line = 0; line < int(64000 / clients); line++) print "token 0"
-                }
-            }' "$folder/floor" > "$folder/clients"
-        for board in none file; do
-            local words=(live --every 1 --turns 1 --journal 100000)
-            [[ $board == none ]] || words+=(--board "$folder/board" --board-every 5)
-            figures=$(timed "$folder/clients" "$folder/output" "$program" "${words[@]}")
-            read -r _ memory status seconds <<< "$figures"
-            entries=$(grep -c ' = ' "$folder/output")
-            echo "| $clients | $board | $entries | $seconds | $(awk "BEGIN { printf \"%d\", $entries / $seconds }") | $memory | $status |"
-        done
-    done
-}
-
 # Requests that are expensive, of growing sizes (dev/floods.py).
 floods() {
     instances    # so that the program is built
@@ -256,11 +227,10 @@ floods() {
 }
 
 case $what in
-    all) machine; parts; instructions; whole_runs; desks; floods ;;
+    all) machine; parts; instructions; whole_runs; floods ;;
     parts) machine; parts ;;
     instructions) machine; instructions ;;
     runs) machine; whole_runs ;;
-    desks) machine; desks ;;
     floods) machine; floods ;;
-    *) echo "bench.sh: all, parts, instructions, runs, desks or floods" >&2; exit 2 ;;
+    *) echo "bench.sh: all, parts, instructions, runs or floods" >&2; exit 2 ;;
 esac

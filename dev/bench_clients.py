@@ -71,7 +71,7 @@ def measure(warehouse: str, room: str, clients: int, lines: int, way) -> float:
             os.mkfifo(os.path.join(folder, pipe), 0o600)
         words += ['--client', f'{number}={folder}:all']
     log = os.path.join(room, 'log')
-    service = subprocess.Popen([warehouse, 'live', '--log', log, '--journal', str(clients * (lines + 1)), *words],
+    service = subprocess.Popen([warehouse, 'serve', '--log', log, '--journal', str(clients * (lines + 1)), *words],
                                stdin=subprocess.PIPE, stdout=subprocess.DEVNULL)
     service.stdin.write(SITE)
     service.stdin.close()

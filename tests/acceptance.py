@@ -67,6 +67,62 @@ def test_a_map_section_of_one_byte_too_many() -> None:
     same(call(b'#' * 33_554_433, 'replay', '--planner', 'near'), (b'', b'refused X4\n', 1))
 
 
+# ------------------------------------------------------------------------------------------------------------ homes
+
+# Two orders to one station, and what each rule answers. Where paths end at stops, agent 1 rests, since B is where agent 0's path ends; where they
+# go on home, it passes through C's arm until agent 0 has left B.
+CROSSING = b'submit x A B\nsubmit y D B\ntoken 0\ntoken 1\ntoken 0\ntick\ntick\n'
+AT_STOPS = (b'accepted 0\naccepted 1\ntook 0 path 0,1 1,1 1,0 1,1 2,1 3,1 3,0\nrested\nrefused E5 6\n'
+            b'clock 1 picked 0 dropped 0\nclock 2 picked 1 dropped 0\n')
+AT_HOMES = (b'accepted 0\naccepted 1\ntook 0 path 0,1 1,1 1,0 1,1 2,1 3,1 3,0 3,1 2,1 1,1 0,1\n'
+            b'took 1 path 4,1 3,1 3,2 3,2 3,2 3,2 3,2 3,2 3,1 3,0 3,1 4,1\nrefused E5 6\n'
+            b'clock 1 picked 0 dropped 0\nclock 2 picked 2 dropped 0\n')
+
+# An order more, handed in once the first is delivered at clock 6: where paths go on home the agent takes it on its way, from 3,1.
+NEXT = b'submit x A B\ntoken 0\n' + 6 * b'tick\n' + b'token 0\nsubmit y D C\ntick\ntoken 0\n'
+NEXT_AT_STOPS = b'rested\naccepted 1\nclock 7 picked 0 dropped 0\ntook 1 path 3,0 3,1 3,2 3,1 2,1 1,1 1,2\n'
+NEXT_AT_HOMES = b'rested\naccepted 1\nclock 7 picked 0 dropped 0\ntook 1 path 3,1 3,2 3,1 2,1 1,1 1,2 1,1 0,1\n'
+
+
+def test_paths_go_on_home() -> None:
+    for words, crossing, following in (((), AT_STOPS, NEXT_AT_STOPS), (('--ends', 'stops'), AT_STOPS, NEXT_AT_STOPS),
+                                       (('--ends=homes',), AT_HOMES, NEXT_AT_HOMES)):
+        same(call(SITE + CROSSING, 'replay', '--replies=full', *words), (crossing, b'', 0))
+        output, errors, status = call(SITE + NEXT, 'replay', '--replies=full', *words)
+        same((output[output.index(b'rested'):], errors, status), (following, b'', 0))
+
+
+def test_a_log_is_judged_by_its_rule() -> None:
+    # its first path is in the fifth line
+    for words, others in (((), ('--ends', 'homes')), (('--ends', 'homes'), ())):
+        output, errors, status = call(SITE + CROSSING, 'replay', '--tail=log', *words)
+        log = output[output.index(b'%%\n') + 3:]
+        same(call(SITE + log, 'verify', *words), (b'run 7\n', b'', 0))
+        same(call(SITE + log, 'verify', *others), (b'bad 5\n', b'', 1))
+
+
+def test_all_is_delivered_by_either_rule() -> None:
+    # both orders end at B: at stops agent 0 stands there from clock 6 on, and takes the other itself
+    for words in ((), ('--ends=homes',)):
+        output, errors, status = call(SITE + CROSSING, 'replay', '--deliver', '--tail=ledger', *words)
+        rows = output[output.index(b'%%\n') + 3:].splitlines()
+        same([row.split(b' time')[0] for row in rows],
+             [b'%s submitted 1 open 0 assigned 0 carried 0 done 1' % client for client in (b'x', b'y')])
+        same((errors, status), (b'', 0))
+
+
+def test_homes_are_parkings() -> None:
+    # the lowest agent that starts at a station is told, by each subcommand, and nothing else
+    for agents, agent in ((b'agent A\nagent P1\nagent B\n', 0), (b'agent P0\nagent B\nagent A\n', 1)):
+        text = MAP + b'%%\n' + POINTS + agents + b'%%\n' + LOG
+        for words in (('replay',), ('check',), ('verify',), ('live',), ('serve', '--log=none', '--client=0=none'), ('replay', '--bank=2')):
+            same(call(text, words[0], '--ends=homes', *words[1:]), (b'', b'refused H1 %d\n' % agent, 1))
+        same(call(text, 'check')[1:], (b'', 1))
+    # behind the points' own faults
+    same(call(MAP + b'%%\n' + POINTS + b'agent A\nagent A\n', 'check', '--ends=homes'), (b'', b'refused P9 line 8\n', 1))
+    same(call(SITE, 'check', '--ends=homes'), (b'formed\n', b'', 0))
+
+
 # ----------------------------------------------------------------------------------------------------------- verify
 
 LOG = (b'wlog 2\nstart 0 slots 4 4\n0 submit x A B = accepted 0\n0 token 0 = took 0 path 0,1 1,1 1,0 1,1 2,1 3,1 3,0\n'
@@ -93,17 +149,11 @@ def test_62_clients_with_an_empty_section_each() -> None:
     same(call(SITE + 61 * b'%%\n', 'live'), (b'', b'refused E94\n', 1))
 
 
-def test_one_turn_behind_a_client_without_a_command() -> None:
-    # one worker for the agents and the clock takes a turn, in which nobody asks, as no task is open, and then nothing is to be done
-    wanted = b'wlog 2\nstart 0 slots 4 4\n1 tick = clock 1 picked 0 dropped 0\nend 1\n'
-    same(call(SITE, 'live', '--every', '1'), (wanted, b'', 0))
-
-
 def live_log(*words: str) -> bytes:
     """What `verify` says of the log of two clients' run."""
     log, errors, status = call(TWO_CLIENTS, 'live', *words)
     same((errors, status), (b'', 0))
-    told, errors, status = call(SITE + log, 'verify')
+    told, errors, status = call(SITE + log, 'verify', *(('--ends', 'homes') if 'homes' in words else ()))
     same((errors, status), (b'', 0))
     return told
 
@@ -112,30 +162,7 @@ def test_a_live_log_is_verified() -> None:
     # 3 commands of clients, 8 requests of each of two agents, and 8 ticks; or as many entries as the journal takes
     same(live_log('--turns', '8', '--journal', '10000'), b'run 27\n')
     same(live_log('--turns', '8', '--journal', '10'), b'run 10\n')
-
-
-def test_one_turn_of_one_worker_is_verified() -> None:
-    # 3 commands of clients and a tick, and where the turn's board shows a task already, before it a request of each of the two
-    told = live_log('--turns', '1', '--every', '1')
-    assert told in (b'run 4\n', b'run 6\n'), told
-
-
-# The board of two agents at rest, after a tick; as no task was open, nobody asked.
-LAST = b'wboard 1\nentries 1\nclock 1\nopen 0\nassigned 0\ncarried 0\ndone 0\n0,1 0 none\n4,1 0 none\n'
-
-
-def test_a_board_is_left() -> None:
-    # that of the whole run stands in the file that the words name, and no other one beside it
-    board = os.path.join(SCRATCH.name, 'acceptance_board')
-    _, errors, status = call(SITE, 'live', '--every', '1', '--board', 'acceptance_board')
-    same((errors, status), (b'', 0))
-    same(read_file(board), LAST)
-    same(read_file(board + '.new'), None)
-
-
-def test_a_board_that_can_be_no_file() -> None:
-    # nothing is begun
-    same(call(SITE, 'live', '--board', 'acceptance_nowhere/board'), (b'', b'refused X6\n', 3))
+    same(live_log('--turns', '8', '--ends', 'homes'), b'run 27\n')
 
 
 # ------------------------------------------------------------------------------------------------------------ words
@@ -156,6 +183,13 @@ def test_the_version() -> None:
     output, errors, status = call(b'', 'live', '-V')
     same((errors, status), (b'', 0))
     assert output
+
+
+def test_a_service_needs_a_log_and_a_client() -> None:
+    for words, need in ((), '--log <FILE>'), (('--client', '0=x'), '--log <FILE>'), (('--log', 'x'), 'at least one \'--client <CLIENT>\''):
+        output, errors, status = call(SITE, 'serve', *words)
+        same((output, status), (b'', 2))
+        assert need.encode() in errors, words
 
 
 def test_mistaken_words() -> None:

@@ -1,5 +1,5 @@
 #!/usr/bin/env bash
-# Runs the built program's `live` with running clients, each a process of its own that comes in over two named pipes.
+# Runs the built program's `serve`, whose clients are running: each a process of its own that comes in over two named pipes.
 #
 #   tests/clients.sh
 #
@@ -27,7 +27,7 @@ begin() {
     (
         # refused, as by a disk that is full, and not ended by a signal
         [[ -n $most ]] && trap '' XFSZ && ulimit -f "$most"
-        exec "$warehouse" live --log "$scratch/log" --replies "$form" "$@"
+        exec "$warehouse" serve --log "$scratch/log" --replies "$form" "$@"
     ) < "$scratch/site" > "$scratch/told" 2> "$scratch/errors" &
     service=$!
 }
@@ -96,12 +96,12 @@ replies() {
     sed -n "s/^$1 .* = //p" "$scratch/log" | tr '\n' ';'
 }
 
-# What is printed where `live` does not begin, and which files there are then: standard output, standard error, status, files.
+# What is printed where `serve` does not begin, and which files there are then: standard output, standard error, status, files.
 #   refused INPUT WORDS..
 refused() {
     local input=$1 status
     shift
-    timeout 20 "$warehouse" live "$@" < "$input" > "$scratch/stdout" 2> "$scratch/stderr"
+    timeout 20 "$warehouse" serve "$@" < "$input" > "$scratch/stdout" 2> "$scratch/stderr"
     status=$?
     echo "$(cat "$scratch/stdout")|$(cat "$scratch/stderr")|$status|$(cd -- "$scratch" && echo log*)"
 }
@@ -293,7 +293,7 @@ log_has() {
     done
 }
 afresh c0 c1
-words=(--every 2 --turns 100000 --board "$scratch/board" --board-every 2 --client "0=$scratch/c0:close" --client "1=$scratch/c1")
+words=(--every 2 --board "$scratch/board" --board-every 2 --client "0=$scratch/c0:close" --client "1=$scratch/c1")
 begin "${words[@]}"
 judge 'an order beside a worker' "$(client c1 'submit x A B' 'submit y C D')" 'entries 0;accepted 0;accepted 1;'
 judge 'the worker delivers' "$(board_says 'done 2')" ''
@@ -310,29 +310,110 @@ judge 'whose entries they are' "$(sed -n 's/^\([0-9]*\) .* = .*/\1/p' "$scratch/
 judge 'what the worker asks' "$(sed -n 's/^63 \([a-z]*\) .*/\1/p' "$scratch/log" | sort -u | tr '\n' ' ')" 'tick token '
 judge 'no file beside the board is left' "$(cd -- "$scratch" && echo board*)" 'board'
 rm -f -- "$scratch/board"
-# a rest of a minute holds the end up for nobody, and a worker may have had all its turns
+# a rest of a minute holds the end up for nobody
 afresh c0
 begin --every 60000 --board "$scratch/board" --board-every 60000 --client "0=$scratch/c0:all"
 judge 'long rests' "$(client c0 tick close)" 'entries 0;clock 1 picked 0 dropped 0;closed;'
 ended 5
 judge_log 'long rests' 2
-judge 'the board behind long rests' "$(sed -n 2p "$scratch/board")" 'entries 2'
+judge 'the board behind long rests' "$(cat -- "$scratch/board"; echo .)" 'wboard 1
+entries 2
+clock 1
+open 0
+assigned 0
+carried 0
+done 0
+0,1 0 none
+4,1 0 none
+.'
+# nobody asks where no task is open
 afresh c0
-begin --every 1 --turns 3 --client "0=$scratch/c0:all"
+begin --every 1 --client "0=$scratch/c0:close"
 log_has 3 '^63 tick'
-judge 'three turns' "$(client c0 close)" 'entries 0;closed;'
+client c0 close > /dev/null
 ended 5
-judge 'three turns: ticks' "$(grep -c '^63 tick' "$scratch/log")" 3
+judge_log 'no task' "$(grep -c ' = ' "$scratch/log")"
+judge 'no task: what the worker asks' "$(sed -n 's/^63 \([a-z]*\).*/\1/p' "$scratch/log" | sort -u)" tick
+# where paths go on home an agent is asked as soon as it has no order: it is home at clock 10, and takes the other before
+afresh c0
+mv -- "$scratch/site" "$scratch/both"
+sed '/^agent P1/d' "$scratch/both" > "$scratch/site"
+begin --every 5 --ends homes --client "0=$scratch/c0:submit,close"
+judge 'two orders for one agent' "$(client c0 'submit x A B' 'submit y C D')" 'entries 0;accepted 0;accepted 1;'
+log_has 1 '^63 token 0 = took 1 '
+client c0 close > /dev/null
+ended 5
+judge 'homes: status' "$how" 0
+judge 'homes: log' "$({ cat -- "$scratch/site"; echo %%; cat -- "$scratch/log"; } | "$warehouse" verify --ends homes)" "run $(grep -c ' = ' "$scratch/log")"
+judge 'homes: from where the second order is taken' "$(sed -n 's/^63 token 0 = took 1 path \([0-9,]*\) .*/\1/p' "$scratch/log" | grep -cv '^0,1$')" 1
+mv -- "$scratch/both" "$scratch/site"
+
+# Reads the board again and again until it says that 200 tasks are done, and tells how many differed, or what is wrong with one of
+# them: each has its first line, six counts, and a line for each of 20 agents, and no fewer entries than the one before.
+watched() {
+    python3 - "$scratch/board" << 'END'
+import re, sys, time
+counts = ["entries", "clock", "open", "assigned", "carried", "done"]
+line = re.compile(r"\d+,\d+ \d+ (none|fetching \d+|carrying \d+ \d+)")
+shown, entries, limit = 0, -1, time.time() + 60
+while time.time() < limit:
+    try:
+        with open(sys.argv[1], encoding="ascii") as file:
+            text = file.read()
+    except FileNotFoundError:
+        continue
+    rows = text.split("\n")
+    words = [row.split(" ") for row in rows[1:7]]
+    if rows[0] != "wboard 1" or [row[0] for row in words] != counts or len(rows) != 28 or rows[27] != "":
+        sys.exit(print("a board that is not whole:", text))
+    if not all(line.fullmatch(row) for row in rows[7:27]):
+        sys.exit(print("an agent that is not told:", text))
+    now = int(words[0][1])
+    if now < entries:
+        sys.exit(print(f"{now} entries behind {entries}"))
+    shown += now != entries
+    entries = now
+    if rows[6] == "done 200":
+        break
+print("many" if shown > 10 else shown)
+END
+}
+# 20 agents, and 200 tasks from three clients at once
+cp -- "$scratch/site" "$scratch/small"
+awk '/^%%\r?$/ && ++cut == 2 { exit } { print }' ../examples/shelves > "$scratch/site"
+awk '/^%%\r?$/ { ++cut; next } cut == 2 && /^submit/ { print > ("'"$scratch"'/orders" n++ % 3) }' ../examples/shelves
+rm -f -- "$scratch/board"
+afresh c0 c1 c2
+words=(--every 2 --board "$scratch/board" --board-every 5)
+for k in 0 1 2; do
+    words+=(--client "$k=$scratch/c$k:submit,close")
+done
+watched > "$scratch/watched" &
+workers=($!)
+begin "${words[@]}"
+for k in 0 1 2; do
+    timeout 60 ../tools/client.py "$scratch/c$k" --wait 20 < "$scratch/orders$k" > "$scratch/told$k" &
+    workers+=($!)
+done
+wait "${workers[@]}"
+judge 'boards while it runs' "$(< "$scratch/watched")" many
+client c0 close > /dev/null
+ended 10
+judge_log '200 tasks' "$(grep -c ' = ' "$scratch/log")"
+judge 'all is done on the last one' "$(sed -n '2p;4,7p' "$scratch/board" | tr '\n' ' ')" \
+    "entries $(grep -c ' = ' "$scratch/log") open 0 assigned 0 carried 0 done 200 "
+judge 'all is delivered' "$({ cat -- "$scratch/site"; echo %%; } > "$scratch/whole"; python3 ../tools/stats.py "$scratch/whole" "$scratch/log" | awk -F, 'NR == 2 { print $3, $4 }')" '200 200'
+mv -- "$scratch/small" "$scratch/site"
 
 # a share by the words, and what is full is told once; a worker has a share of its own
 afresh c0 c1
-begin --share 4 --journal 4 --every 1 --turns 100000 --client "0=$scratch/c0:all" --client "1=$scratch/c1"
+begin --share 4 --journal 4 --every 1 --client "0=$scratch/c0:all" --client "1=$scratch/c1"
 log_has 4 ' = '
 judge 'a share is no promise where all are more' "$(client c0 'submit x A B')" 'entries 0;refused E11;'
 killed
 judge 'a full journal is told' "$(grep -cx 'agents and clock: their share of the entries is used' "$scratch/errors") $(grep -cx 'client 0: the journal is full' "$scratch/errors")" '1 1'
 afresh c0 c1
-begin --journal 9 --every 1 --turns 100000 --client "0=$scratch/c0:all" --client "1=$scratch/c1"
+begin --journal 9 --every 1 --client "0=$scratch/c0:all" --client "1=$scratch/c1"
 log_has 3 '^63 '
 judge 'a worker leaves the others theirs' "$(client c1 'submit x A B' 'submit x A B' 'submit x A B' 'submit x A B')" \
     'entries 0;accepted 0;accepted 1;accepted 2;refused E11;'
@@ -359,6 +440,7 @@ judge 'a file and no pipe' "$(refused "$scratch/site" "${words[@]}" --client "4=
 judge 'the pipes of another' "$(refused "$scratch/site" "${words[@]}" --client "2=$scratch/c0/.")" '|refused X5 2|3|log*'
 judge 'a board in place of a pipe' "$(refused "$scratch/site" "${words[@]}" --board "$scratch/c0/in" | cut -d '|' -f 1-3)" '|refused X6|3'
 judge 'the pipe is still there' "$([[ -p $scratch/c0/in ]] && echo there)" there
+judge 'a board in no folder' "$(refused "$scratch/site" "${words[@]}" --board "$scratch/nowhere/board" | cut -d '|' -f 1-3)" '|refused X6|3'
 judge 'a board in place of the log' "$(refused "$scratch/site" "${words[@]}" --board "$scratch/c0/../log" | cut -d '|' -f 1-3)" '|refused X6|3'
 judge 'the log is still there' "$(head -n 1 -- "$scratch/log")" 'wlog 2'
 rm -- "$scratch"/log*
@@ -380,6 +462,12 @@ wrong "${words[@]}" --client "62=$scratch/c1"
 wrong "${words[@]}" --client "1=$scratch/c1:read"
 wrong "${words[@]}" --client "1="
 wrong "${words[@]}" --turns 10
+wrong "${words[@]}" --every 0
+wrong "${words[@]}" --every 60001
+wrong "${words[@]}" --board ''
+wrong "${words[@]}" --board-every 5
+wrong "${words[@]}" --board "$scratch/board" --board-every 0
+wrong "${words[@]}" --board "$scratch/board" --board-every 60001
 wrong "${words[@]}" --share 0
 wrong "${words[@]}" --board "$scratch/log"
 wrong "${words[@]}" --board "$scratch/log.site"

@@ -37,7 +37,7 @@ MOST_SECONDS = 30    # for one block
 
 # The most words of each page (`wc -w`), and of all. A bound only ever falls.
 CAPS = {
-    'README.md': 850, 'CHANGELOG.md': 1000, 'examples/README.md': 520,
+    'README.md': 850, 'CHANGELOG.md': 1000, 'examples/README.md': 520, 'deploy/README.md': 320,
     'docs/ALGORITHM.md': 1300, 'docs/ARCHITECTURE.md': 800, 'docs/CLI.md': 1500, 'docs/CONTRIBUTING.md': 2150, 'docs/CRATES.md': 1600,
     'docs/DECISIONS.md': 2400, 'docs/DEFINITIONS.md': 1850, 'docs/EMBEDDING.md': 800, 'docs/EXPERIMENTS.md': 1100, 'docs/FORMATS.md': 3250,
     'docs/GLOSSARY.md': 600, 'docs/GUARANTEES.md': 1500, 'docs/INTEGRATION.md': 1500, 'docs/LIMITS.md': 1000, 'docs/MODELING.md': 1500,
@@ -79,7 +79,7 @@ def read(page: str) -> str:
 
 def pages() -> list[str]:
     """The pages that have a bound or should have one."""
-    return ['README.md', 'CHANGELOG.md', 'examples/README.md'] + sorted(f'docs/{name}' for name in os.listdir(os.path.join(ROOT, 'docs')) if name.endswith('.md'))
+    return ['README.md', 'CHANGELOG.md', 'examples/README.md', 'deploy/README.md'] + sorted(f'docs/{name}' for name in os.listdir(os.path.join(ROOT, 'docs')) if name.endswith('.md'))
 
 
 @functools.lru_cache(None)

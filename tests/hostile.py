@@ -131,7 +131,8 @@ def wrong_words(chance):
     return chance.choice([[], ['go'], ['replay', '--slots', '1'], ['replay', '--slots=65'], ['replay', 'x'],
                           ['check', '--slots', '4'], ['replay', '--slots', '4', '--slots', '4'],
                           ['verify', '--tail', 'log'], ['live', '--turns', '0'], ['replay', '--bank', '-0'],
-                          ['replay', '--replies', 'long'], ['live', '--replies=full'], ['replay', '--told', '0']])
+                          ['replay', '--replies', 'long'], ['live', '--replies=full'], ['replay', '--told', '0'],
+                          ['serve'], ['serve', '--log', 'x'], ['serve', '--client', '0=x']])
 
 
 def is_text_of(form, text):

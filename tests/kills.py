@@ -38,6 +38,8 @@ def make(chance: random.Random, program: str, made_alone: bool) -> Whole:
     if not words and chance.random() < 0.2 and not made_alone:
         with open(os.path.join(ROOT, 'examples/shelves'), 'rb') as shelves:
             return Whole(shelves.read(), words, program)
+    if chance.random() < 0.3:
+        words += ('--ends', 'homes')
     sizes = {'columns': chance.randint(20, 36), 'rows': chance.randint(9, 18), 'agents': chance.randint(1, 8), 'every': 1,
              'tasks': chance.randint(5, 60), 'ticks': chance.randint(20, 90), 'seed': chance.randrange(10 ** 6)}
     made = subprocess.run([sys.executable, os.path.join(ROOT, 'tools/make_instance.py'), '--stops', chance.choice('238'),

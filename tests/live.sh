@@ -25,19 +25,6 @@ run() {
     echo "$(cat -- "$site" "$scratch/log" | "$warehouse" verify) $(grep -c 'refused E6$' "$scratch/log")"
 }
 
-# What `verify` says of the log of one run, and how many tasks the log has and how many of them are delivered, by the reader of
-# logs that counts from each path's cells.
-#   delivered SITE SCRIPTS WORDS..
-delivered() {
-    local site=$1 scripts=$2
-    shift 2
-    cat -- "$site" "$scripts" > "$scratch/whole"
-    "$warehouse" live "$@" < "$scratch/whole" > "$scratch/log" 2> "$scratch/errors"
-    [[ -s $scratch/errors ]] && cat -- "$scratch/errors"
-    echo "$(cat -- "$site" "$scratch/log" | "$warehouse" verify)" \
-        "$(python3 ../tools/stats.py "$scratch/whole" "$scratch/log" | awk -F, 'NR == 2 { print $3, $4 }')"
-}
-
 # What is printed where `live` does not begin: standard output, standard error, status.
 #   refused INPUT WORDS..
 refused() {
@@ -84,102 +71,10 @@ judge 'no client' "$(cat "$scratch/small" "$scratch/log" | "$warehouse" verify)"
 python3 ../tools/make_instance.py --columns 60 --rows 40 --agents 64 --tasks 0 --ticks 0 | sed '$d' > "$scratch/crowd"
 judge '64 agents, a clock and no client' "$(refused "$scratch/crowd")" '|refused E94|1'
 
-# one worker for all agents and the clock
-told=$(delivered "$scratch/shelves" "$scratch/three" --every 1 --journal 100000)
-judge 'shelves, at a pace' "$told" "run $(grep -c ' = ' "$scratch/log") 200 200"
-# 3 commands of clients and a tick, and where the turn's board shows a task already a request of each of two agents
-told=$(run "$scratch/small" "$scratch/two" --every 1 --turns 1)
-asked=$(grep -c ' token ' "$scratch/log")
-judge 'two clients, one turn' "$told $asked" "run $((asked == 0 ? 4 : 6)) 0 $((asked == 0 ? 0 : 2))"
-judge 'two clients, at a pace, a journal of 5' "$(run "$scratch/small" "$scratch/two" --every 1 --journal 5)" 'run 5 0'
-"$warehouse" live --every 1 < "$scratch/no_client" > "$scratch/log"
-# one turn, in which nobody asks, as no task is open
-judge 'no client, at a pace' "$(cat "$scratch/small" "$scratch/log" | "$warehouse" verify)" 'run 1'
-"$warehouse" live --every 1 < "$scratch/crowd" > "$scratch/log"
-judge '64 agents at a pace' "$({ cat "$scratch/crowd"; echo %%; cat "$scratch/log"; } | "$warehouse" verify)" 'run 1'
-empty_clients 63 > "$scratch/many"
-"$warehouse" live --every 1 < "$scratch/many" > "$scratch/log"
-judge '63 clients beside one worker' "$(cat "$scratch/small" "$scratch/log" | "$warehouse" verify)" 'run 1'
-empty_clients 64 > "$scratch/too_many"
-judge '64 clients beside one worker' "$(refused "$scratch/too_many" --every 1)" '|refused E94|1'
-for every in 0 60001; do
-    said=$(refused "$scratch/small" --every "$every")
-    judge "--every $every" "${said%%|*}|${said##*|}" '|2'
+# options of `serve` and of `replay` are unknown here
+for words in --every=5 --board=board --board-every=5 --client=0=folder --log=log --share=5 --replies=full --tail=log --vehicles; do
+    said=$(refused "$scratch/small" "$words")
+    judge "$words" "${said%%|*}|$(head -n 1 "$scratch/stderr")|${said##*|}" "|error: unexpected argument '${words%%=*}' found|2"
 done
-
-# a file that shows the board
-"$warehouse" live --every 1 --board "$scratch/board" < "$scratch/no_client" > "$scratch/log"
-judge 'the board behind one turn' "$(cat -- "$scratch/board"; echo .)" 'wboard 1
-entries 1
-clock 1
-open 0
-assigned 0
-carried 0
-done 0
-0,1 0 none
-4,1 0 none
-.'
-judge 'no file beside it is left' "$(ls -- "$scratch"/board*)" "$scratch/board"
-cat -- "$scratch/small" "$scratch/two" > "$scratch/whole"
-for words in '' '--every 1'; do
-    said=$(refused "$scratch/third_line" --board "$scratch/none" $words)
-    judge "no board where nothing is begun $words" "$said $(ls -- "$scratch/none" 2> /dev/null)" '|refused C1 line 3|1 '
-    judge "a board in no folder $words" "$(refused "$scratch/whole" --board "$scratch/nowhere/board" $words)" '|refused X6|3'
-    # it holds nobody up
-    timeout 30 "$warehouse" live $words --board "$scratch/board" --board-every 60000 < "$scratch/whole" > "$scratch/log"
-    judge "a rest of a minute $words" "$? $(sed -n 2p "$scratch/board")" "0 entries $(grep -c ' = ' "$scratch/log")"
-done
-for every in 0 60001; do
-    said=$(refused "$scratch/small" --board "$scratch/board" --board-every "$every")
-    judge "--board-every $every" "${said%%|*}|${said##*|}" '|2'
-done
-said=$(refused "$scratch/small" --board '')
-judge 'a board without a name' "${said%%|*}|${said##*|}" '|2'
-
-# Reads the board again and again while it is shown, and tells how many differed, or what is wrong with one of them: each has
-# its first line, six counts, and a line for each of 20 agents, and no fewer entries than the one before. It makes the third file once it looks.
-watched() {
-    python3 - "$1" "$2" "$3" << 'END'
-import os, re, sys, time
-path, ended, looks = sys.argv[1:]
-counts = ["entries", "clock", "open", "assigned", "carried", "done"]
-line = re.compile(r"\d+,\d+ \d+ (none|fetching \d+|carrying \d+ \d+)")
-shown, entries, limit = 0, -1, time.time() + 120
-open(looks, "w").close()
-while time.time() < limit:
-    is_last = os.path.exists(ended)
-    try:
-        with open(path, encoding="ascii") as file:
-            text = file.read()
-    except FileNotFoundError:
-        continue
-    rows = text.split("\n")
-    words = [row.split(" ") for row in rows[1:7]]
-    if rows[0] != "wboard 1" or [row[0] for row in words] != counts or len(rows) != 28 or rows[27] != "":
-        sys.exit(print("a board that is not whole:", text))
-    if not all(line.fullmatch(row) for row in rows[7:27]):
-        sys.exit(print("an agent that is not told:", text))
-    now = int(words[0][1])
-    if now < entries:
-        sys.exit(print(f"{now} entries behind {entries}"))
-    shown += now != entries
-    entries = now
-    if is_last:
-        break
-print("many" if shown > 10 else shown, entries)
-END
-}
-cat -- "$scratch/shelves" "$scratch/three" > "$scratch/whole"
-rm -f -- "$scratch/board" "$scratch/ended"
-watched "$scratch/board" "$scratch/ended" "$scratch/looks" > "$scratch/watched" &
-for _ in {1..200}; do    # on a busy machine the run might end before anybody looks
-    [[ -e $scratch/looks ]] && break
-    sleep 0.05
-done
-"$warehouse" live --every 2 --journal 100000 --board "$scratch/board" --board-every 5 < "$scratch/whole" > "$scratch/log"
-: > "$scratch/ended"
-wait
-judge 'boards while it runs' "$(cat -- "$scratch/watched")" "many $(grep -c ' = ' "$scratch/log")"
-judge 'all is done on the last one' "$(sed -n '4,7p' "$scratch/board" | tr '\n' ' ')" 'open 0 assigned 0 carried 0 done 200 '
 echo "$passed passed, $failed failed"
 ((failed == 0))

@@ -6,6 +6,7 @@ entry for each of its lines, so that a number of entries names the line that com
 from __future__ import annotations
 
 import os
+import re
 import select
 import subprocess
 
@@ -38,16 +39,21 @@ def write_file(path: str, text: bytes) -> None:
         file.write(text)
 
 
+def over_file(log: bytes) -> bytes:
+    """A script's log as `replay --log` keeps it: its entries are of the caller that no client has."""
+    return re.sub(rb'(?m)^0 ', b'62 ', log)
+
+
 class Whole:
-    """A script, and the log of it at one go."""
+    """A script, and the log that FILE holds where it is served at one go."""
 
     def __init__(self, instance: bytes, words: tuple[str, ...] = (), program: str = PROGRAM):
         level, points, script = instance.split(b'%%\n')
-        self.program, self.words = program, words
+        self.program, self.words, self.ends = program, words, ('--ends', 'homes') if 'homes' in words else ()
         self.site = level + b'%%\n' + points + b'%%\n'
         self.commands = [line for line in script.splitlines() if line.strip() and not line.startswith(b'#')]
         made = self.run('replay', '--tail', 'log', *words, text=self.site + b'\n'.join(self.commands) + b'\n')
-        self.log = made.stdout[(b'\n' + made.stdout).index(b'\n%%\n') + 3:]
+        self.log = over_file(made.stdout[(b'\n' + made.stdout).index(b'\n%%\n') + 3:])
         lines = self.log.split(b'\n')
         self.head = b'\n'.join(lines[:2]) + b'\n'
         self.entries = lines[2:-2]
@@ -58,7 +64,7 @@ class Whole:
         return subprocess.run([self.program, *words], input=text, capture_output=True, timeout=NO_END)
 
     def verify(self, log: bytes) -> bytes:
-        return self.run('verify', text=self.site + log).stdout
+        return self.run('verify', *self.ends, text=self.site + log).stdout
 
     def text(self, count: int, ended: bool = False) -> bytes:
         """The log's text with so many entries."""
@@ -67,7 +73,8 @@ class Whole:
     def beside(self) -> bytes:
         """What stands beside the file of a log."""
         level, points, _ = self.site.split(b'%%\n')
-        return b'wsite %d %d\n' % (len(level), len(points)) + level + points
+        rule = b' ends homes' if 'homes' in self.words else b''
+        return b'wsite %d %d%s\n' % (len(level), len(points), rule) + level + points
 
     def kept(self, text: bytes | None, told: int) -> int:
         """How many entries stand whole in what a life left of the file: a front of the log, and all that were told. A

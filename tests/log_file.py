@@ -100,9 +100,17 @@ def test_a_run_that_was_closed() -> None:
     file = path('log', CROSS.log)
     count = len(CROSS.commands)
     same(replay(script('tick', 'submit x A B', 'close'), file), (b'entries %d\n' % count + b'refused E8\n' * 3, b'', 0))
-    wanted = CROSS.text(count) + b'0 tick = refused E8\n0 submit x A B = refused E8\n0 close = refused E8\nend %d\n' % (count + 3)
+    wanted = CROSS.text(count) + b'62 tick = refused E8\n62 submit x A B = refused E8\n62 close = refused E8\nend %d\n' % (count + 3)
     same(read_file(file), wanted)
     same(CROSS.verify(wanted), b'run %d\n' % (count + 3))
+
+
+def test_entries_of_caller_0_stand() -> None:
+    # what an older program kept, and what `--tail log` writes, is gone on with
+    kept = CROSS.text(5).replace(b'\n62 ', b'\n0 ')
+    file = path('log', kept)
+    same(replay(script('tick'), file), (b'entries 5\nclock 2 picked 2 dropped 0\n', b'', 0))
+    same(read_file(file), kept + b'62 tick = clock 2 picked 2 dropped 0\nend 6\n')
 
 
 def test_a_log_of_threads() -> None:
@@ -111,7 +119,7 @@ def test_a_log_of_threads() -> None:
     same(CROSS.verify(log), b'run 26\n')
     file = path('log', log)
     same(replay(script('close'), file), (b'entries 26\nclosed\n', b'', 0))
-    same(read_file(file), log.replace(b'end 26\n', b'0 close = closed\nend 27\n'))
+    same(read_file(file), log.replace(b'end 26\n', b'62 close = closed\nend 27\n'))
 
 
 def test_planners_have_the_slots_of_the_state() -> None:
@@ -119,8 +127,8 @@ def test_planners_have_the_slots_of_the_state() -> None:
     same(replay(script('tick', 'replace 0'), file, '--spares', '1', '--slots', '8'), (b'entries 0\nclock 1 picked 0 dropped 0\nreplaced 8\n', b'', 0))
     # --slots is for spare planners alone from here on, and each life has spares of its own
     same(replay(script('replace 1', 'replace 0'), file, '--spares', '1', '--slots', '2')[0], b'entries 2\nreplaced 2\nrefused E10\n')
-    lines = [b'0 tick = clock 1 picked 0 dropped 0', b'0 replace 0 fits 8 = replaced 8', b'0 replace 1 fits 2 = replaced 2',
-             b'0 replace 0 none = refused E10']
+    lines = [b'62 tick = clock 1 picked 0 dropped 0', b'62 replace 0 fits 8 = replaced 8', b'62 replace 1 fits 2 = replaced 2',
+             b'62 replace 0 none = refused E10']
     text = b'wlog 2\nstart 0 slots 8 8\n' + b'\n'.join(lines) + b'\nend 4\n'
     same(read_file(file), text)
     same(CROSS.verify(text), b'run 4\n')
@@ -144,7 +152,7 @@ def test_told_again() -> None:
     # the replies follow, in their own form
     file = path('log', CROSS.text(5))
     same(replay(script('close'), file, '--told', '4', '--tail', 'log')[0],
-         b'entries 5\n' + lines[4] + b'closed\n%%\n' + CROSS.text(5) + b'0 close = closed\nend 6\n')
+         b'entries 5\n' + lines[4] + b'closed\n%%\n' + CROSS.text(5) + b'62 close = closed\nend 6\n')
     file = path()
     same(replay(script('tick'), file, '--told', '0'), (b'entries 0\nclock 1 picked 0 dropped 0\n', b'', 0))
 
@@ -172,6 +180,57 @@ def test_told_again_of_no_file() -> None:
         same(read_file(file), CROSS.text(5))
 
 
+# ------------------------------------------------------------------------------------ what is delivered behind
+
+CALLER = b'62'
+# one order from P0 by A to B: six steps, A at 2, B at 6; nobody asks who is on its way, or would be told to rest
+DELIVERED = [(b'token 0', b'took 0 path 0,1 1,1 1,0 1,1 2,1 3,1 3,0')]
+DELIVERED += [(b'tick', b'clock %d picked %d dropped %d' % (clock, clock == 2, clock == 6)) for clock in range(1, 7)]
+
+
+def log_text(entries: list[tuple[bytes, bytes]], first: bytes = CROSS.head) -> bytes:
+    return first + b''.join(CALLER + b' %s = %s\n' % entry for entry in entries)
+
+
+def test_delivered_behind_the_script() -> None:
+    entries = [(b'submit x A B', b'accepted 0'), *DELIVERED]
+    file = path()
+    told = b'entries 0\n' + b''.join(reply + b'\n' for _, reply in entries)
+    same(replay(script('submit x A B'), file, '--deliver', '--replies', 'full'), (told, b'', 0))
+    same(read_file(file), log_text(entries) + b'end %d\n' % len(entries))
+    same(CROSS.verify(read_file(file)), b'run %d\n' % len(entries))
+    # without the option nothing is done, and with it the run goes on from there
+    file = path()
+    same(replay(script('submit x A B'), file), (b'entries 0\naccepted 0\n', b'', 0))
+    told = b'entries 1\n' + b''.join(reply + b'\n' for _, reply in DELIVERED)
+    same(replay(CROSS.site, file, '--deliver', '--replies', 'full'), (told, b'', 0))
+    same(read_file(file), log_text(entries) + b'end %d\n' % len(entries))
+
+
+def test_killed_while_it_delivers() -> None:
+    # a kill leaves a front of the file; whatever stands there, the next life delivers the rest
+    entries = [(b'submit x A B', b'accepted 0'), *DELIVERED]
+    whole = log_text(entries)
+    for length in (*range(len(log_text(entries[:1])), len(whole), 5), len(whole)):
+        front = whole[:length]
+        file = path('log', front)
+        told, errors, status = replay(CROSS.site, file, '--deliver', '--tail', 'ledger')
+        same((errors, status, told.split(b'%%\n')[1]), (b'', 0, b'x submitted 1 open 0 assigned 0 carried 0 done 1 time 6\n'))
+        made = read_file(file)
+        demand(made.startswith(front[:front.rindex(b'\n') + 1]), 'an entry is lost')
+        same(CROSS.verify(made), b'run %d\n' % (made.count(b'\n') - 3))
+
+
+def test_delivered_up_to_the_last_clock() -> None:
+    for clock, ticks in ((1000000000, []), (999999999, [*DELIVERED[:1], (b'tick', b'clock 1000000000 picked 0 dropped 0')])):
+        first = b'wlog 2\nstart %d slots 4 4\n' % clock
+        file = path('log', first)
+        entries = [(b'submit x A B', b'accepted 0'), *ticks]
+        told = b'entries 0\n' + b''.join(reply + b'\n' for _, reply in entries)
+        same(replay(script('submit x A B'), file, '--deliver', '--replies', 'full'), (told, b'orders open: 1\n', 0))
+        same(read_file(file), log_text(entries, first) + b'end %d\n' % len(entries))
+
+
 # --------------------------------------------------------------------------------- what stands beside the file
 
 OTHER_SITES = [CROSS.site.replace(b'agent P0\nagent P1', b'agent P1\nagent P0'),
@@ -191,11 +250,11 @@ def test_the_site_is_kept() -> None:
         write_file(file + '.site', whole[:length])
         same(replay(CROSS.site, file), (b'entries 5\n', b'', 0))
         same((read_file(file), read_file(file + '.site')), (CROSS.text(5, True), whole))
-    # before the log, which cannot be made here
+    # behind the log, which cannot be made here
     file = path()
     os.symlink('none/there', file)
     same(replay(CROSS.site, file), (REFUSED, b'refused X5\n', 3))
-    same(read_file(file + '.site'), whole)
+    same(read_file(file + '.site'), None)
 
 
 def test_the_site_of_another() -> None:
@@ -207,6 +266,24 @@ def test_the_site_of_another() -> None:
             # before the bank
             is_left(file, replay(site, file, '--bank', '7'), b'refused L1 line 0\n', 1, text)
             same(read_file(file + '.site'), CROSS.beside())
+
+
+def test_a_run_goes_on_by_its_rule() -> None:
+    homes = Whole(read_file(os.path.join(ROOT, 'examples/deliveries')), ('--ends', 'homes'), PROGRAM)
+    for run, other in ((homes, CROSS), (CROSS, homes)):
+        for count in (0, 5, len(run.entries)):
+            file = path('log', run.text(count))
+            write_file(file + '.site', run.beside())
+            same(replay(run.site, file, *other.words), (REFUSED, b'refused L1 line 0\n', 1))
+            same((read_file(file), read_file(file + '.site')), (run.text(count), run.beside()))
+            same(replay(run.site, file, *run.words), (b'entries %d\n' % count, b'', 0))
+        # the site alone: whoever begins keeps its own rule beside it
+        file = path()
+        same(replay(run.site, file, *run.words), (b'entries 0\n', b'', 0))
+        same(read_file(file + '.site'), run.beside())
+        # where nothing stands beside it the first path tells, in the fourth line
+        file = path('log', run.text(5))
+        same(replay(run.site, file, *other.words), (REFUSED, b'refused L1 line 4\n', 1))
 
 
 def test_another_text_beside() -> None:
@@ -353,7 +430,7 @@ def test_version_1() -> None:
     # a line that is added may have more stops than version 1 has
     file = path('log', in_version_1(CROSS.text(0)))
     same(replay(script('submit x A B C'), file), (b'entries 0\naccepted 0\n', b'', 0))
-    same(read_file(file), CROSS.head + b'0 submit x A B C = accepted 0\nend 1\n')
+    same(read_file(file), CROSS.head + b'62 submit x A B C = accepted 0\nend 1\n')
 
 
 def test_version_1_that_is_refused() -> None:

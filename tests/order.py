@@ -11,9 +11,9 @@ gone on with from one that a life before has left, with its end line or a torn o
 from a log of version 1.
 
 - order: each file is locked before a byte of it is read, and never emptied as it is opened; both and their folder are synced
-  before a line is told; the file is not made and not changed before the one beside it is synced; nothing is told while
-  anything in a file is not synced; nor is anything at the end. There is no more than one sync for each read of the standard
-  input, and three at the start and the end (four with version 1), and two of the file beside it. What is told stands in the file.
+  before a line is told; the two first lines of a file that is begun are synced before the one beside it is made or
+  changed, and a file with more is not changed before that one is synced; nothing is told while anything in a file is not synced; nor is anything at the end. There is no more than one sync for each read of the standard
+  input, and three at the start and the end (four where it is begun, or of version 1), and two of the file beside it. What is told stands in the file.
 - fails: each call in turn fails, alone and with all later ones, with EIO, and with ENOSPC where a write has put half of its
   bytes there. The program ends with `refused X5` and status 3; all that it told stands in the file, which is a front of the
   log and, where no later call fails, no longer than what was synced; and the run is gone on with, to the log of the script at
@@ -79,12 +79,12 @@ class Stand:
 
     def cases(self) -> list[Case]:
         half = self.whole.text(LINES)
-        return [Case('begun', None, 0, None), Case('begun with an empty file', b'', 0, self.site),
+        return [Case('begun', None, 0, None), Case('begun with an empty file', b'', 0, None),
                 Case('begun with a torn site', None, 0, self.site[:25]),
                 Case('gone on with', half, LINES, self.site), Case('gone on with and no site', half, LINES, None),
                 Case('gone on with behind an end line', self.whole.text(LINES, True), LINES, self.site),
                 Case('gone on with behind a torn line', half + self.whole.entries[LINES][:5], LINES, self.site),
-                Case('begun with a torn head', self.whole.head[:20], 0, self.site),
+                Case('begun with a torn head', self.whole.head[:20], 0, self.site[:25]),
                 Case('gone on with from version 1', b'wlog 1' + half[6:] + self.whole.entries[LINES][:5], LINES, self.site)]
 
     def put(self, text: bytes | None, site: bytes | None) -> None:
@@ -128,6 +128,7 @@ def in_order(stand: Stand, case: Case) -> None:
     demand(read_file(stand.file) == stand.whole.log, 'the file is not the log of the script at one go')
     stand.is_beside()
     locked, told = set(), 0
+    begins = len(case.text or b'') < len(stand.whole.head)
     wet = {'file': ['the file at the start'], 'site': ['the site at the start'], 'folder': ['the folder at the start']}    # what may not outlive a cut of the power
     syncs = collections.Counter()
     for call in seen.calls:
@@ -137,8 +138,9 @@ def in_order(stand: Stand, case: Case) -> None:
         if word == 'lock':
             locked.add(which)
         demand(which in locked or word not in ('get', 'put', 'cut', 'sync') or which == 'folder', f'{call} before it is locked')
-        if which == 'file' and (word in ('put', 'cut') or what.startswith('open create')):
-            demand(not wet['site'], f'{call} while this is not synced: {wet["site"]}')
+        if which == ('site' if begins else 'file') and (word in ('put', 'cut') or what.startswith('open create')):
+            other = wet['file'] + wet['folder'] if begins and what.startswith('open create') else wet['file' if begins else 'site']
+            demand(not other, f'{call} while this is not synced: {other}')
         if what.startswith('open create'):
             wet['folder'].append(str(call))
         if word in ('put', 'cut'):
@@ -154,7 +156,7 @@ def in_order(stand: Stand, case: Case) -> None:
         syncs[which] += word == 'sync'
     reads = sum(call.what == 'ask' for call in seen.calls)
     demand(told and not any(wet.values()), f'at the end this is not synced: {wet}')
-    at_ends = 4 if (case.text or b'').startswith(b'wlog 1') else 3
+    at_ends = 4 if begins or case.text.startswith(b'wlog 1') else 3
     demand(syncs['file'] <= reads + at_ends and syncs['site'] <= 2, f'{syncs} syncs for {reads} reads')
 
 
@@ -189,7 +191,10 @@ def fails(stand: Stand, case: Case, number: int, error: int, on: bool) -> None:
         demand(seen.told in (0, kept), f'{kept} entries stand there, and {seen.told} replies were told')
     site = read_file(stand.file + '.site')
     demand(stand.site.startswith(site or b''), f'beside the file stands {site!r}')
-    demand(site == stand.site or text == case.text, 'the file was touched before the site stood beside it')
+    # an opening comes before the site, and all else behind it
+    begun = stand.whole.head.startswith(case.text or b'') and stand.whole.head.startswith(text or b'')
+    demand(site == stand.site or text == case.text or begun, 'the file was touched before the site stood beside it')
+    demand(site != stand.site or (text or b'').startswith(stand.whole.head) or case.text is not None, 'the site stands without a log')
     stand.goes_on(text, seen.told, site)
 
 

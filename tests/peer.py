@@ -7,7 +7,8 @@ replies, and then the log, which has each cell of each path.
 The peer, dev/peer, is built by g++ into a temporary folder; with --check it checks its own paths too. Each run makes
 an instance by tools/make_instance.py from its seed: mostly a small site, with shelves or without. Most lose stations
 and cells, and have agents that start at stations, so that agents stand in each other's way; then some tokens are left
-out, others change their order, and odd lines come in. A run whose outputs differ is printed with its seed and the first
+out, others change their order, and odd lines come in. Each second run is under `--ends homes`, where all agents start at
+parkings; --ends names one rule for all. A run whose outputs differ is printed with its seed and the first
 line that differs, and its input is kept in a file. Before the last line stands how many replies of each kind came, and
 how many cells the paths have.
 """
@@ -49,17 +50,17 @@ def narrowed(chance, level, points):
                                 for x, cell in enumerate(row)) for y, row in enumerate(level[4:])]
 
 
-def crowded(chance, points):
-    """The points with some stations left out, and with agents that start at any point."""
+def crowded(chance, points, homes):
+    """The points with some stations left out, and with agents that start at any point; where paths go on home, at any parking."""
     stations = [line for line in points if line.startswith('station ')]
     dropped = chance.sample(stations, chance.randint(0, max(0, len(stations) - 2)))
     agents = [line for line in points if line.startswith('agent ')]
     kept = [line for line in points if line not in dropped and line not in agents]
-    names = [line.split()[1] for line in kept if not line.startswith('rule ')]
+    names = [line.split()[1] for line in kept if line.startswith('parking ') or not (homes or line.startswith('rule '))]
     return kept + [f'agent {name}' for name in chance.sample(names, len(agents))]
 
 
-def in_lanes(chance, level, points):
+def in_lanes(chance, level, points, homes):
     """Long lanes in place of the map, each joined to the next at one end and by few gaps, so that agents must go far
     out of each other's way; and some points on them, from which few agents start."""
     width, lanes = chance.randint(24, 48), chance.randint(2, 4)
@@ -74,7 +75,7 @@ def in_lanes(chance, level, points):
     stations = [line.split()[:2] for line in points if line.startswith('station ')][:chance.randint(3, 16)]
     parkings = [line.split()[:2] for line in points if line.startswith('parking ')][:chance.randint(2, 6)]
     taken = chance.sample(cells, len(stations + parkings))
-    names = [name for _, name in stations + parkings]
+    names = [name for kind, name in stations + parkings if kind == 'parking' or not homes]
     agents = chance.sample(names, min(len(names), chance.randint(2, 6)))
     kept = [' '.join(words + [cell]) for words, cell in zip(stations + parkings, taken)]
     rules = [line for line in points if line.startswith('rule ')]
@@ -103,14 +104,14 @@ def altered(chance, commands, stations):
     return lines
 
 
-def instance(chance, lanes=False):
+def instance(chance, lanes=False, homes=False):
     make = [sys.executable, os.path.join(ROOT, 'tools/make_instance.py')] + words_of(chance)
     made = subprocess.run(make, stdout=subprocess.PIPE, text=True, check=True).stdout
     level, points, commands = (section.split('\n')[:-1] for section in made.split('%%\n'))
     if lanes:
-        level, points = in_lanes(chance, level, points)
+        level, points = in_lanes(chance, level, points, homes)
     elif chance.random() < 0.8:
-        points = crowded(chance, points)
+        points = crowded(chance, points, homes)
         level = narrowed(chance, level, points)
     stations = [line.split()[1] for line in points if line.startswith('station ')]
     lines = level + ['%%'] + points + ['%%'] + altered(chance, commands, stations)
@@ -152,6 +153,7 @@ def main():
     parser.add_argument('--seconds', type=float, default=120, help='for each replay; one that takes longer has failed')
     parser.add_argument('--check', action='store_true', help='the peer checks its own paths too, which takes longer')
     parser.add_argument('--lanes', action='store_true', help='all maps are long lanes, where agents make way far')
+    parser.add_argument('--ends', choices=('stops', 'homes', 'both'), default='both', help='where paths end (%(default)s: by turns)')
     options = parser.parse_args()
     counts, failed = collections.Counter(), 0
     with tempfile.TemporaryDirectory() as scratch:
@@ -159,9 +161,11 @@ def main():
         build = ['g++', '-O2', '-march=x86-64-v2', '-std=c++17', '-Wall', '-Wextra'] + ['-DCHECK'] * options.check
         subprocess.run(build + ['-o', peer, os.path.join(ROOT, 'dev/peer/main.cpp')], check=True)
         for seed in range(options.seed, options.seed + options.runs):
-            text = instance(random.Random(seed), options.lanes)
+            homes = seed % 2 == 0 if options.ends == 'both' else options.ends == 'homes'
+            text = instance(random.Random(seed), options.lanes, homes)
             done = [replayed(words, text, options.seconds)
-                    for words in ([options.program, 'replay', '--tail', 'log'], [peer, 'log'])]
+                    for words in ([options.program, 'replay', '--tail', 'log'] + ['--ends', 'homes'] * homes,
+                                  [peer, 'log'] + ['homes'] * homes)]
             counts.update(counted(done[0].stdout))
             wrong = difference(*done)
             if wrong:

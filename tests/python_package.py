@@ -129,7 +129,7 @@ def test_wrong_files_are_refused_in_words() -> None:
     noise = file('noise', ''.join(chr(byte * 7 % 256) for byte in range(3000)))
     instance = os.path.join(ROOT, 'examples', 'deliveries')
     for bad in ('/none/such', SCRATCH.name, noise):
-        for words in (['drive', bad], ['drive', instance, bad + '/x'], ['due-script', bad], ['play', bad], ['play', instance, bad], ['stats', instance, bad],
+        for words in (['drive', bad], ['drive', instance, bad + '/x'], ['play', bad], ['play', instance, bad], ['stats', instance, bad],
                       ['stats', bad, instance], ['join', bad, bad + '/x'], ['log-input', instance, bad], ['log-input', bad, instance],
                       ['next-shift', bad, instance], ['import-mapd', bad, bad], ['import-scen', bad, bad, '--agents', '1'],
                       ['explain', 'refused M1 line 1', bad + '/x'], ['client', bad, '--wait', '0.1'], ['export', 'mrp', bad, bad], ['export', 'planviz', instance, bad],

@@ -99,7 +99,7 @@ def test_what_does_not_begin() -> None:
         core.tick()
     has(stops(CoreDied, session, TWO, log=log), 'ended with status 1 and began no run')
     has(stops(CoreDied, session, ONE, log=log, told=5), 'ended with status 1 and began no run')
-    same(entries(log), ['0 tick = clock 1 picked 0 dropped 0'])
+    same(entries(log), ['62 tick = clock 1 picked 0 dropped 0'])
 
 
 def test_a_program_that_is_silent_or_odd() -> None:
@@ -179,7 +179,7 @@ def test_a_session_over_a_run_that_began_before() -> None:
         same(core.ask_all(SCRIPT[8:])[0], Clock(4, 0, 0))
     same(entries(log), run_whole())
     with session(TWO, log=log, told=24) as core:
-        same([(entry.place, entry.caller, entry.command) for entry in core.begun][:2], [(24, 0, SCRIPT[24]), (25, 0, SCRIPT[25])])
+        same([(entry.place, entry.caller, entry.command) for entry in core.begun][:2], [(24, 62, SCRIPT[24]), (25, 62, SCRIPT[25])])
     with session(TWO, log=log, told=None) as core:
         same((core.begun, core.place), ([], len(SCRIPT)))
 
@@ -229,7 +229,7 @@ def test_vehicles_over_kills() -> None:
 # ------------------------------------------------------------------------------------------ a client's folder
 
 class Service:
-    """`live` over a log, with one client's folder."""
+    """`serve` over a log, with one client's folder."""
 
     def __init__(self, log: str, replies: str = 'full'):
         self.folder = os.path.join(SCRATCH.name, 'desk')
@@ -237,7 +237,7 @@ class Service:
             os.mkdir(self.folder, 0o700)
             for pipe in ('in', 'out'):
                 os.mkfifo(os.path.join(self.folder, pipe), 0o600)
-        self.words = [PROGRAM, 'live', '--log', log, '--replies', replies, '--client', f'3={self.folder}:all']
+        self.words = [PROGRAM, 'serve', '--log', log, '--replies', replies, '--client', f'3={self.folder}:all']
         self.start()
 
     def start(self) -> None:

@@ -205,6 +205,7 @@ ROWS = [('out of use', seen(out=True), 'is out of use'), ('unheard', seen(state=
         ('stopped', seen(safetyState={'eStop': 'MANUAL', 'fieldViolation': False}), 'emergency stop MANUAL'), ('paused', seen(paused=True), 'is paused'),
         ('failed', seen(orderId='r-1.0.1.0.0', orderUpdateId=0, actionStates=FAILED), 'action r-1.0.1.0.0.0 failed: no load'),
         ('called back', seen(orderId='r-1.0.1.0.0', orderUpdateId=2), ''), ('called back', seen(orderId='r-1.0.1.0.0', actionStates=FAILED, called=8.0, sent_at=7.0), ''), ('under way', seen(**GOES), ''), ('ending', seen(**GOES | {'orderId': 'r-1.0.0.0.0'}), ''),
+        ('at a cut', seen(orderId='r-1.0.0.0.0', nodeStates=[{'nodeId': '1_1', 'sequenceId': 2, 'released': False}]), ''),
         ('at rest', seen(), ''), ('at rest', seen(leg=None), '')]
 
 

@@ -262,10 +262,18 @@ def once_each(floor: Floor, keys: list[str]) -> None:
 
 
 def test_kills_of_core_adapter_and_vehicles() -> None:
+    kill_them('kills')
+
+
+def test_kills_where_paths_go_on_home() -> None:
+    kill_them('kills-homes', ends='homes')
+
+
+def kill_them(name: str, **named) -> None:
     """Killed at chance moments, the adapter as if by signal 9, in the middle of what it does: every order is delivered once."""
     import random
     chance, kills = random.Random(4), {'core': 0, 'adapter': 0, 'vehicle': 0}
-    floor, keys = busy_floor('kills', pace=0.02)
+    floor, keys = busy_floor(name, pace=0.02, **named)
     sent = [0]
 
     def each() -> None:

@@ -14,6 +14,7 @@ import sys
 import tempfile
 
 import counting
+from lives import over_file
 
 ROOT = os.path.dirname(os.path.dirname(os.path.abspath(__file__)))
 PROGRAM = os.environ.get('WAREHOUSE') or os.path.join(ROOT, 'crates/warehouse/out/warehouse')
@@ -97,7 +98,7 @@ def test_two_agents_on_one_corridor() -> None:
     with open(log) as made:
         made = made.read()
     # two submits, two requests, nine ticks, close
-    same((made.splitlines()[-2:], made.count('\n')), (['0 close = closed', 'end 14'], 17))
+    same((made.splitlines()[-2:], made.count('\n')), (['62 close = closed', 'end 14'], 17))
     same(warehouse(TWO + made, 'verify'), 'run 14\n')
 
 
@@ -126,7 +127,7 @@ def test_a_program_that_is_killed() -> None:
     wanted, said, _ = drive(instance, '--save', log, '--cells', cells)
     same(said, '')
     with open(log) as text, open(cells) as lines:
-        made = text.read(), lines.read()
+        made = over_file(text.read().encode()).decode(), lines.read()
     for lines, batch in ((0, 1), (1, 1), (3, 1), (5, 1), (2, 7), (4, 7)):
         state, log, cells = file('state', '0'), file('log', ''), file('cells', '')
         program = f'{sys.executable} {file("killer.py", KILLER)} {state} {lines} {PROGRAM} replay'

@@ -1,5 +1,5 @@
 #!/usr/bin/env python3
-"""Tests of dev/experiments.py, with expected values worked out by hand.
+"""Tests of dev/experiments.py and dev/experiments_stations.py, with expected values worked out by hand.
 
     tests/tools_experiments.py            all; what runs the program takes it from WAREHOUSE, else the one that the gate built
     tests/tools_experiments.py --no-program
@@ -260,7 +260,27 @@ def test_the_figures_are_those_of_stats() -> None:
         same(row[6], str(sent.read().count('\ntoken ')))
 
 
-NEEDS_PROGRAM = {'test_the_figures_are_those_of_stats'}
+def test_few_stations() -> None:
+    """A row of experiments_stations.py has the figures of stats over the log that drive makes of the same instance, for both ends of paths."""
+    table = os.path.join(SCRATCH.name, 'stations.csv')
+    done = subprocess.run([sys.executable, os.path.join(ROOT, 'dev/experiments_stations.py'), '--stations', '1', '--agents', '3', '--tasks', '5', '--seeds', '1',
+                           '--csv', table], capture_output=True, text=True, env={**os.environ, 'WAREHOUSE': PROGRAM})
+    same((done.stderr, done.returncode), ('', 0))
+    with open(table) as text:
+        head, *rows = (line.split(',') for line in text.read().splitlines())
+    same((head, [row[:3] for row in rows]), (['stations', 'agents', 'ends', 'per100', 'service_mean', 'service_p95', 'driven'], [['1', '3', 'stops'], ['1', '3', 'homes']]))
+    site = os.path.join(SCRATCH.name, 'stations')
+    with open(site, 'wb') as file:
+        file.write(experiments.released(experiments.make(['--layout', 'kiva', '--columns', '42', '--rows', '30', '--stations', '1'], 3, 5, 1), '5', True))
+    for row in rows:
+        subprocess.run([sys.executable, os.path.join(ROOT, 'tools/drive.py'), site, '--ends', row[2], '--program', f'{PROGRAM} replay', '--save', site + '.log'],
+                       stdout=subprocess.PIPE, check=True)
+        told = subprocess.run([sys.executable, os.path.join(ROOT, 'tools/stats.py'), site, site + '.log'], stdout=subprocess.PIPE, text=True, check=True)
+        stats = dict(zip(*(line.split(',') for line in told.stdout.splitlines())))
+        same(row[3:], [f'{float(stats["per100"]):.1f}', f'{float(stats["service_mean"]):.0f}', stats['service_p95'], f'{int(stats["distance"]) / 5:.0f}'])
+
+
+NEEDS_PROGRAM = {'test_the_figures_are_those_of_stats', 'test_few_stations'}
 
 
 def guarded(test):

@@ -109,6 +109,12 @@ def test_explain_tells_the_place() -> None:
     refused(tool('explain.py', 'refused Z9'), 'no message of the program is known to me')
 
 
+def test_explain_sends_a_terminal_no_commands() -> None:
+    points = 'station\tA\x1b[2J\x07é'.encode() + b'\x9b31m 0 0\n'
+    lines = tool('explain.py', 'refused P2 line 1', file('odd', SITE + b'%%\n' + points))[0].splitlines()
+    same(lines[2], '    station\t' + r'A\x1b[2J\x07é\x9b31m 0 0')
+
+
 def test_explain_sees_a_separator_in_a_row() -> None:
     lines = tool('explain.py', 'refused M3 line 5', file('i', SITE[:-1] + b'%%\n' + POINTS))[0].splitlines()
     same(lines[2], '    ....%%')
@@ -290,23 +296,35 @@ def test_the_last_block_of_shelves_stands() -> None:
 def test_made_instances_are_formed() -> None:
     for words in ('', '--columns 20 --rows 8 --agents 28 --tasks 9', '--columns 13 --rows 5 --open --agents 1', '--columns 13 --rows 8 --shelf 1 --agents 2',
                   '--columns 35 --rows 21 --agents 50 --seed 3', '--columns 81 --rows 81 --agents 256 --nofollow', '--columns 47 --rows 33 --shelf 3 --seed 11',
-                  '--columns 64 --rows 64 --open --agents 100 --stops 8', '--columns 300 --rows 300 --agents 256 --seed 5'):
+                  '--columns 64 --rows 64 --open --agents 100 --stops 8', '--columns 300 --rows 300 --agents 256 --seed 5',
+                  *(f'--layout kiva --columns 42 --rows 30 --agents 50 --stations {count}' for count in (1, 3, 12, 15)),
+                  '--layout kiva --columns 20 --rows 8 --agents 28 --stations 4', '--layout kiva --columns 81 --rows 81 --agents 250 --stations 34 --stops 8',
+                  '--layout kiva --columns 47 --rows 33 --shelf 3 --stations 2'):
         made, told, status = tool('make_instance.py', *(words + ' --ticks 3').split())
         same((told, status), ('', 0))
         same((words, warehouse(made, 'check')), (words, ('formed\n', 0)))
 
 
-def test_a_written_script_asks_only_where_an_agent_is_due() -> None:
-    made, told, status = tool('due_script.py', file('i', MAPD_INSTANCE))
+def test_packing_stations() -> None:
+    """72 stations on both sides of 18 shelves, and each order ends at a packing station, of which each has some."""
+    made, told, status = tool('make_instance.py', '--layout', 'kiva', '--columns', '42', '--rows', '30', '--stations', '3', '--tasks', '60', '--stops', '4')
     same((told, status), ('', 0))
-    replies, status = warehouse(made, 'replay', '--tail', 'ledger')
-    same(status, 0)
-    assert 'refused' not in replies, replies
-    same(re.findall(r'mapd submitted 2 open 0 assigned 0 carried 0 done 2', replies), ['mapd submitted 2 open 0 assigned 0 carried 0 done 2'])
-    # the first task is released at clock 3, so three ticks stand before it
-    script = made.split('%%\n')[2]
-    same(script[:script.index('submit')].split('\n').count('tick'), 3)
-    same(script[:script.index('# @7')].split('\n').count('tick'), 7)
+    rows, points, script = made.split('%%\n')
+    stations = {name: (int(x), int(y)) for name, x, y in re.findall(r'station (\w+) (\d+) (\d+)', points)}
+    same((len(stations), sorted(name for name in stations if name[0] == 'C')), (75, ['C0', 'C1', 'C2']))
+    cells = rows.split('\n')[4:]
+    for name, (x, y) in stations.items():
+        beside = [cells[other][x] for other in (y - 1, y + 1) if other < 30]
+        same((name, cells[y][x], beside.count('@')), (name, '.', int(name[0] == 'S')))
+    orders = [line.split()[2:] for line in script.split('\n') if line.startswith('submit')]
+    same((len(orders), {stop[0] for order in orders for stop in order[:-1]}, {order[-1] for order in orders}), (60, {'S'}, {'C0', 'C1', 'C2'}))
+    refused(tool('make_instance.py', '--layout', 'kiva', '--columns', '42', '--stations', '16'), '--stations 16', '1 to 15')
+    refused(tool('make_instance.py', '--layout', 'kiva', '--open'), '--layout kiva')
+
+
+def test_an_imported_instance_is_delivered() -> None:
+    replies, status = warehouse(MAPD_INSTANCE, 'replay', '--deliver', '--tail', 'ledger')
+    same((status, replies.split('%%\n')[1].split(' time ')[0]), (0, 'mapd submitted 2 open 0 assigned 0 carried 0 done 2'))
 
 
 def test_examples() -> None:
@@ -328,7 +346,7 @@ def test_examples() -> None:
     same(warehouse(joined, 'verify'), ('run 27\n', 0))
 
 
-NEEDS_PROGRAM = {'test_points_cut_where_the_program_says_so', 'test_explain_beside_check', 'test_made_instances_are_formed', 'test_a_written_script_asks_only_where_an_agent_is_due', 'test_examples'}
+NEEDS_PROGRAM = {'test_points_cut_where_the_program_says_so', 'test_explain_beside_check', 'test_made_instances_are_formed', 'test_an_imported_instance_is_delivered', 'test_examples'}
 
 
 if __name__ == '__main__':

@@ -42,6 +42,12 @@ def test_rows_of_a_command():
         assert 0.5 <= found[key][0] <= 3 and found[key][1] > 1, found
 
 
+def test_its_page():
+    asked, wrong = gate_cpu("--help"), gate_cpu("tables")
+    assert asked.stdout.startswith("What the test command costs") and (asked.stderr, asked.returncode) == ("", 0), asked
+    assert (wrong.stdout, wrong.returncode) == ("", 1) and wrong.stderr.startswith("What the test command costs"), wrong
+
+
 def test_tables():
     sys.path.insert(0, f"{ROOT}/tools")
     sys.dont_write_bytecode = True

@@ -8,6 +8,7 @@ import os
 import sys
 
 import counting
+from lives import over_file
 from tools_drive import A_TO_B, ONE, ROOT, SCRATCH, TWO, drive, figures, file, has, log_of, same, short, ticks, tool
 
 sys.path.insert(0, os.path.join(ROOT, 'python'))
@@ -87,6 +88,11 @@ def lived(lives: list[list[str]], kept: str, *words: str) -> tuple[str, str, int
     file('tape.life', '0')
     stand_in = [sys.executable, file('lives.py', LIVES), tape]
     return drive(ONE + 'submit x A B\n', '--program', ' '.join(stand_in), '--log', kept, *words)
+
+
+def kept_of(*entries: str) -> str:
+    """The file of `--log` with these entries."""
+    return over_file(log_of(*entries)[3:].encode()).decode()
 
 
 def told_both_ways(entries: list[str], log: str, **others) -> tuple[str, str, int]:
@@ -267,7 +273,7 @@ def test_a_log_that_is_not_of_the_run() -> None:
 
 def test_a_run_that_is_gone_on_with() -> None:
     # killed with the second command served, and with the third not
-    kept = file('kept', log_of(*GOES)[3:])
+    kept = file('kept', kept_of(*GOES))
     lives = [['entries 0', GOES[0], 'token 0 = KILLED'], ['entries 2', 'tick = KILLED'], ['entries 2', *GOES[2:]]]
     found, said, status = lived(lives, kept)
     same((found, status), (figures(1, 6, '6.00', 6, '16.67', 6, 8, 1), 0))
@@ -280,14 +286,14 @@ def test_a_run_that_is_gone_on_with() -> None:
 
 
 def test_a_run_that_is_not_gone_on_with() -> None:
-    kept = file('kept', log_of(*GOES)[3:])
+    kept = file('kept', kept_of(*GOES))
     begun = ['entries 0', GOES[0], 'token 0 = KILLED']
     for lives, name, part in (
             ([['entries 0', 'submit x A B = KILLED']] * 6, kept, 'gave no reply to `submit x A B`'),
             ([['entries 0', 'submit x A B = BROKEN']] * 2, kept, 'ended with status 3 and gave no reply to `submit x A B`'),
             ([begun, ['entries 0']], kept, 'it goes on with 0 entries, and 1 commands were answered, 1 more were sent'),
             ([begun, ['entries 3']], kept, 'it goes on with 3 entries, and 1 commands were answered, 1 more were sent'),
-            ([begun, ['entries 2']], file('other', log_of(GOES[0], 'token 1 = rested')[3:]), 'entry 1, `0 token 1`, is none of what was sent'),
+            ([begun, ['entries 2']], file('other', kept_of(GOES[0], 'token 1 = rested')), 'entry 1, `62 token 1`, is none of what was sent'),
             ([begun, ['accepted 0']], kept, '`accepted 0` came in place of `entries N`'),
             ([['entries 8']], kept, 'kept holds an earlier run (8 entries)'),
             ([['']], kept, 'came in place of `entries N`')):

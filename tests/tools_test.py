@@ -111,11 +111,20 @@ def test_what_counts_as_failed():
         assert status == 1 and said.splitlines()[-1].endswith(" passed, 1 failed"), said
 
 
+def test_a_script_that_is_skipped_whole_is_told():
+    top, build, _ = tree("skipped", {"vehicles.py": 'echo "0 passed, 0 failed, 3 skipped"', "run.sh": 'echo "2 passed, 0 failed, 1 skipped"'})
+    status, said, _ = quick(top, build)
+    assert status == 0 and "test: 4 skipped" in said.splitlines() and said.splitlines()[-1].endswith(" passed, 0 failed"), said
+    top, build, _ = tree("unskipped", {"vehicles.py": 'echo "0 passed, 0 failed, 3 skipped"; exit 1'})
+    status, said, _ = quick(top, build)
+    assert status == 1 and said.splitlines()[-1].endswith(" passed, 1 failed"), said
+
+
 def test_a_script_past_its_bound_is_ended():
     top, build, _ = tree("long", {"run.sh": "sleep 100"})
-    write(f"{top}/test", text_of(f"{top}/test").replace("script 60 tests/run.sh", "script 1 tests/run.sh"))
+    write(f"{top}/test", text_of(f"{top}/test").replace("most=400 ", "most=3 "))
     status, said, seconds = quick(top, build)
-    assert status == 1 and "test: run.sh was ended after 1 s" in said and seconds < 60, said
+    assert status == 1 and "test: run.sh was ended after 3 s" in said and seconds < 60, said
 
 
 def test_what_is_no_program_fails():
@@ -181,14 +190,21 @@ def test_a_release():
         write(f"{top}/out/verdict", verdict.replace(old, new))
         assert refused(why), why
     write(f"{top}/out/verdict", verdict)
-    write(f"{top}/deploy/service", "a")
+    write(f"{top}/deploy/build_deb", '#!/bin/sh\ncat "$1" "$3" > "$2/it.deb"\necho "$SOURCE_DATE_EPOCH" >> "$2/it.deb"\necho "$2/it.deb"\n')
     assert refused("the tree has changes")
     commit(run)
     assert refused("the gate's word is of commit")
-    assert run("./test")[0] == 0 and run("tools/release")[0] == 0
-    made = max(os.listdir(f"{top}/out/release"), key=lambda it: os.path.getmtime(f"{top}/out/release/{it}")).removesuffix(".sha256")
-    with tarfile.open(f"{top}/out/release/{made}") as it:
-        assert [it for it in it.getnames() if it.endswith("deploy/service")]
+    assert run("./test")[0] == 0
+    status, said = run("tools/release")
+    assert status == 0, said
+    name = f"warehouse-1.2-{run('git', 'rev-parse', 'HEAD')[1][:12]}"
+    with tarfile.open(f"{top}/out/release/{name}.tar.gz") as it:
+        assert f"{name}/deploy/build_deb" in it.getnames()
+        verdict = it.extractfile(f"{name}/VERDICT").read().decode()
+    if shutil.which("dpkg-deb"):
+        package = text_of(f"{top}/out/release/it.deb")
+        assert package == f"{PROGRAM}{verdict}{run('git', 'log', '-1', '--format=%ct')[1]}" and f"{top}/out/release/it.deb" in said, said
+        assert text_of(f"{top}/out/release/it.deb.sha256") == f"{hashlib.sha256(package.encode()).hexdigest()}  it.deb\n"
 
 
 if __name__ == "__main__":

@@ -90,12 +90,12 @@ class Floor:
     """A fleet in this process. What adapters say is in `said`."""
 
     def __init__(self, name: str, text: str, out_after: float = 0.0, program: str = PROGRAM, pace: float = 0.004, cell: float = 1.0, silent: float = 40.0,
-                 helpers: bool = False):
+                 helpers: bool = False, ends: str = 'stops'):
         self.folder = os.path.join(SCRATCH.name, name)
         os.mkdir(self.folder)
         self.instance = read_instance(name, text.encode()).with_nofollow()
         self.settings = Settings(os.path.join(self.folder, 'run.log'), program, Vehicles(4, 3), Layout(self.instance.height, cell, cell / 20), step=pace,
-                                 silent=silent, out_after=out_after, helpers=helpers)
+                                 silent=silent, out_after=out_after, helpers=helpers, ends=ends)
         self.bus, self.pace, self.said = Bus(), pace, io.StringIO()
         self.desk = self.bus.client()
         self.desk.subscribe([('warehouse/order/+', 1), ('warehouse/status', 0)])
@@ -177,7 +177,7 @@ class Floor:
 
     def judge_log(self, number: int, text: str) -> None:
         if number == 1:
-            has(warehouse(self.instance.text.decode() + text, 'verify'), 'run ')
+            has(warehouse(self.instance.text.decode() + text, 'verify', *(['--ends', 'homes'] if self.settings.ends == 'homes' else [])), 'run ')
 
     def last(self, topic: str) -> dict:
         return json.loads(next(text for name, text in reversed(self.bus.log) if name.endswith(topic)))

@@ -11,7 +11,7 @@ import sys
 import tempfile
 
 import counting
-from lives import read_file, write_file
+from lives import over_file, read_file, write_file
 from tools_drive import ENVIRONMENT, MAP, POINTS, PROGRAM, ROOT, has, same
 
 RULE = 'rule nofollow\n'
@@ -136,7 +136,7 @@ def test_a_run_goes_on_with_its_vehicles() -> None:
     # visits that were made are told again
     same(kept(TWO + 'at 1 2\n', file), ('entries 6\nvisited 0 0 0\ngo 1 2 3,2\narrived 1 2\nvisited 1 1 0\n', '', 0))
     # the log has no report
-    same(read_file(file).decode().split('\n')[2:-2], replay(TWO + SCRIPT, '--tail', 'log')[0].split('%%\n')[1].split('\n')[2:-2])
+    same(read_file(file).decode().split('\n')[2:-2], over_file(replay(TWO + SCRIPT, '--tail', 'log')[0].split('%%\n')[1].encode()).decode().split('\n')[2:-2])
 
 
 def test_a_report_that_was_cut() -> None:

@@ -14,7 +14,7 @@ import sys
 
 ROOT = os.path.dirname(os.path.dirname(os.path.abspath(__file__)))
 PAGE, MANUAL = 'docs/CLI.md', 'docs/warehouse.1'
-SUBCOMMANDS = ('check', 'replay', 'verify', 'live')
+SUBCOMMANDS = ('check', 'replay', 'verify', 'live', 'serve')
 
 HEAD = '''# Command line
 
@@ -24,32 +24,35 @@ HEAD = '''# Command line
 '''
 
 NOTES = {
-    'check': ('''Prints `formed`, `few parkings HAVE NEED` or `cut A B` ([Modeling](MODELING.md#well-formed-floors)). Everything after the points is ignored.''',),
+    'check': ('''Prints `formed`, `few parkings HAVE NEED` or `cut A B` ([Modeling](MODELING.md#well-formed-floors)). Everything after the points is ignored. With `--ends homes` agents start at parkings (`refused H1 AGENT`), here and below.''',),
     'replay': (
         '''Reads commands from standard input, live through a pipe or from a file, and writes one reply for each ([Protocol](PROTOCOL.md)). Replies are written before each read that may wait.''',
         '''`--log FILE`: the first line printed is `entries N`; each entry is synced before its reply is written ([Operations](OPERATIONS.md#stops-and-restarts)).''',
-        '''`--told N` needs `--log`; `--behind` and `--ahead` need `--vehicles`, and that needs `rule nofollow` in the points (`refused V4`). `--behind 1` is a barrier.''',
+        '''`--told N` and `--new` need `--log`; `--behind` and `--ahead` need `--vehicles`, and that needs `rule nofollow` in the points (`refused V4`) and is given at each start (`V5`).''',
+        '''`--deliver`: behind the script all is delivered that can be, by requests and ticks of its own ([Formats](FORMATS.md#what-is-delivered-behind-the-script)); not with `--vehicles`.''',
         '''`--tail log` writes a line `%%` and the log after the replies, `--tail ledger` a line `%%` and one row for each client. `--slots` and `--bank` bound what planners may keep in memory; they change no reply.''',
     ),
-    'verify': ('''Prints `run N`, N the number of entries, or `bad L`, the first line of the log that no run has.''',),
+    'verify': ('''Prints `run N`, N the number of entries, or `bad L`, the first line of the log that no run by these `--ends` has.''',),
     'live': (
-        '''Three uses. **With `--client`** it serves programs over named pipes ([Operations](OPERATIONS.md#several-clients)); the input is map and points alone, and `--log` is needed. **With `--every` alone** the clients are scripts, read beforehand, and one worker requests and ticks until all is delivered. **With neither** it is a drill of threads: each agent requests and the clock ticks `--turns` times, early requests included, and the run ends whatever is open. It prints the log; no client gets a reply.''',
-        '''The worker of `--every` ends when the clients are done and no order is open or under way; also after `--turns` rounds, when memory runs out, or when the journal is full. The status is 0 in each case: look in the log whether all is delivered.''',
-        '''`--board FILE`: FILE and FILE.new are replaced as a whole, if they are empty or boards; else `refused X6`. Without `--client`, at most 64 clients, agents and clock together.''',
-        '''`--share` and `--replies` need `--client`; `--board-every` needs `--board`; `--turns` beside `--client` needs `--every`. Client numbers and folders are distinct.''',
+        '''A demonstration that any interleaving of threads is one history: scripts, agents and the clock are threads, and the run ends whatever is open. It prints the log; no client gets a reply.''',
+    ),
+    'serve': (
+        '''Serves programs over named pipes ([Operations](OPERATIONS.md#several-clients)). `--log` and at least one `--client` are needed, and nothing follows the points; client numbers and folders are distinct. At the end it prints the log.''',
+        '''`--every N`: a worker requests and ticks until the service ends; earlier only where its share or the journal is used, or memory runs out.''',
+        '''`--board FILE`: FILE and FILE.new are replaced as a whole, if they are empty or boards; else `refused X6`. `--board-every` needs `--board`.''',
     ),
 }
 
 STATUSES = (
-    ('0', 'done. Refused commands are no error; `replay --vehicles` may add `vehicles on their way: N` on standard error'),
+    ('0', 'done. Refused commands are no error; `replay --vehicles` may add `vehicles on their way: N` on standard error, and `replay --deliver` `orders open: N`'),
     ('1', 'the input is refused, not well-formed, or the log is no run'),
-    ('2', 'the command line is wrong, or something follows the points of `live --client` (`X7`)'),
-    ('3', 'input, output, log file or board failed (`X1`, `X2`, `X3`, `X5`, `X6`), or a thread (`E93`, `E95`)'),
+    ('2', 'the command line is wrong, or something follows the points of `serve` (`X7`)'),
+    ('3', 'input, output, log file or board failed (`X1`, `X2`, `X3`, `X5`, `X6`, `X9`), or a thread (`E93`, `E95`)'),
     ('4', '`refused E90`: out of memory at the start, or for the log at the end'),
     ('125', 'from `./warehouse`: the program could not be built'),
 )
 
-TAIL = '''Each refusal is one line on standard error ([Formats](FORMATS.md#standard-error-and-exit-statuses)). On a terminal `./warehouse` adds a sentence, except for `live`; `tools/explain.py 'refused P4 line 2' INSTANCE` explains one and shows the line; `--all` prints every code.
+TAIL = '''Each refusal is one line on standard error ([Formats](FORMATS.md#standard-error-and-exit-statuses)). On a terminal `./warehouse` adds a sentence, except for `serve`; `tools/explain.py 'refused P4 line 2' INSTANCE` explains one and shows the line; `--all` prints every code.
 
 A value that begins with a hyphen is joined to its option, as in `--log=-x`. An option given twice, an abbreviation, and an argument that is not UTF-8 are refused.
 
@@ -63,7 +66,6 @@ Each is documented by its `--help`.
 |make an instance|`tools/make_instance.py --columns 60 --rows 40 --agents 20 --tasks 200 > my`|
 |import an instance of the AAMAS 2017 authors, a MovingAI scenario|`tools/import_mapd.py MAP TASK`, `tools/import_scen.py MAP SCEN --agents 20`|
 |drive an instance to its end|`tools/drive.py my --save run.log`|
-|make a script for `replay` that requests only where an agent is idle|`tools/due_script.py tasks > my`|
 |play a run; see one clock|`tools/play.py my run.log > run.html`, `tools/play.py my run.log --check 137`|
 |compare two runs, side by side|`tools/play.py my one.log --beside my two.log > both.html`|
 |watch a floor while it runs|`tools/dashboard.py my run.log`|
@@ -71,7 +73,6 @@ Each is documented by its `--help`.
 |make the input of `verify`|`tools/log_input.py my run.log`|
 |begin the next shift|`tools/next_shift.py run.log my > next`|
 |be a client of a service|`tools/client.py FOLDER`|
-|explain a refusal|`tools/explain.py MESSAGE [INSTANCE]`|
 '''
 
 

@@ -106,7 +106,8 @@ def pieces(text):
             at = last
         else:
             if block and not line.endswith(("}", ";")):
-                head = " ".join([block[3], *map(str.strip, lines[at + 1 : at + 6])])
+                last = next((it for it in range(at, len(lines)) if lines[it].endswith("{")), at)
+                head = " ".join([block[3], *map(str.strip, lines[at + 1 : last + 1])])
                 blocks.append((block[1], *block_name(block[2], head.strip())))
             rest.append(line)
         at += 1

@@ -26,7 +26,7 @@ MARKED = re.compile(r'(<!-- (figures|rows): (.*?) -->\n\n)(.*?)(\n<!-- end -->)'
 NAMES = {'Agents': 'agents', 'Orders a tick': 'orders_per_tick', 'Planner': 'planner', 'Rule': 'rule', 'Makespan': 'makespan',
          'Service, mean': 'service_mean', 'Service, p95': 'service_p95', 'Busy agents': 'busy_agents', 'Requests': 'requests'}
 HEADS = {'agents': 'Agents', 'speeds': 'Speeds', 'seed': 'Seed', 'ahead': '`--ahead`', 'variant': 'Planner, rule',
-         'instance': 'Instance', 'subcommand': 'Subcommand', 'seconds': 'Seconds', 'mb': 'MB', 'this_program_millions': 'this program',
+         'instance': 'Instance', 'stations': 'Stations', 'subcommand': 'Subcommand', 'seconds': 'Seconds', 'mb': 'MB', 'this_program_millions': 'this program',
          'peer_millions': '`dev/peer`', 'floor': 'Floor', 'orders_taken': 'Orders taken', 'ms_mean': 'Mean ms a tick', 'ms_p95': 'p95',
          'ms_most': 'Most', 'ms_first_tick': 'First tick', 'mb_most': 'Most MB', 'clients': 'Clients',
          'memory_line_by_line': 'log in memory, line by line', 'memory_all_in_one_write': 'all lines in one write',
@@ -35,10 +35,12 @@ KEYS = ('agents', 'orders_per_tick', 'planner', 'rule')
 
 
 def read(name: str) -> list[dict[str, str]]:
-    """The lines of a CSV file, each with `variant`, its planner and rule in one word."""
+    """The lines of a CSV file, each with `variant`: its planner and rule, or its agents and where paths end."""
     with open(os.path.join(ROOT, 'docs', f'{name}.csv'), encoding='utf-8', newline='') as text:
         lines = list(csv.DictReader(text))
     for line in lines:
+        if 'ends' in line:
+            line['variant'] = f'{line["agents"]}, {line["ends"]}'
         if 'planner' in line:
             line['variant'] = line['planner'] if line['rule'] == 'none' else f'{line["planner"]}, {line["rule"]}'
     return lines

@@ -158,6 +158,9 @@ def tables(rows, uses):
 
 def main():
     words = sys.argv[1:]
+    if words in (["--help"], ["-h"]):
+        print(__doc__)
+        return
     if words[:1] == ["run"] and len(words) > 2:
         sys.exit(run(words[1], words[2:]))
     if words[:1] == ["table"] and len(words) == 2:

@@ -91,14 +91,14 @@ struct PathCheck {
     // The steps of a least path, by all states of each time in turn.
     uint32_t plain_length(uint32_t horizon, uint32_t most) const {
         const uint32_t start = at(self, 0), stride = site.grid.stride;
-        std::vector<uint32_t> now{start * MOST_STOPS + leg_at(0, start)}, next;
-        std::vector<uint32_t> met(site.grid.size() * MOST_STOPS, 0);
+        std::vector<uint32_t> now{start * MOST_LEGS + leg_at(0, start)}, next;
+        std::vector<uint32_t> met(site.grid.size() * MOST_LEGS, 0);
         for (uint32_t time = 0; time < most; ++time, now.swap(next), next.clear()) {
             for (const uint32_t state : now) {
-                const uint32_t cell = state / MOST_STOPS, leg = state % MOST_STOPS;
+                const uint32_t cell = state / MOST_LEGS, leg = state % MOST_LEGS;
                 if (leg + 1 == count && is_goal(cell) && may_rest(cell, time, horizon)) return time;
                 for (const uint32_t to : {cell, cell - 1, cell + 1, cell - stride, cell + stride}) {
-                    const uint32_t reached = to * MOST_STOPS + leg_at(leg, to);
+                    const uint32_t reached = to * MOST_LEGS + leg_at(leg, to);
                     if (site.grid.places[to] != UNSEEN || met[reached] == time + 1) continue;
                     if (!is_free(cell, to, time)) continue;
                     met[reached] = time + 1;

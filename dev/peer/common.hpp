@@ -14,6 +14,7 @@ constexpr uint32_t NONE = 0xFFFFFFFF;
 constexpr uint16_t NOBODY = 0xFFFF;
 
 constexpr uint32_t MOST_STOPS = 8;
+constexpr uint32_t MOST_LEGS = MOST_STOPS + 1;    // through the stops, and home
 constexpr uint32_t MOST_AGENTS = 256;
 constexpr uint32_t MOST_POINTS = 4096;
 constexpr uint32_t MOST_TASKS = 1000000;

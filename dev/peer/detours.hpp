@@ -7,7 +7,7 @@
 class Detours {
     const Grid& grid_;
     std::vector<uint32_t> places_;
-    Table tables_[MOST_STOPS], queue_;
+    Table tables_[MOST_LEGS], queue_;
     uint32_t passable_ = 0;
 
 public:

@@ -28,7 +28,7 @@ public:
     const Reservations& reservations;
 
 private:
-    Leg legs_[MOST_STOPS];
+    Leg legs_[MOST_LEGS];
     uint32_t last_ = 0, goal_ = NONE, limit_ = 0;
 
 public:

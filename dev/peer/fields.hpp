@@ -90,7 +90,7 @@ private:
 public:
     Fields(const Grid& grid, std::vector<uint32_t>& queue, size_t agents)
         : grid_(grid), queue_(queue),
-          room_(std::max<size_t>(std::min(SLOTS * agents, ROOM / (8 * grid.size())), MOST_STOPS)),
+          room_(std::max<size_t>(std::min(SLOTS * agents, ROOM / (8 * grid.size())), MOST_LEGS)),
           entry_of_(grid.size(), NONE) {
         entries_.reserve(room_);
     }
@@ -102,7 +102,7 @@ public:
         return entry.head == entry.tail || entry.distance >= level;
     }
 
-    // The field of a goal for a leg from this cell. The last MOST_STOPS answers stay as they are.
+    // The field of a goal for a leg from this cell. The last MOST_LEGS answers stay as they are.
     Bounded get(uint32_t goal, uint32_t from) {
         Entry& entry = find(goal);
         entry.used = ++uses_;

@@ -1,6 +1,6 @@
 // The peer: a plain, unproved program that replays a warehouse script and prints byte for byte what the product's
-// `replay` prints, without its options; with the word `log`, what `replay --tail log` prints. It is a yardstick for the
-// product's speed and an oracle for tests/peer.py.
+// `replay` prints, without its options; with the word `log`, what `replay --tail log` prints, and with the word `homes` what
+// `replay --ends homes` does. It is a yardstick for the product's speed and an oracle for tests/peer.py.
 //
 //   g++ -O2 -march=x86-64-v2 -std=c++17 -Wall -Wextra -o peer dev/peer/main.cpp
 //   ./peer < examples/deliveries
@@ -87,19 +87,23 @@ static bool run_line(Warehouse& warehouse, Text line) {
     return true;
 }
 
+static bool is_given(int count, char** words, const char* word) {
+    return std::any_of(words + 1, words + count, [&](const char* other) { return strcmp(other, word) == 0; });
+}
+
 int main(int count, char** words) {
     static Output output;
     static Input input(output);
     Site site(read_map(input));
     read_points(input, site);
-    Warehouse warehouse(std::move(site), output);
+    Warehouse warehouse(std::move(site), output, is_given(count, words, "homes"));
     for (Text line; input.line(line);) {
         if (UNLIKELY(line.size() > LONGEST_LINE))
             output.line("refused C2");
         else if (UNLIKELY(!run_line(warehouse, line)))
             output.line("refused C1");
     }
-    if (count == 2 && strcmp(words[1], "log") == 0) {
+    if (is_given(count, words, "log")) {
         output.line("%%");
         warehouse.write_log();
     }

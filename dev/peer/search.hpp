@@ -86,7 +86,7 @@ private:
     }
 
     bool detour(uint32_t start, const uint32_t* stops, uint32_t count, uint32_t legs, const Bounded* fields) {
-        Bounded anew[MOST_STOPS];
+        Bounded anew[MOST_LEGS];
         std::copy(fields, fields + count, anew);
         detours_.make(reservations_, start, stops, count, legs, anew);
         errand_.deliver(stops, count, anew, detours_.passable());

@@ -119,7 +119,7 @@ public:
         for (size_t place = 0; place < grid.size(); ++place) seen_[place] = grid.places[place] == UNSEEN ? 0 : NONE;
     }
 
-    // The agent is where its path ends.
+    // The agent is where its path ends; or it is on its way home, and no path ends at a stop.
     uint32_t find(const Tasks& tasks, [[maybe_unused]] const PathEnds& ends, [[maybe_unused]] uint32_t self, uint32_t here) {
         uint32_t last = NONE;
         uint32_t found = seek(tasks, here, last);

@@ -9,7 +9,7 @@ class Unguided {
         uint32_t onward, stop;
     };
     const Grid& grid_;
-    Leg legs_[MOST_STOPS];
+    Leg legs_[MOST_LEGS];
     uint32_t last_ = 0, goal_ = NONE;
 
     static uint32_t apart(int32_t one, int32_t other) { return uint32_t(one < other ? other - one : one - other); }

@@ -18,6 +18,7 @@ struct Visits {
 class Warehouse {
     Site site_;
     Output& output_;
+    const bool homes_;    // paths go on home: from the last stop to where the agent starts
     bool is_closed_ = false;
     std::vector<Agent> agents_;
     Timetable timetable_;
@@ -30,8 +31,8 @@ class Warehouse {
     History history_;
 
 public:
-    Warehouse(Site&& site, Output& output)
-        : site_(std::move(site)), output_(output), agents_(site_.starts.size()),
+    Warehouse(Site&& site, Output& output, bool homes)
+        : site_(std::move(site)), output_(output), homes_(homes), agents_(site_.starts.size()),
           timetable_(site_.starts, site_.grid.size()), tasks_(site_.grid.size()),
           ends_{std::vector<uint16_t>(site_.grid.size(), NOBODY)}, queue_(site_.grid.size()),
           fields_(site_.grid, queue_, agents_.size()), nearest_(site_.grid, queue_), search_(site_, timetable_) {
@@ -75,7 +76,7 @@ public:
     void token(uint32_t self) {
         if (UNLIKELY(is_closed_)) return refuse_closed(Event::TOKEN, self);
         if (UNLIKELY(self >= agents_.size())) return refuse_unknown(Event::TOKEN, self);
-        if (const uint32_t left = timetable_.left(self)) {
+        if (const uint32_t left = ticks_until_idle(self)) {
             history_.note(Event::TOKEN, self, Reply::E5, left);
             return output_.line("refused E5 ", left);
         }
@@ -140,6 +141,17 @@ private:
         output_.line("rested");
     }
 
+    // Until it has no steps left; or, where paths go on home, no task: it may still walk.
+    uint32_t ticks_until_idle(uint32_t self) const {
+        if (!homes_) return timetable_.left(self);
+        if (agents_[self].task == NONE) return 0;
+        const Task& task = tasks_[agents_[self].task];
+        uint32_t time = timetable_.now();
+        for (uint32_t stop = task.visited; stop < task.count; ++stop)
+            while (timetable_.at(self, time) != task.stops[stop]) ++time;
+        return time - timetable_.now();
+    }
+
     void choose(uint32_t self) {
         const uint32_t here = agents_[self].here;
         const uint32_t number = nearest_.find(tasks_, ends_, self, here);
@@ -151,7 +163,8 @@ private:
     void take(uint32_t self, uint32_t number) {
         Agent& agent = agents_[self];
         const Task& task = tasks_[number];
-        if (!deliver(self, agent.here, task)) return refuse_path(self);
+        uint32_t stops[MOST_LEGS];
+        if (!deliver(self, agent.here, stops, tour(self, task, stops))) return refuse_path(self);
         const std::vector<uint32_t>& path = search_.path;
         const uint32_t kept = adopt(self, path);
         tasks_.assign(number, self);
@@ -162,19 +175,24 @@ private:
         output_.line("took ", number, " end ", uint32_t(path.size()) - 1);
     }
 
-    bool deliver(uint32_t self, uint32_t here, const Task& task) {
-        if (!are_filled(here, task) && search_.deliver_unguided(self, here, task.stops, task.count)) return true;
-        Bounded fields[MOST_STOPS];
-        // the first stops are the last used
-        for (uint32_t leg = task.count; leg-- > 0;)
-            fields[leg] = fields_.get(task.stops[leg], leg == 0 ? here : task.stops[leg - 1]);
-        return search_.deliver(self, here, task.stops, task.count, fields);
+    // Where the agent goes for a task: through its stops, and on home where paths go there. Answers how many stops it is.
+    uint32_t tour(uint32_t self, const Task& task, uint32_t* stops) const {
+        std::copy(task.stops, task.stops + task.count, stops);
+        stops[task.count] = site_.starts[self];
+        return task.count + homes_;
     }
 
-    bool are_filled(uint32_t here, const Task& task) const {
-        for (uint32_t leg = 0; leg < task.count; ++leg)
-            if (!fields_.is_filled(task.stops[leg], site_.grid.apart(leg == 0 ? here : task.stops[leg - 1], task.stops[leg])))
-                return false;
+    bool deliver(uint32_t self, uint32_t here, const uint32_t* stops, uint32_t count) {
+        if (!are_filled(here, stops, count) && search_.deliver_unguided(self, here, stops, count)) return true;
+        Bounded fields[MOST_LEGS];
+        // the first stops are the last used
+        for (uint32_t leg = count; leg-- > 0;) fields[leg] = fields_.get(stops[leg], leg == 0 ? here : stops[leg - 1]);
+        return search_.deliver(self, here, stops, count, fields);
+    }
+
+    bool are_filled(uint32_t here, const uint32_t* stops, uint32_t count) const {
+        for (uint32_t leg = 0; leg < count; ++leg)
+            if (!fields_.is_filled(stops[leg], site_.grid.apart(leg == 0 ? here : stops[leg - 1], stops[leg]))) return false;
         return true;
     }
 
@@ -193,9 +211,9 @@ private:
 
     // The agent goes by a path that was found; answers where the history keeps it.
     uint32_t adopt(uint32_t self, const std::vector<uint32_t>& path) {
-        const uint32_t here = agents_[self].here;    // its path's end
-        ends_.agents[here] = NOBODY;
-        tasks_.unbar(here);
+        const uint32_t end = timetable_.at(self, NONE);
+        ends_.agents[end] = NOBODY;
+        tasks_.unbar(end);
         ends_.agents[path.back()] = uint16_t(self);
         tasks_.bar(path.back());
         timetable_.adopt(self, path);

@@ -3,7 +3,7 @@
     client FOLDER                       sends the lines of standard input, and prints the replies
     client FOLDER --wait 10             the same, and ends with status 1 where it waits so many seconds for the service
 
-The service is `live --log FILE --client N=FOLDER`. The client opens FOLDER/out and reads to the line `entries N`: so many
+The service is `serve --log FILE --client N=FOLDER`. The client opens FOLDER/out and reads to the line `entries N`: so many
 entries of the history are its own. Only then it opens FOLDER/in. Each line is sent behind the reply to the one before; empty
 lines and comments, which have no reply, are left out. It prints `entries N`, and each reply, and ends with its input, or
 where it is told `closed`.

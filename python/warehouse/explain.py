@@ -28,6 +28,7 @@ from .refusals import SENTENCES
 from .texts import Fault, Instance, Section, is_command, lines_of, orders_of, read_file, read_instance, sections_of, words_of
 
 NAME = re.compile(r'[\w-]{1,16}', re.ASCII)
+CONTROL = re.compile(r'[\x00-\x08\x0a-\x1f\x7f-\x9f]')    # all but the tab
 
 
 def section_of(code: str, number: int, sections: list[Section]) -> Section | None:
@@ -135,8 +136,10 @@ def input_again() -> int | None:
         return None
 
 
-def orders_at_once(site: Instance, text: bytes) -> str:
-    """How many orders can be under way at once: each holds the station at which it ends."""
+def orders_at_once(site: Instance, text: bytes, homes: bool) -> str:
+    """How many orders can be under way at once: each holds the station at which it ends, but where paths go on home."""
+    if homes:
+        return f'At most {len(site.starts)} orders can be under way at once, one for each agent.'
     agents, stations = len(site.starts), sum(point.kind == 'station' for point in site.points)
     scripts = sections_of(text)[2:3]
     ends = {order.stops[-1] for order in (orders_of(scripts[0].lines) if scripts else []) if order.stops and site.is_station(order.stops[-1])}
@@ -145,11 +148,11 @@ def orders_at_once(site: Instance, text: bytes) -> str:
     return f'At most {most} orders can be under way at once: {said} (docs/MODELING.md says why).'
 
 
-def beside_check(text: bytes, status: int) -> list[str]:
+def beside_check(text: bytes, status: int, homes: bool) -> list[str]:
     """What is said of an instance beside the verdict of `check`."""
     site = read_instance('the input', text)
     if status == 0:
-        return [f'formed: {SENTENCES["formed"]}', orders_at_once(site, text)]
+        return [f'formed: {SENTENCES["formed"]}', orders_at_once(site, text, homes)]
     if sum(point.kind == 'parking' for point in site.points) < len(site.starts):
         return [f'few: {SENTENCES["few"]}']
     return [f'cut: {SENTENCES["cut"]}', *cuts_explained('the input', text)]
@@ -158,7 +161,8 @@ def beside_check(text: bytes, status: int) -> list[str]:
 def run_beside(words: list[str]) -> int:
     """Runs a program, hands on its standard error, and adds the sentence of a refusal that it ends with, or what is said beside
     a verdict of `check`; its status."""
-    begun = input_again() if words[1:] == ['check'] else None
+    homes = words[2:] in (['--ends', 'homes'], ['--ends=homes'])
+    begun = input_again() if words[1:2] == ['check'] and (homes or len(words) == 2) else None
     program, last = started(words), b''
     for last in program.stderr or ():
         sys.stderr.buffer.write(last)
@@ -172,7 +176,7 @@ def run_beside(words: list[str]) -> int:
         with open(0, 'rb', closefd=False) as given:
             given.seek(begun)
             try:
-                print('\n'.join(beside_check(given.read(), status)), file=sys.stderr)
+                print('\n'.join(beside_check(given.read(), status, homes)), file=sys.stderr)
             except Fault:
                 pass    # the program read it otherwise than this does, and has said what it found
     if status < 0:    # it was ended by a signal, and so is this
@@ -192,10 +196,15 @@ def add_options(parser: argparse.ArgumentParser) -> None:
     parser.add_argument('--all', action='store_true', help='print every code with its sentence')
 
 
+def plain(line: str) -> str:
+    """A line without bytes that a terminal takes for commands: each is written as Python writes it."""
+    return CONTROL.sub(lambda found: repr(found[0])[1:-1], line)
+
+
 def run(options: argparse.Namespace) -> int:
     if options.all:
         lines = [f'{code}: {sentence}' for code, sentence in SENTENCES.items()]
     else:
         lines = explained(options.message.split(), options.instance)
-    sys.stdout.buffer.write(''.join(line + '\n' for line in lines).encode('latin-1', errors='replace'))
+    sys.stdout.buffer.write(''.join(plain(line) + '\n' for line in lines).encode('latin-1', errors='replace'))
     return 0

@@ -93,8 +93,11 @@ class Fleet:
         self.distance = Distances(self.instance)
         agents = len(self.instance.starts)
         self.clock = 0
-        self.due = [0] * agents      # the clock at which it has no steps left
+        self.due = [0] * agents      # the clock from which it may be asked for
+        self.still = [0] * agents    # the clock at which it has no steps left: where paths go on home it may be due before
+        self.ways: list[tuple[int, Sequence[Cell]]] = []    # its path, and the clock when it was taken up; no cells by short replies
         self.ends = [self.instance.points[start].cell for start in self.instance.starts]    # where its path ends
+        self.ways += [(0, (end,)) for end in self.ends]
         self.again = [0] * agents    # the clock from which it may ask again after `refused E6`
         # Rested, and also E6, last as long as no order comes in and no path is taken up: such changes are counted, and
         # an agent keeps at which count it was told to rest, or had E6 first.
@@ -195,9 +198,10 @@ class Fleet:
             case Rested():
                 self.rested[agent] = self.changes
             case Refused('E6'):
-                # at the second time with nothing changed between, it is as lasting as a rest
+                # at the second time with nothing changed between, it is as lasting as a rest; but for one that walks, for which
+                # another order may be the nearest soon
                 self.again[agent] = self.clock + 1
-                self.rested[agent] = self.changes if self.barred[agent] == self.changes else None
+                self.rested[agent] = self.changes if self.barred[agent] == self.changes and self.still[agent] <= self.clock else None
                 self.barred[agent] = self.changes
             case Took(task):
                 if task not in self.open:
@@ -214,9 +218,24 @@ class Fleet:
                 stop_at(line, reply)
 
     def goes(self, agent: int, reply: Took | Parked) -> None:
-        self.due[agent] = self.clock + reply.steps
         self.ends[agent] = reply.cells[-1] if reply.cells else self.end_of(reply)
+        self.due[agent] = self.clock + self.busy(reply, self.ends[agent])
+        self.still[agent] = self.clock + reply.steps
+        self.ways[agent] = self.clock, reply.cells
         self.changes += 1
+
+    def busy(self, reply: Took | Parked, end: Cell) -> int:
+        """For how many ticks it may not be asked for: to the end of its path; or, where that goes on home, to the last stop."""
+        stops = self.stops[reply.task] if isinstance(reply, Took) else [end]
+        if end == stops[-1]:
+            return reply.steps
+        try:
+            step = 0
+            for stop in stops:
+                step = reply.cells.index(stop, step)
+            return step
+        except ValueError:
+            raise Stop(f'`{shortened(str(reply))}` does not go through its stops') from None
 
     def end_of(self, reply: Took | Parked) -> Cell:
         """Where a path ends by a short reply: at its task's last stop, or at the point."""
@@ -241,7 +260,13 @@ class Fleet:
 
     def under_way(self) -> int:
         """How many agents have steps left."""
-        return sum(due > self.clock for due in self.due)
+        return sum(still > self.clock for still in self.still)
+
+    def place(self, agent: int, clock: int | None = None) -> Cell:
+        """Where the agent is now, or will be at a later clock."""
+        began, cells = self.ways[agent]
+        step = (self.clock if clock is None else clock) - began
+        return cells[min(step, len(cells) - 1)] if cells else self.ends[agent]
 
     def pending(self) -> int:
         """How many orders are not handed in yet, those in a policy's own queue among them."""
@@ -290,7 +315,7 @@ class Fleet:
         """What a due agent's request would come to: the distance to the first stop of the task that it would take, and that
         task, the nearest, then the lowest; FAR and None where it would make way; None where it would rest."""
         free, own = eligible or self.eligible()
-        here = self.ends[agent]
+        here = self.place(agent)
         tasks = free + own.get(agent, [])
         if tasks:
             return min((self.distance(here, self.stops[task][0]), task) for task in tasks)
@@ -366,8 +391,8 @@ def ask_nearest(fleet: Fleet) -> None:
 
 
 def hold(fleet: Fleet) -> None:
-    """As nearest first, but an order is handed in only when no agent under way could be at its first stop sooner than all
-    who have no steps left."""
+    """As nearest first, but an order is handed in only when no agent that is busy could be at its first stop sooner than all
+    who may be asked for."""
     held = []
     for order in fleet.due_orders():
         if is_better_served_later(fleet, order):
@@ -380,11 +405,11 @@ def hold(fleet: Fleet) -> None:
 
 
 def is_better_served_later(fleet: Fleet, order: Order) -> bool:
-    """Whether an agent under way could be at the first stop, from its path's end, before every agent that has no steps left."""
+    """Whether an agent that is busy could be at the first stop, from where it is due, before every agent that may be asked for."""
     if not fleet.are_known(order):
         return False    # it will be refused
     pickup = fleet.stops_of(order)[0]
-    times = [max(due - fleet.clock, 0) + fleet.distance(end, pickup) for due, end in zip(fleet.due, fleet.ends)]
+    times = [max(due - fleet.clock, 0) + fleet.distance(fleet.place(agent, max(due, fleet.clock)), pickup) for agent, due in enumerate(fleet.due)]
     idle = [time for time, due in zip(times, fleet.due) if due <= fleet.clock]
     busy = [time for time, due in zip(times, fleet.due) if due > fleet.clock]
     return min(busy, default=FAR) < min(idle, default=FAR)

@@ -1,4 +1,4 @@
-"""The carrier of a session over the two named pipes of a client's folder, where a service runs (`live --client N=FOLDER`)."""
+"""The carrier of a session over the two named pipes of a client's folder, where a service runs (`serve --client N=FOLDER`)."""
 from __future__ import annotations
 
 import errno

@@ -199,10 +199,13 @@ class Pipe:
         self.process.drop()
 
 
+LOG_CALLER = '62'    # of the entries that `replay --log` makes
+
+
 def is_entry_of(event: str, line: str) -> bool:
     """Whether an entry's `CALLER COMMAND` is of that command; what a replacement was made of stands in the entry alone."""
     caller, _, command = event.partition(' ')
     words = line.split()
     if words[:1] == ['replace']:
         return command.split(' ')[:2] == ['replace', str(int(words[1]))]
-    return caller == '0' and command == ' '.join(words)
+    return caller == LOG_CALLER and command == ' '.join(words)

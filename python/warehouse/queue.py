@@ -106,13 +106,13 @@ class Queue:
     def serve(self, fleet: Fleet, agent: int) -> None:
         """Gives an agent the nearest order that it may take, again where that takes no time."""
         while fleet.due[agent] <= fleet.clock:
-            able = [(fleet.distance(fleet.ends[agent], fleet.stops_of(one.order)[0]), one.number, one)
+            able = [(fleet.distance(fleet.place(agent), fleet.stops_of(one.order)[0]), one.number, one)
                     for one in self.waiting if one.agent in (None, agent) and fleet.may_take(agent, one.order)]
             if not able or not self.give(fleet, min(able, key=lambda row: row[:2])[2], [agent]):
                 return
 
     def able(self, fleet: Fleet, one: Waiting) -> list[int]:
-        """The agents that have no steps left and may take the order."""
+        """The agents that are due and may take the order."""
         agents = range(len(fleet.due)) if one.agent is None else [one.agent]
         return [agent for agent in agents if fleet.due[agent] <= fleet.clock and fleet.may_take(agent, one.order)]
 
@@ -121,7 +121,7 @@ class Queue:
         if not agents:
             return False
         pickup = fleet.stops_of(one.order)[0]
-        agent = min(agents, key=lambda agent: (fleet.distance(fleet.ends[agent], pickup), agent))
+        agent = min(agents, key=lambda agent: (fleet.distance(fleet.place(agent), pickup), agent))
         task = self.hand_in(fleet, one)
         if task is None:
             return False

@@ -24,6 +24,7 @@ from .process import CoreDied, Process, SessionError
 from .replies import FORMS, Clock, Entry, Go, Lost, NotAReply, Parked, Reply, Told, Took, Visited, is_entry, reply_of, unplaced
 from .texts import Instance, read_file, read_instance
 
+ENDS = ('stops', 'homes')
 ROOT = os.path.dirname(os.path.dirname(os.path.dirname(os.path.abspath(__file__))))
 
 
@@ -37,7 +38,7 @@ class WrongReply(SessionError):
 
 @dataclass(frozen=True)
 class Vehicles:
-    """That vehicles are late: how many steps behind before the clock waits, and how many cells ahead each is told."""
+    """That vehicles are late: how many steps behind before the clock waits, and how many steps ahead each is told."""
     behind: int = 8
     ahead: int = 1
 
@@ -77,6 +78,7 @@ class Session:
     vehicles  that vehicles are late; then the points need `rule nofollow`, and `at` may be sent
     told      with a log: from which entry on `begun` has the run's entries (0: all; None: none)
     replies   how the program writes its replies, of FORMS
+    ends      where paths end: `stops`, or `homes`, which short replies do not go with: cells tell when an agent is due
     options   more words for `replay`
     wait      seconds that may pass without a byte of an answer; with a folder, seconds to a connection (None: any)
     folder    a client's folder in place of a program: the service's `--replies` is `replies` here
@@ -86,9 +88,9 @@ class Session:
     """
 
     def __init__(self, instance: Union[Instance, str], program: Union[str, Sequence[str], None] = None, *, log: str | None = None,
-                 vehicles: Vehicles | None = None, told: int | None = 0, replies: str = 'placed', options: Iterable[str] = (),
-                 wait: float | None = None, folder: str | None = None, process: Process | None = None):
-        assert replies in FORMS, replies
+                 vehicles: Vehicles | None = None, told: int | None = 0, replies: str = 'placed', ends: str = 'stops',
+                 options: Iterable[str] = (), wait: float | None = None, folder: str | None = None, process: Process | None = None):
+        assert replies in FORMS and ends in ENDS, (replies, ends)
         self.instance = instance if isinstance(instance, Instance) else read_instance(instance, read_file(instance))
         if vehicles and not self.instance.nofollow:
             raise SessionError('the points have no line `rule nofollow`, which late vehicles need')
@@ -102,7 +104,7 @@ class Session:
         if folder is not None:
             self.carrier: Carrier = Folder(folder, wait or 0)
         else:
-            words = [*words_of(program), 'replay', '--replies', replies, *options, *(vehicles.words if vehicles else [])]
+            words = [*words_of(program), 'replay', '--replies', replies, *ends_words(ends), *options, *(vehicles.words if vehicles else [])]
             pipe = Pipe(process or Process(words, wait), self.instance.text, replies, log, vehicles is not None)
             self.carrier, self.restarts = pipe, pipe.restarts
         self.begun = self.begin(told or 0, told)
@@ -125,7 +127,7 @@ class Session:
         return self.ask(f'submit {client} {" ".join(stops)}')
 
     def token(self, agent: int) -> Reply:
-        """The agent, which has no steps left, asks for something to do. Answered Took, Parked, Rested or Refused."""
+        """The agent, which is due, asks for something to do. Answered Took, Parked, Rested or Refused."""
         return self.ask(f'token {agent}')
 
     def tick(self) -> Reply:
@@ -222,6 +224,11 @@ class Session:
                 self.end()
         finally:
             self.kill()
+
+
+def ends_words(ends: str) -> list[str]:
+    """The program's words for where paths end."""
+    return [] if ends == 'stops' else ['--ends', ends]
 
 
 def words_of(named: Union[str, Sequence[str], None]) -> list[str]:

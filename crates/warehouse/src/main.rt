@@ -11,7 +11,9 @@ ghost use Rattle.wh_claims.specs.Claim.{claim_amount};
 
 use std::alloc::AllocError;
 use std::env;
+use std::fs::File;
 use std::io::{self, BufWriter, ErrorKind, Write};
+use std::os::fd::{AsFd, IntoRawFd};
 use std::process::ExitCode;
 use std::sync::Wait;
 use std::thread::Threads;
@@ -29,6 +31,30 @@ const OUTPUT_BUFFER: usize = 65_536;
 /// The status of a program that had no memory to begin with, which one line on standard error tells.
 fn starved<E: Write>(errors: &mut E) -> Status {
     end(errors, Err(Trouble::NoMemory))
+}
+
+/// The system's number for a descriptor that is not open.
+const NOT_OPEN: i32 = 9;
+
+/// Whether a standard stream was open when the program began.
+fn is_open<S: AsFd>(stream: &S) -> bool {
+    match stream.as_fd().try_clone_to_owned() {
+        Ok(_) => true,
+        Err(error) => error.raw_os_error() != Some(NOT_OPEN),
+    }
+}
+
+/// Puts the folder `/` in the place of each standard stream that was closed. Nothing can be read from it or written to it, and no file that is
+/// opened later takes that place, where it would be given what belongs on the stream.
+fn hold_closed(rt: &HostRuntime) -> io::Result<()> {
+    for _ in 0..3 {
+        if is_open(&rt.stdin()) && is_open(&rt.stdout()) && is_open(&rt.stderr()) {
+            return Ok(());
+        }
+        // the lowest number that is not open; it stays open to the end
+        let _ = File::open(rt, "/")?.into_raw_fd();
+    }
+    Ok(())
 }
 
 /// The process's words, or the status with which it ends at once.
@@ -92,6 +118,9 @@ fn obey<'w, R: AllocGlobal + Print + Input + Threads + Wait + Clock + Sync, E: W
 
 fn main(rt: HostRuntime) -> ExitCode {
     let mut errors = rt.stderr();
+    if hold_closed(&rt).is_err() {
+        return ExitCode::from(end(&mut errors, Err(Trouble::Unkept)).number());
+    }
     let status = match words(&rt, &mut errors) {
         Ok(words) => obey(&rt, &rt, words.as_slice(), &mut errors),
         Err(status) => status,

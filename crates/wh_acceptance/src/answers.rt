@@ -51,6 +51,7 @@ pub fn served<R: Read + Drop, W: Write>(
         slots: 4,
         bank: 1024,
         spares: 0,
+        homes: false,
     };
     let options = ReplayOptions {
         fleet,
@@ -58,7 +59,9 @@ pub fn served<R: Read + Drop, W: Write>(
         replies: Replies::Short,
         log: None,
         told: None,
+        anew: false,
         vehicles: None,
+        deliver: false,
     };
     let mut lines = Lines::new(reader);
     match replay(alloc, &mut lines, writer, &options, make) {

@@ -122,7 +122,7 @@ fn writers(rt: HostRuntime) -> Result<(), Fail> {
 /// The warehouse at clock 0, with two planners of 4 slots.
 fn opened(alloc: Global) -> Result<Warehouse<Patient>, Fail> {
     let input = format!(in alloc; "{MAP}%%\n{POINTS}{AGENTS}")?;
-    let Site { grid, points } = read_site(&mut Lines::new(input.as_bytes()), alloc)?;
+    let Site { grid, points, .. } = read_site(&mut Lines::new(input.as_bytes()), alloc, false)?;
     let grid = Arc::new(alloc, grid)?;
     let (bank, mut seat) = Bank::new(alloc, 8)?;
     let first = Patient::new(Arc::try_clone(&grid)?, claim(&bank, &mut seat, 4)?);

@@ -126,7 +126,7 @@ fn run<P: Planner, F: Fn(PlannerParts) -> Result<P, AllocError>>(
     requires { F.IsAlwaysCallable make.now }
 {
     let input = format!(in alloc; "{MAP}%%\n{POINTS}{AGENTS}")?;
-    let Site { grid, points } = read_site(&mut Lines::new(input.as_bytes()), alloc)?;
+    let Site { grid, points, .. } = read_site(&mut Lines::new(input.as_bytes()), alloc, false)?;
     let grid = Arc::new(alloc, grid)?;
     let (bank, mut seat) = Bank::new(alloc, machine.bank)?;
     let planners = members(alloc, machine.planners, &bank, &mut seat, make)?;

@@ -3,8 +3,8 @@ use clap::error::ErrorKind;
 use std::alloc::{AllocError, Global};
 use std::test::*;
 use wh_options::{
-    AttendOptions, ClientOptions, ClientRights, Fleet, LiveOptions, Options, PlannerKind, Refusal,
-    ReplayOptions, Replies, Tail, VehicleOptions, options, refusal_of,
+    CheckOptions, ClientOptions, ClientRights, Fleet, LiveOptions, Options, PlannerKind, Refusal,
+    ReplayOptions, Replies, ServeOptions, Tail, VehicleOptions, VerifyOptions, options, refusal_of,
 };
 
 const FLEET: Fleet = Fleet {
@@ -12,6 +12,7 @@ const FLEET: Fleet = Fleet {
     slots: 4,
     bank: 1024,
     spares: 0,
+    homes: false,
 };
 
 const PLAIN: ReplayOptions<'static> = ReplayOptions {
@@ -20,7 +21,9 @@ const PLAIN: ReplayOptions<'static> = ReplayOptions {
     replies: Replies::Short,
     log: None,
     told: None,
+    anew: false,
     vehicles: None,
+    deliver: false,
 };
 
 const LEDGER: ReplayOptions<'static> = ReplayOptions {
@@ -31,7 +34,7 @@ const LEDGER: ReplayOptions<'static> = ReplayOptions {
 };
 
 /// Words after `warehouse replay`, and the options that they give.
-const REPLAYS: [(&[&str], ReplayOptions<'static>); 17] = [
+const REPLAYS: [(&[&str], ReplayOptions<'static>); 21] = [
     (&[], PLAIN),
     (&["--slots=8", "--tail=ledger", "--replies=full"], LEDGER),
     (
@@ -98,6 +101,14 @@ const REPLAYS: [(&[&str], ReplayOptions<'static>); 17] = [
         },
     ),
     (
+        &["--new", "--log", "a.log"],
+        ReplayOptions {
+            log: Some("a.log"),
+            anew: true,
+            ..PLAIN
+        },
+    ),
+    (
         &["--log", "a.log", "--told=999999999"],
         ReplayOptions {
             log: Some("a.log"),
@@ -136,11 +147,41 @@ const REPLAYS: [(&[&str], ReplayOptions<'static>); 17] = [
             ..PLAIN
         },
     ),
+    (
+        &["--deliver", "--log=a.log"],
+        ReplayOptions {
+            log: Some("a.log"),
+            deliver: true,
+            ..PLAIN
+        },
+    ),
     (&["--planner=near"], PLAIN),
+    (&["--ends", "stops"], PLAIN),
+    (
+        &["--ends=homes", "--slots=4"],
+        ReplayOptions {
+            fleet: Fleet {
+                homes: true,
+                ..FLEET
+            },
+            ..PLAIN
+        },
+    ),
 ];
 
 /// Words that are refused, and the kind of the error.
-const MISTAKES: [(&[&str], ErrorKind); 52] = [
+const MISTAKES: [(&[&str], ErrorKind); 70] = [
+    (
+        &["replay", "--deliver", "--vehicles"],
+        ErrorKind::ArgumentConflict,
+    ),
+    (&["replay", "--ends=home"], ErrorKind::InvalidValue),
+    (&["check", "--ends"], ErrorKind::InvalidValue),
+    (&["live", "--ends=HOMES"], ErrorKind::InvalidValue),
+    (
+        &["verify", "--ends=homes", "--ends", "stops"],
+        ErrorKind::ArgumentConflict,
+    ),
     (&["replay", "--log"], ErrorKind::InvalidValue),
     (&["replay", "--log="], ErrorKind::InvalidValue),
     (&["replay", "--log", ""], ErrorKind::InvalidValue),
@@ -154,10 +195,11 @@ const MISTAKES: [(&[&str], ErrorKind); 52] = [
         ErrorKind::ArgumentConflict,
     ),
     (&["check", "--log", "x"], ErrorKind::UnknownArgument),
-    (&["live", "--log=x"], ErrorKind::MissingRequiredArgument),
-    (&["live", "--log="], ErrorKind::InvalidValue),
+    (&["serve", "--log=x"], ErrorKind::MissingRequiredArgument),
+    (&["live", "--log=x"], ErrorKind::UnknownArgument),
+    (&["serve", "--log="], ErrorKind::InvalidValue),
     (
-        &["live", "--log=a", "--log=b", "--client=0=c"],
+        &["serve", "--log=a", "--log=b", "--client=0=c"],
         ErrorKind::ArgumentConflict,
     ),
     (
@@ -172,6 +214,8 @@ const MISTAKES: [(&[&str], ErrorKind); 52] = [
         &["replay", "--ahead", "1", "--log", "a"],
         ErrorKind::MissingRequiredArgument,
     ),
+    (&["replay", "--new"], ErrorKind::MissingRequiredArgument),
+    (&["live", "--new"], ErrorKind::UnknownArgument),
     (&["replay", "--vehicles=true"], ErrorKind::TooManyValues),
     (
         &["replay", "--vehicles", "true"],
@@ -200,77 +244,84 @@ const MISTAKES: [(&[&str], ErrorKind); 52] = [
     (&["replay", "--replies=Full"], ErrorKind::InvalidValue),
     (&["replay", "--replies=log"], ErrorKind::InvalidValue),
     (
-        &["live", "--replies=full"],
+        &["serve", "--replies=full"],
         ErrorKind::MissingRequiredArgument,
     ),
-    (&["live", "--replies=long"], ErrorKind::InvalidValue),
+    (&["serve", "--replies=long"], ErrorKind::InvalidValue),
     (
-        &["live", "--client", "0=c"],
+        &["serve", "--client", "0=c"],
         ErrorKind::MissingRequiredArgument,
     ),
     (
-        &["live", "--client=nobody", "--every=5"],
+        &["serve", "--client=nobody", "--every=5"],
         ErrorKind::MissingRequiredArgument,
     ),
-    (&["live", "--client"], ErrorKind::InvalidValue),
+    (&["serve", "--client"], ErrorKind::InvalidValue),
     (&["replay", "--client=0=c"], ErrorKind::UnknownArgument),
+    (&["serve"], ErrorKind::MissingRequiredArgument),
     (
-        &["live", "--log=a", "--client=0=c", "--turns=5"],
+        &["serve", "--log=a", "--client=0=c", "--turns=5"],
+        ErrorKind::UnknownArgument,
+    ),
+    (&["live", "--client=0=c"], ErrorKind::UnknownArgument),
+    (&["live", "--every", "5"], ErrorKind::UnknownArgument),
+    (&["live", "--board=b"], ErrorKind::UnknownArgument),
+    (&["live", "--board-every=5"], ErrorKind::UnknownArgument),
+    (&["live", "--share=5"], ErrorKind::UnknownArgument),
+    (&["live", "--replies=full"], ErrorKind::UnknownArgument),
+    (&["live", "--turns=0"], ErrorKind::ValueValidation),
+    (&["live", "--turns=100001"], ErrorKind::ValueValidation),
+    (&["serve", "--journal=0"], ErrorKind::ValueValidation),
+    (&["serve", "--journal=1000001"], ErrorKind::ValueValidation),
+    (
+        &["serve", "--log=a", "--board=a", "--client=0=c"],
         ErrorKind::ArgumentConflict,
     ),
     (
-        &["live", "--turns=1", "--log=a", "--client=nobody"],
+        &["serve", "--log=a.new", "--board", "a", "--client=nobody"],
         ErrorKind::ArgumentConflict,
     ),
     (
-        &["live", "--log=a", "--board=a", "--client=0=c"],
+        &["serve", "--board=a.site", "--client=0=c", "--log=a"],
         ErrorKind::ArgumentConflict,
     ),
     (
-        &["live", "--log=a.new", "--board", "a", "--client=nobody"],
-        ErrorKind::ArgumentConflict,
-    ),
-    (
-        &["live", "--board=a.site", "--client=0=c", "--log=a"],
-        ErrorKind::ArgumentConflict,
-    ),
-    (
-        &["live", "--log=a", "--board=b", "--client=nobody"],
+        &["serve", "--log=a", "--board=b", "--client=nobody"],
         ErrorKind::ValueValidation,
     ),
-    (&["live", "--share=5"], ErrorKind::MissingRequiredArgument),
+    (&["serve", "--share=5"], ErrorKind::MissingRequiredArgument),
     (
-        &["live", "--log=a", "--client=0=c", "--share=0"],
+        &["serve", "--log=a", "--client=0=c", "--share=0"],
         ErrorKind::ValueValidation,
     ),
     (
-        &["live", "--log=a", "--client=0=c", "--share", "1000001"],
+        &["serve", "--log=a", "--client=0=c", "--share", "1000001"],
         ErrorKind::ValueValidation,
     ),
     (&["replay", "--share=5"], ErrorKind::UnknownArgument),
     (
-        &["live", "--log=a", "--client=0=c", "--board-every=1"],
+        &["serve", "--log=a", "--client=0=c", "--board-every=1"],
         ErrorKind::MissingRequiredArgument,
     ),
-    (&["live", "--every", "0"], ErrorKind::ValueValidation),
-    (&["live", "--every=60001"], ErrorKind::ValueValidation),
+    (&["serve", "--every", "0"], ErrorKind::ValueValidation),
+    (&["serve", "--every=60001"], ErrorKind::ValueValidation),
     (&["replay", "--every", "1"], ErrorKind::UnknownArgument),
     (
-        &["live", "--board-every=100"],
+        &["serve", "--board-every=100"],
         ErrorKind::MissingRequiredArgument,
     ),
-    (&["live", "--board"], ErrorKind::InvalidValue),
-    (&["live", "--board="], ErrorKind::InvalidValue),
+    (&["serve", "--board"], ErrorKind::InvalidValue),
+    (&["serve", "--board="], ErrorKind::InvalidValue),
     (
-        &["live", "--board=b", "--board-every=0"],
+        &["serve", "--board=b", "--board-every=0"],
         ErrorKind::ValueValidation,
     ),
     (
-        &["live", "--board=b", "--board-every=60001"],
+        &["serve", "--board=b", "--board-every=60001"],
         ErrorKind::ValueValidation,
     ),
     (
-        &["live", "--board=b", "--board=b"],
+        &["serve", "--board=b", "--board=b"],
         ErrorKind::ArgumentConflict,
     ),
     (&["replay", "--board=b"], ErrorKind::UnknownArgument),
@@ -315,7 +366,7 @@ const CLIENTS: [ClientOptions<'static>; 3] = [
     },
 ];
 
-/// Words for running clients, after `warehouse live --log=a`, that name none, or not each its own.
+/// Words for clients, after `warehouse serve --log=a`, that name none, or not each its own.
 const NO_CLIENTS: [&[&str]; 16] = [
     &["--client="],
     &["--client", "c"],
@@ -374,32 +425,20 @@ fn options_of_replay(rt: HostRuntime) -> Result<(), Fail> {
 #[test]
 fn other_subcommands(rt: HostRuntime) {
     let alloc = rt.alloc();
-    assert!(rt; gives(alloc, &["warehouse", "check", "--"], Options::Check));
-    assert!(rt; gives(alloc, &["warehouse", "verify"], Options::Verify));
+    let stops = Options::Check(CheckOptions { homes: false });
+    let homes = Options::Check(CheckOptions { homes: true });
+    assert!(rt; gives(alloc, &["warehouse", "check", "--"], stops));
+    assert!(rt; gives(alloc, &["warehouse", "check", "--ends=homes"], homes));
+    let stops = Options::Verify(VerifyOptions { homes: false });
+    let homes = Options::Verify(VerifyOptions { homes: true });
+    assert!(rt; gives(alloc, &["warehouse", "verify"], stops));
+    assert!(rt; gives(alloc, &["warehouse", "verify", "--ends", "homes"], homes));
     let live = LiveOptions {
         fleet: FLEET,
         turns: 64,
         journal: 10_000,
-        every: None,
-        board: None,
-        board_every: 100,
     };
     assert!(rt; gives(alloc, &["warehouse", "live"], Options::Live(live)));
-    let paced = LiveOptions {
-        fleet: FLEET,
-        turns: 100_000,
-        journal: 10_000,
-        every: Some(10),
-        board: None,
-        board_every: 100,
-    };
-    assert!(rt;
-        gives(
-            alloc,
-            &["warehouse", "live", "--every", "010"],
-            Options::Live(paced)
-        )
-    );
 }
 
 #[test]
@@ -416,11 +455,7 @@ fn every_option_of_live(rt: HostRuntime) {
         "--bank",
         "65536",
         "--spares=16",
-        "--every=60000",
-        "--board-every",
-        "1",
-        "--board",
-        "shown/a b",
+        "--ends=homes",
     ];
     let live = LiveOptions {
         fleet: Fleet {
@@ -428,21 +463,19 @@ fn every_option_of_live(rt: HostRuntime) {
             slots: 64,
             bank: 65536,
             spares: 16,
+            homes: true,
         },
         turns: 7,
         journal: 1_000_000,
-        every: Some(60_000),
-        board: Some("shown/a b"),
-        board_every: 1,
     };
     assert!(rt; gives(rt.alloc(), words.as_slice(), Options::Live(live)));
 }
 
 #[test]
-fn running_clients(rt: HostRuntime) -> Result<(), Fail> {
+fn every_option_of_serve(rt: HostRuntime) -> Result<(), Fail> {
     let words = [
         "warehouse",
-        "live",
+        "serve",
         "--client",
         "61=pipes/a b=c",
         "--journal=500",
@@ -451,49 +484,54 @@ fn running_clients(rt: HostRuntime) -> Result<(), Fail> {
         "a.log",
         "--replies=placed",
         "--client",
-        "+07=boss:all",
+        "7=boss:all",
         "--spares=2",
+        "--ends",
+        "homes",
         "--share=1000000",
-        "--turns=9",
         "--every",
         "20",
         "--board=a.log.new",
         "--board-every=1000",
     ];
-    let attend = AttendOptions {
-        fleet: Fleet { spares: 2, ..FLEET },
+    let many = ServeOptions {
+        fleet: Fleet {
+            spares: 2,
+            homes: true,
+            ..FLEET
+        },
         journal: 500,
         share: Some(1_000_000),
         replies: Replies::Placed,
         log: "a.log",
+        anew: false,
         every: Some(20),
-        turns: 9,
         board: Some("a.log.new"),
         board_every: 1000,
         clients: Vec::from_array(rt.alloc(), CLIENTS)?,
     };
-    assert!(rt; gives(rt.alloc(), words.as_slice(), Options::Attend(attend)));
-    let one = AttendOptions {
+    assert!(rt; gives(rt.alloc(), words.as_slice(), Options::Serve(many)));
+    let one = ServeOptions {
         fleet: FLEET,
-        journal: 10_000,
+        journal: 1_000_000,
         share: None,
         replies: Replies::Short,
         log: "x",
+        anew: true,
         every: None,
-        turns: 64,
         board: None,
         board_every: 100,
         clients: Vec::from_array(rt.alloc(), [CLIENTS[0]])?,
     };
-    let words = ["", "live", "--log=x", "--client=61=pipes/a b=c"];
-    assert!(rt; gives(rt.alloc(), words.as_slice(), Options::Attend(one)));
+    let words = ["", "serve", "--log=x", "--new", "--client=61=pipes/a b=c"];
+    assert!(rt; gives(rt.alloc(), words.as_slice(), Options::Serve(one)));
     Ok(())
 }
 
 #[test]
 fn words_that_name_no_clients(rt: HostRuntime) -> Result<(), Fail> {
     for words in NO_CLIENTS {
-        let mut all = command(rt.alloc(), &["live", "--log=a"])?;
+        let mut all = command(rt.alloc(), &["serve", "--log=a"])?;
         all.extend_from_slice(words)?;
         assert!(rt; is_refused(rt.alloc(), all.as_slice(), ErrorKind::ValueValidation));
     }

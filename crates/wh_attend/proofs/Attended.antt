@@ -15,34 +15,43 @@ use Rattle.wh_journal.specs.Surviving.{StaysLog}
 use Rattle.wh_continue.specs.Besides.{StandsBeside}
 use Rattle.wh_continue.specs.declared.beside.Beside.{Beside}
 use Rattle.wh_continue.specs.declared.running.KeepFault.{KeepFault}
+use Rattle.wh_continue.specs.declared.starting.Start.{Start}
 use Rattle.wh_continue.specs.declared.running.KeepFault.TheVariants as kept
-use Rattle.wh_continue.specs.Running.{LeavesFront, Opens, last_line}
+use Rattle.wh_continue.specs.Opening.{IsOpened, IsWhyNotBoth}
+use Rattle.wh_continue.specs.Running.{Opens, last_line}
 use Rattle.wh_edge.specs.declared.trouble.Trouble.{Trouble}
 use Rattle.wh_edge.specs.declared.trouble.Trouble.TheVariants as trouble
-use Rattle.wh_options.specs.declared.chosen.AttendOptions.{AttendOptions}
+use Rattle.wh_options.specs.declared.chosen.ServeOptions.{ServeOptions}
 use Rattle.wh_display.specs.declared.screen.ShowFault.{ShowFault}
-use Rattle.wh_live.specs.Displays.{BoardsFrom}
+use Rattle.wh_host.specs.Displays.{BoardsFrom}
 use Rattle.wh_host.specs.Runs.{IsJournalOf, first_lines}
+use Rattle.wh_serve.specs.declared.threads.Client.{Client}
 use Rattle.wh_service.specs.Kept.{IsSet, Siding, first_slots, keep_trouble}
 use Rattle.wh_service.specs.declared.parts.PlannerParts.{PlannerParts}
-use Rattle.wh_service.proofs.Lasting.{start_site}
+use Rattle.wh_service.proofs.Lasting.{start_site, told_before}
 use Rattle.wh_attend.specs.Attends.{Attends, IsReady, IsWhyNoHistory, IsWhyUnattended, IsWhyUnended, IsWhyUntold, Serves, ServesClients, ShowsRun, log_of}
+use Rattle.wh_attend.specs.Guests.{IsStaffed}
 use Rattle.wh_attend.specs.declared.ready.Ready.{Ready}
 use Rattle.wh_attend.proofs.Wholes.{whole_log}
 
-module _ {R W X : Type 0} (fits : X → Floor → Bool) (count : X → ℕ) (remaining : R → Option (List ℕ)) (contents : W → Option (List ℕ)) (gives : PlannerParts → Result X AllocError → Type 0) (options : AttendOptions)
+module _ {R W X : Type 0} (fits : X → Floor → Bool) (count : X → ℕ) (remaining : R → Option (List ℕ)) (contents : W → Option (List ℕ)) (gives : PlannerParts → Result X AllocError → Type 0) (options : ServeOptions)
     (old new : Input) (file : Option (List ℕ)) (beside : Siding) (showed shows : Option (Option (List (List ℕ)))) (site : Site) (run : Ready X) (ready : IsReady gives options old new file beside.before site run) (aside : Option (List ℕ)) (still : aside ≡ beside.before) where
-  -- what stands beside the log was not kept
-  pub stops_aside : (had : Option (List ℕ)) → LeavesFront aside beside.after run.text.items → beside.failed ≡ true
-      → IsWhyUnattended fits count remaining contents gives options trouble.Unkept old new had had file beside showed shows
-  stops_aside had left failing = inr (inl (
-    refl,
+  -- the log was not begun, or the site not kept beside it
+  pub stops_opening : (fault : KeepFault) (told : Trouble) (had now opened : Option (List ℕ)) (failed : Bool) (bytes : List ℕ) → told ≡ keep_trouble fault → now ≡ file → bytes ≡ run.text.items
+      → IsWhyNotBoth fault run.start now opened failed aside beside.after beside.failed bytes
+      → IsWhyUnattended fits count remaining contents gives options told old new had had file beside showed shows
+  stops_opening fault told had now opened failed bytes is same text why = inr (inl (
+    fault,
+    is,
     record {
       site = site;
       run = run;
       ready = ready;
-      left = subst (λ (b : Option (List ℕ)). LeavesFront b beside.after run.text.items) still left;
-      has_failed = failing;
+      opened = opened;
+      failed = failed;
+      why = subst (λ (b : Option (List ℕ)). IsWhyNotBoth fault run.start file opened failed b beside.after beside.failed run.text.items) still
+          (subst (λ (f : Option (List ℕ)). IsWhyNotBoth fault run.start f opened failed aside beside.after beside.failed run.text.items) same
+          (subst (λ (t : List ℕ). IsWhyNotBoth fault run.start now opened failed aside beside.after beside.failed t) text why));
     },
     Keeps-refl had,
   ))
@@ -110,6 +119,10 @@ module _ {R W X : Type 0} (fits : X → Floor → Bool) (count : X → ℕ) (rem
       untold (Ok f) had has why = tt
       untold (Err told) had has why = unended told had has why
 
+-- a log of a run that was begun is the log of what stood before
+pub stays_before : (start begun : Start) (file opened new : Option (List ℕ)) (book : Seen) → IsOpened start begun file opened → book ≡ start.book → StaysLog opened new book → StaysLog file new start.book
+stays_before start begun file opened new book is same stays = subst (λ (b : Seen). StaysLog file new b) same (told_before start begun file opened _ is stays)
+
 -- what stands beside the log, by another name of the text and of the file
 pub stands_at : (before aside : Option (List ℕ)) (text bytes : List ℕ) (found : Beside) → aside ≡ before → bytes ≡ text → StandsBeside before text found → StandsBeside aside bytes found
 stands_at before aside text bytes found still same stands =
@@ -118,11 +131,13 @@ stands_at before aside text bytes found still same stands =
 pub stands_as : (before : Option (List ℕ)) (text bytes : List ℕ) (found : Beside) → bytes ≡ text → StandsBeside before bytes found → StandsBeside before text found
 stands_as before text bytes found same stands = subst (λ (t : List ℕ). StandsBeside before t found) same stands
 
+-- the staff on a grid that lies elsewhere
+pub staffed_on : {X : Type 0} (gives : PlannerParts → Result X AllocError → Type 0) (options : ServeOptions) (grid at : Floor) (slots : List ℕ) (earlier : List Entry) (planners : List X) (clients : List (Client X)) → grid ≡ at →
+    IsStaffed gives options grid slots earlier planners clients → IsStaffed gives options at slots earlier planners clients
+staffed_on gives options grid at slots earlier planners clients same staffed = subst (λ (f : Floor). IsStaffed gives options f slots earlier planners clients) same staffed
+
 pub opens_as : (before after : Option (List ℕ)) (text bytes : List ℕ) → bytes ≡ text → Opens before after bytes → Opens before after text
 opens_as before after text bytes same opens = subst (λ (t : List ℕ). Opens before after t) same opens
-
-pub leaves_as : (before after : Option (List ℕ)) (text bytes : List ℕ) → bytes ≡ text → LeavesFront before after bytes → LeavesFront before after text
-leaves_as before after text bytes same left = subst (λ (t : List ℕ). LeavesFront before after t) same left
 
 -- a front of the log was written
 pub written_short : (told : Trouble) (log text : List ℕ) (had has : Option (List ℕ)) → told ≡ trouble.Unwritten → text ≡ log → WritesFront had has text → IsWhyUntold told log had has

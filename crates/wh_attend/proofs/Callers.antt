@@ -14,7 +14,7 @@ use Rattle.wh_continue.specs.Starting.{Begins, GoesOnFrom}
 use Rattle.wh_continue.specs.declared.starting.Start.{Start}
 use Rattle.wh_claims.specs.declared.bank.Bank.{Bank}
 use Rattle.wh_client.specs.declared.client.ClientOptions.{ClientOptions}
-use Rattle.wh_options.specs.declared.chosen.AttendOptions.{AttendOptions}
+use Rattle.wh_options.specs.declared.chosen.ServeOptions.{ServeOptions}
 use Rattle.wh_desk.specs.Lists.{AllAt}
 use Rattle.wh_desk.proofs.Entries.{AllAt_push}
 use Rattle.wh_options.specs.declared.chosen.Fleet.{Fleet}
@@ -42,7 +42,7 @@ at_end P xs ys n y same size all here =
     subst (λ (zs : List _). AllAt P zs) (sym same) (AllAt_push P xs y all (subst (λ (k : ℕ). P k y) (sym size) here))
 
 -- the clients, where the history lies elsewhere
-pub clients_as : {X : Type 0} (gives : PlannerParts → Result X AllocError → Type 0) (options : AttendOptions) (grid : Floor) (bank : Bank) (history earlier : List Entry) (clients : List (Client X)) (places : ℕ)
+pub clients_as : {X : Type 0} (gives : PlannerParts → Result X AllocError → Type 0) (options : ServeOptions) (grid : Floor) (bank : Bank) (history earlier : List Entry) (clients : List (Client X)) (places : ℕ)
     → history ≡ earlier → length clients ≡ places → HaveRoom options.every places → All (λ (e : Entry). e.caller < numbers_of options.every places) history
     → All (λ (n : ClientOptions). n.number < places) options.clients.items → AllAt (IsClient gives options grid bank history) clients
     → AreClients gives options grid bank earlier clients

@@ -1,4 +1,4 @@
--- What a whole run of `live` with running clients does, from the site that is read to the log that is kept.
+-- What a whole run of `serve` does, from the site that is read to the log that is kept.
 use Rattle.std.specs.Prelude.{◌≡◌, ◌⊎◌, ◌+◌, ℕ, Bool, true, false, List, length, Option, None, IfSome, Result, Ok, Err}
 use Rattle.std.specs.declared.alloc.AllocError.{AllocError}
 use Rattle.std.specs.Io.KnownBytes.{Appends, Keeps}
@@ -13,22 +13,23 @@ use Rattle.wh_log.specs.Logs.{log_lines}
 use Rattle.wh_log.specs.declared.version.Version.TheVariants.{Two}
 use Rattle.wh_journal.specs.Surviving.{told_by}
 use Rattle.wh_continue.specs.Besides.{StandsBeside}
-use Rattle.wh_continue.specs.Running.{IsWholeLog, LeavesFront}
+use Rattle.wh_continue.specs.Opening.{IsWhyNotBoth}
+use Rattle.wh_continue.specs.Running.{IsWholeLog}
+use Rattle.wh_continue.specs.declared.running.KeepFault.{KeepFault}
 use Rattle.wh_edge.specs.Site.{SiteFault, SiteKept}
 use Rattle.wh_edge.specs.declared.trouble.Trouble.{Trouble}
 use Rattle.wh_edge.specs.declared.trouble.Trouble.TheVariants as trouble
-use Rattle.wh_options.specs.declared.chosen.AttendOptions.{AttendOptions}
+use Rattle.wh_options.specs.declared.chosen.ServeOptions.{ServeOptions}
 use Rattle.wh_desk.specs.Pasts.{Origin, origin_of}
 use Rattle.wh_desk.specs.Drafts.{Seen}
 use Rattle.wh_display.specs.declared.screen.ShowFault.{ShowFault}
-use Rattle.wh_live.specs.Displays.{BoardsFrom, trouble_of_show}
-use Rattle.wh_live.specs.Lives.{IsWhyUnlived}
+use Rattle.wh_host.specs.Displays.{BoardsFrom, IsWhyUnlived, trouble_of_show}
 use Rattle.wh_serve.specs.Texts.{receipt_text}
 use Rattle.wh_serve.specs.declared.threads.Client.{Client}
 use Rattle.wh_serve.specs.declared.doors.WorkerEnd.{WorkerEnd}
 use Rattle.wh_host.specs.declared.pacing.Pacing.{Pacing}
 use Rattle.wh_host.specs.Runs.{ServedFrom}
-use Rattle.wh_service.specs.Kept.{EndsAtStart, IsSet, IsUntouched, Siding, StartsFrom}
+use Rattle.wh_service.specs.Kept.{EndsAtStart, HasLog, IsSet, IsUntouched, Siding, StartsFrom, keep_trouble}
 use Rattle.wh_service.specs.Plays.{form_of}
 use Rattle.wh_service.specs.declared.parts.PlannerParts.{PlannerParts}
 use Rattle.wh_attend.specs.Guests.{IsStaffed}
@@ -41,18 +42,19 @@ log_of book = lines_text (log_lines Two (told_by book))
 
 -- A run is ready. A site was read, and the input ended after it; its text stands beside the log, or a beginning of it does; by the log
 -- the run starts from this, with one planner for each agent, and with the clients and their spare planners.
-pub record IsReady {X : Type 0} (gives : PlannerParts → Result X AllocError → Type 0) (options : AttendOptions) (old new : Input) (file beside : Option (List ℕ)) (site : Site) (run : Ready X) : Type 0 where
-  pub site_read : SiteKept old new site.grid site.layout run.text.items
+pub record IsReady {X : Type 0} (gives : PlannerParts → Result X AllocError → Type 0) (options : ServeOptions) (old new : Input) (file beside : Option (List ℕ)) (site : Site) (run : Ready X) : Type 0 where
+  pub site_read : SiteKept options.fleet.homes old new site run.text.items
   pub alone : new.ended ≡ true
   pub stands : StandsBeside beside run.text.items run.found
   pub starts : StartsFrom options.fleet site file run.start
+  pub has_log : HasLog options.anew run.found run.start
   pub staffed : IsStaffed gives options site.grid run.start.book.state.slots run.start.book.history run.planners.items run.clients.items
 
 -- Clients were served, and beside them a worker for all agents and the clock took turns, where the options name one: the history goes on
 -- from the earlier one, by no more entries than the options name. Remaining and contents are the bytes that a reader and a writer of a
 -- client tell.
 pub record ServesClients {R W X : Type 0} (fits : X → Floor → Bool) (count : X → ℕ) (remaining : R → Option (List ℕ)) (contents : W → Option (List ℕ))
-    (options : AttendOptions) (origin : Origin) (earlier : List Entry) (clients : List (Client X)) (history : List Entry) (state : State) : Type 0 where
+    (options : ServeOptions) (origin : Origin) (earlier : List Entry) (clients : List (Client X)) (history : List Entry) (state : State) : Type 0 where
   pub pace : Option Pacing
   pub pace_is : IsPacingOf options.every options earlier pace
   pub connections : List ℕ
@@ -61,7 +63,7 @@ pub record ServesClients {R W X : Type 0} (fits : X → Floor → Bool) (count :
 
 -- The clients of a run were served, over what it started from, as one run from the same opening of the site.
 pub record Serves {R W X : Type 0} (fits : X → Floor → Bool) (count : X → ℕ) (remaining : R → Option (List ℕ)) (contents : W → Option (List ℕ))
-    (options : AttendOptions) (site : Site) (run : Ready X) (final : Seen) : Type 0 where
+    (options : ServeOptions) (site : Site) (run : Ready X) (final : Seen) : Type 0 where
   pub site_is : final.site ≡ site
   pub opening_is : final.opening ≡ run.start.book.opening
   pub served : ServesClients fits count remaining contents options (origin_of final) run.start.book.history run.clients.items final.history final.state
@@ -73,7 +75,7 @@ ShowsRun run final last showed shows = BoardsFrom (origin_of final) run.start.bo
 
 -- A run was ready, its site was kept beside the log, and its clients were served. The file is the log of the whole run now, old
 -- and new entries, if it tells its bytes, and all of it is synced; that log was written, and the board of the whole run was shown.
-pub record Attends {R W X : Type 0} (fits : X → Floor → Bool) (count : X → ℕ) (remaining : R → Option (List ℕ)) (contents : W → Option (List ℕ)) (gives : PlannerParts → Result X AllocError → Type 0) (options : AttendOptions)
+pub record Attends {R W X : Type 0} (fits : X → Floor → Bool) (count : X → ℕ) (remaining : R → Option (List ℕ)) (contents : W → Option (List ℕ)) (gives : PlannerParts → Result X AllocError → Type 0) (options : ServeOptions)
     (old new : Input) (had has file synced holds : Option (List ℕ)) (beside : Siding) (showed shows : Option (Option (List (List ℕ)))) : Type 0 where
   pub site : Site
   pub run : Ready X
@@ -86,34 +88,35 @@ pub record Attends {R W X : Type 0} (fits : X → Floor → Bool) (count : X →
   pub tells : Appends had has (log_of final)
   pub boards : ShowsRun run final (Ok tt) showed shows
 
--- A site was read, and more follows it.
-pub record IsFollowed (old new : Input) : Type 0 where
+-- A site was read by the rule that was asked for, and more follows it.
+pub record IsFollowed (homes : Bool) (old new : Input) : Type 0 where
   pub site : Site
   pub text : List ℕ
-  pub site_read : SiteKept old new site.grid site.layout text
+  pub site_read : SiteKept homes old new site text
   pub more : new.ended ≡ false
 
 -- A run is ready, except that this client has no way in.
-pub record EndsAtHall {X : Type 0} (gives : PlannerParts → Result X AllocError → Type 0) (options : AttendOptions) (client : ℕ) (old new : Input) (file beside : Option (List ℕ)) : Type 0 where
+pub record EndsAtHall {X : Type 0} (gives : PlannerParts → Result X AllocError → Type 0) (options : ServeOptions) (client : ℕ) (old new : Input) (file beside : Option (List ℕ)) : Type 0 where
   pub site : Site
   pub run : Ready X
   pub ready : IsReady gives options old new file beside site run
 
 -- why no run is ready, the earlier first: the site, what follows it, both files, the bank and the planners, the hall
-abbrev pub IsWhyUnready : {X : Type 0} → (PlannerParts → Result X AllocError → Type 0) → AttendOptions → Trouble → (old new : Input) → (file beside : Option (List ℕ)) → Type 0
+abbrev pub IsWhyUnready : {X : Type 0} → (PlannerParts → Result X AllocError → Type 0) → ServeOptions → Trouble → (old new : Input) → (file beside : Option (List ℕ)) → Type 0
 IsWhyUnready gives options told old new file beside =
-    SiteFault told old new
-    ⊎ ((told ≡ trouble.Scripted) × IsFollowed old new)
-    ⊎ ((new.ended ≡ true) × EndsAtStart options.fleet None told old new file beside)
+    SiteFault options.fleet.homes told old new
+    ⊎ ((told ≡ trouble.Scripted) × IsFollowed options.fleet.homes old new)
+    ⊎ ((new.ended ≡ true) × EndsAtStart options.fleet None options.anew told old new file beside)
     ⊎ ((client : ℕ) × (told ≡ trouble.NoPipes client) × EndsAtHall gives options client old new file beside)
 
--- A run was ready, and its site could not be kept beside the log: what stood there stands, or a front of the text.
-pub record StopsAside {X : Type 0} (gives : PlannerParts → Result X AllocError → Type 0) (options : AttendOptions) (old new : Input) (file : Option (List ℕ)) (beside : Siding) : Type 0 where
+-- A run was ready, and its log was not begun, or its site not kept beside it.
+pub record StopsOpening {X : Type 0} (gives : PlannerParts → Result X AllocError → Type 0) (options : ServeOptions) (fault : KeepFault) (old new : Input) (file : Option (List ℕ)) (beside : Siding) : Type 0 where
   pub site : Site
   pub run : Ready X
   pub ready : IsReady gives options old new file beside.before site run
-  pub left : LeavesFront beside.before beside.after run.text.items
-  pub has_failed : beside.failed ≡ true
+  pub opened : Option (List ℕ)
+  pub failed : Bool
+  pub why : IsWhyNotBoth fault run.start file opened failed beside.before beside.after beside.failed run.text.items
 
 -- why a log was not begun: its file took it not, or memory ran out
 abbrev pub IsWhyUnbegun : Trouble → Type 0
@@ -126,7 +129,7 @@ abbrev pub IsWhyNoHistory : {D : Type 0} → (screen : Option D) → Trouble →
 IsWhyNoHistory screen told = IsWhyUnbegun told ⊎ IsWhyUnlived screen told
 
 -- A run was ready, with its site beside its log, and came to no history.
-pub record StopsAttending {X D : Type 0} (gives : PlannerParts → Result X AllocError → Type 0) (options : AttendOptions) (told : Trouble) (old new : Input) (file : Option (List ℕ)) (beside : Siding) (screen : Option D) : Type 0 where
+pub record StopsAttending {X D : Type 0} (gives : PlannerParts → Result X AllocError → Type 0) (options : ServeOptions) (told : Trouble) (old new : Input) (file : Option (List ℕ)) (beside : Siding) (screen : Option D) : Type 0 where
   pub site : Site
   pub run : Ready X
   pub ready : IsReady gives options old new file beside.before site run
@@ -148,7 +151,7 @@ IsWhyUnended last told log had has =
     ⊎ ((fault : ShowFault) × (last ≡ Err fault) × (told ≡ trouble_of_show fault) × Appends had has log)
 
 -- The clients of a run were served, and boards were shown as far as may be; and its log was not kept to its end, or not written.
-pub record AttendsUntold {R W X : Type 0} (fits : X → Floor → Bool) (count : X → ℕ) (remaining : R → Option (List ℕ)) (contents : W → Option (List ℕ)) (gives : PlannerParts → Result X AllocError → Type 0) (options : AttendOptions)
+pub record AttendsUntold {R W X : Type 0} (fits : X → Floor → Bool) (count : X → ℕ) (remaining : R → Option (List ℕ)) (contents : W → Option (List ℕ)) (gives : PlannerParts → Result X AllocError → Type 0) (options : ServeOptions)
     (told : Trouble) (old new : Input) (had has file : Option (List ℕ)) (beside : Siding) (showed shows : Option (Option (List (List ℕ)))) : Type 0 where
   pub site : Site
   pub run : Ready X
@@ -161,7 +164,7 @@ pub record AttendsUntold {R W X : Type 0} (fits : X → Floor → Bool) (count :
   pub boards : ShowsRun run final last showed shows
 
 -- The clients of a run were served, and its log was kept to its end and written; but the screen did not take the board of the whole run.
-pub record AttendsUnshown {R W X : Type 0} (fits : X → Floor → Bool) (count : X → ℕ) (remaining : R → Option (List ℕ)) (contents : W → Option (List ℕ)) (gives : PlannerParts → Result X AllocError → Type 0) (options : AttendOptions)
+pub record AttendsUnshown {R W X : Type 0} (fits : X → Floor → Bool) (count : X → ℕ) (remaining : R → Option (List ℕ)) (contents : W → Option (List ℕ)) (gives : PlannerParts → Result X AllocError → Type 0) (options : ServeOptions)
     (told : Trouble) (old new : Input) (had has file : Option (List ℕ)) (beside : Siding) (showed shows : Option (Option (List (List ℕ)))) : Type 0 where
   pub fault : ShowFault
   pub told_is : told ≡ trouble_of_show fault
@@ -176,11 +179,11 @@ pub record AttendsUnshown {R W X : Type 0} (fits : X → Floor → Bool) (count 
 
 -- Why it ended otherwise, the earlier first. Before the run is ready the file beside the log is as it was, and before the clients were
 -- served nothing is written. Of the file of the log nothing is said: the run had it.
-abbrev pub IsWhyUnattended : {R W X : Type 0} → (X → Floor → Bool) → (X → ℕ) → (R → Option (List ℕ)) → (W → Option (List ℕ)) → (PlannerParts → Result X AllocError → Type 0) → AttendOptions → Trouble
+abbrev pub IsWhyUnattended : {R W X : Type 0} → (X → Floor → Bool) → (X → ℕ) → (R → Option (List ℕ)) → (W → Option (List ℕ)) → (PlannerParts → Result X AllocError → Type 0) → ServeOptions → Trouble
     → (old new : Input) → (had has file : Option (List ℕ)) → Siding → (showed shows : Option (Option (List (List ℕ)))) → Type 0
 IsWhyUnattended fits count remaining contents gives options told old new had has file beside showed shows =
     (IsWhyUnready gives options told old new file beside.before × Keeps had has × IsUntouched beside)
-    ⊎ ((told ≡ trouble.Unkept) × StopsAside gives options old new file beside × Keeps had has)
+    ⊎ ((fault : KeepFault) × (told ≡ keep_trouble fault) × StopsOpening gives options fault old new file beside × Keeps had has)
     ⊎ (StopsAttending gives options told old new file beside showed × Keeps had has)
     ⊎ AttendsUntold fits count remaining contents gives options told old new had has file beside showed shows
     ⊎ AttendsUnshown fits count remaining contents gives options told old new had has file beside showed shows

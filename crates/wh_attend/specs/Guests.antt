@@ -1,4 +1,4 @@
--- The clients of a run of `live`, and the planners that it is given.
+-- The clients of a run of `serve`, and the planners that it is given.
 use Rattle.std.specs.Prelude.{◌≡◌, ◌≢◌, ◌⊎◌, ◌<◌, ◌≤◌, ◌+◌, ◌/◌, ℕ, false, max, List, [], length, All, Contains, Option, None, Some, Result}
 use Rattle.std.specs.declared.alloc.AllocError.{AllocError}
 use Rattle.wh_grid.specs.Grids.{Floor}
@@ -7,12 +7,12 @@ use Rattle.wh_claims.specs.Bank.{bank_total}
 use Rattle.wh_claims.specs.declared.bank.Bank.{Bank}
 use Rattle.wh_client.specs.declared.client.ClientOptions.{ClientOptions}
 use Rattle.wh_client.specs.declared.client.ClientRights.{ClientRights}
-use Rattle.wh_options.specs.declared.chosen.AttendOptions.{AttendOptions}
+use Rattle.wh_options.specs.declared.chosen.ServeOptions.{ServeOptions}
 use Rattle.wh_desk.specs.Lists.{AllAt, entries_of}
 use Rattle.wh_serve.specs.declared.allowance.Rights.{Rights}
 use Rattle.wh_serve.specs.declared.threads.Client.{Client}
 use Rattle.wh_service.specs.Fleets.{AreSeated}
-use Rattle.wh_service.specs.Hosts.{AreMembers}
+use Rattle.wh_service.specs.Fleets.{AreMembers}
 use Rattle.wh_service.specs.declared.parts.PlannerParts.{PlannerParts}
 
 -- the rights that a client's word gave it, and none
@@ -59,7 +59,7 @@ pub record IsNamed (clients : List ClientOptions) (number : ℕ) (named : Client
 
 -- A client with a given number of entries before the run, whose word gave it these rights: it may have its share of entries beside them, and as
 -- many planners stand by for it as the options name.
-pub record IsGuest {X : Type 0} (gives : PlannerParts → Result X AllocError → Type 0) (options : AttendOptions) (grid : Floor) (bank : Bank) (had : ℕ) (rights : ClientRights) (client : Client X) : Type 0 where
+pub record IsGuest {X : Type 0} (gives : PlannerParts → Result X AllocError → Type 0) (options : ServeOptions) (grid : Floor) (bank : Bank) (had : ℕ) (rights : ClientRights) (client : Client X) : Type 0 where
   pub rights_are : client.allowance.rights ≡ rights_of rights
   pub share_is : client.allowance.entries ≡ had + share_of options.share options.journal (sharers options.every (length options.clients.items))
   pub spares_are : AreMembers gives options.fleet grid bank options.fleet.spares client.spares.items
@@ -71,13 +71,13 @@ pub record IsNobody {X : Type 0} (client : Client X) : Type 0 where
   pub spares_are : client.spares.items ≡ []
 
 -- the client of this number, which was named, or which nobody named
-abbrev pub IsClient : {X : Type 0} → (PlannerParts → Result X AllocError → Type 0) → AttendOptions → Floor → Bank → (earlier : List Entry) → (number : ℕ) → Client X → Type 0
+abbrev pub IsClient : {X : Type 0} → (PlannerParts → Result X AllocError → Type 0) → ServeOptions → Floor → Bank → (earlier : List Entry) → (number : ℕ) → Client X → Type 0
 IsClient gives options grid bank earlier number client =
     ((named : ClientOptions) × IsNamed options.clients.items number named × IsGuest gives options grid bank (length (entries_of earlier number)) named.rights client)
     ⊎ (All (λ named. named.number ≢ number) options.clients.items × IsNobody client)
 
 -- A client for each number from 0 on: for all that were named, and for all that have entries, except for the worker, if there is one.
-pub record AreClients {X : Type 0} (gives : PlannerParts → Result X AllocError → Type 0) (options : AttendOptions) (grid : Floor) (bank : Bank) (earlier : List Entry) (clients : List (Client X)) : Type 0 where
+pub record AreClients {X : Type 0} (gives : PlannerParts → Result X AllocError → Type 0) (options : ServeOptions) (grid : Floor) (bank : Bank) (earlier : List Entry) (clients : List (Client X)) : Type 0 where
   pub few : HaveRoom options.every (length clients)
   pub named : All (λ named. named.number < length clients) options.clients.items
   pub callers : All (λ entry. entry.caller < numbers_of options.every (length clients)) earlier
@@ -85,7 +85,7 @@ pub record AreClients {X : Type 0} (gives : PlannerParts → Result X AllocError
 
 -- One planner for each agent, with the slots that its state tells, and the clients with those that stand by for them. All have their
 -- claims on one bank, which has as many slots in all as the options name.
-pub record IsStaffed {X : Type 0} (gives : PlannerParts → Result X AllocError → Type 0) (options : AttendOptions) (grid : Floor) (slots : List ℕ) (earlier : List Entry) (planners : List X) (clients : List (Client X)) : Type 0 where
+pub record IsStaffed {X : Type 0} (gives : PlannerParts → Result X AllocError → Type 0) (options : ServeOptions) (grid : Floor) (slots : List ℕ) (earlier : List Entry) (planners : List X) (clients : List (Client X)) : Type 0 where
   pub bank : Bank
   pub total : bank_total bank ≡ options.fleet.bank
   pub planners_are : AreSeated gives options.fleet grid bank slots planners

@@ -1,8 +1,8 @@
 -- The share of the journal that the worker for agents and clock has, and what all shares come to.
-use Rattle.std.specs.Prelude.{◌≡◌, ◌≤◌, ◌+◌, ◌*◌, ◌-◌, ℕ, max, List, length, Option, None, Some}
+use Rattle.std.specs.Prelude.{◌≡◌, ◌≤◌, ◌+◌, ◌*◌, ◌-◌, ◌^◌, ℕ, max, List, length, Option, None, Some}
 use Rattle.std.specs.Duration.{as_nanos}
 use Rattle.wh_event.specs.declared.entry.Entry.{Entry}
-use Rattle.wh_options.specs.declared.chosen.AttendOptions.{AttendOptions}
+use Rattle.wh_options.specs.declared.chosen.ServeOptions.{ServeOptions}
 use Rattle.wh_desk.specs.Lists.{entries_of}
 use Rattle.wh_host.specs.declared.pacing.Pacing.{Pacing}
 use Rattle.wh_attend.specs.Guests.{share_of, sharers, worker_number}
@@ -24,15 +24,15 @@ shared_out (Some every) journal named = named * share_of None journal (named + 1
 abbrev pub SharesFit : Type 0
 SharesFit = (every : Option ℕ) (journal named : ℕ) → sharers every named ≤ journal → shared_out every journal named ≤ journal
 
--- The worker for agents and clock takes at most as many turns as the options name, rests as many milliseconds as they say before each, and may
--- have its share of entries beside those that it had before the run.
-pub record IsPaced (every : ℕ) (options : AttendOptions) (earlier : List Entry) (pace : Pacing) : Type 0 where
-  pub turns_are : pace.turns ≡ options.turns
+-- The worker for agents and clock takes as many turns as can be counted, rests as many milliseconds as the options say before each, and
+-- may have its share of entries beside those that it had before the run.
+pub record IsPaced (every : ℕ) (options : ServeOptions) (earlier : List Entry) (pace : Pacing) : Type 0 where
+  pub turns_are : pace.turns + 1 ≡ 2 ^ 32
   pub pause_is : as_nanos pace.pause ≡ every * 1000000
   pub share_is : pace.entries ≡ length (entries_of earlier worker_number) + worker_share options.share options.journal (length options.clients.items)
 
 -- how the worker goes on, if there is one
-abbrev pub IsPacingOf : (every : Option ℕ) → AttendOptions → (earlier : List Entry) → Option Pacing → Type 0
+abbrev pub IsPacingOf : (every : Option ℕ) → ServeOptions → (earlier : List Entry) → Option Pacing → Type 0
 IsPacingOf None options earlier pace = pace ≡ None
 IsPacingOf (Some every) options earlier None = ⊥
 IsPacingOf (Some every) options earlier (Some pace) = IsPaced every options earlier pace

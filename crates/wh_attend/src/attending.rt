@@ -1,4 +1,4 @@
-//! What `live` does with running clients.
+//! What `serve` does.
 
 ghost use Rattle.std.specs.Prelude.{◌≡◌, IfErr, IfOk, option_map, true};
 ghost use Rattle.wh_journal.specs.Surviving.{HoldsLog, StaysLog};
@@ -15,11 +15,11 @@ use std::io::{Read, Write};
 use std::sync::Wait;
 use std::thread::Threads;
 use std::time::Clock;
-use wh_continue::{LogFile, Start, Warehouse, begin_log, keep_beside};
+use wh_continue::{LogFile, Start, Warehouse, begin_log, open_both};
 use wh_edge::Trouble;
+use wh_host::Screen;
 use wh_lines::Lines;
-use wh_live::Screen;
-use wh_options::AttendOptions;
+use wh_options::ServeOptions;
 use wh_pipes::Hall;
 use wh_planner::Planner;
 use wh_serve::Doors;
@@ -56,7 +56,7 @@ fn begin<L: LogFile, P: Planner>(
 }
 
 /// Reads a site, finds out from the log file and the file beside it what the run starts from, makes one planner for each agent, with the
-/// slots that its state tells, and those that stand by for clients, keeps the site's text beside the log, and serves running clients, who
+/// slots that its state tells, and those that stand by for clients, begins the log where it was not begun, keeps the site's text beside it, and serves running clients, who
 /// connect at the doors, over the log; a closed run serves nobody. Each has the rights that its word gave it, and may have
 /// as many more entries as the options name, or else its share of the journal's; a client that was not named may do nothing.
 /// Where the options name a worker, it takes turns for all agents and the clock, until the clients are through. Boards of the run
@@ -64,7 +64,7 @@ fn begin<L: LogFile, P: Planner>(
 /// given the line that ends the log, and the log of the whole run, old and new entries, is written. What is in the log
 /// survives a kill, and no reply is told before its entry was synced. `make` makes one planner of its parts, and fails only when out
 /// of memory. Errors are reported in this order: the site, what follows it, the file beside the log, the log, the bank and the
-/// planners, a client without a way in, what is written beside the log, the log's beginning, the first board, the run, the end of the log,
+/// planners, a client without a way in, the log's first lines, what is written beside the log, the log's beginning, the first board, the run, the end of the log,
 /// the writer, the last board. Before the clients are served nothing is written to the output. The log's file is returned
 /// if all went well; else it is dropped, and nothing more is said of it here.
 pub fn attend<
@@ -84,7 +84,7 @@ pub fn attend<
     alloc: Global,
     lines: &mut Lines<R>,
     output: &mut W,
-    options: &AttendOptions<'_>,
+    options: &ServeOptions<'_>,
     mut file: L,
     beside: &mut B,
     screen: &mut Option<V>,
@@ -114,19 +114,18 @@ pub fn attend<
         planners,
         clients,
     } = ready;
-    match keep_beside(beside, text.as_slice(), found) {
-        Ok(()) => {}
-        Err(_) => {
+    let begun = match open_both(alloc, &mut file, beside, text.as_slice(), found, start) {
+        Ok(begun) => begun,
+        Err(fault) => {
             drop(clients);
             drop(planners);
-            drop(start);
             drop(text);
             drop(file);
-            return Err(Trouble::Unkept);
+            return Err(keep_trouble(fault));
         }
-    }
+    };
     drop(text);
-    let warehouse = match begin(alloc, &mut file, start, planners) {
+    let warehouse = match begin(alloc, &mut file, begun, planners) {
         Ok(warehouse) => warehouse,
         Err(trouble) => {
             drop(clients);

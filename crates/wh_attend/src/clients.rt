@@ -16,7 +16,7 @@ use wh_continue::Start;
 use wh_edge::Trouble;
 use wh_event::Entry;
 use wh_grid::Grid;
-use wh_options::{AttendOptions, ClientOptions, ClientRights};
+use wh_options::{ClientOptions, ClientRights, ServeOptions};
 use wh_planner::Planner;
 use wh_serve::{Allowance, Client, Rights};
 use wh_service::{PlannerParts, members, seated};
@@ -63,7 +63,7 @@ fn places_for(clients: &[ClientOptions<'_>], mut places: u32) -> u32
 
 /// For how many clients there is to be a place: beside a worker for each number below its own, and else for all who were named and all
 /// who have entries.
-fn places_beside(options: &AttendOptions<'_>, history: &[Entry]) -> u32
+fn places_beside(options: &ServeOptions<'_>, history: &[Entry]) -> u32
     requires named { AreNamed options.now.clients.items }
     requires callers { All (λ entry. entry.caller < 64) history.now }
     ensures few { HaveRoom options.now.every result }
@@ -108,7 +108,7 @@ fn nobody<P: Planner>(alloc: Global) -> Client<P>
 /// The client of this number. Those that stand by for it have their claims on the bank.
 fn client_of<P: Planner, F: Fn(PlannerParts) -> Result<P, AllocError>>(
     alloc: Global,
-    options: &AttendOptions<'_>,
+    options: &ServeOptions<'_>,
     grid: &Arc<Grid>,
     bank: &Arc<Bank>,
     seat: &mut BankSeat,
@@ -143,7 +143,7 @@ fn client_of<P: Planner, F: Fn(PlannerParts) -> Result<P, AllocError>>(
 /// The clients, one for each number.
 fn clients_of<P: Planner, F: Fn(PlannerParts) -> Result<P, AllocError>>(
     alloc: Global,
-    options: &AttendOptions<'_>,
+    options: &ServeOptions<'_>,
     grid: &Arc<Grid>,
     bank: &Arc<Bank>,
     seat: &mut BankSeat,
@@ -180,7 +180,7 @@ pub(crate) struct Staff<P: Planner> {
 /// tells why one of them got no slots, or that memory ran out.
 pub(crate) fn make_staff<P: Planner, F: Fn(PlannerParts) -> Result<P, AllocError>>(
     alloc: Global,
-    options: &AttendOptions<'_>,
+    options: &ServeOptions<'_>,
     grid: &Arc<Grid>,
     start: &Start,
     make: &F,

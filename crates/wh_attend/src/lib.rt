@@ -1,4 +1,4 @@
-//! `warehouse live` with running clients: from reading the instance to the finished log.
+//! `warehouse serve`: from reading the instance to the finished log.
 //!
 //! Proved: the run starts from what the log holds; each named client has its rights and share, the worker the rest; old
 //! and new entries are one run, and the file is its log, synced; else the first error in order, and before clients are
@@ -19,6 +19,6 @@ pub use laws::shares_fit;
 
 // handed on, for callers: what the items above take and speak of
 pub use wh_continue::{FileJournal, LogFile};
-pub use wh_live::Screen;
+pub use wh_host::Screen;
 pub use wh_pipes::Hall;
 pub use wh_serve::{Connection, Doors, End, ReplayFault, ServeFault, Served};

@@ -1,7 +1,7 @@
 //! A run that is ready: its site was read, and nothing is written yet.
 
 ghost use Rattle.std.specs.Prelude.{◌≡◌, ◌≤◌, ◌⊎◌, true, IfErr, IfOk, length};
-ghost use Rattle.wh_points.specs.Points.{IsLayout, Site as Instance};
+ghost use Rattle.wh_points.specs.Points.{Site as Instance};
 ghost use Rattle.wh_continue.specs.Running.{IsStartOf};
 ghost use Rattle.wh_edge.specs.Site.{SiteFault, SiteKept};
 ghost use Rattle.wh_service.specs.Fleets.{IsOfFleet};
@@ -13,13 +13,13 @@ use std::alloc::{AllocError, Global};
 use std::io::Read;
 use std::sync::Arc;
 use wh_continue::{Beside, LogFile, Start};
-use wh_edge::{KeptSite, Site, Trouble, read_kept_site};
+use wh_edge::Trouble;
 use wh_lines::Lines;
-use wh_options::AttendOptions;
+use wh_options::ServeOptions;
 use wh_pipes::Hall;
 use wh_planner::Planner;
 use wh_serve::Client;
-use wh_service::{PlannerParts, start_aside};
+use wh_service::{KeptSetting, PlannerParts, read_kept_setting, start_aside};
 
 /// What a run is made of that is ready.
 #[derive(Drop)]
@@ -37,20 +37,24 @@ pub struct Ready<P> {
 }
 
 /// Reads a site with which the input ends.
-fn read_alone<R: Read>(lines: &mut Lines<R>, alloc: Global) -> Result<KeptSite, Trouble>
-    ensures ok { IfOk result (λ kept. SiteKept lines.old lines.new kept.site.grid kept.site.points kept.text.items) }
+fn read_alone<R: Read>(
+    lines: &mut Lines<R>,
+    alloc: Global,
+    homes: bool,
+) -> Result<KeptSetting, Trouble>
+    ensures ok { IfOk result (λ kept. SiteKept homes lines.old lines.new kept.setting kept.text.items) }
     ensures alone { IfOk result (λ _. lines.new.ended ≡ true) }
-    ensures layout { IfOk result (λ kept. IsLayout kept.site.grid kept.site.points) }
-    ensures agents { IfOk result (λ kept. 1 ≤ length kept.site.points.agents) }
-    ensures fault { IfErr result (λ told. SiteFault told lines.old lines.new ⊎ ((told ≡ Trouble.Scripted) × IsFollowed lines.old lines.new)) }
+    ensures agents { IfOk result (λ kept. 1 ≤ length kept.setting.layout.agents) }
+    ensures fault { IfErr result (λ told. SiteFault homes told lines.old lines.new ⊎ ((told ≡ Trouble.Scripted) × IsFollowed homes lines.old lines.new)) }
 {
-    let kept = match read_kept_site(lines, alloc) {
+    let kept = match read_kept_setting(lines, alloc, homes) {
         Ok(kept) => kept,
         Err(trouble) => return Err(trouble),
     };
     if lines.ended() {
         Ok(kept)
     } else {
+        drop(kept);
         Err(Trouble::Scripted)
     }
 }
@@ -67,7 +71,7 @@ pub(crate) fn prepare<
 >(
     alloc: Global,
     lines: &mut Lines<R>,
-    options: &AttendOptions<'_>,
+    options: &ServeOptions<'_>,
     file: &mut L,
     beside: &mut B,
     hall: &D,
@@ -83,15 +87,19 @@ pub(crate) fn prepare<
     ensures same { L.contents file.new ≡ L.contents file.old }
     ensures same_beside { B.contents beside.new ≡ B.contents beside.old }
 {
-    let KeptSite { site, text } = match read_alone(lines, alloc) {
+    let fleet = &options.fleet;
+    let KeptSetting { setting, text } = match read_alone(lines, alloc, fleet.homes) {
         Ok(kept) => kept,
         Err(trouble) => return Err(trouble),
     };
     let bytes = text.as_slice();
-    let Site { grid, points } = site;
-    let grid = Arc::new(alloc, grid)?;
-    let fleet = &options.fleet;
-    let (start, found) = match start_aside(alloc, file, beside, bytes, &grid, points, fleet, None) {
+    let Ok(grid) = Arc::try_clone(setting.shared_grid()) else {
+        drop(text);
+        drop(setting);
+        return Err(Trouble::NoMemory);
+    };
+    let anew = options.anew;
+    let (start, found) = match start_aside(alloc, file, beside, bytes, setting, fleet, None, anew) {
         Ok(started) => started,
         Err(trouble) => {
             drop(text);

@@ -1,10 +1,10 @@
 //! The clients of a run are served, beside a thread that releases them.
 
-ghost use Rattle.std.specs.Prelude.{◌≡◌, ◌≤◌, ◌+◌, IfErr, IfOk, length, option_map};
+ghost use Rattle.std.specs.Prelude.{◌≡◌, ◌≤◌, ◌+◌, ◌*◌, IfErr, IfOk, IfSome, length, option_map};
+ghost use Rattle.std.specs.Duration.{as_nanos};
 ghost use Rattle.wh_desk.specs.Pasts.{origin_of};
 ghost use Rattle.wh_journal.specs.Surviving.{HoldsLog};
-ghost use Rattle.wh_live.specs.Displays.{BoardsFrom};
-ghost use Rattle.wh_live.specs.Lives.{IsWhyUnlived};
+ghost use Rattle.wh_host.specs.Displays.{BoardsFrom, IsWhyUnlived};
 ghost use Rattle.wh_serve.specs.Texts.{receipt_text};
 ghost use Rattle.wh_host.specs.Pacing.{callers_of};
 ghost use Rattle.wh_host.specs.Runs.{IsJournalOf, ServedFrom, first_lines};
@@ -18,17 +18,30 @@ use std::sync::Wait;
 use std::sync::atomic::AtomicBool;
 use std::sync::atomic::Ordering::SeqCst;
 use std::thread::{Threads, join};
-use std::time::Clock;
+use std::time::{Clock, Duration};
 use wh_continue::{LogFile, Warehouse};
 use wh_edge::Trouble;
-use wh_host::{Pacing, Ran, run_clients};
-use wh_live::{Display, Screen};
+use wh_host::{Display, Pacing, Ran, Screen, run_clients};
 use wh_log::Form;
-use wh_options::AttendOptions;
+use wh_options::ServeOptions;
 use wh_pipes::Hall;
 use wh_planner::Planner;
 use wh_serve::{Client, Doors};
-use wh_service::{display_of, form_of};
+use wh_service::form_of;
+
+/// Takes the screen for a run, if there is one, which rests the given number of milliseconds between two looks.
+fn display_of<S>(screen: &mut Option<S>, every: u32) -> Option<Display<S>>
+    ensures screen { option_map (λ display. display.screen) result ≡ screen.old }
+    ensures pause { IfSome result (λ display. as_nanos display.pause ≡ every * 1000000) }
+{
+    match screen.take() {
+        Some(screen) => Some(Display {
+            screen,
+            pause: Duration::from_millis(u64::from(every)),
+        }),
+        None => None,
+    }
+}
 
 /// Serves clients, and sets `through` when all of them are through.
 fn serve_through<
@@ -82,7 +95,7 @@ pub(crate) fn serve_all<
 >(
     rt: &T,
     alloc: Global,
-    options: &AttendOptions<'_>,
+    options: &ServeOptions<'_>,
     warehouse: Warehouse<P>,
     clients: Vec<Client<P>>,
     file: L,

@@ -5,16 +5,16 @@ ghost use Rattle.wh_desk.specs.Lists.{entries_of};
 ghost use Rattle.wh_attend.specs.Guests.{share_of, sharers};
 ghost use Rattle.wh_attend.specs.Shares.{IsPacingOf, worker_share};
 
+use std::time::Duration;
 use wh_event::Entry;
 use wh_host::Pacing;
-use wh_options::AttendOptions;
-use wh_service::pace_of;
+use wh_options::ServeOptions;
 
 /// The number of the worker for agents and clock, the last one.
 pub(crate) const WORKER_NUMBER: u32 = 63;
 
 /// Among how many the entries of the journal are shared: the named clients, and the worker if there is one.
-pub(crate) fn sharers(options: &AttendOptions<'_>) -> u64
+pub(crate) fn sharers(options: &ServeOptions<'_>) -> u64
     requires { 1 ≤ length options.now.clients.items }
     ensures value { result ≡ sharers options.now.every (length options.now.clients.items) }
     ensures some { 1 ≤ result }
@@ -39,7 +39,7 @@ pub(crate) fn share_of(share: Option<u32>, journal: u32, among: u64) -> u64
 }
 
 /// How many more entries the worker may have: what the shares of the named clients leave, at least as many as one of them.
-fn worker_share(options: &AttendOptions<'_>) -> u64
+fn worker_share(options: &ServeOptions<'_>) -> u64
     ensures value { result ≡ worker_share options.now.share options.now.journal (length options.now.clients.items) }
     ensures few { result ≤ 4294967296 }
 {
@@ -64,15 +64,15 @@ pub(crate) fn had_by(history: &[Entry], caller: u32) -> u64
     count
 }
 
-/// How the worker for agents and clock goes on, where the options name one: behind what it had in a history its share of the journal
-/// may be its own.
-pub(crate) fn pacing_of(options: &AttendOptions<'_>, history: &[Entry]) -> Option<Pacing>
+/// How the worker for agents and clock goes on, where the options name one: until the service ends, and behind what it had in a
+/// history its share of the journal may be its own.
+pub(crate) fn pacing_of(options: &ServeOptions<'_>, history: &[Entry]) -> Option<Pacing>
     ensures { IsPacingOf options.now.every options.now history.now result }
 {
-    match pace_of(options.every, options.turns) {
-        Some(pace) => Some(Pacing {
-            turns: pace.turns,
-            pause: pace.pause,
+    match options.every {
+        Some(every) => Some(Pacing {
+            turns: u32::MAX,
+            pause: Duration::from_millis(u64::from(every)),
             entries: had_by(history, WORKER_NUMBER) + worker_share(options),
         }),
         None => None,

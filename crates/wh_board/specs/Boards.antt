@@ -21,13 +21,14 @@ pub record AreShown (paths : List (List Cell)) (loads : List Load) (agents : Lis
   pub count : length agents ≡ length paths
   pub each : (agent : ℕ) (shown : Shown) → slice_get agents agent ≡ Some shown → IsShown paths loads agent shown
 
--- The history is a run from the opening state. The board shows its length, and of the state that it leads to the clock,
--- the agents, and how many tasks are in each phase.
+-- The history is a run from the opening state. The board shows its length, whether paths go on home, and of the state that it leads to
+-- the clock, the agents, and how many tasks are in each phase.
 pub record IsBoardOf (past : Past) (board : Board) : Type 0 where
   pub state : State
   pub run : Run past.origin.site past.origin.opening past.history state
   pub entries : board.entries ≡ length past.history
   pub clock : board.clock ≡ state.clock
+  pub homes : board.homes ≡ past.origin.site.homes
   pub agents : AreShown state.paths state.loads board.agents.items
   pub open_tasks : board.open_tasks ≡ (counts_of state.tasks).open_tasks
   pub assigned : board.assigned ≡ (counts_of state.tasks).assigned

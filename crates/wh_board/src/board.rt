@@ -18,7 +18,8 @@ pub struct Shown {
     pub cell: Cell,
     /// What it has to do.
     pub load: Load,
-    /// How many steps of its path are left: with none it is due, and may ask for the token.
+    /// How many steps of its path are left. Where paths end at the last stop an agent with none is due, and may ask for the token; where
+    /// they go on home one without a load is.
     pub steps_left: u64,
 }
 
@@ -43,6 +44,8 @@ pub struct Board {
     pub entries: u64,
     /// The clock, in ticks.
     pub clock: u32,
+    /// Whether paths go on home.
+    pub homes: bool,
     /// The agents in their order, at most 256.
     pub agents: ArrayVec<Shown, 256>,
     /// How many tasks no agent has.
@@ -65,6 +68,7 @@ impl Board {
         Board {
             entries,
             clock: book.clock(),
+            homes: book.setting().homes(),
             agents: agents_of(book.paths(), book.loads()),
             open_tasks: counts.open_tasks,
             assigned: counts.assigned,
@@ -85,6 +89,7 @@ impl Board {
         Board {
             entries: self.entries,
             clock: self.clock,
+            homes: self.homes,
             agents,
             open_tasks: self.open_tasks,
             assigned: self.assigned,

@@ -11,22 +11,23 @@ use Rattle.wh_tasks.specs.declared.task.Task.{Task}
 use Rattle.wh_tasks.specs.declared.task.Load.{Load}
 use Rattle.wh_planner.specs.Duties.{IsLawful, Delivers, ParksAt}
 use Rattle.wh_core.specs.States.{State, opened, arrived, adopted, assigned, moved, picked, dropped}
-use Rattle.wh_core.specs.Steps.{Step, Run, Answers, last_clock}
-use Rattle.wh_core.specs.Ordinary.{IsDue, IsNext, IsAllowed, MakesWay}
-use Rattle.wh_core.specs.Ordinary as plain
+use Rattle.wh_core.specs.Steps.{Step, Run, Answers, IsDue, last_clock, tour}
+use Rattle.wh_core.specs.Ordinary.{IsNext, IsAllowed}
 use Rattle.wh_core.specs.Laws.{IsReached, IsReachedOnTheirWays, IsBeginning, AllOnTheirWays, IsOpening}
 use Rattle.wh_event.specs.declared.entry.Entry.{Entry}
 use Rattle.wh_event.specs.declared.event.Event.{Event}
 use Rattle.wh_event.specs.declared.reply.Reply.{Reply}
 use Rattle.wh_core.proofs.StepKinds.{run-join}
-use Rattle.wh_core.proofs.Sound.{opening-reached, sound-reached, beginning-reached, ways-reached, no_load_at_rest}
-use Rattle.wh_core.proofs.Same.{ordinary_steps}
+use Rattle.wh_core.proofs.Sound.{opening-reached, sound-reached, beginning-reached, ways-reached, ways-unloaded, kept-of}
 use Rattle.wh_core.proofs.Ways.{none_is_refused_a_path}
 use Rattle.wh_event.specs.declared.reply.Refusal.{Refusal}
 use Rattle.wh_points.specs.Formed.{IsFormed}
 use Rattle.std.proofs.lemmas.List.Elements.{Contains-push}
 use Rattle.wh_book.specs.declared.draft.Change.{Change}
 use Rattle.wh_book.specs.Settings.{IsPlaced}
+use Rattle.wh_book.specs.OnTheirWays as ways
+use Rattle.wh_book.proofs.OnTheirWays.{steps_on_their_ways}
+use Rattle.wh_book.specs.OnTheirWays.{MakesWay}
 use Rattle.wh_book.specs.Drafts.{Seen, IsKept, Drafts, Changes, CanChange, AllServed, ticked}
 
 -- what a book keeps is what the laws are about
@@ -44,11 +45,10 @@ kept-begins site opening history state kept = (
 )
 
 -- a book with no entry is kept
-pub kept-opened : (site : Site) (clock : ℕ) (slots first : List ℕ) (history : List Entry) (state : State) → site.homes ≡ false → IsLayout site.grid site.layout →
+pub kept-opened : (site : Site) (clock : ℕ) (slots first : List ℕ) (history : List Entry) (state : State) → IsLayout site.grid site.layout →
     clock ≤ last_clock → length slots ≡ length site.layout.agents → first ≡ slots → history ≡ [] → state ≡ opened site.layout clock slots →
     IsKept site (opened site.layout clock first) history state
-kept-opened site clock slots first history state off layout fits seats same none stands = record {
-  ends_at_stops = off;
+kept-opened site clock slots first history state layout fits seats same none stands = record {
   is_opening = record {
     layout = layout;
     clock = clock;
@@ -69,24 +69,31 @@ run-more site old entries mid entry new run step = run-join site old entries mid
 pub kept-free : (site : Site) (opening : State) (history : List Entry) (state : State) → IsKept site opening history state → AllFree site.layout.nofollow state.paths
 kept-free site opening history state kept = (sound-reached site history state (kept-reached site opening history state kept)).free
 
+-- each agent starts somewhere
+pub kept-start : (site : Site) (opening : State) (history : List Entry) (state : State) (agent : ℕ) → IsKept site opening history state → agent < length state.paths →
+    agent < length site.layout.agents
+kept-start site opening history state agent kept known =
+    let seats = (sound-reached site history state (kept-reached site opening history state kept)).seats in
+    rw (← seats.paths) known
+
 -- and each agent goes by a walk
 pub kept-walks : (site : Site) (opening : State) (history : List Entry) (state : State) → IsKept site opening history state →
     (agent : ℕ) → agent < length state.paths → IsWalk site.grid (path_of state.paths agent)
 kept-walks site opening history state kept = (sound-reached site history state (kept-reached site opening history state kept)).walks
 
 -- an agent that may be given something to do has no load
-pub kept-idle : (site : Site) (opening : State) (history : List Entry) (state : State) (agent : ℕ) → IsKept site opening history state → IsDue state agent →
+pub kept-idle : (site : Site) (opening : State) (history : List Entry) (state : State) (agent : ℕ) → IsKept site opening history state → IsDue site state agent →
     slice_get state.loads agent ≡ Some Load.None
 kept-idle site opening history state agent kept due =
-    let reached = kept-ways site opening history state kept in
-    let seats = (sound-reached site history state reached.reached).seats in
-    let lt : agent < length state.loads = rw (seats.loads, ← seats.paths) due.known.known in
-    slice_get-get_or state.loads agent Load.None lt ∙ ap (λ l. Some l) (no_load_at_rest site history state agent reached due.known.known due.resting)
+    let begins = kept-begins site opening history state kept in
+    let sound = begins.0.sound in
+    let lt : agent < length state.loads = rw (sound.seats.loads, ← sound.seats.paths) due.known.known in
+    slice_get-get_or state.loads agent Load.None lt ∙ ap (λ l. Some l) (ways-unloaded site state agent (kept-of site state sound) begins.1 due)
 
 -- a task that is taken
 pub took-drafts : (book : Seen) (caller agent n : ℕ) (path : List Cell) (task : Task) → IsKept book.site book.opening book.history book.state →
-    IsDue book.state agent → IsNext book.site book.state agent n task →
-    IsLawful book.site.grid book.site.layout.nofollow book.state.paths agent (length task.stops) (Delivers task.stops) path → 1 ≤ book.entry_room →
+    IsDue book.site book.state agent → IsNext book.site book.state agent n task →
+    IsLawful book.site.grid book.site.layout.nofollow book.state.paths agent (length (tour book.site agent task.stops)) (Delivers (tour book.site agent task.stops)) path → 1 ≤ book.entry_room →
     Drafts book caller (Event.Request agent)
     (record { entry = record { caller = caller; event = Event.Request agent; reply = Reply.Took n path }; change = Change.Take agent n path })
 took-drafts book caller agent n path task kept due next lawful room =
@@ -95,7 +102,7 @@ took-drafts book caller agent n path task kept due next lawful room =
     λ new changes.
     let same : changes.0 ≡ task = same_Some changes.0 task (sym changes.1 ∙ next.eligible.there) in
     let begins = kept-begins book.site book.opening book.history book.state kept in
-    (ordinary_steps book.site book.state (Reply.Took n path) (Event.Request agent) new kept.ends_at_stops begins.0 begins.1).1
+    (steps_on_their_ways book.site book.state (Reply.Took n path) (Event.Request agent) new begins.0 begins.1).1
     (due, (task, next, lawful, changes.2 ∙ ap (λ t. arrived (adopted agent path (assigned agent n t book.state))) same)) in
     let can : CanChange (Change.Take agent n path) (record { state = book.state; room = book.task_room }) =
     (due.known.known, kept-idle book.site book.opening book.history book.state agent kept due, (task, next.eligible.there, next.eligible.is_open)) in
@@ -105,13 +112,13 @@ took-drafts book caller agent n path task kept due next lawful room =
       ready = record { step = step; can = can; room = room };
     }
 
--- an answer of Token Passing that changes nothing is a step
+-- an answer that changes nothing is a step
 pub answer-drafts : (book : Seen) (caller : ℕ) (event : Event) (reply : Reply) → IsKept book.site book.opening book.history book.state →
-    plain.Answers book.site book.state reply event book.state → 1 ≤ book.entry_room →
+    ways.Answers book.site book.state reply event book.state → 1 ≤ book.entry_room →
     Drafts book caller event (record { entry = record { caller = caller; event = event; reply = reply }; change = Change.Nothing })
 answer-drafts book caller event reply kept answers room =
     let begins = kept-begins book.site book.opening book.history book.state kept in
-    let step = (ordinary_steps book.site book.state reply event book.state kept.ends_at_stops begins.0 begins.1).1 answers in
+    let step = (steps_on_their_ways book.site book.state reply event book.state begins.0 begins.1).1 answers in
     record {
       caller_is = refl;
       event_is = refl;
@@ -123,10 +130,10 @@ answer-drafts book caller event reply kept answers room =
     }
 
 pub answer-step : (site : Site) (opening : State) (history : List Entry) (state : State) (reply : Reply) (event : Event) → IsKept site opening history state →
-    plain.Answers site state reply event state → Answers site state reply event state
+    ways.Answers site state reply event state → Answers site state reply event state
 answer-step site opening history state reply event kept answers =
     let begins = kept-begins site opening history state kept in
-    (ordinary_steps site state reply event state kept.ends_at_stops begins.0 begins.1).1 answers
+    (steps_on_their_ways site state reply event state begins.0 begins.1).1 answers
 
 -- the name of a point that stands where a path ends
 pub placed-point : (layout : Layout) (cell : Cell) (point : Point) → IsPlaced layout.points cell point → IsPoint layout point.name cell
@@ -135,7 +142,7 @@ placed-point layout cell point placed =
 
 -- a path by which an agent makes way
 pub parked-drafts : (book : Seen) (caller agent : ℕ) (point : List ℕ) (path : List Cell) → IsKept book.site book.opening book.history book.state →
-    IsDue book.state agent → MakesWay book.state agent →
+    IsDue book.site book.state agent → MakesWay book.site book.state agent →
     IsLawful book.site.grid book.site.layout.nofollow book.state.paths agent 2 (ParksAt (IsAllowed book.site book.state agent)) path →
     IsPoint book.site.layout point (end path) → 1 ≤ book.entry_room →
     Drafts book caller (Event.Request agent)
@@ -147,7 +154,7 @@ parked-drafts book caller agent point path kept due way lawful there room =
       event_is = refl;
       ready = record {
         step = λ new changes.
-            (ordinary_steps book.site book.state (Reply.Parked point path) (Event.Request agent) new kept.ends_at_stops begins.0 begins.1).1 (due, way, lawful, there, changes);
+            (steps_on_their_ways book.site book.state (Reply.Parked point path) (Event.Request agent) new begins.0 begins.1).1 (due, way, lawful, there, changes);
         can = due.known.known;
         room = room;
       };
@@ -175,7 +182,6 @@ tick-drafts book caller clock first last not_closed early clock_is first_is last
 pub kept-more : (site : Site) (opening : State) (history : List Entry) (state : State) (entry : Entry) (new : State) → IsKept site opening history state →
     Step site state entry new → IsKept site opening (history ++ entry ∷ []) new
 kept-more site opening history state entry new kept step = record {
-  ends_at_stops = kept.ends_at_stops;
   is_opening = kept.is_opening;
   run = run-more site opening history state entry new kept.run step;
 }

@@ -14,7 +14,8 @@ use Rattle.wh_points.specs.Points.{Layout, IsStation}
 use Rattle.wh_core.specs.Steps.{IsFirstFault, IsUnknownName, IsParkingName, IsStationName}
 use Rattle.wh_core.specs.States.{State}
 use Rattle.wh_core.specs.Steps.{other_ends}
-use Rattle.wh_core.specs.Ordinary.{Refuses, IsAllowed}
+use Rattle.wh_core.specs.Ordinary.{IsAllowed}
+use Rattle.wh_book.specs.OnTheirWays.{Refuses}
 use Rattle.wh_event.specs.declared.event.Event.{Event}
 use Rattle.wh_points.specs.Points.{Site}
 use Rattle.wh_book.specs.Drafts.{MayEnd, MayPark}

@@ -50,7 +50,6 @@ pub record Seen : Type 0 where
 
 -- what a book keeps: the history is a run from the opening state to the state
 pub record IsKept (site : Site) (opening : State) (history : List Entry) (state : State) : Type 0 where
-  pub ends_at_stops : site.homes ≡ false
   pub is_opening : IsOpening site opening
   pub run : Run site opening history state
 

@@ -1,4 +1,4 @@
-use Rattle.std.specs.Prelude.{◌≡◌, ℕ, ◌≤◌, ◌<◌, List, [], false, length, slice_index_or, Contains}
+use Rattle.std.specs.Prelude.{◌≡◌, ℕ, ◌≤◌, ◌<◌, List, [], length, slice_index_or, Contains}
 use Rattle.wh_grid.specs.declared.cell.Cell.{Cell}
 use Rattle.wh_points.specs.declared.points.Point.{Point}
 use Rattle.wh_points.specs.Points.{Layout, Site, IsLayout}
@@ -10,7 +10,6 @@ use Rattle.wh_book.specs.declared.setting.Fault.{Fault}
 pub record IsSite (site : Site) : Type 0 where
   pub layout : IsLayout site.grid site.layout
   pub few : length site.layout.agents ≤ 256
-  pub ends_at_stops : site.homes ≡ false
 
 -- one of the points, which has this name; one of the points, which stands at this cell
 pub record IsNamed (points : List Point) (name : List ℕ) (point : Point) : Type 0 where

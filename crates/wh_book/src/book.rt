@@ -8,21 +8,25 @@ ghost use Rattle.wh_tasks.specs.declared.task.Task.{Task as Job};
 ghost use Rattle.wh_tasks.specs.Tasks.{IsTask};
 ghost use Rattle.wh_planner.specs.Duties.{IsLawful, Delivers, ParksAt};
 ghost use Rattle.wh_core.specs.States.{State, opened, arrived, moved};
-ghost use Rattle.wh_core.specs.Steps.{Step, Run, last_clock, IsDeliveryCell};
-ghost use Rattle.wh_core.specs.Ordinary.{Answers, Refuses, IsDue, IsNext, NoneIsNext, MakesWay, IsAllowed};
+ghost use Rattle.wh_core.specs.Steps.{Step, Run, IsDue, IsIdleIn, last_clock, tour};
+ghost use Rattle.wh_core.specs.Ordinary.{IsNext, NoneIsNext, IsAllowed};
 ghost use Rattle.wh_core.specs.Laws.{IsOpening};
 ghost use Rattle.wh_event.specs.declared.event.Event.{Event as Asked};
 ghost use Rattle.wh_grid.specs.declared.cell.Cell.{Cell as Place};
 ghost use Rattle.wh_event.specs.declared.reply.Reply.{Reply as Answer};
 ghost use Rattle.wh_event.specs.declared.reply.Refusal.{Refusal as Reason};
 ghost use Rattle.wh_points.specs.Formed.{IsFormed};
+ghost use Rattle.wh_book.specs.OnTheirWays.{Answers, Refuses, MakesWay, IsOutOfTheWay};
 ghost use Rattle.wh_book.specs.Settings.{IsStop, faulty};
 ghost use Rattle.wh_book.specs.Drafts.{Seen, IsSame, IsReady, Drafts, Changes, CanChange, AllServed, ticked};
 
 use crate::choice::{nearest, rests_at_once};
 use crate::draft::{Change, Draft};
+use crate::idle::ticks_until_idle;
 use crate::parking::free_points;
 use crate::setting::{Fault, Setting};
+use crate::tour::tour_of;
+use arrayvec::ArrayVec;
 use std::alloc::{AllocError, Global};
 use std::marker::Model;
 use wh_core::{LAST_CLOCK, MOST_TASKS};
@@ -430,9 +434,9 @@ impl Book {
         task: u32,
         path: TimedPath,
     ) -> Result<Draft, AllocError>
-        requires due { IsDue self.old.state agent }
+        requires due { IsDue self.old.site self.old.state agent }
         requires lawful { (job : Job) × IsNext self.old.site self.old.state agent task job
-            × IsLawful self.old.site.grid self.old.site.layout.nofollow self.old.state.paths agent (length job.stops) (Delivers job.stops) path }
+            × IsLawful self.old.site.grid self.old.site.layout.nofollow self.old.state.paths agent (length (tour self.old.site agent job.stops)) (Delivers (tour self.old.site agent job.stops)) path }
         requires room { 1 ≤ self.old.entry_room }
         ensures book { self.new ≡ self.old }
         ensures drafts { IfOk result (Drafts self.old caller (Asked.Request agent)) }
@@ -460,8 +464,8 @@ impl Book {
         agent: u32,
         path: TimedPath,
     ) -> Result<Draft, AllocError>
-        requires due { IsDue self.old.state agent }
-        requires makes_way { MakesWay self.old.state agent }
+        requires due { IsDue self.old.site self.old.state agent }
+        requires makes_way { MakesWay self.old.site self.old.state agent }
         requires lawful { IsLawful self.old.site.grid self.old.site.layout.nofollow self.old.state.paths agent 2 (ParksAt (IsAllowed self.old.site self.old.state agent)) path }
         requires room { 1 ≤ self.old.entry_room }
         ensures book { self.new ≡ self.old }
@@ -488,18 +492,42 @@ impl Book {
         requires known { agent < length self.now.state.paths }
         requires over { near.old.grid ≡ self.now.site.grid }
         ensures grid { near.new.grid ≡ near.old.grid }
+        ensures source { near.new.cell ≡ place_of self.now.state.paths agent }
         ensures none { IfNone result (NoneIsNext self.now.state agent) }
         ensures nearest { IfSome result (λ n. (task : Job) × IsNext self.now.site self.now.state agent n task) }
     {
         nearest(&self.floor, agent, near)
     }
 
+    /// Where the agent goes for the task: through its stops, and then home if paths go on home. It takes no memory.
+    pub fn tour(&self, agent: u32, task: u32) -> ArrayVec<Cell, 9>
+        requires known { agent < length self.now.state.paths }
+        requires task { task < length self.now.state.tasks }
+        ensures value { (job : Job) × IsTask self.now.state.tasks task job × (result.items ≡ tour self.now.site agent job.stops) }
+        ensures two { 2 ≤ length result.items }
+        ensures nine { length result.items ≤ 9 }
+    {
+        let home = self.setting.home(agent);
+        let stops = self.floor.tasks().task(task).stops.as_slice();
+        tour_of(self.setting.homes(), home, stops)
+    }
+
+    /// In how many ticks the agent is due, if nothing else happens: it has no steps left then; or, where paths go on home, no
+    /// task. Where paths end at the last stop it takes constant time.
+    #[inline(always)]
+    pub fn ticks_until_idle(&self, agent: u32) -> u64
+        requires { agent < length self.now.state.paths }
+        ensures { IsIdleIn self.now.site self.now.state agent result }
+    {
+        ticks_until_idle(self.setting.homes(), &self.floor, agent)
+    }
+
     /// Whether it is known at once that a due agent has nothing to do and is in nobody's way. It takes constant time.
     #[inline(always)]
     pub fn rests_at_once(&self, agent: u32) -> bool
-        requires { IsDue self.now.state agent }
+        requires { IsDue self.now.site self.now.state agent }
         ensures none { IsTrue result → NoneIsNext self.now.state agent }
-        ensures out_of_the_way { IsTrue result → ¬ IsDeliveryCell self.now.state (place_of self.now.state.paths agent) }
+        ensures out_of_the_way { IsTrue result → IsOutOfTheWay self.now.site self.now.state agent }
     {
         rests_at_once(&self.floor, agent)
     }

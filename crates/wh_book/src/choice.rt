@@ -2,11 +2,11 @@
 #![tactic(auto)]
 
 ghost use Rattle.std.specs.Prelude.{◌≡◌, ◌<◌, IfNone, IfSome, IsTrue, length};
-ghost use Rattle.wh_path.specs.Paths.{place_of};
+ghost use Rattle.wh_path.specs.Paths.{place_of, end_of};
 ghost use Rattle.wh_tasks.specs.Choice.{IsNearest};
 ghost use Rattle.wh_tasks.specs.declared.task.Task.{Task as Job};
 ghost use Rattle.wh_core.specs.Steps.{IsDeliveryCell, other_ends};
-ghost use Rattle.wh_core.specs.Ordinary.{IsDue, NoneIsNext};
+ghost use Rattle.wh_core.specs.Ordinary.{NoneIsNext};
 
 use wh_field::LazyField;
 use wh_state::FleetState;
@@ -16,6 +16,7 @@ use wh_state::FleetState;
 pub fn nearest(floor: &FleetState, agent: u32, near: &mut LazyField) -> Option<u32>
     requires { agent < length floor.now.state.paths }
     ensures grid { near.new.grid ≡ near.old.grid }
+    ensures source { near.new.cell ≡ place_of floor.now.state.paths agent }
     ensures none { IfNone result (NoneIsNext floor.now.state agent) }
     ensures nearest { IfSome result (λ n. (task : Job) × IsNearest near.old.grid floor.now.state.tasks (other_ends floor.now.state agent) (place_of floor.now.state.paths agent) n task) }
 {
@@ -23,13 +24,13 @@ pub fn nearest(floor: &FleetState, agent: u32, near: &mut LazyField) -> Option<u
     floor.tasks().nearest(near, agent)
 }
 
-/// Whether it is known at once that a due agent has nothing to do and is in nobody's way: at a stop of each open task a path
-/// ends, and none stops where the agent is. It takes constant time.
+/// Whether it is known at once that the agent may take no task and comes to rest in nobody's way: at a stop of each open task a
+/// path ends, and none stops where its own ends. It takes constant time.
 #[inline(always)]
 pub fn rests_at_once(floor: &FleetState, agent: u32) -> bool
-    requires { IsDue floor.now.state agent }
+    requires { agent < length floor.now.state.paths }
     ensures none { IsTrue result → NoneIsNext floor.now.state agent }
-    ensures out_of_the_way { IsTrue result → ¬ IsDeliveryCell floor.now.state (place_of floor.now.state.paths agent) }
+    ensures out_of_the_way { IsTrue result → ¬ IsDeliveryCell floor.now.state (end_of floor.now.state.paths agent) }
 {
     floor.tasks().has_none_for(agent)
 }

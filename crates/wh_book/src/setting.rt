@@ -4,7 +4,7 @@
 ghost use Rattle.std.specs.Prelude.{false, ◌≡◌, ◌≢◌, ℕ, ◌<◌, ◌≤◌, ◌↔◌, IfOk, IfErr, IfNone, IfSome, All, Contains, length, map};
 ghost use Rattle.wh_points.specs.declared.points.Point.{Point as Spot};
 ghost use Rattle.std.specs.List.{AllZip};
-ghost use Rattle.wh_points.specs.Points.{Layout, Site, IsLayout, IsStation, IsPoint, IsPointCell, starts, point_at};
+ghost use Rattle.wh_points.specs.Points.{Layout, Site, IsLayout, IsStation, IsPoint, IsPointCell, starts, point_at, home_of};
 ghost use Rattle.wh_core.specs.Steps.{IsUnknownName};
 ghost use Rattle.wh_book.specs.Settings.{IsNamed, IsPlaced, IsFault};
 
@@ -18,23 +18,30 @@ use wh_points::{Kind, Point, Points};
 use wh_tasks::Places;
 use wh_text::Name;
 
-/// The grid, and the points that were read over it.
+/// The grid, the points that were read over it, and whether paths go on home.
+///
+/// Where they do, each agent has a home: the parking where it starts. The path of an order goes through its stops and on
+/// home. As soon as the last stop is visited the agent may be given the next order, wherever it is; the new path begins where
+/// it is and replaces the rest. With no order it goes home and stays there. So no station is held longer than the visit takes.
+/// This is "reserving paths to a parking" of Liu, Ma, Li, Koenig, *Task and Path Planning for Multi-Agent Pickup and Delivery*,
+/// AAMAS 2019. Where they do not, a path ends at the last stop, and an agent is given an order once it stands there.
 #[derive(Drop)]
 pub struct Setting {
     grid: Arc<Grid>,
     points: Points,
+    homes: bool,
 }
 
 impl Model for Setting {
-    ghost use Rattle.std.specs.Prelude.{◌≤◌, false, length};
+    ghost use Rattle.std.specs.Prelude.{◌≤◌, length};
     ghost use Rattle.wh_points.specs.Points.{Site};
     ghost use Rattle.wh_book.specs.Settings.{IsSite};
 
     ghost Value = { Site };
 
-    ghost view = { λ s. record { grid = s.grid.value; layout = s.points; homes = false } };
+    ghost view = { λ s. record { grid = s.grid.value; layout = s.points; homes = s.homes } };
 
-    ghost invariant = { λ s. IsSite (record { grid = s.grid.value; layout = s.points; homes = false }) };
+    ghost invariant = { λ s. IsSite (record { grid = s.grid.value; layout = s.points; homes = s.homes }) };
 }
 
 /// Why a stop is no station.
@@ -47,13 +54,25 @@ pub enum Fault {
 }
 
 impl Setting {
-    /// The grid with its points.
+    /// The grid with its points, where each path ends at the last stop of its order.
     pub fn new(grid: Arc<Grid>, points: Points) -> Setting
         requires layout { IsLayout grid.value points }
         ensures { result ≡ record { grid = grid.value; layout = points; homes = false } }
     {
+        Setting::with_homes(grid, points, false)
+    }
+
+    /// The grid with its points, and whether paths go on home.
+    pub fn with_homes(grid: Arc<Grid>, points: Points, homes: bool) -> Setting
+        requires layout { IsLayout grid.value points }
+        ensures { result ≡ record { grid = grid.value; layout = points; homes = homes } }
+    {
         let _agents = points.agents();
-        Setting { grid, points }
+        Setting {
+            grid,
+            points,
+            homes,
+        }
     }
 
     /// The grid.
@@ -77,6 +96,23 @@ impl Setting {
         self.points.nofollow()
     }
 
+    /// Whether paths go on home.
+    #[inline(always)]
+    pub fn homes(&self) -> bool
+        ensures { result ≡ self.now.homes }
+    {
+        self.homes
+    }
+
+    /// The home of the agent: the cell where it starts.
+    pub fn home(&self, agent: u32) -> Cell
+        requires { agent < length self.now.layout.agents }
+        ensures { result ≡ home_of self.now.layout agent }
+    {
+        let number = self.points.agents()[agent as usize];
+        self.points.cell(number)
+    }
+
     /// The points, in the order of their file.
     pub fn points(&self) -> &Points
         ensures { result.now ≡ self.now.layout }
@@ -88,7 +124,6 @@ impl Setting {
     pub fn agents(&self) -> usize
         ensures value { result ≡ length self.now.layout.agents }
         ensures few { result ≤ 256 }
-        ensures ends_at_stops { self.now.homes ≡ false }
         ensures layout { IsLayout self.now.grid self.now.layout }
     {
         self.points.agents().len()

@@ -8,6 +8,7 @@ use Rattle.std.proofs.Math.Seq.{split_at}
 use Rattle.wh_client.specs.declared.client.ClientOptions.{ClientOptions}
 use Rattle.wh_client.specs.declared.client.ClientRights.{ClientRights}
 use Rattle.wh_client.proofs.Named.{names_once, shown}
+use Rattle.wh_client.proofs.Numbers.{one_number_alone}
 
 -- what clients share, and what a word fixes of its client
 abbrev AreAlike : ClientOptions → ClientOptions → Type 0
@@ -26,7 +27,7 @@ one_folder text c d a b = elim a.1 [
 ]
 
 one_client : (text : Text) (c d : ClientOptions) → GivesClient text c → GivesClient text d → AreAlike c d
-one_client text c d a b = (a.1.1 ∙ sym b.1.1, one_folder _ c d a.2 b.2)
+one_client text c d a b = (one_number_alone _ c.number d.number a.1 b.1, one_folder _ c d a.2 b.2)
 
 same_shares : (c d e : ClientOptions) → AreAlike c d → shares c e ≡ shares d e
 same_shares c d e alike = ap₂ (λ n f. n == e.number || bytes_eq f e.folder.now) alike.0 alike.1

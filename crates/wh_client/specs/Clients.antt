@@ -1,8 +1,7 @@
--- Running clients, as the words of `live` name them.
-use Rattle.std.specs.Prelude.{◌≡◌, ◌≢◌, ◌<◌, ◌≤◌, ◌⊎◌, ◌+◌, ◌==◌, ◌||◌, ℕ, Bool, true, false, List, [], ◌∷◌, length, codes}
+-- Running clients, as the words of `serve` name them.
+use Rattle.std.specs.Prelude.{◌≡◌, ◌≢◌, ◌<◌, ◌≤◌, ◌⊎◌, ◌+◌, ◌==◌, ◌||◌, ℕ, Bool, true, false, List, [], ◌∷◌, length, codes, decimal}
 use Rattle.std.specs.List.{AllZip, IsDistinct, after_first, before_first, list_all, list_any, position_or_len, slice_split}
 use Rattle.std.specs.Str.{bytes_eq}
-use Rattle.std.specs.Str.Parse.{IsNumeral, digits_value, without_leading_plus}
 use Rattle.wh_client.specs.declared.client.ClientOptions.{ClientOptions}
 use Rattle.wh_client.specs.declared.client.ClientRights.{ClientRights}
 
@@ -58,9 +57,9 @@ abbrev pub SpellsRights : Text → ClientRights → Type 0
 SpellsRights text rights = ((text ≡ codes "all") × (rights ≡ all_rights))
     ⊎ NamesRights (slice_split is_comma text) rights
 
--- the text writes the number of a client, 0 to 61, in decimal digits, perhaps after a plus
+-- the text is the number of a client, 0 to 61, in decimal digits
 abbrev pub IsNumber : Text → ℕ → Type 0
-IsNumber text n = IsNumeral 10 (without_leading_plus text) × (n ≡ digits_value 10 (without_leading_plus text)) × (n ≤ 61)
+IsNumber text n = (text ≡ decimal n) × (n ≤ 61)
 
 -- a folder, with the right to submit alone; or a folder, `:` and rights
 abbrev pub GivesPlace : Text → ClientOptions → Type 0

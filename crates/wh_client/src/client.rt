@@ -1,4 +1,4 @@
-//! A running client, as one word of `live` names it: `N=FOLDER`, or `N=FOLDER:RIGHTS`.
+//! A running client, as one word of `serve` names it: `N=FOLDER`, or `N=FOLDER:RIGHTS`.
 ghost use Rattle.std.specs.Prelude.{◌≡◌, ℕ, List, IfOk, MatchOption, codes, map};
 ghost use Rattle.std.specs.List.{list_all, list_any};
 ghost use Rattle.std.specs.Str.{bytes_eq};
@@ -118,10 +118,16 @@ fn rights_of(alloc: Global, text: &str) -> Result<Option<ClientRights>, AllocErr
     Ok(rights_of_words(words.as_slice()))
 }
 
-/// The number that a text writes, where it is one of a client.
+/// The number that a text writes, where it is one of a client. Each has one spelling.
 fn number_of(text: &str) -> Option<u32>
     ensures { MatchOption result ((n : ℕ) → ¬ IsNumber text.now n) (IsNumber text.now) }
 {
+    if text.starts_with('+') {
+        return None;
+    }
+    if text.len() > 1 && text.starts_with('0') {
+        return None;
+    }
     match text.parse::<u32>() {
         Ok(number) if number <= 61 => Some(number),
         _ => None,

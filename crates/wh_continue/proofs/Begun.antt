@@ -1,12 +1,13 @@
 -- A log file that was begun, or ended.
 use Rattle.std.proofs.Common.{◌≡◌, inl, inr, ℕ, List, [], ◌∷◌, ◌++◌, length, take, drop, refl, sym, ap, ◌∙◌, subst, Option, None, Some, take-append-drop}
-use Rattle.std.specs.Prelude.{Bool, true, IfSome, IfErr, OnErr, Result, Ok, Err}
+use Rattle.std.specs.Prelude.{Bool, true, IfSome, MatchOption, OnErr, Result, Ok, Err, is_some, unwrap_or}
 use Rattle.std.proofs.Math.Seq.{take-length}
 use Rattle.std.specs.Io.KnownBytes.{Appends}
 use Rattle.wh_words.specs.Lines.{text_of as lines_text}
 use Rattle.wh_points.specs.Points.{Site}
 use Rattle.wh_resume.specs.Drafts.{Seen}
 use Rattle.wh_event.specs.declared.entry.Entry.{Entry}
+use Rattle.wh_log.specs.declared.version.Version.{Version}
 use Rattle.wh_log.specs.declared.version.Version.TheVariants.{Two}
 use Rattle.wh_log.specs.Logs.{Content, end_line}
 use Rattle.wh_log.specs.Torn.{begun_lines, Holds}
@@ -19,9 +20,9 @@ use Rattle.wh_resume.specs.declared.recovery.Recovery.{Recovery}
 use Rattle.wh_resume.specs.declared.recovery.Recovery.TheVariants as told
 use Rattle.wh_continue.specs.Starting.{Begins, BreaksAt, GoesOnFrom, StartsIn, first_lines}
 use Rattle.wh_continue.specs.declared.running.KeepFault.{KeepFault}
-use Rattle.wh_continue.specs.declared.running.KeepFault.TheVariants.{Unkept}
 use Rattle.wh_continue.specs.Renewing.{LeavesHalfRenewed, in_two, told_in_two}
-use Rattle.wh_continue.specs.Running.{IsStartOf, IsWholeLog, IsLeft, IsLeftAt, LeavesFront, Opens, OpensShort, opening_lines, last_line}
+use Rattle.wh_continue.specs.Running.{IsStartOf, IsWholeLog, IsLeft, IsLeftAt, LeavesFront, Opens, from_opening, opening_lines, last_line}
+use Rattle.wh_continue.specs.Opening.{IsOpened}
 use Rattle.wh_continue.specs.declared.starting.Start.{Start}
 use Rattle.wh_continue.proofs.Closing.{holds_in_two, whole_is_log}
 
@@ -30,9 +31,23 @@ pub record Stands (file new : Option (List ℕ)) (book : Seen) : Type 0 where
   pub stays : StaysLog file new book
   pub holds : HoldsLog new book
 
+opening_of_none : (book : Seen) → book.history ≡ [] → IsLogOfBook (Some (opening_lines book)) book
+opening_of_none book none =
+    ap (λ (es : List Entry). Some (lines_text (begun_lines Two (let c : Content = record { clock = book.opening.clock; slots = book.opening.slots; entries = es } in c)))) (sym none)
+
 opening_is_log : (site : Site) (slots text : List ℕ) (book : Seen) → Begins site slots text book → IsLogOfBook (Some (opening_lines book)) book
-opening_is_log site slots text book begins =
-    ap (λ (es : List Entry). Some (lines_text (begun_lines Two (let c : Content = record { clock = book.opening.clock; slots = book.opening.slots; entries = es } in c)))) (sym begins.unbegun.history_is)
+opening_is_log site slots text book begins = opening_of_none book begins.unbegun.history_is
+
+-- a front that is all of it
+opened_whole : (text lines : List ℕ) (new : Option (List ℕ)) (bytes : ℕ) → text ≡ lines → bytes ≡ length lines → new ≡ front_of bytes (Some text) → new ≡ Some lines
+opened_whole text lines new bytes is count front =
+    front ∙ ap (λ (n : ℕ). Some (take n text)) count ∙ ap (λ (t : List ℕ). Some (take (length lines) t)) is ∙ ap (λ (l : List ℕ). Some l) (take-length lines)
+
+-- one that starts from the two lines was begun
+never_opened : (start : Start) → start.bytes ≡ None → start ≡ from_opening start.book → ⊥
+never_opened start is opened =
+    let bad : ◌≡◌ {A = Option ℕ} None (Some (length (opening_lines start.book))) = sym is ∙ ap (λ (s : Start). s.bytes) opened in
+    cc
 
 stands_some : (text : List ℕ) (new : Option (List ℕ)) (book : Seen) → IsLogOfBook new book → Stands (Some text) new book
 stands_some text new book is = record { stays = is; holds = subst (λ (n : Option (List ℕ)). HoldsLog n book) (sym is) refl }
@@ -40,7 +55,12 @@ stands_some text new book is = record { stays = is; holds = subst (λ (n : Optio
 -- where the run goes on, the file was cut behind its whole lines
 pub begun_found : (file new : Option (List ℕ)) (start : Start) (bytes : ℕ) → IsStartOf file start → start.bytes ≡ Some bytes → new ≡ front_of bytes (told_in_two start.version file) → Stands file new start.book
 begun_found None new start bytes of is cut = record { stays = tt; holds = subst (λ (n : Option (List ℕ)). HoldsLog n start.book) (sym cut) tt }
-begun_found (Some text) new start bytes of is cut =
+begun_found (Some text) new start bytes (inr of) is cut =
+    let version : start.version ≡ Two = ap (λ (s : Start). s.version) of.start_is in
+    let count : bytes ≡ length (opening_lines start.book) = ap (λ (b : Option ℕ). unwrap_or b 0) (sym is ∙ ap (λ (s : Start). s.bytes) of.start_is) in
+    let front : new ≡ front_of bytes (Some text) = subst (λ (v : Version). new ≡ front_of bytes (told_in_two v (Some text))) version cut in
+    stands_some text new start.book (opened_whole text (opening_lines start.book) new bytes of.text_is count front ∙ opening_of_none start.book of.history_is)
+begun_found (Some text) new start bytes (inl of) is cut =
     let from : GoesOnFrom of.0 start.version text bytes start.book =
     subst (λ (b : Option ℕ). StartsIn of.0 of.1 text (record { book = start.book; bytes = b; version = start.version })) is of.2 in
     let holds : Holds Two from.content from.is_ended (in_two start.version text) bytes = holds_in_two start.version from.content from.is_ended text bytes from.holds in
@@ -75,10 +95,34 @@ opens_uncut (Some text) new lines may = elim may [
 -- where it begins, the two lines were written
 pub begun_new : (file new : Option (List ℕ)) (start : Start) → IsStartOf file start → start.bytes ≡ None → Opens file new (opening_lines start.book) → Stands file new start.book
 begun_new None new start of is opens = record { stays = tt; holds = subst (λ (n : Option (List ℕ)). HoldsLog n start.book) (sym opens) tt }
-begun_new (Some text) new start of is opens =
+begun_new (Some text) new start (inr of) is opens = absurd (never_opened start is of.start_is)
+begun_new (Some text) new start (inl of) is opens =
     let from : Begins of.0 of.1 text start.book =
     subst (λ (b : Option ℕ). StartsIn of.0 of.1 text (record { book = start.book; bytes = b; version = start.version })) is of.2 in
     stands_some text new start.book (opens ∙ opening_is_log of.0 of.1 text start.book from)
+
+-- ---- a log that is begun before the file beside it
+
+-- the run starts from the two lines
+pub opened_here : (file new : Option (List ℕ)) (start : Start) → IsStartOf file start → start.bytes ≡ None → Opens file new (opening_lines start.book) → IsStartOf new (from_opening start.book)
+opened_here None new start of is opens = subst (λ (n : Option (List ℕ)). IsStartOf n (from_opening start.book)) (sym opens) tt
+opened_here (Some text) new start (inr of) is opens = absurd (never_opened start is of.start_is)
+opened_here (Some text) new start (inl of) is opens =
+    let from : Begins of.0 of.1 text start.book =
+    subst (λ (b : Option ℕ). StartsIn of.0 of.1 text (record { book = start.book; bytes = b; version = start.version })) is of.2 in
+    subst (λ (n : Option (List ℕ)). IsStartOf n (from_opening start.book)) (sym opens) (inr (record { text_is = refl; start_is = refl; history_is = from.unbegun.history_is }))
+
+pub opened_so : (file new : Option (List ℕ)) (start : Start) → start.bytes ≡ None → Opens file new (opening_lines start.book) → IsOpened start (from_opening start.book) file new
+opened_so file new start is opens =
+    subst (λ (b : Option ℕ). MatchOption b ((from_opening start.book ≡ from_opening start.book) × Opens file new (opening_lines start.book)) (λ _. (from_opening start.book ≡ start) × (new ≡ file))) (sym is) (refl, opens)
+
+-- and one that was begun is as it was
+some_still : (b : Option ℕ) (P Q : Type 0) → is_some b ≡ true → Q → MatchOption b P (λ _. Q)
+some_still None P Q is q = cc
+some_still (Some n) P Q is q = q
+
+pub opened_still : (file new : Option (List ℕ)) (start : Start) → is_some start.bytes ≡ true → new ≡ file → IsOpened start start file new
+opened_still file new start is same = some_still start.bytes _ _ is (refl, same)
 
 -- a file that was not begun
 pub left_found : (file new : Option (List ℕ)) (start : Start) (bytes : ℕ) → start.bytes ≡ Some bytes → LeavesHalfRenewed start.version bytes file new → IsLeft start file new
@@ -110,13 +154,7 @@ ended kept (Some bytes) book log ends =
 pub front_whole : (had has : Option (List ℕ)) (bytes : List ℕ) → Appends had has bytes → WritesFront had has bytes
 front_whole had has bytes a = record { count = length bytes; appends = subst (λ (bs : List ℕ). Appends had has bs) (sym (take-length bytes)) a }
 
--- why the two lines were not written
-pub opening_short : {A : Type 0} (said : Result A KeepFault) (file new : Option (List ℕ)) (failed : Bool) (lines : List ℕ) → IfErr said (λ (f : KeepFault). f ≡ Unkept)
-    → OnErr said (LeavesFront file new lines) → OnErr said (failed ≡ true) → IfErr said (λ (f : KeepFault). OpensShort f file new failed lines)
-opening_short (Ok a) file new failed lines is left has = tt
-opening_short (Err f) file new failed lines is left has = subst (λ (k : KeepFault). OpensShort k file new failed lines) (sym is) (has, left)
-
--- or another text
+-- why a text was not written
 pub alone_short : {A : Type 0} (said : Result A KeepFault) (file cut new : Option (List ℕ)) (lines : List ℕ) → OnErr said (WritesFront cut new lines) → cut ≡ front_of 0 file
     → OnErr said (LeavesFront file new lines)
 alone_short (Ok a) file cut new lines front emptied = tt

@@ -1,5 +1,5 @@
 -- a file that stands beside a log, and holds a text on which the log's run stands
-use Rattle.std.specs.Prelude.{◌≡◌, ◌<◌, ℕ, List, length, Option, IfSome}
+use Rattle.std.specs.Prelude.{◌≡◌, ◌<◌, ◌≤◌, ℕ, List, length, Option, IfSome}
 use Rattle.wh_resume.specs.Resuming.{IsFront}
 use Rattle.wh_continue.specs.declared.beside.Beside.{Beside}
 use Rattle.wh_continue.specs.declared.beside.Beside.TheVariants.{Whole, Begun}
@@ -22,6 +22,11 @@ pub record HoldsOther (file : Option (List ℕ)) (text : List ℕ) : Type 0 wher
   pub held : List ℕ
   pub held_is : IfSome file (λ bytes. held ≡ bytes)
   pub other : IsFront held text → ⊥
+
+-- These bytes are all that the file holds, or more than so many from its front.
+pub record HoldsWithin (file : Option (List ℕ)) (most : ℕ) (held : List ℕ) : Type 0 where
+  pub front : IfSome file (IsFront held)
+  pub all : length held ≤ most → IfSome file (λ bytes. held ≡ bytes)
 
 -- why it does not stand beside the log
 abbrev pub IsWhyNotBeside : Option (List ℕ) → (text : List ℕ) → BesideFault → Type 0

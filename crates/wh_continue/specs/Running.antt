@@ -6,7 +6,7 @@ use Rattle.wh_grid.specs.Grids.{Floor}
 use Rattle.wh_words.specs.Lines.{text_of as lines_text}
 use Rattle.wh_resume.specs.Drafts.{Seen}
 use Rattle.wh_event.specs.declared.entry.Entry.{Entry}
-use Rattle.wh_log.specs.Told.{Answered}
+use Rattle.wh_replay.specs.declared.asker.Asker.{Asker}
 use Rattle.wh_lines.specs.Input.{Input}
 use Rattle.wh_log.specs.declared.version.Version.{Version}
 use Rattle.wh_log.specs.declared.version.Version.TheVariants.{Two}
@@ -16,12 +16,13 @@ use Rattle.wh_journal.specs.Scripts.{WritesFront}
 use Rattle.wh_journal.specs.Journals.{ReplaysJournaled, lines_for}
 use Rattle.wh_journal.specs.Surviving.{StaysLog, told_by}
 use Rattle.wh_continue.specs.Closing.{StopsShort}
+use Rattle.wh_continue.specs.Delivering.{DeliversOver, StopsDelivering}
 use Rattle.wh_continue.specs.Starting.{GoesOnFrom, StartsIn}
 use Rattle.wh_continue.specs.Renewing.{IsHalfRenewed}
 use Rattle.wh_continue.specs.declared.running.KeepFault.{KeepFault}
 use Rattle.wh_continue.specs.declared.running.KeepFault.TheVariants.{Unkept, NoMemory}
 use Rattle.wh_continue.specs.declared.running.RunFault.{RunFault}
-use Rattle.wh_continue.specs.declared.running.RunFault.TheVariants.{Begin, Uncounted, Continue, End}
+use Rattle.wh_continue.specs.declared.running.RunFault.TheVariants.{Begin, Uncounted, Continue, Deliver, End}
 use Rattle.wh_continue.specs.declared.starting.Start.{Start}
 
 -- the line that tells how many entries a run has so far, and the line that ends its log
@@ -44,9 +45,19 @@ first_text again history = count_line (length history) ++ told_again again histo
 abbrev pub opening_lines : Seen → List ℕ
 opening_lines book = lines_text (head_line Two ∷ start_line book.opening.clock book.opening.slots ∷ [])
 
--- a file that tells its bytes holds what the start was found in
+-- a run starts from the first two lines of the book's log
+abbrev pub from_opening : Seen → Start
+from_opening book = record { book = book; bytes = Some (length (opening_lines book)); version = Two }
+
+-- the text is the first two lines of a run in which nothing was done, and the run starts from them
+pub record IsOpenedIn (text : List ℕ) (start : Start) : Type 0 where
+  pub text_is : text ≡ opening_lines start.book
+  pub start_is : start ≡ from_opening start.book
+  pub history_is : start.book.history ≡ []
+
+-- a file that tells its bytes holds what the start was found in, or the two lines with which it was begun since
 abbrev pub IsStartOf : Option (List ℕ) → Start → Type 0
-IsStartOf file start = IfSome file (λ text. (site : Site) × (slots : List ℕ) × StartsIn site slots text start)
+IsStartOf file start = IfSome file (λ text. ((site : Site) × (slots : List ℕ) × StartsIn site slots text start) ⊎ IsOpenedIn text start)
 
 -- the journal is the log of the book's run, which the command `verify` takes
 abbrev pub IsWholeLog : Option (List ℕ) → Seen → Type 0
@@ -96,32 +107,44 @@ pub record Counts (again : Option ℕ) (book : Seen) (had counted file begun : O
   pub counts : Appends had counted (first_text again book.history)
   pub begins : StaysLog file begun book
 
--- That was told, the script was served to its end, each reply told when its entry was synced, and the file was given the
--- line that ends the log: it is the log of the whole run.
-pub record RunsOn {X : Type 0} (fits : X → Floor → Bool) (count : X → ℕ) (text : Answered → List ℕ) (again : Option ℕ) (before after : Input) (book : Seen) (spares : List X) (new : Seen) (rest : List X)
+-- That was told, the script was served to its end, and all was delivered behind it, where that was asked for, each reply told when its entry was
+-- synced, and the file was given the line that ends the log: it is the log of the whole run. Deliver, here and below, says whether it was asked for.
+pub record RunsOn {X : Type 0} (fits : X → Floor → Bool) (count : X → ℕ) (asker : Asker) (again : Option ℕ) (deliver : Bool) (before after : Input) (book : Seen) (spares : List X) (new : Seen) (rest : List X)
     (had has file synced holds : Option (List ℕ)) : Type 0 where
   pub counted : Option (List ℕ)
   pub begun : Option (List ℕ)
   pub counts : Counts again book had counted file begun
   pub safe : Option (List ℕ)
   pub kept : Option (List ℕ)
-  pub replays : ReplaysJournaled fits count text before after book spares new rest counted has begun safe kept
-  pub ends : Appends kept holds (last_line (length new.history))
+  pub served : Seen
+  pub answered : Option (List ℕ)
+  pub replays : ReplaysJournaled fits count asker before after book spares served rest counted answered begun safe kept
+  pub sure : Option (List ℕ)
+  pub full : Option (List ℕ)
+  pub delivers : DeliversOver deliver asker served new answered has kept sure full
+  pub ends : Appends full holds (last_line (length new.history))
   pub synced_is : synced ≡ holds
   pub whole : IfSome file (λ _. IsWholeLog holds new)
 
 -- Why a run was not brought to its end.
-abbrev pub StopsRun : {X : Type 0} → (X → Floor → Bool) → (X → ℕ) → (Answered → List ℕ) → Option ℕ → RunFault → (before after : Input) → Start → (planners spares rest : List X)
+abbrev pub StopsRun : {X : Type 0} → (X → Floor → Bool) → (X → ℕ) → Asker → (again : Option ℕ) → (deliver : Bool) → RunFault → (before after : Input) → Start → (planners spares rest : List X)
     → (had has file : Option (List ℕ)) → Bool → (synced holds : Option (List ℕ)) → Type 0
-StopsRun fits count text again (Begin fault) before after start planners spares rest had has file failed synced holds =
+StopsRun fits count asker again deliver (Begin fault) before after start planners spares rest had has file failed synced holds =
     (after ≡ before) × (rest ≡ spares) × (has ≡ had) × BeginsShort fault start file holds failed
-StopsRun fits count text again Uncounted before after start planners spares rest had has file failed synced holds =
+StopsRun fits count asker again deliver Uncounted before after start planners spares rest had has file failed synced holds =
     (after ≡ before) × (rest ≡ spares) × WritesFront had has (first_text again start.book.history) × StaysLog file holds start.book × (synced ≡ holds)
-StopsRun fits count text again (Continue fault) before after start planners spares rest had has file failed synced holds =
+StopsRun fits count asker again deliver (Continue fault) before after start planners spares rest had has file failed synced holds =
     (counted : Option (List ℕ)) × (begun : Option (List ℕ)) × Counts again start.book had counted file begun
-    × StopsShort fits count text fault before after start.book planners spares rest counted has begun failed synced holds
-StopsRun fits count text again (End fault) before after start planners spares rest had has file failed synced holds =
+    × StopsShort fits count asker fault before after start.book planners spares rest counted has begun failed synced holds
+StopsRun fits count asker again deliver (Deliver fault) before after start planners spares rest had has file failed synced holds =
+    (deliver ≡ true) × ((counted : Option (List ℕ)) × (begun : Option (List ℕ)) × Counts again start.book had counted file begun
+    × ((served : Seen) × (answered : Option (List ℕ)) × (safe : Option (List ℕ)) × (kept : Option (List ℕ))
+    × ReplaysJournaled fits count asker before after start.book spares served rest counted answered begun safe kept
+    × ((new : Seen) × StopsDelivering fault asker served new answered has kept failed synced holds)))
+StopsRun fits count asker again deliver (End fault) before after start planners spares rest had has file failed synced holds =
     (counted : Option (List ℕ)) × (begun : Option (List ℕ)) × Counts again start.book had counted file begun
-    × ((new : Seen) × (safe : Option (List ℕ)) × (kept : Option (List ℕ))
-    × ReplaysJournaled fits count text before after start.book spares new rest counted has begun safe kept
-    × EndsShort fault (length new.history) kept holds safe synced failed)
+    × ((served : Seen) × (answered : Option (List ℕ)) × (safe : Option (List ℕ)) × (kept : Option (List ℕ))
+    × ReplaysJournaled fits count asker before after start.book spares served rest counted answered begun safe kept
+    × ((new : Seen) × (sure : Option (List ℕ)) × (full : Option (List ℕ))
+    × DeliversOver deliver asker served new answered has kept sure full
+    × EndsShort fault (length new.history) full holds sure synced failed))

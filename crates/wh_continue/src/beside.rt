@@ -2,14 +2,15 @@
 //! compared at each start.
 #![tactic(auto)]
 
-ghost use Rattle.std.specs.Prelude.{◌≡◌, true, false, IfOk, IfErr, IfSome, IfNone, OnOk, OnErr};
+ghost use Rattle.std.specs.Prelude.{◌≡◌, ◌≢◌, true, false, IfOk, IfErr, IfSome, IfNone, OnOk, OnErr};
 ghost use Rattle.wh_resume.specs.Resuming.{IsFront};
 ghost use Rattle.wh_continue.specs.Running.{LeavesFront, Opens};
-ghost use Rattle.wh_continue.specs.Besides.{IsPartOf, IsWhyNotBeside, StandsBeside};
+ghost use Rattle.wh_continue.specs.Besides.{HoldsWithin, IsPartOf, IsWhyNotBeside, StandsBeside};
 
 use crate::running::{KeepFault, cut_behind, write_alone};
 use std::alloc::Global;
-use wh_journal::{LogFile, LogFileFault};
+use wh_journal::LogFile;
+use wh_log::{Source, SourceFault};
 
 /// How much of its text a file beside a log holds.
 #[derive(Clone, Copy, Debug, PartialEq, Eq)]
@@ -54,6 +55,28 @@ fn part_of(held: &[u8], text: &[u8]) -> Option<Beside>
     }
 }
 
+/// Reads a file to its end, or until it was found to hold more than this many bytes: of a file that is far too long no more is read than
+/// tells so. Nothing changes.
+fn read_within<S: Source>(alloc: Global, file: &mut S, most: usize) -> Result<Vec<u8>, BesideFault>
+    ensures ok { IfOk result (λ held. HoldsWithin (S.held file.old) most held.items) }
+    ensures fault { IfErr result (λ fault. fault ≢ BesideFault.Other) }
+    ensures same { S.held file.new ≡ S.held file.old }
+{
+    let mut held = Vec::new(alloc);
+    for _ in 0..u64::MAX {
+        let place = held.len();
+        match file.add_piece(place, &mut held) {
+            Ok(()) => {}
+            Err(SourceFault::Unread) => return Err(BesideFault::Unread),
+            Err(SourceFault::NoMemory) => return Err(BesideFault::NoMemory),
+        }
+        if held.len() == place || held.len() > most {
+            return Ok(held);
+        }
+    }
+    Err(BesideFault::Unread)
+}
+
 /// Finds out how much of this text a file holds. Nothing changes.
 pub fn look_beside<L: LogFile>(
     alloc: Global,
@@ -64,10 +87,9 @@ pub fn look_beside<L: LogFile>(
     ensures fault { IfErr result (IsWhyNotBeside (L.contents file.old) text.now) }
     ensures same { L.contents file.new ≡ L.contents file.old }
 {
-    let held = match file.text(alloc) {
+    let held = match read_within(alloc, file, text.len()) {
         Ok(held) => held,
-        Err(LogFileFault::Unread) => return Err(BesideFault::Unread),
-        Err(LogFileFault::NoMemory) => return Err(BesideFault::NoMemory),
+        Err(fault) => return Err(fault),
     };
     match part_of(held.as_slice(), text) {
         Some(beside) => Ok(beside),

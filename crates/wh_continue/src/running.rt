@@ -1,22 +1,24 @@
 //! A run over its log file, from what the file holds to the line that ends it.
 #![tactic(auto)]
 
-ghost use Rattle.std.specs.Prelude.{◌≡◌, ◌++◌, true, None, IfOk, IfErr, OnOk, OnErr, drop};
+ghost use Rattle.std.specs.Prelude.{◌≡◌, ◌++◌, true, None, IfOk, IfErr, OnOk, OnErr, drop, length};
 ghost use Rattle.std.specs.Io.KnownBytes.{Appends, Keeps};
 ghost use Rattle.wh_core.specs.Laws.{IsOpening};
 ghost use Rattle.wh_core.specs.Steps.{Run};
-ghost use Rattle.wh_log.specs.Told.{told_text};
 ghost use Rattle.wh_journal.specs.Surviving.{HoldsLog, StaysLog};
 ghost use Rattle.wh_journal.specs.Scripts.{WritesFront};
 ghost use Rattle.wh_journal.specs.Cutting.{MayCut, MayPut, front_of};
 ghost use Rattle.wh_continue.specs.Renewing.{LeavesHalfRenewed, told_in_two};
 ghost use Rattle.wh_continue.specs.Running.{BeginsShort, EndsShort, IsStartOf, LeavesFront, Opens, OpensShort, RunsOn, StopsRun, count_line, last_line, opening_lines, told_again};
+ghost use Rattle.wh_journal.specs.Journals.{log_asker};
 
 use crate::continuing::{ContinueFault, continue_run};
+use crate::delivering::deliver_over;
 use crate::starting::Start;
 use arrayvec::ArrayVec;
 use std::alloc::Global;
 use std::io::{Read, Write};
+use wh_deliver::DeliverFault;
 use wh_event::{Entry, put, put_number};
 use wh_journal::{Journal, LogFile, Warehouse};
 use wh_lines::{Lines, write_all};
@@ -42,6 +44,8 @@ pub enum RunFault {
     Uncounted,
     /// The script was not served to its end.
     Continue(ContinueFault),
+    /// Not all was delivered behind the script, kept and told.
+    Deliver(DeliverFault),
     /// The line that ends the log was not kept. All else was, and was told.
     End(KeepFault),
 }
@@ -125,8 +129,13 @@ pub fn write_alone<L: LogFile>(file: &mut L, text: &[u8]) -> Result<(), KeepFaul
     }
 }
 
-/// Writes the first two lines of the book's log into a file that holds no more than a beginning of them.
-fn write_opening<L: LogFile>(alloc: Global, file: &mut L, book: &Book) -> Result<(), KeepFault>
+/// Writes the first two lines of the book's log into a file that holds no more than a beginning of them. How many bytes they are.
+pub(crate) fn write_opening<L: LogFile>(
+    alloc: Global,
+    file: &mut L,
+    book: &Book,
+) -> Result<usize, KeepFault>
+    ensures bytes { IfOk result (λ bytes. bytes ≡ length (opening_lines book.now)) }
     ensures ok { OnOk result (Opens (L.contents file.old) (L.contents file.new) (opening_lines book.now)) }
     ensures synced { OnOk result (L.synced file.new ≡ L.contents file.new) }
     ensures fault { IfErr result (λ fault. OpensShort fault (L.contents file.old) (L.contents file.new) (L.failed file.new) (opening_lines book.now)) }
@@ -134,7 +143,10 @@ fn write_opening<L: LogFile>(alloc: Global, file: &mut L, book: &Book) -> Result
     let Ok(text) = begun_text(alloc, book.first_clock(), book.first_slots()) else {
         return Err(KeepFault::NoMemory);
     };
-    write_alone(file, text.as_slice())
+    match write_alone(file, text.as_slice()) {
+        Ok(()) => Ok(text.len()),
+        Err(fault) => Err(fault),
+    }
 }
 
 /// Makes the file the log of the run so far, of version 2, except for the end line: a log of version 1 is made one of version 2,
@@ -148,7 +160,10 @@ pub fn begin_log<L: LogFile>(alloc: Global, file: &mut L, start: &Start) -> Resu
 {
     match start.bytes {
         Some(bytes) => keep_front(file, start.version, bytes),
-        None => write_opening(alloc, file, &start.book),
+        None => match write_opening(alloc, file, &start.book) {
+            Ok(_) => Ok(()),
+            Err(fault) => Err(fault),
+        },
     }
 }
 
@@ -228,12 +243,14 @@ pub fn tell_first<W: Write>(writer: &mut W, entries: u64, text: &[u8]) -> Result
 /// Goes on from a start over the log file in which it was found, and serves the script that is left in the reader, to the
 /// reader's end. First the file is made the log of the run so far, and the line `entries N` tells how many entries that has.
 /// Where an entry is named, those from it on are told again after that line, as the log has them. Then the script is served
-/// as `continue_run` does; at its end the file is given the line that ends the log, so that it is the log of the whole run.
+/// as `continue_run` does; at its end all is delivered that can be, where that is asked for, and the file is given the line that ends the
+/// log, so that it is the log of the whole run.
 pub fn run_on<R: Read, W: Write, L: LogFile, P: Planner>(
     lines: &mut Lines<R>,
     alloc: Global,
     form: Form,
     again: Option<u32>,
+    deliver: bool,
     file: &mut L,
     writer: &mut W,
     start: Start,
@@ -241,10 +258,10 @@ pub fn run_on<R: Read, W: Write, L: LogFile, P: Planner>(
     spares: &mut Vec<P>,
 ) -> Result<Warehouse<P>, RunFault>
     requires starts { IsStartOf (L.contents file.old) start }
-    ensures runs { IfOk result (λ w. RunsOn P.fits_map P.slot_count (told_text form) again lines.old lines.new start.book spares.old.items w.book spares.new.items (W.contents writer.old) (W.contents writer.new) (L.contents file.old) (L.synced file.new) (L.contents file.new)) }
+    ensures runs { IfOk result (λ w. RunsOn P.fits_map P.slot_count (log_asker form) again deliver lines.old lines.new start.book spares.old.items w.book spares.new.items (W.contents writer.old) (W.contents writer.new) (L.contents file.old) (L.synced file.new) (L.contents file.new)) }
     ensures opening { IfOk result (λ w. IsOpening w.book.site w.book.opening) }
     ensures run { IfOk result (λ w. Run w.book.site w.book.opening w.book.history w.book.state) }
-    ensures fault { IfErr result (λ fault. StopsRun P.fits_map P.slot_count (told_text form) again fault lines.old lines.new start planners.items spares.old.items spares.new.items (W.contents writer.old) (W.contents writer.new) (L.contents file.old) (L.failed file.new) (L.synced file.new) (L.contents file.new)) }
+    ensures fault { IfErr result (λ fault. StopsRun P.fits_map P.slot_count (log_asker form) again deliver fault lines.old lines.new start planners.items spares.old.items spares.new.items (W.contents writer.old) (W.contents writer.new) (L.contents file.old) (L.failed file.new) (L.synced file.new) (L.contents file.new)) }
 {
     let Ok(text) = again_text(alloc, start.book.history(), again) else {
         return Err(RunFault::Begin(KeepFault::NoMemory));
@@ -259,10 +276,19 @@ pub fn run_on<R: Read, W: Write, L: LogFile, P: Planner>(
     }
     drop(text);
     let Start { book, .. } = start;
-    let warehouse = match continue_run(lines, alloc, form, file, writer, book, planners, spares) {
+    let mut warehouse = match continue_run(
+        lines, alloc, form, file, writer, book, planners, spares,
+    ) {
         Ok(warehouse) => warehouse,
         Err(fault) => return Err(RunFault::Continue(fault)),
     };
+    match deliver_over(deliver, alloc, form, file, writer, &mut warehouse) {
+        Ok(()) => {}
+        Err(fault) => {
+            drop(warehouse);
+            return Err(RunFault::Deliver(fault));
+        }
+    }
     match end_log(alloc, file, warehouse.history().len() as u64) {
         Ok(()) => Ok(warehouse),
         Err(fault) => Err(RunFault::End(fault)),

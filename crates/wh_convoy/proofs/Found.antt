@@ -1,8 +1,10 @@
 -- how many bytes of a text are whole lines, and where vehicles stand by them
-use Rattle.std.proofs.Common.{◌≡◌, ℕ, ◌+◌, ◌-◌, ◌≤◌, ◌∙◌, inl, inr, List, [], ◌∷◌, ◌++◌, length, sym, refl, ap, arith, length-append}
+use Rattle.std.proofs.Common.{◌≡◌, Bool, true, false, Option, None, Some, cond, ℕ, ◌+◌, ◌-◌, ◌≤◌, ◌∙◌, inl, inr, List, [], ◌∷◌, ◌++◌, length, sym, refl, ap, arith, length-append}
+use Rattle.std.specs.Prelude.{IfNone, is_some}
 use Rattle.std.proofs.lemmas.List.{append_assoc}
-use Rattle.wh_text.specs.Lines.{IsLine}
-use Rattle.wh_convoy.specs.Standing.{EndsFeed, IsWhole}
+use Rattle.std.proofs.lemmas.List.Sums.{sum_by-append}
+use Rattle.wh_text.specs.Lines.{IsLine, is_line_feed}
+use Rattle.wh_convoy.specs.Standing.{EndsFeed, IsWhole, whole_lines}
 
 -- what stands before the rest of the text is whole lines
 pub record Passed (text rest : List ℕ) : Type 0 where
@@ -36,3 +38,43 @@ passed_all text rest p cut = record {
   is_cut = cut;
   bytes_are = (let size = passed_size text rest p in omega arith);
 }
+
+-- ---- how many lines are whole
+
+abbrev is_feed : ℕ → ℕ
+is_feed b = cond (is_line_feed b) 1 0
+
+no_line : (bytes : List ℕ) → IsLine bytes → whole_lines bytes ≡ 0
+no_line [] none = refl
+no_line (b ∷ bs) none =
+    let parts : whole_lines (b ∷ bs) ≡ 0 + is_feed b + whole_lines bs = sum_by-append is_feed (b ∷ []) bs in
+    let first : ◌≡◌ {A = ℕ} (is_feed b) 0 = ap (λ (x : Bool). cond {A = ℕ} x 1 0) none.0 in
+    let rest = no_line bs none.1 in
+    omega (arith, parts, first, rest)
+
+pub line_more : (line rest : List ℕ) → IsLine line → whole_lines (line ++ 10 ∷ rest) ≡ 1 + whole_lines rest
+line_more line rest h =
+    let parts : whole_lines (line ++ 10 ∷ rest) ≡ whole_lines line + whole_lines (10 ∷ rest) = sum_by-append is_feed line (10 ∷ rest) in
+    let one : whole_lines (10 ∷ rest) ≡ 1 + whole_lines rest = sum_by-append is_feed (10 ∷ []) rest in
+    let none = no_line line h in
+    omega (arith, parts, one, none)
+
+-- no line feed, or one alone
+pub few_none : (text : List ℕ) → IsLine text → 2 ≤ whole_lines text → ⊥
+few_none text h more = (let none = no_line text h in omega (arith, none, more))
+
+pub few_one : (text line rest : List ℕ) → text ≡ line ++ 10 ∷ rest → IsLine line → IsLine rest → 2 ≤ whole_lines text → ⊥
+few_one text line rest is h k more =
+    let parts : whole_lines text ≡ 1 + whole_lines rest = ap (λ t. whole_lines t) is ∙ line_more line rest h in
+    let none = no_line rest k in
+    omega (arith, parts, none, more)
+
+pub many_two : (text line rest next more : List ℕ) → text ≡ line ++ 10 ∷ rest → rest ≡ next ++ 10 ∷ more → IsLine line → IsLine next → 2 ≤ whole_lines text
+many_two text line rest next more is then h k =
+    let parts : whole_lines text ≡ 1 + whole_lines rest = ap (λ t. whole_lines t) is ∙ line_more line rest h in
+    let others : whole_lines rest ≡ 1 + whole_lines more = ap (λ t. whole_lines t) then ∙ line_more next more k in
+    omega (arith, parts, others)
+
+pub none_of : {X : Type 0} (P : Type 0) (o : Option X) (b : Bool) → b ≡ is_some o → b ≡ false → IfNone o P → P
+none_of P None b is bad h = h
+none_of P (Some x) b is bad h = absurd (let e : true ≡ false = sym is ∙ bad in cc)

@@ -1,22 +1,15 @@
--- lines that are kept, and reports that are not
+-- reports that are not kept
 use Rattle.std.proofs.Common.{◌≡◌, ℕ, ◌+◌, ◌≤◌, inl, inr, List, [], ◌∷◌, length, Bool, true, false, subst, ap, arith}
 use Rattle.std.specs.Prelude.{◌&&◌, nat_lt, nat_le}
 use Rattle.std.proofs.lemmas.Bool.{cases_lt, lt-ltb}
 use Rattle.std.proofs.lemmas.Bool.Decides.{leb_tells}
 use Rattle.std.proofs.Math.Nat.{max-eq_left}
-use Rattle.wh_grid.specs.Grids.{Floor}
-use Rattle.wh_log.specs.Told.{Answered}
 use Rattle.wh_drive.specs.Drives.{Drive, reached, told}
 use Rattle.wh_drive.specs.Runs.{Event, Start, Arrive, Tick, Step, Run}
 use Rattle.wh_drive.proofs.Going.{reached-own}
 use Rattle.wh_vehicles.specs.Driving.{OnlyArrives, HasArrived}
 use Rattle.wh_vehicles.specs.declared.notice.Notice.TheVariants.{Arrived, Visited, Go, Behind, UnknownAgent, NotTold}
-use Rattle.wh_convoy.specs.Laws.{KeptIsServed, EachMoveIsKept}
-
-pub kept_is_served : {X : Type 0} (fits : X → Floor → Bool) (count : X → ℕ) (text : Answered → List ℕ) → KeptIsServed fits count text
-kept_is_served fits count text bound [] old new texts kept p = (p.0, p.1)
-kept_is_served fits count text bound (line ∷ lines) old new texts kept p =
-    (p.0, p.1, p.2, p.4, kept_is_served fits count text bound lines p.0 new p.2 p.3 p.5, p.6)
+use Rattle.wh_convoy.specs.Laws.{EachMoveIsKept}
 
 come : (agent : ℕ) (d : Drive) (events : List Event) (e : Drive) → OnlyArrives agent events → Run d events e → reached e agent ≡ reached d agent + length events
 come agent d [] e only run = (let here = ap (λ (f : Drive). reached f agent) run in omega arith)

@@ -1,7 +1,7 @@
+mod Filing
 mod Joining
-mod Gathered
+mod Recordings
 mod Standing
 pub mod Kept
-mod Settled
 mod Found
 mod Ridden

@@ -7,7 +7,7 @@ use Rattle.wh_lines.specs.Input.{Input}
 use Rattle.wh_grid.specs.Grids.{Floor}
 use Rattle.wh_core.specs.States.{State}
 use Rattle.wh_event.specs.declared.entry.Entry.{Entry}
-use Rattle.wh_log.specs.Told.{Answered}
+use Rattle.wh_replay.specs.declared.asker.Asker.{Asker}
 use Rattle.wh_log.specs.declared.version.Version.TheVariants.{Two}
 use Rattle.wh_log.specs.Logs.{Content}
 use Rattle.wh_log.specs.Torn.{begun_lines}
@@ -31,7 +31,7 @@ use Rattle.wh_convoy.specs.Convoys.{Held, ConvoysLines, ConvoysFrom, ConvoysUnti
 use Rattle.wh_convoy.specs.Riding.{Rides, RidesToEnd, RidesFrom, RidesUntil, StopsFrom}
 use Rattle.wh_convoy.specs.declared.riding.RideFault.{RideFault}
 use Rattle.wh_convoy.specs.declared.riding.RideFault.TheVariants.{End, SetOut}
-use Rattle.wh_convoy.proofs.Kept.{kept_is_served}
+use Rattle.wh_dispatch.proofs.Kept.{kept_is_served}
 use Rattle.wh_convoy.proofs.Standing.{both_synced}
 
 appended : (holds : Option (List ℕ)) (text bs : List ℕ) → Appends (Some text) holds bs → holds ≡ Some (text ++ bs)
@@ -51,15 +51,15 @@ stays_more (Some held) kept old new added is stands grown opening =
     ∙ ap (λ (es : List Entry). let c : Content = record { clock = old.opening.clock; slots = old.opening.slots; entries = es } in lines_text (begun_lines Two c)) (sym grown)
     ∙ ap (λ (s : State). let c : Content = record { clock = s.clock; slots = s.slots; entries = new.history } in lines_text (begun_lines Two c)) (sym opening))
 
-module _ {X : Type 0} (fits : X → Floor → Bool) (count : X → ℕ) (text : Answered → List ℕ) (bound : ℕ) where
+module _ {X : Type 0} (fits : X → Floor → Bool) (count : X → ℕ) (asker : Asker) (bound : ℕ) where
   -- lines that are served change no opening
-  same_opening : (old new : Depot X) (read : List ℕ) (texts kept : List (List ℕ)) (added : List Entry) → ConvoysLines fits count text bound old new read texts kept added →
+  same_opening : (old new : Depot X) (read : List ℕ) (texts kept : List (List ℕ)) (added : List Entry) → ConvoysLines fits count asker bound old new read texts kept added →
       new.book.opening ≡ old.book.opening
   same_opening old new read texts kept added l =
-      (each_script_happens fits count text bound _ old new texts (kept_is_served fits count text bound _ old new texts kept l.all)).opening
+      (each_script_happens fits count asker bound _ old new texts (kept_is_served fits count asker bound _ old new texts kept l.all)).opening
 
   pub whole_of : (before after : Input) (old : Seen) (spares : List X) (d : Drive) (new : Seen) (rest : List X) (crew : Crew) (had has file : Option (List ℕ)) (begun holds synced : Held) →
-      StaysLog file begun.log old → HoldsLog begun.log old → RidesToEnd fits count text bound before after old spares d new rest crew had has begun holds synced → IfSome file (λ _. IsWholeLog holds.log new)
+      StaysLog file begun.log old → HoldsLog begun.log old → RidesToEnd fits count asker bound before after old spares d new rest crew had has begun holds synced → IfSome file (λ _. IsWholeLog holds.log new)
   whole_of before after old spares d new rest crew had has file begun holds synced first is r =
       let c = r.rides.convoys in
       let old_depot = depot old spares r.rides.set in
@@ -72,35 +72,35 @@ module _ {X : Type 0} (fits : X → Floor → Bool) (count : X → ℕ) (text : 
     manned_out some = (let r = sets some.0 some.1 in (r.0, r.1))
 
     pub until_from : (n : ℕ) → n ≡ bound → (before after : Input) (spares : List X) (has : Option (List ℕ)) (begun holds synced : Held) →
-        ConvoysUntilFrom fits count text n before after old spares next out has begun holds synced →
-        (d : Drive) → IsInStep old crew.order d → RidesUntil fits count text bound before after old spares d had has begun holds synced
+        ConvoysUntilFrom fits count asker n before after old spares next out has begun holds synced →
+        (d : Drive) → IsInStep old crew.order d → RidesUntil fits count asker bound before after old spares d had has begun holds synced
     until_from n same before after spares has begun holds synced until d m =
         let r = sets d m in
         record {
           out = out;
           set = r.0;
           sets_out = r.2;
-          until = subst (λ b. ConvoysUntilFrom fits count text b before after old spares next out has begun holds synced) same until r.0 r.1;
+          until = subst (λ b. ConvoysUntilFrom fits count asker b before after old spares next out has begun holds synced) same until r.0 r.1;
         }
 
     pub rides_from : (n : ℕ) → n ≡ bound → (before after : Input) (spares : List X) (new : Seen) (rest : List X) (last : Crew) (has : Option (List ℕ)) (begun kept safe : Held) →
-        ConvoysFrom fits count text n Ended before after old spares next new rest last out has begun kept safe →
-        (d : Drive) → IsInStep old crew.order d → Rides fits count text bound before after old spares d new rest last had has begun kept safe
+        ConvoysFrom fits count asker n Ended before after old spares next new rest last out has begun kept safe →
+        (d : Drive) → IsInStep old crew.order d → Rides fits count asker bound before after old spares d new rest last had has begun kept safe
     rides_from n same before after spares new rest last has begun kept safe convoys d m =
         let r = sets d m in
-        let t = subst (λ b. ConvoysFrom fits count text b Ended before after old spares next new rest last out has begun kept safe) same convoys r.0 r.1 in
+        let t = subst (λ b. ConvoysFrom fits count asker b Ended before after old spares next new rest last out has begun kept safe) same convoys r.0 r.1 in
         record { out = out; set = r.0; sets_out = r.2; final = t.0; manned = t.1; convoys = t.2 }
 
     -- with the line that ends the log
     pub to_end : (n : ℕ) → n ≡ bound → (before after : Input) (spares : List X) (new : Seen) (rest : List X) (last : Crew) (has : Option (List ℕ)) (begun kept safe : Held) (holds_log synced_log : Option (List ℕ)) →
-        ConvoysFrom fits count text n Ended before after old spares next new rest last out has begun kept safe → Appends kept.log holds_log (last_line (length new.history)) → synced_log ≡ holds_log →
-        RidesFrom fits count text bound before after old spares crew.order new rest last had has begun (record { log = holds_log; arrivals = kept.arrivals }) (record { log = synced_log; arrivals = safe.arrivals })
+        ConvoysFrom fits count asker n Ended before after old spares next new rest last out has begun kept safe → Appends kept.log holds_log (last_line (length new.history)) → synced_log ≡ holds_log →
+        RidesFrom fits count asker bound before after old spares crew.order new rest last had has begun (record { log = holds_log; arrivals = kept.arrivals }) (record { log = synced_log; arrivals = safe.arrivals })
     to_end n same before after spares new rest last has begun kept safe holds_log synced_log convoys ends is d m =
         let r = rides_from n same before after spares new rest last has begun kept safe convoys d m in
         let synced = r.convoys.synced_is in
         record {
           kept = kept;
-          rides = subst (λ (s : Held). Rides fits count text bound before after old spares d new rest last had has begun kept s) synced r;
+          rides = subst (λ (s : Held). Rides fits count asker bound before after old spares d new rest last had has begun kept s) synced r;
           ends = ends;
           arrivals = refl;
           synced_is = both_synced synced_log holds_log safe.arrivals kept.arrivals is (ap (λ (h : Held). h.arrivals) synced);
@@ -108,8 +108,8 @@ module _ {X : Type 0} (fits : X → Floor → Bool) (count : X → ℕ) (text : 
 
     -- or without it
     pub unended : (n : ℕ) → n ≡ bound → (fault : KeepFault) (before after : Input) (spares : List X) (new : Seen) (rest : List X) (last : Crew) (has : Option (List ℕ)) (begun kept safe : Held) (holds_log synced_log : Option (List ℕ)) (failed arrivals_failed : Bool) →
-        ConvoysFrom fits count text n Ended before after old spares next new rest last out has begun kept safe → EndsShort fault (length new.history) kept.log holds_log safe.log synced_log failed →
-        StopsFrom fits count text bound (End fault) before after old spares rest crew.order had has begun (record { log = holds_log; arrivals = kept.arrivals }) (record { log = synced_log; arrivals = safe.arrivals }) failed arrivals_failed
+        ConvoysFrom fits count asker n Ended before after old spares next new rest last out has begun kept safe → EndsShort fault (length new.history) kept.log holds_log safe.log synced_log failed →
+        StopsFrom fits count asker bound (End fault) before after old spares rest crew.order had has begun (record { log = holds_log; arrivals = kept.arrivals }) (record { log = synced_log; arrivals = safe.arrivals }) failed arrivals_failed
     unended n same fault before after spares new rest last has begun kept safe holds_log synced_log failed arrivals_failed convoys ends d m =
         let r = rides_from n same before after spares new rest last has begun kept safe convoys d m in
         let synced = r.convoys.synced_is in
@@ -117,7 +117,7 @@ module _ {X : Type 0} (fits : X → Floor → Bool) (count : X → ℕ) (text : 
           new = new;
           crew = last;
           kept = kept;
-          rides = subst (λ (s : Held). Rides fits count text bound before after old spares d new rest last had has begun kept s) synced r;
+          rides = subst (λ (s : Held). Rides fits count asker bound before after old spares d new rest last had has begun kept s) synced r;
           ends = subst (λ (s : Option (List ℕ)). EndsShort fault (length new.history) kept.log holds_log s synced_log failed) (ap (λ (h : Held). h.log) synced) ends;
           arrivals = refl;
           arrivals_synced = ap (λ (h : Held). h.arrivals) synced;
@@ -126,27 +126,27 @@ module _ {X : Type 0} (fits : X → Floor → Bool) (count : X → ℕ) (text : 
   -- nobody set out, or not all was told of it
   pub unset : (fault : DispatchFault) (i : Input) (old : Seen) (spares : List X) (crew : Crew) (had has : Option (List ℕ)) (begun synced : Held) (log_failed arrivals_failed : Bool) → synced ≡ begun →
       AreWatched old.state NoneIsTold crew.pending → ((d : Drive) → Represents crew.order d → (e : Drive) × TellsSome fault old crew.pending d e had has) →
-      StopsFrom fits count text bound (SetOut fault) i i old spares spares crew.order had has begun begun synced log_failed arrivals_failed
+      StopsFrom fits count asker bound (SetOut fault) i i old spares spares crew.order had has begun begun synced log_failed arrivals_failed
   unset fault i old spares crew had has begun synced log_failed arrivals_failed same untold some d m =
       let t = some d m.represents in
       (refl, refl, record { pending = crew.pending; untold = untold; set = t.0; tells = t.1 }, refl, same)
 
 -- the same where the book, the order and the bound have other names
-module _ {X : Type 0} (fits : X → Floor → Bool) (count : X → ℕ) (text : Answered → List ℕ) (n bound : ℕ) (b : n ≡ bound) (set_book book : Seen) (e : set_book ≡ book) (set_order order : Order) (o : set_order ≡ order)
+module _ {X : Type 0} (fits : X → Floor → Bool) (count : X → ℕ) (asker : Asker) (n bound : ℕ) (b : n ≡ bound) (set_book book : Seen) (e : set_book ≡ book) (set_order order : Order) (o : set_order ≡ order)
     (before after : Input) (spares rest : List X) (had has : Option (List ℕ)) (begun holds synced : Held) where
-  pub rides_over : (new : Seen) (last : Crew) → RidesFrom fits count text n before after set_book spares set_order new rest last had has begun holds synced →
-      RidesFrom fits count text bound before after book spares order new rest last had has begun holds synced
+  pub rides_over : (new : Seen) (last : Crew) → RidesFrom fits count asker n before after set_book spares set_order new rest last had has begun holds synced →
+      RidesFrom fits count asker bound before after book spares order new rest last had has begun holds synced
   rides_over new last h =
-      subst (λ (k : ℕ). RidesFrom fits count text k before after book spares order new rest last had has begun holds synced) b
-      (subst (λ (s : Seen). RidesFrom fits count text n before after s spares order new rest last had has begun holds synced) e
-      (subst (λ (r : Order). RidesFrom fits count text n before after set_book spares r new rest last had has begun holds synced) o h))
+      subst (λ (k : ℕ). RidesFrom fits count asker k before after book spares order new rest last had has begun holds synced) b
+      (subst (λ (s : Seen). RidesFrom fits count asker n before after s spares order new rest last had has begun holds synced) e
+      (subst (λ (r : Order). RidesFrom fits count asker n before after set_book spares r new rest last had has begun holds synced) o h))
 
-  pub stops_over : (fault : RideFault) (log_failed arrivals_failed : Bool) → StopsFrom fits count text n fault before after set_book spares rest set_order had has begun holds synced log_failed arrivals_failed →
-      StopsFrom fits count text bound fault before after book spares rest order had has begun holds synced log_failed arrivals_failed
+  pub stops_over : (fault : RideFault) (log_failed arrivals_failed : Bool) → StopsFrom fits count asker n fault before after set_book spares rest set_order had has begun holds synced log_failed arrivals_failed →
+      StopsFrom fits count asker bound fault before after book spares rest order had has begun holds synced log_failed arrivals_failed
   stops_over fault log_failed arrivals_failed h =
-      subst (λ (k : ℕ). StopsFrom fits count text k fault before after book spares rest order had has begun holds synced log_failed arrivals_failed) b
-      (subst (λ (s : Seen). StopsFrom fits count text n fault before after s spares rest order had has begun holds synced log_failed arrivals_failed) e
-      (subst (λ (r : Order). StopsFrom fits count text n fault before after set_book spares rest r had has begun holds synced log_failed arrivals_failed) o h))
+      subst (λ (k : ℕ). StopsFrom fits count asker k fault before after book spares rest order had has begun holds synced log_failed arrivals_failed) b
+      (subst (λ (s : Seen). StopsFrom fits count asker n fault before after s spares rest order had has begun holds synced log_failed arrivals_failed) e
+      (subst (λ (r : Order). StopsFrom fits count asker n fault before after set_book spares rest r had has begun holds synced log_failed arrivals_failed) o h))
 
 pub stand_over : (set_book book : Seen) (set_order order : Order) → set_book ≡ book → set_order ≡ order → SomeInStep book order → SomeInStep set_book set_order
 stand_over set_book book set_order order e o h =

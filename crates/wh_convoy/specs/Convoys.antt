@@ -8,38 +8,30 @@ use Rattle.wh_lines.specs.Input.{Input, left, Takes}
 use Rattle.wh_lines.specs.Output.{WritesFront}
 use Rattle.wh_grid.specs.Grids.{Floor}
 use Rattle.wh_event.specs.declared.entry.Entry.{Entry}
-use Rattle.wh_log.specs.Told.{Answered}
+use Rattle.wh_replay.specs.declared.asker.Asker.{Asker}
 use Rattle.wh_book.specs.Drafts.{Seen}
 use Rattle.wh_replay.specs.Answers.{text_of}
 use Rattle.wh_drive.specs.Drives.{Drive}
 use Rattle.wh_dispatch.specs.Crews.{Crew, IsManned}
-use Rattle.wh_dispatch.specs.Lines.{Depot, ServesLine, Heard}
+use Rattle.wh_dispatch.specs.Lines.{Depot}
 use Rattle.wh_journal.specs.Journals.{lines_for}
 use Rattle.wh_journal.specs.declared.rounds.Round.{Round}
 use Rattle.wh_journal.specs.declared.rounds.Round.TheVariants.{Served, Ended}
-use Rattle.wh_convoy.specs.Keeping.{KeepsAll, kept_in}
+use Rattle.wh_dispatch.specs.Keeping.{KeepsAll}
 use Rattle.wh_convoy.specs.declared.fault.ConvoyFault.{ConvoyFault}
-use Rattle.wh_convoy.specs.declared.fault.ConvoyFault.TheVariants.{Broken, Endless, Unwritten, Unkept, NoMemory}
+use Rattle.wh_convoy.specs.declared.fault.ConvoyFault.TheVariants.{Unkept}
 
 -- of the log and the file of arrivals, what they hold, or what of it was synced
 pub record Held : Type 0 where
   pub log : Option (List ℕ)
   pub arrivals : Option (List ℕ)
 
--- One line was served. What it is told, and the line itself where it is kept, stand behind what waited.
-pub record ServesOne {X : Type 0} (fits : X → Floor → Bool) (count : X → ℕ) (text : Answered → List ℕ) (bound : ℕ) (short : Option (List ℕ)) (line : Heard) (old new : Depot X)
-    (said says came comes : List ℕ) : Type 0 where
-  pub texts : List (List ℕ)
-  pub serves : ServesLine fits count text bound line old new texts
-  pub says_are : says ≡ said ++ text_of texts
-  pub comes_are : comes ≡ came ++ lines_text (kept_in old.drive short)
-
 -- These bytes are whole lines, and were served: these are what they are told, these of them are kept, and by these entries,
 -- theirs, the history has grown.
-pub record ConvoysLines {X : Type 0} (fits : X → Floor → Bool) (count : X → ℕ) (text : Answered → List ℕ) (bound : ℕ) (old new : Depot X)
+pub record ConvoysLines {X : Type 0} (fits : X → Floor → Bool) (count : X → ℕ) (asker : Asker) (bound : ℕ) (old new : Depot X)
     (read : List ℕ) (texts kept : List (List ℕ)) (added : List Entry) : Type 0 where
   pub whole : EndsLine read
-  pub all : KeepsAll fits count text bound (lines_of read) old new texts kept
+  pub all : KeepsAll fits count asker bound (lines_of read) old new texts kept
   pub added_are : new.book.history ≡ old.book.history ++ added
 
 -- what ended a round: no whole line waits that is served, or all was read
@@ -47,23 +39,9 @@ abbrev pub EndsBy : Round → Input → List ℕ → Type 0
 EndsBy Served after begun = begun ≡ []
 EndsBy Ended after begun = IsLine begun × IsAtEnd (left after)
 
--- Whole lines were served, and what they are told and what is kept of them waits.
-pub record Gathers {X : Type 0} (fits : X → Floor → Bool) (count : X → ℕ) (text : Answered → List ℕ) (bound : ℕ) (round : Round) (before after : Input) (old new : Depot X)
-    (said came : List ℕ) : Type 0 where
-  pub read : List ℕ
-  pub begun : List ℕ
-  pub takes : Takes before after (read ++ begun)
-  pub ends : EndsBy round after begun
-  pub texts : List (List ℕ)
-  pub kept : List (List ℕ)
-  pub added : List Entry
-  pub lines : ConvoysLines fits count text bound old new read texts kept added
-  pub said_is : said ≡ text_of texts
-  pub came_is : came ≡ lines_text kept
-
 -- Whole lines were served. The lines of the entries stand in the log, and those of the reports that moved vehicles in the file of
 -- arrivals, all synced; and what the lines are told is written.
-pub record ConvoysOn {X : Type 0} (fits : X → Floor → Bool) (count : X → ℕ) (text : Answered → List ℕ) (bound : ℕ) (round : Round) (before after : Input) (old new : Depot X)
+pub record ConvoysOn {X : Type 0} (fits : X → Floor → Bool) (count : X → ℕ) (asker : Asker) (bound : ℕ) (round : Round) (before after : Input) (old new : Depot X)
     (had has : Option (List ℕ)) (stood stands synced : Held) : Type 0 where
   pub read : List ℕ
   pub begun : List ℕ
@@ -72,7 +50,7 @@ pub record ConvoysOn {X : Type 0} (fits : X → Floor → Bool) (count : X → �
   pub texts : List (List ℕ)
   pub kept : List (List ℕ)
   pub added : List Entry
-  pub lines : ConvoysLines fits count text bound old new read texts kept added
+  pub lines : ConvoysLines fits count asker bound old new read texts kept added
   pub log : Appends stood.log stands.log (lines_for added)
   pub arrivals : Appends stood.arrivals stands.arrivals (lines_text kept)
   pub synced_is : synced ≡ stands
@@ -100,27 +78,17 @@ UnsettlesFiles text came stood stands synced = IsCutInLog text stood stands sync
 abbrev pub StandsBehind : List Entry → (came : List ℕ) → (stood stands synced : Held) → Type 0
 StandsBehind entries came stood stands synced = UnsettlesFiles (lines_for entries) came stood stands synced
 
--- Why what waits was not kept and told: a file failed, or memory ran out, and nothing was told; or all is kept, and a front was
--- told.
-abbrev pub Unsettles : ConvoyFault → List Entry → (came said : List ℕ) → (stood stands synced : Held) → (had has : Option (List ℕ)) → Type 0
-Unsettles Unkept entries came said stood stands synced had has = (has ≡ had) × StandsBehind entries came stood stands synced
-Unsettles Unwritten entries came said stood stands synced had has =
-    Appends stood.log stands.log (lines_for entries) × Appends stood.arrivals stands.arrivals came × (synced ≡ stands) × WritesFront had has said
-Unsettles Broken entries came said stood stands synced had has = ⊥
-Unsettles Endless entries came said stood stands synced had has = ⊥
-Unsettles NoMemory entries came said stood stands synced had has = (has ≡ had) × StandsBehind entries came stood stands synced
-
 -- Whatever was told, its entries stand in the log, and the reports that it rests on in the file of arrivals. Whole lines were read and
 -- served; their entries and then their reports were synced, before a front of what they are told was written. Then more whole
 -- lines were served, of which nothing was told. What was taken behind all these was not served to its end.
-pub record ConvoysUntil {X : Type 0} (fits : X → Floor → Bool) (count : X → ℕ) (text : Answered → List ℕ) (bound : ℕ) (before after : Input) (old : Depot X)
+pub record ConvoysUntil {X : Type 0} (fits : X → Floor → Bool) (count : X → ℕ) (asker : Asker) (bound : ℕ) (before after : Input) (old : Depot X)
     (had has : Option (List ℕ)) (stood stands synced : Held) : Type 0 where
   pub read : List ℕ
   pub texts : List (List ℕ)
   pub kept : List (List ℕ)
   pub added : List Entry
   pub mid : Depot X
-  pub lines : ConvoysLines fits count text bound old mid read texts kept added
+  pub lines : ConvoysLines fits count asker bound old mid read texts kept added
   pub told : WritesFront had has (text_of texts)
   pub settled : Held
   pub log : Appends stood.log settled.log (lines_for added)
@@ -130,7 +98,7 @@ pub record ConvoysUntil {X : Type 0} (fits : X → Floor → Bool) (count : X �
   pub more_kept : List (List ℕ)
   pub later : List Entry
   pub new : Depot X
-  pub more_lines : ConvoysLines fits count text bound mid new more more_texts more_kept later
+  pub more_lines : ConvoysLines fits count asker bound mid new more more_texts more_kept later
   pub behind : StandsBehind later (lines_text more_kept) settled stands synced
   pub begun : List ℕ
   pub takes : Takes before after (read ++ (more ++ begun))
@@ -140,23 +108,15 @@ abbrev pub depot : {X : Type 0} → Seen → List X → Drive → Depot X
 depot book spares d = record { book = book; spares = spares; drive = d }
 
 -- From each drive of the vehicles, here and below.
-abbrev pub ServesOneFrom : {X : Type 0} → (X → Floor → Bool) → (X → ℕ) → (Answered → List ℕ) → ℕ → Option (List ℕ) → Heard → Seen → List X → Crew → Seen → List X → Crew → (said says came comes : List ℕ) → Type 0
-ServesOneFrom fits count text bound short line old spares crew new rest next said says came comes =
-    (d : Drive) → IsManned old crew d → (e : Drive) × IsManned new next e × ServesOne fits count text bound short line (depot old spares d) (depot new rest e) said says came comes
-
-abbrev pub GathersFrom : {X : Type 0} → (X → Floor → Bool) → (X → ℕ) → (Answered → List ℕ) → ℕ → Round → Input → Input → Seen → List X → Crew → Seen → List X → Crew → (said came : List ℕ) → Type 0
-GathersFrom fits count text bound round before after old spares crew new rest next said came =
-    (d : Drive) → IsManned old crew d → (e : Drive) × IsManned new next e × Gathers fits count text bound round before after (depot old spares d) (depot new rest e) said came
-
-abbrev pub ConvoysFrom : {X : Type 0} → (X → Floor → Bool) → (X → ℕ) → (Answered → List ℕ) → ℕ → Round → Input → Input → Seen → List X → Crew → Seen → List X → Crew
+abbrev pub ConvoysFrom : {X : Type 0} → (X → Floor → Bool) → (X → ℕ) → Asker → ℕ → Round → Input → Input → Seen → List X → Crew → Seen → List X → Crew
     → (had has : Option (List ℕ)) → (stood stands synced : Held) → Type 0
-ConvoysFrom fits count text bound round before after old spares crew new rest next had has stood stands synced =
-    (d : Drive) → IsManned old crew d → (e : Drive) × IsManned new next e × ConvoysOn fits count text bound round before after (depot old spares d) (depot new rest e) had has stood stands synced
+ConvoysFrom fits count asker bound round before after old spares crew new rest next had has stood stands synced =
+    (d : Drive) → IsManned old crew d → (e : Drive) × IsManned new next e × ConvoysOn fits count asker bound round before after (depot old spares d) (depot new rest e) had has stood stands synced
 
-abbrev pub ConvoysUntilFrom : {X : Type 0} → (X → Floor → Bool) → (X → ℕ) → (Answered → List ℕ) → ℕ → Input → Input → Seen → List X → Crew
+abbrev pub ConvoysUntilFrom : {X : Type 0} → (X → Floor → Bool) → (X → ℕ) → Asker → ℕ → Input → Input → Seen → List X → Crew
     → (had has : Option (List ℕ)) → (stood stands synced : Held) → Type 0
-ConvoysUntilFrom fits count text bound before after old spares crew had has stood stands synced =
-    (d : Drive) → IsManned old crew d → ConvoysUntil fits count text bound before after (depot old spares d) had has stood stands synced
+ConvoysUntilFrom fits count asker bound before after old spares crew had has stood stands synced =
+    (d : Drive) → IsManned old crew d → ConvoysUntil fits count asker bound before after (depot old spares d) had has stood stands synced
 
 -- a file is told to have failed only where one has
 abbrev pub HasCause : ConvoyFault → (log_failed arrivals_failed : Bool) → Type 0

@@ -1,5 +1,5 @@
-pub mod Keeping
 pub mod Faults
+pub mod Files
 pub mod Convoys
 pub mod Laws
 pub mod Standing

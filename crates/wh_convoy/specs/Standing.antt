@@ -1,6 +1,6 @@
 -- where vehicles stand as a run goes on
-use Rattle.std.specs.Prelude.{◌≡◌, ◌⊎◌, ℕ, ◌-◌, ◌<◌, ◌≤◌, true, List, [], ◌∷◌, ◌++◌, length, slice_index}
-use Rattle.wh_text.specs.Lines.{IsLine}
+use Rattle.std.specs.Prelude.{◌≡◌, ◌⊎◌, ℕ, ◌-◌, ◌<◌, ◌≤◌, true, List, [], ◌∷◌, ◌++◌, length, slice_index, count_by}
+use Rattle.wh_text.specs.Lines.{IsLine, is_line_feed}
 use Rattle.wh_book.specs.Drafts.{Seen}
 use Rattle.wh_arrivals.specs.Arrivals.{TellsSteps, IsFirstBad}
 use Rattle.wh_arrivals.specs.Standing.{Stand, ComesTooEarly}
@@ -21,6 +21,14 @@ pub record IsWhole (text : List ℕ) (bytes : ℕ) : Type 0 where
   pub ends : EndsFeed front
   pub is_cut : IsLine cut
   pub bytes_are : bytes ≡ length front
+
+-- how many whole lines a text has
+abbrev pub whole_lines : List ℕ → ℕ
+whole_lines text = count_by is_line_feed text
+
+-- The text of a file of arrivals has a line beyond its first, with which it is begun: vehicles have carried out its run.
+abbrev pub IsDriven : List ℕ → Type 0
+IsDriven text = 2 ≤ whole_lines text
 
 -- how many steps the plan of the book's run has
 abbrev pub steps_of : Seen → ℕ

@@ -2,11 +2,9 @@
 #![tactic(auto)]
 
 ghost use Rattle.std.specs.Prelude.{◌≡◌};
-ghost use Rattle.wh_convoy.specs.Faults.{fault_of};
 ghost use Rattle.wh_convoy.specs.declared.fault.ConvoyFault.TheVariants as fault;
 
 use std::alloc::AllocError;
-use wh_lines::{LineFault, ReadFault};
 
 /// Why a script was not served to its end.
 #[derive(Clone, Copy, Debug, PartialEq, Eq)]
@@ -28,15 +26,5 @@ impl From<AllocError> for ConvoyFault {
 
     fn from(_e: AllocError) -> ConvoyFault {
         ConvoyFault::NoMemory
-    }
-}
-
-pub(crate) fn read_fault(fault: LineFault) -> ConvoyFault
-    ensures { result ≡ fault_of fault }
-{
-    match fault {
-        LineFault::Read(ReadFault::Broken) => ConvoyFault::Broken,
-        LineFault::Read(ReadFault::Endless) => ConvoyFault::Endless,
-        LineFault::Flush => ConvoyFault::Unwritten,
     }
 }

@@ -4,7 +4,7 @@
 ghost use Rattle.std.specs.Prelude.{◌≡◌, ◌-◌, ◌<◌, ◌≤◌, ℕ, IfErr, IfNone, IfOk, IfSome, false, length, slice_index, true};
 ghost use Rattle.wh_dispatch.specs.SettingOut.{SomeInStep};
 ghost use Rattle.wh_convoy.specs.Beginning.{IsBeginning};
-ghost use Rattle.wh_convoy.specs.Standing.{IsWhole, StandsBy, IsWhyNotStood};
+ghost use Rattle.wh_convoy.specs.Standing.{IsDriven, IsWhole, StandsBy, IsWhyNotStood};
 
 use std::alloc::Global;
 use wh_arrivals::{ReadFault, StandFault, read_arrivals, stand};
@@ -50,6 +50,18 @@ fn is_beginning(text: &[u8]) -> bool
     ensures other { result ≡ false → IsBeginning text.now → ⊥ }
 {
     b"at 0 0\n".starts_with(text)
+}
+
+/// Whether the text of a file of arrivals has a line beyond its first, with which it was begun: then vehicles have carried out its run,
+/// which does not go on without them.
+pub fn is_driven(text: &[u8]) -> bool
+    ensures driven { result ≡ true → IsDriven text.now }
+    ensures undriven { result ≡ false → IsDriven text.now → ⊥ }
+{
+    match whole_line(text) {
+        Some((_first, rest)) => whole_line(rest).is_some(),
+        None => false,
+    }
 }
 
 /// The first agent that has come further than this.

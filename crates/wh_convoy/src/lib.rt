@@ -9,16 +9,14 @@
 
 mod beginning;
 mod fault;
+mod files;
 mod finding;
-mod gathering;
-mod keeping;
 pub mod laws;
 mod riding;
 mod rounds;
-mod settling;
 
 pub use beginning::begin_arrivals;
 pub use fault::ConvoyFault;
-pub use finding::{Stood, StoodFault, find_stand};
+pub use finding::{Stood, StoodFault, find_stand, is_driven};
 pub use riding::{RideFault, ride_on};
 pub use rounds::convoy;

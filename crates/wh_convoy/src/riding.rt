@@ -2,12 +2,12 @@
 #![tactic(auto)]
 
 ghost use Rattle.std.specs.Prelude.{◌≡◌, IfErr, IfOk, OnOk};
-ghost use Rattle.wh_log.specs.Told.{told_text};
 ghost use Rattle.wh_dispatch.specs.Crews.{AreWatched};
 ghost use Rattle.wh_dispatch.specs.SettingOut.{NoneIsTold, SomeInStep};
 ghost use Rattle.wh_continue.specs.Running.{IsStartOf};
 ghost use Rattle.wh_journal.specs.Surviving.{HoldsLog};
 ghost use Rattle.wh_convoy.specs.Riding.{BeginsBoth, MansNot, StopsBeginning, RidesFrom, StopsFrom, RidesOn, StopsRide};
+ghost use Rattle.wh_journal.specs.Journals.{log_asker};
 
 use crate::beginning::begin_arrivals;
 use crate::fault::ConvoyFault;
@@ -119,9 +119,9 @@ fn ride<R: Read, W: Write, L: LogFile, P: Planner>(
     requires untold { AreWatched warehouse.old.book.state NoneIsTold vehicles.old.pending }
     requires log { L.synced log.old ≡ L.contents log.old }
     requires arrivals { L.synced arrivals.old ≡ L.contents arrivals.old }
-    ensures ok { OnOk result (RidesFrom P.fits_map P.slot_count (told_text form) vehicles.old.bound lines.old lines.new warehouse.old.book spares.old.items vehicles.old.order warehouse.new.book spares.new.items vehicles.new (W.contents writer.old) (W.contents writer.new)
+    ensures ok { OnOk result (RidesFrom P.fits_map P.slot_count (log_asker form) vehicles.old.bound lines.old lines.new warehouse.old.book spares.old.items vehicles.old.order warehouse.new.book spares.new.items vehicles.new (W.contents writer.old) (W.contents writer.new)
         (record { log = L.contents log.old; arrivals = L.contents arrivals.old }) (record { log = L.contents log.new; arrivals = L.contents arrivals.new }) (record { log = L.synced log.new; arrivals = L.synced arrivals.new })) }
-    ensures fault { IfErr result (λ fault. StopsFrom P.fits_map P.slot_count (told_text form) vehicles.old.bound fault lines.old lines.new warehouse.old.book spares.old.items spares.new.items vehicles.old.order (W.contents writer.old) (W.contents writer.new)
+    ensures fault { IfErr result (λ fault. StopsFrom P.fits_map P.slot_count (log_asker form) vehicles.old.bound fault lines.old lines.new warehouse.old.book spares.old.items spares.new.items vehicles.old.order (W.contents writer.old) (W.contents writer.new)
         (record { log = L.contents log.old; arrivals = L.contents arrivals.old }) (record { log = L.contents log.new; arrivals = L.contents arrivals.new }) (record { log = L.synced log.new; arrivals = L.synced arrivals.new }) (L.failed log.new) (L.failed arrivals.new)) }
 {
     match set_out(writer, vehicles, warehouse) {
@@ -161,9 +161,9 @@ pub fn ride_on<R: Read, W: Write, L: LogFile, P: Planner>(
 ) -> Result<(Warehouse<P>, Vehicles), RideFault>
     requires starts { IsStartOf (L.contents log.old) start }
     requires stand { SomeInStep start.book stood.order }
-    ensures runs { IfOk result (λ r. RidesOn P.fits_map P.slot_count (told_text form) again behind lines.old lines.new start.book stood spares.old.items r.0.book spares.new.items r.1 (W.contents writer.old) (W.contents writer.new)
+    ensures runs { IfOk result (λ r. RidesOn P.fits_map P.slot_count (log_asker form) again behind lines.old lines.new start.book stood spares.old.items r.0.book spares.new.items r.1 (W.contents writer.old) (W.contents writer.new)
         (record { log = L.contents log.old; arrivals = L.contents arrivals.old }) (record { log = L.contents log.new; arrivals = L.contents arrivals.new }) (record { log = L.synced log.new; arrivals = L.synced arrivals.new })) }
-    ensures fault { IfErr result (λ fault. StopsRide P.fits_map P.slot_count (told_text form) again behind fault lines.old lines.new start stood planners.items spares.old.items spares.new.items (W.contents writer.old) (W.contents writer.new)
+    ensures fault { IfErr result (λ fault. StopsRide P.fits_map P.slot_count (log_asker form) again behind fault lines.old lines.new start stood planners.items spares.old.items spares.new.items (W.contents writer.old) (W.contents writer.new)
         (record { log = L.contents log.old; arrivals = L.contents arrivals.old }) (record { log = L.contents log.new; arrivals = L.contents arrivals.new }) (record { log = L.synced log.new; arrivals = L.synced arrivals.new }) (L.failed log.new) (L.failed arrivals.new)) }
 {
     match begin_all(alloc, again, log, arrivals, writer, &start, stood.bytes) {

@@ -4,5 +4,4 @@ pub mod Crews
 pub mod Sending
 pub mod Trying
 pub mod Turning
-pub mod Pacing
 pub mod Ending

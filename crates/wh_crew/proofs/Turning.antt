@@ -1,5 +1,5 @@
 -- Calls one after another, and turns of the agents' worker.
-use Rattle.std.proofs.Common.{◌≡◌, ℕ, ◌+◌, ◌<◌, Bool, List, [], ◌∷◌, ◌++◌, length, refl, ap, sym, ◌∙◌, subst, arith, append_assoc, inl, inr}
+use Rattle.std.proofs.Common.{◌≡◌, ℕ, ◌+◌, List, [], ◌∷◌, ◌++◌, length, refl, ap, sym, ◌∙◌, subst, arith, append_assoc}
 use Rattle.std.proofs.lemmas.List.{map-append, append-nil, length_push}
 use Rattle.std.proofs.lemmas.Grind.{flat_map-append}
 use Rattle.std.proofs.lemmas.List.Elements.{All-cons, All-nil, All-weaker, All-append}
@@ -13,8 +13,7 @@ use Rattle.wh_board.proofs.Fronts.{prefix_self, prefix_trans}
 use Rattle.wh_board.proofs.Chains.{extends_trans}
 use Rattle.wh_desk.specs.Lists.{Received}
 use Rattle.wh_crew.specs.Work.{command_of, commands_of}
-use Rattle.wh_crew.specs.Turns.{turn_of, turns_of, Does, DoesUntil, MayTurn, EndsIdle, TakesTurns, TakesUntil, LooksUntil}
-use Rattle.wh_crew.specs.declared.agents.Pace.{Pace}
+use Rattle.wh_crew.specs.Turns.{turn_of, turns_of, Does, DoesUntil, MayTurn}
 
 -- ---- calls
 
@@ -62,9 +61,9 @@ going_more {commands} {left} {rest} {command} going next now = record {
 -- ---- turns
 
 -- a board that was seen is one of a beginning of what is known later
-pub still_seen : (ends_idle : Bool) (known later : Past) (boards : List Board) → Extends known later → All (MayTurn ends_idle known) boards → All (MayTurn ends_idle later) boards
-still_seen ends_idle known later boards more all =
-    All-weaker (MayTurn ends_idle known) (MayTurn ends_idle later) (λ board m. record { past = m.past; begins = extends_trans m.past known later m.begins more; shows = m.shows; has_work = m.has_work }) boards all
+pub still_seen : (known later : Past) (boards : List Board) → Extends known later → All (MayTurn known) boards → All (MayTurn later) boards
+still_seen known later boards more all =
+    All-weaker (MayTurn known) (MayTurn later) (λ board m. record { past = m.past; begins = extends_trans m.past known later m.begins more; shows = m.shows }) boards all
 
 turns_push : (boards : List Board) (board : Board) → turns_of boards ++ turn_of board ≡ turns_of (boards ++ board ∷ [])
 turns_push boards board =
@@ -72,45 +71,40 @@ turns_push boards board =
     ∙ sym (flat_map-append turn_of boards (board ∷ []))
 
 -- this many turns were taken
-pub record Taking (ends_idle : Bool) (known : Past) (had has : Received) (turns : ℕ) : Type 0 where
+pub record Taking (known : Past) (had has : Received) (turns : ℕ) : Type 0 where
   pub boards : List Board
-  pub seen : All (MayTurn ends_idle known) boards
+  pub seen : All (MayTurn known) boards
   pub does : Does (turns_of boards) had has
   pub count : length boards ≡ turns
 
-pub taking_none : (ends_idle : Bool) (known : Past) (p : Received) → Taking ends_idle known p p 0
-taking_none ends_idle known p = record { boards = []; seen = All-nil (MayTurn ends_idle known); does = does_nothing p; count = refl }
+pub taking_none : (known : Past) (p : Received) → Taking known p p 0
+taking_none known p = record { boards = []; seen = All-nil (MayTurn known); does = does_nothing p; count = refl }
 
-all_push : (ends_idle : Bool) (known : Past) (boards : List Board) (board : Board) → All (MayTurn ends_idle known) boards → MayTurn ends_idle known board → All (MayTurn ends_idle known) (boards ++ board ∷ [])
-all_push ends_idle known boards board all one =
-    All-append (MayTurn ends_idle known) boards (board ∷ []) all (All-cons (MayTurn ends_idle known) board [] one (All-nil (MayTurn ends_idle known)))
+all_push : (known : Past) (boards : List Board) (board : Board) → All (MayTurn known) boards → MayTurn known board → All (MayTurn known) (boards ++ board ∷ [])
+all_push known boards board all one =
+    All-append (MayTurn known) boards (board ∷ []) all (All-cons (MayTurn known) board [] one (All-nil (MayTurn known)))
 
-pub taking_more : (ends_idle : Bool) (known later : Past) (a b c : Received) (turns : ℕ) → Taking ends_idle known a b turns → Extends known later
-    → (board : Board) → MayTurn ends_idle later board → Does (turn_of board) b c → Taking ends_idle later a c (turns + 1)
-taking_more ends_idle known later a b c turns t more board may does = record {
+pub taking_more : (known later : Past) (a b c : Received) (turns : ℕ) → Taking known a b turns → Extends known later
+    → (board : Board) → MayTurn later board → Does (turn_of board) b c → Taking later a c (turns + 1)
+taking_more known later a b c turns t more board may does = record {
   boards = t.boards ++ board ∷ [];
-  seen = all_push ends_idle later t.boards board (still_seen ends_idle known later t.boards more t.seen) may;
+  seen = all_push later t.boards board (still_seen known later t.boards more t.seen) may;
   does = subst (λ (l : List Command). Does l a c) (turns_push t.boards board) (does_more t.does does);
   count = omega (arith, length_push t.boards board, t.count);
 }
 
-pub taking_stops : {F : Type 0} (leaves : Command → Received → F → Received → Type 0) (pace : Pace) (known later : Past) (fault : F) (a b c : Received) (turns : ℕ) → Taking pace.ends_idle known a b turns → turns < pace.turns → Extends known later
-    → LooksUntil leaves pace.ends_idle later fault b c → TakesUntil leaves pace later fault a c
-taking_stops leaves pace known later fault a b c turns t less more looks = record {
-  boards = t.boards ++ looks.0 ∷ [];
-  seen = all_push pace.ends_idle later t.boards looks.0 (still_seen pace.ends_idle known later t.boards more t.seen) looks.1;
-  does = subst (λ (l : List Command). DoesUntil leaves l fault a c) (turns_push t.boards looks.0) (until_more t.does looks.2);
-  count = omega (arith, length_push t.boards looks.0, t.count, less);
-}
+-- turns were taken, up to a call in the last of them that told no receipt
+pub record Stopping {F : Type 0} (leaves : Command → Received → F → Received → Type 0) (known : Past) (fault : F) (had has : Received) (turns : ℕ) : Type 0 where
+  pub boards : List Board
+  pub seen : All (MayTurn known) boards
+  pub does : DoesUntil leaves (turns_of boards) fault had has
+  pub count : length boards ≡ turns
 
-pub taken_all : (pace : Pace) (known : Past) (had has : Received) (turns : ℕ) → Taking pace.ends_idle known had has turns → turns ≡ pace.turns → TakesTurns pace known had has turns
-taken_all pace known had has turns t all = record { boards = t.boards; seen = t.seen; does = t.does; count = t.count; ends = inl all }
-
-pub taken_to_idle : (pace : Pace) (known later : Past) (had mid has : Received) (turns : ℕ) → Taking pace.ends_idle known had mid turns → Extends known later → turns < pace.turns → has ≡ mid → EndsIdle pace.ends_idle later → TakesTurns pace later had has turns
-taken_to_idle pace known later had mid has turns t more less same idle = record {
-  boards = t.boards;
-  seen = still_seen pace.ends_idle known later t.boards more t.seen;
-  does = subst (λ (p : Received). Does (turns_of t.boards) had p) (sym same) t.does;
-  count = t.count;
-  ends = inr (less, idle);
+pub taking_stops : {F : Type 0} (leaves : Command → Received → F → Received → Type 0) (known later : Past) (fault : F) (a b c : Received) (turns : ℕ) → Taking known a b turns → Extends known later
+    → (board : Board) → MayTurn later board → DoesUntil leaves (turn_of board) fault b c → Stopping leaves later fault a c (turns + 1)
+taking_stops leaves known later fault a b c turns t more board may stops = record {
+  boards = t.boards ++ board ∷ [];
+  seen = all_push later t.boards board (still_seen known later t.boards more t.seen) may;
+  does = subst (λ (l : List Command). DoesUntil leaves l fault a c) (turns_push t.boards board) (until_more t.does stops);
+  count = omega (arith, length_push t.boards board, t.count);
 }

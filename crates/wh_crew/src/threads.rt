@@ -99,7 +99,7 @@ fn start_one<
 }
 
 /// Starts a thread for each worker: worker i with pass i and work i.
-pub(crate) fn start_all<
+fn start_all<
     's,
     E: 's,
     N: DeskName + Send + Sync + 's,
@@ -152,7 +152,7 @@ fn join_and_drop<N: DeskName, P: Planner, R: Threads>(
 }
 
 /// Joins each thread. Its report is at its place.
-pub(crate) fn join_all<N: DeskName, P: Planner, R: Threads>(
+fn join_all<N: DeskName, P: Planner, R: Threads>(
     rt: &R,
     handles: Vec<PromisedHandle<Report<N>, Due<N, P>>>,
     mut reports: Vec<Report<N>>,
@@ -169,7 +169,7 @@ pub(crate) fn join_all<N: DeskName, P: Planner, R: Threads>(
 }
 
 /// The passes of the reports, and the counts of missed calls.
-pub(crate) fn take_apart<N: DeskName>(
+fn take_apart<N: DeskName>(
     reports: Vec<Report<N>>,
     mut passes: Vec<Pass<N>>,
     mut missed: Vec<Missed>,
@@ -304,7 +304,7 @@ pub fn crew<
 }
 
 /// Whether each call that was refused was so by E11 or E90.
-pub(crate) fn none_other(missed: &[Missed]) -> bool
+fn none_other(missed: &[Missed]) -> bool
     ensures { result ≡ true → All (λ n. n.other ≡ 0) missed.now }
 {
     for each in missed {
@@ -323,13 +323,13 @@ fn has_other(missed: &Missed) -> bool
 }
 
 /// Room for what the given number of workers leave, made before the first thread starts.
-pub(crate) struct Room<N: DeskName> {
-    pub(crate) reports: Vec<Report<N>>,
-    pub(crate) passes: Vec<Pass<N>>,
-    pub(crate) missed: Vec<Missed>,
+struct Room<N: DeskName> {
+    reports: Vec<Report<N>>,
+    passes: Vec<Pass<N>>,
+    missed: Vec<Missed>,
 }
 
-pub(crate) fn make_room<N: DeskName>(alloc: Global, count: usize) -> Result<Room<N>, AllocError>
+fn make_room<N: DeskName>(alloc: Global, count: usize) -> Result<Room<N>, AllocError>
     ensures empty { IfOk result (λ r. (r.reports.items ≡ []) × (r.passes.items ≡ []) × (r.missed.items ≡ [])) }
     ensures room { IfOk result (λ r. (count ≤ vec_capacity r.reports) × (count ≤ vec_capacity r.passes) × (count ≤ vec_capacity r.missed)) }
 {

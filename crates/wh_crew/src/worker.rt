@@ -87,7 +87,7 @@ pub fn work_through<N: DeskName, H: Wait + Drop, P: Planner, R: Wait, G: Gate>(
 }
 
 /// One command, as one call of the desk. Why it was refused, if it was.
-pub(crate) fn try_one<N: DeskName, H: Wait + Drop, P: Planner, R: Wait>(
+fn try_one<N: DeskName, H: Wait + Drop, P: Planner, R: Wait>(
     rt: &R,
     alloc: Global,
     desk: &Desk<N, H, P>,

@@ -1,11 +1,16 @@
 -- a book that goes on: one stretch after another, and agents that ask
-use Rattle.std.proofs.Common.{◌≡◌, ◌≢◌, ℕ, ◌+◌, ◌<◌, List, [], ◌∷◌, ◌++◌, Bool, true, false, length, map, refl, sym, ap, subst, arith, ◌∙◌, ◌⊎◌, inl, inr, append_assoc, append-nil}
-use Rattle.std.specs.Prelude.{Contains}
-use Rattle.std.proofs.lemmas.Bool.{false≢true, cases_eq}
+use Rattle.std.proofs.Common.{◌≡◌, ◌≢◌, ℕ, ◌+◌, ◌<◌, List, [], ◌∷◌, ◌++◌, Bool, true, false, not, length, map, get_or, replicate, refl, sym, ap, subst, arith, ◌∙◌, ◌⊎◌, inl, inr, append_assoc, append-nil}
+use Prim.Native.Nat.{zero, suc}
+use Rattle.std.specs.Prelude.{Contains, Option, None, Some, IsTrue, ◌↔◌, count_by, slice_get}
+use Rattle.std.proofs.Math.ListN.{set}
+use Rattle.std.proofs.lemmas.Bool.{false≢true, cases_eq, cases_Bool}
+use Rattle.std.proofs.lemmas.Option.{none-some, same_Some, slice_get_within, slice_get-get_or, get_or_from_slice_get}
+use Rattle.std.proofs.lemmas.List.{length-set, length-replicate}
 use Rattle.std.proofs.lemmas.List.Elements.{All-nil, All-append}
 use Rattle.wh_points.specs.Points.{Site}
 use Rattle.wh_points.specs.Formed.{IsFormed}
 use Rattle.wh_field.proofs.Tables.{Contains-none, Contains-cases, Contains-first, Contains-later}
+use Rattle.wh_path.specs.Paths.{steps_left}
 use Rattle.wh_core.specs.States.{State}
 use Rattle.wh_core.specs.Steps.{Answers, Step, Run, IsDue}
 use Rattle.wh_core.specs.Laws.{IsReachedOnTheirWays}
@@ -16,9 +21,13 @@ use Rattle.wh_event.specs.declared.reply.Refusal.{Refusal}
 use Rattle.wh_event.specs.declared.reply.Reply.{Reply}
 use Rattle.wh_event.specs.declared.entry.Entry.{Entry}
 use Rattle.wh_book.specs.Drafts.{Seen, IsKept}
-use Rattle.wh_progress.specs.Progress.{HasAsked, MayRest}
-use Rattle.wh_progress.proofs.Having.{asked, rested_only}
-use Rattle.wh_delivery.specs.Deliveries.{IsOf, GoesOn, IsOnTime, HaveAsked}
+use Rattle.wh_token.specs.Asking.{MayBeAsked, AllWouldRest, IsNextToAsk}
+use Rattle.wh_core.proofs.Lists.{slice_get-set_other}
+use Rattle.wh_token.proofs.Takers.{next-none}
+use Rattle.wh_progress.specs.Progress.{HasAsked, MayRest, StandsStill}
+use Rattle.wh_progress.proofs.Having.{asked}
+use Rattle.wh_progress.proofs.Counting.{bit, count-set}
+use Rattle.wh_delivery.specs.Deliveries.{IsOf, GoesOn, IsOnTime, HaveAsked, AllHaveAsked, Begins}
 
 pub goes-none : (caller : ℕ) (book : Seen) → GoesOn caller book [] book
 goes-none caller book = record {
@@ -51,16 +60,23 @@ asked-left (x ∷ xs) ys agent has = elim (Contains-cases (Event.Request agent) 
   | inr more ↦ Contains-later (Event.Request agent) x.event (map (λ (e : Entry). e.event) (xs ++ ys)) (asked-left xs ys agent more)
 ]
 
-asked-last : (xs : List Entry) (entry : Entry) (agent : ℕ) → entry.event ≡ Event.Request agent → HasAsked (xs ++ entry ∷ []) agent
+pub asked-last : (xs : List Entry) (entry : Entry) (agent : ℕ) → entry.event ≡ Event.Request agent → HasAsked (xs ++ entry ∷ []) agent
 asked-last [] entry agent e = subst (λ v. Contains (v ∷ []) (Event.Request agent)) (sym e) (Contains-first (Event.Request agent) [])
 asked-last (x ∷ xs) entry agent e = Contains-later (Event.Request agent) x.event (map (λ (e : Entry). e.event) (xs ++ entry ∷ [])) (asked-last xs entry agent e)
 
-pub asked-none : (site : Site) (s : State) → HaveAsked site s 0 true [] s
-asked-none site s = record {
-  asked = λ agent h. absurd (omega arith);
+-- nobody has asked yet
+none-asked : (n agent : ℕ) → slice_get (replicate n false) agent ≡ Some true → ⊥
+none-asked zero agent is = none-some true is
+none-asked (suc n) zero is = false≢true (same_Some false true is)
+none-asked (suc n) (suc agent) is = none-asked n agent is
+
+pub asked-none : (site : Site) (s : State) (asked : List Bool) (n : ℕ) → asked ≡ replicate n false → n ≡ length s.paths → HaveAsked site s asked false [] s
+asked-none site s asked n fresh all = record {
+  seats = ap length fresh ∙ length-replicate n false ∙ all;
+  told = λ agent is. absurd (none-asked n agent (subst (λ l. slice_get l agent ≡ Some true) fresh is));
   on_time = record { closed = refl; clock = refl; tasks = refl };
-  still = λ e. (refl, λ agent h. absurd (omega arith));
-  moves = λ e. absurd (false≢true (sym e));
+  none = λ e. (refl, refl);
+  one = λ e. absurd (false≢true e);
 }
 
 -- one agent more has asked
@@ -76,57 +92,113 @@ on_time-more site old mid new reply agent on step =
     let kept = asked site mid reply agent new step in
     record { closed = kept.closed ∙ on.closed; clock = kept.clock ∙ on.clock; tasks = kept.tasks ∙ on.tasks }
 
-more-asked : (xs : List Entry) (entry : Entry) (count : ℕ) → ((agent : ℕ) → agent < count → HasAsked xs agent) → entry.event ≡ Event.Request count →
-    (agent : ℕ) → agent < count + 1 → HasAsked (xs ++ entry ∷ []) agent
-more-asked xs entry count all e agent h = elim (cases_eq agent count) [
-  | inl same ↦ subst (λ a. HasAsked (xs ++ entry ∷ []) a) (sym same) (asked-last xs entry count e)
-  | inr ne ↦ asked-left xs (entry ∷ []) agent (all agent (omega arith))
+-- a request leaves as many agents
+agents-stay : (site : Site) (old : State) (reply : Reply) (agent : ℕ) (new : State) → Answers site old reply (Event.Request agent) new → length new.paths ≡ length old.paths
+agents-stay site old (Reply.Refused refusal) agent new step = ap (λ s. length s.paths) step.1
+agents-stay site old (Reply.Took n path) agent new step = ap (λ s. length s.paths) step.1.3 ∙ length-set _ _ _
+agents-stay site old Reply.Rested agent new step = ap (λ s. length s.paths) step.3
+agents-stay site old (Reply.Parked point path) agent new step = ap (λ s. length s.paths) step.4 ∙ length-set _ _ _
+agents-stay site old reply agent new step = absurd step
+
+-- who is next to ask is known, and does not stand still with all
+pub next-known : (site : Site) (s : State) (These : ℕ → Type 0) (agent : ℕ) → IsNextToAsk site s These agent → agent < length s.paths
+next-known site s These agent next = elim next [ inl takes ↦ takes.1.takes.due.known.known | inr way ↦ way.due.known.known ]
+
+next-moves : (site : Site) (s : State) (These : ℕ → Type 0) (agent : ℕ) → IsNextToAsk site s These agent → StandsStill site s → ⊥
+next-moves site s These agent next still = elim next [
+  | inl takes ↦
+      let would = takes.1.takes in
+      next-none site s agent takes.1.number would.task would.next (still.told agent would.due.known.known).none
+  | inr way ↦
+      let stays = (still.told agent way.due.known.known).stays in
+      elim way.makes_way.in_the_way [ inl wanted ↦ stays.not_wanted wanted | inr off ↦ off stays.berth ]
 ]
 
--- it is told to rest
-rested-step : (site : Site) (s : State) (agent : ℕ) (reply : Reply) (new : State) → reply ≡ Reply.Rested → Answers site s reply (Event.Request agent) new →
-    IsDue site s agent × MayRest site s agent × (new ≡ s)
-rested-step site s agent reply new is step =
-    let rests : Answers site s Reply.Rested (Event.Request agent) new = subst (λ r. Answers site s r (Event.Request agent) new) is step in
-    (rests.0, record { none = rests.1; stays = rests.2 }, rests.3)
-
-pub have-rested : (site : Site) (old mid new : State) (xs : List Entry) (entry : Entry) (count : ℕ) (rested : Bool) → HaveAsked site old count rested xs mid →
-    entry.event ≡ Event.Request count → entry.reply ≡ Reply.Rested → Answers site mid entry.reply (Event.Request count) new →
-    HaveAsked site old (count + 1) rested (xs ++ entry ∷ []) new
-have-rested site old mid new xs entry count rested have e is step =
-    let told = rested-step site mid count entry.reply new is step in
-    record {
-      asked = more-asked xs entry count have.asked e;
-      on_time = on_time-more site old mid new entry.reply count have.on_time step;
-      still = λ all.
-          let before = have.still all in (
-            told.2 ∙ before.0,
-            λ agent h. elim (cases_eq agent count) [
-              | inl same ↦ subst (λ a. IsDue site old a × MayRest site old a) (sym same) (subst (λ s. IsDue site s count × MayRest site s count) before.0 (told.0, told.1))
-              | inr ne ↦ before.1 agent (omega arith)
-            ],
-          );
-      moves = have.moves;
-    }
-
-bool-cases : (b : Bool) → (b ≡ true) ⊎ (b ≡ false)
-bool-cases true = inl refl
-bool-cases false = inr refl
-
-pub have-moved : (site : Site) (old mid new : State) (xs : List Entry) (entry : Entry) (count : ℕ) (rested : Bool) → HaveAsked site old count rested xs mid →
-    count < length old.paths → entry.event ≡ Event.Request count → entry.reply ≢ Reply.Rested → Answers site mid entry.reply (Event.Request count) new →
-    HaveAsked site old (count + 1) false (xs ++ entry ∷ []) new
-have-moved site old mid new xs entry count rested have known e not step = record {
-  asked = more-asked xs entry count have.asked e;
-  on_time = on_time-more site old mid new entry.reply count have.on_time step;
-  still = λ clash. absurd (false≢true clash);
-  moves = λ told opens stands. elim (bool-cases rested) [
-    | inr before ↦ have.moves before opens stands
-    | inl all ↦
-        let same = (have.still all).0 in
-        not (rested_only site old count entry.reply new opens known stands (subst (λ s. Answers site s entry.reply (Event.Request count) new) same step))
+-- one agent more has asked
+pub have-more : (site : Site) (old mid new : State) (asked : List Bool) (some : Bool) (xs : List Entry) (entry : Entry) (agent : ℕ) → HaveAsked site old asked some xs mid →
+    IsNextToAsk site mid (MayBeAsked asked) agent → entry.event ≡ Event.Request agent → Answers site mid entry.reply (Event.Request agent) new →
+    HaveAsked site old (set asked agent true) true (xs ++ entry ∷ []) new
+have-more site old mid new asked some xs entry agent have next e step = record {
+  seats = length-set _ _ _ ∙ have.seats ∙ sym (agents-stay site mid entry.reply agent new step);
+  told = λ a is. elim (cases_eq a agent) [
+    | inl same ↦ subst (λ b. HasAsked (xs ++ entry ∷ []) b) (sym same) (asked-last xs entry agent e)
+    | inr ne ↦ asked-left xs (entry ∷ []) a (have.told a (sym (slice_get-set_other asked agent a true ne) ∙ is))
+  ];
+  on_time = on_time-more site old mid new entry.reply agent have.on_time step;
+  none = λ clash. absurd (false≢true (sym clash));
+  one = λ _ stands. elim (cases_Bool some) [
+    | inl before ↦ have.one before stands
+    | inr first ↦ next-moves site old (MayBeAsked asked) agent (subst (λ s. IsNextToAsk site s (MayBeAsked asked) agent) (have.none first).1 next) stands
   ];
 }
+
+-- one fewer is left to ask
+pub fewer-left : (asked : List Bool) (agent : ℕ) → MayBeAsked asked agent → count_by not (set asked agent true) < count_by not asked
+fewer-left asked agent may =
+    let lt = slice_get_within asked agent false may in
+    let read : get_or asked agent true ≡ false = get_or_from_slice_get asked agent false true may in
+    let counts = count-set not asked agent true true lt in
+    let was : bit (not (get_or asked agent true)) ≡ 1 = ap (λ b. bit (not b)) read in
+    omega (arith, counts, was)
+
+pub next-may : (site : Site) (s : State) (asked : List Bool) (agent : ℕ) → IsNextToAsk site s (MayBeAsked asked) agent → MayBeAsked asked agent
+next-may site s asked agent next = elim next [ inl takes ↦ takes.1.one | inr way ↦ way.one ]
+
+-- all that were to be asked have asked
+asked-or-rests : (site : Site) (new : State) (asked : List Bool) (added : List Entry) (agent : ℕ) → ((a : ℕ) → slice_get asked a ≡ Some true → HasAsked added a) →
+    AllWouldRest site new (MayBeAsked asked) → (b : Option Bool) → slice_get asked agent ≡ b → b ≢ None → IsDue site new agent →
+    HasAsked added agent ⊎ Answers site new Reply.Rested (Event.Request agent) new
+asked-or-rests site new asked added agent told rest None is some due = absurd (some refl)
+asked-or-rests site new asked added agent told rest (Some true) is some due = inl (told agent is)
+asked-or-rests site new asked added agent told rest (Some false) is some due = inr (rest agent is due)
+
+left-asked : (site : Site) (old new : State) (some : Bool) (added : List Entry) (agent : ℕ) → AllHaveAsked site old some added new → IsDue site new agent →
+    HasAsked added agent ⊎ Answers site new Reply.Rested (Event.Request agent) new
+left-asked site old new some added agent all due =
+    let asked = all.0 in
+    let lt : agent < length asked = rw all.1.seats due.known.known in
+    asked-or-rests site new asked added agent all.1.told all.2 (slice_get asked agent) refl
+    (λ none. none-some (get_or asked agent true) (sym none ∙ slice_get-get_or asked agent true lt)) due
+
+-- somebody asked
+pub begins-asked : (site : Site) (old new : State) (some : Bool) (added : List Entry) → some ≡ true → AllHaveAsked site old some added new → Begins site old false added new
+begins-asked site old new some added one all = record {
+  asked = λ agent due. left-asked site old new some added agent all due;
+  on_time = all.1.on_time;
+  stands = λ clash. absurd (false≢true clash);
+  moves = λ _. all.1.one one;
+}
+
+rests-of : (site : Site) (s new : State) (agent : ℕ) → Answers site s Reply.Rested (Event.Request agent) new → MayRest site s agent
+rests-of site s new agent step = record { none = step.1; stays = step.2 }
+
+-- all are at rest
+abbrev pub AllStand : State → Type 0
+AllStand s = (agent : ℕ) → agent < length s.paths → steps_left s.paths agent ≡ 0
+
+-- nobody asked: all stands still where all are at rest
+pub begins-unasked : (site : Site) (old new : State) (some rest : Bool) (added : List Entry) → old.closed ≡ false → some ≡ false → (IsTrue rest ↔ AllStand new) →
+    AllHaveAsked site old some added new → Begins site old rest added new
+begins-unasked site old new some rest added opens none all_rest all =
+    let same = (all.1.none none).1 in
+    let nobody = (all.1.none none).0 in
+    record {
+      asked = λ agent due. left-asked site old new some added agent all due;
+      on_time = all.1.on_time;
+      stands = λ rests. (
+        same,
+        subst (λ s. StandsStill site s) same (record {
+          resting = all_rest.0 rests;
+          told = λ agent known.
+              let due : IsDue site new agent = record { known = record { not_closed = all.1.on_time.closed ∙ opens; known = known }; idle = inl (all_rest.0 rests agent known) } in
+              elim (left-asked site old new some added agent all due) [
+                | inl has ↦ absurd (Contains-none (Event.Request agent) (subst (λ es. HasAsked es agent) nobody has))
+                | inr step ↦ rests-of site new new agent step
+              ];
+        }),
+      );
+      moves = λ moving stands. false≢true (sym moving ∙ all_rest.1 (subst (λ s. AllStand s) (sym same) stands.resting));
+    }
 
 -- its history is a run from its opening to its state
 abbrev pub IsBegun : Seen → Type 0
@@ -138,6 +210,3 @@ pub reached : (caller : ℕ) (book now : Seen) (added : List Entry) → IsBegun 
 reached caller book now added kept goes =
     opening-reached book.site book.opening (book.history ++ added) now.state kept.is_opening
     (run-join book.site book.opening book.history book.state added now.state kept.run goes.run)
-
-pub not-both : (b : Bool) → b ≡ false → b ≡ true → ⊥
-not-both b e t = false≢true (sym e ∙ t)

@@ -1,23 +1,32 @@
 -- a round after another
-use Rattle.std.proofs.Common.{◌≡◌, ℕ, ◌+◌, ◌*◌, ◌<◌, ◌≤◌, List, [], ◌++◌, true, false, length, refl, sym, ap, subst, arith, ◌∙◌, ◌⊎◌, inl, inr}
+use Rattle.std.proofs.Common.{◌≡◌, ◌≢◌, ℕ, ◌+◌, ◌*◌, ◌<◌, ◌≤◌, List, [], ◌∷◌, ◌++◌, Bool, true, false, length, refl, sym, ap, subst, arith, ◌∙◌, ◌⊎◌, inl, inr, append_assoc}
+use Prim.Native.Nat.{zero, suc}
+use Rattle.std.proofs.lemmas.Bool.{false≢true, cases_eq, cases_lt, cases_Bool}
+use Rattle.std.proofs.lemmas.List.Elements.{All-nil, All-cons, All-append}
 use Rattle.wh_points.specs.Points.{Site}
 use Rattle.wh_points.specs.Formed.{IsFormed}
 use Rattle.wh_tasks.specs.declared.task.Task.{Task}
 use Rattle.wh_tasks.specs.declared.task.Phase.{Phase}
 use Rattle.wh_tasks.specs.Tasks.{IsTask, IsOpen, phase}
 use Rattle.wh_core.specs.States.{State}
-use Rattle.wh_core.specs.Steps.{Run, last_clock}
-use Rattle.wh_core.proofs.Later.{later-run}
-use Rattle.wh_core.proofs.Idle.{idle-rests}
+use Rattle.wh_core.specs.Steps.{Answers, Run, IsDue, last_clock}
+use Rattle.wh_core.proofs.StepKinds.{run-join}
+use Rattle.wh_core.proofs.Later.{AllLater, later-run}
+use Rattle.wh_core.proofs.Idle.{decide-idle}
 use Rattle.wh_core.proofs.Sound.{sound-reached}
+use Rattle.wh_event.specs.declared.event.Event.{Event}
+use Rattle.wh_event.specs.declared.reply.Refusal.{Refusal}
+use Rattle.wh_event.specs.declared.reply.Reply.{Reply}
 use Rattle.wh_event.specs.declared.entry.Entry.{Entry}
 use Rattle.wh_book.specs.Drafts.{Seen}
-use Rattle.wh_progress.specs.Progress.{HaveAtMost, AreOfTwoPlaces, FindPaths, IsRound, StandsStill, IsHeld, AllDone, span, open_tasks}
+use Rattle.wh_progress.specs.Progress.{HaveAtMost, HasAsked, FindPaths, IsRound, StandsStill, IsHeld, AllDone, span, open_tasks, left_to_do}
+use Rattle.wh_progress.specs.Laws.{NoneCanStand}
+use Rattle.wh_progress.proofs.Due.{due_until_asked}
 use Rattle.wh_progress.proofs.Reaching.{few-after, places-after}
 use Rattle.wh_progress.proofs.Standing.{still_is_done, only_held}
 use Rattle.wh_progress.proofs.Delivered.{each_round_brings, left_is_bounded}
-use Rattle.wh_delivery.specs.Deliveries.{GoesOn, IsOneLater, HaveAsked, IsDelivering}
-use Rattle.wh_delivery.proofs.Going.{IsBegun, goes-none, goes-trans, asked-left, reached}
+use Rattle.wh_delivery.specs.Deliveries.{GoesOn, IsOneLater, Begins, IsDelivering}
+use Rattle.wh_delivery.proofs.Going.{IsBegun, goes-none, goes-trans, asked-left, asked-last, reached}
 
 pub delivering-none : (caller : ℕ) (book : Seen) → IsDelivering caller book 0 book
 delivering-none caller book = record {
@@ -31,77 +40,169 @@ delivering-none caller book = record {
 few-now : (caller : ℕ) (old now : Seen) (stops ticks : ℕ) → IsDelivering caller old ticks now → HaveAtMost stops old.state → HaveAtMost stops now.state
 few-now caller old now stops ticks d few = few-after stops old.state now.state (later-run old.site old.state d.added now.state d.goes.run) d.tasks few
 
--- all have asked, one of them was not told to rest, and a tick followed
+-- whether an agent is due
+decide-due : (site : Site) (s : State) (agent : ℕ) → IsDue site s agent ⊎ (IsDue site s agent → ⊥)
+decide-due site s agent = elim (cases_Bool s.closed) [
+  | inl shut ↦ inr (λ due. false≢true (sym due.known.not_closed ∙ shut))
+  | inr opens ↦ elim (cases_lt agent (length s.paths)) [
+    | inr past ↦ inr (λ due. let known = due.known.known in omega arith)
+    | inl known ↦ elim (decide-idle site s agent) [
+      | inl idle ↦ inl (record { known = record { not_closed = opens; known = known }; idle = idle })
+      | inr busy ↦ inr (λ due. busy due.idle)
+    ]
+  ]
+]
+
+-- Requests that would be told to rest change nothing: they may be added to a round, and then each due agent has asked in it.
+record RestsAdded (site : Site) (s : State) (asks : List Entry) (count : ℕ) : Type 0 where
+  pub rests : List Entry
+  pub run : Run site s rests s
+  pub finds : FindPaths rests
+  pub asked : (agent : ℕ) → agent < count → IsDue site s agent → HasAsked (asks ++ rests) agent
+
+rests-same : (site : Site) (s : State) (asks : List Entry) (count : ℕ) (r : RestsAdded site s asks count) → (IsDue site s count → HasAsked (asks ++ r.rests) count) →
+    RestsAdded site s asks (suc count)
+rests-same site s asks count r has = record {
+  rests = r.rests;
+  run = r.run;
+  finds = r.finds;
+  asked = λ agent lt due. elim (cases_eq agent count) [
+    | inl same ↦ subst (λ a. HasAsked (asks ++ r.rests) a) (sym same) (has (subst (λ a. IsDue site s a) same due))
+    | inr ne ↦ r.asked agent (omega arith) due
+  ];
+}
+
+abbrev resting : ℕ → Entry
+resting agent = record { caller = 0; event = Event.Request agent; reply = Reply.Rested }
+
+rests-one : (site : Site) (s : State) (asks : List Entry) (count : ℕ) (r : RestsAdded site s asks count) → Answers site s Reply.Rested (Event.Request count) s →
+    RestsAdded site s asks (suc count)
+rests-one site s asks count r step =
+    let more = r.rests ++ resting count ∷ [] in
+    let joined = append_assoc asks r.rests (resting count ∷ []) in
+    record {
+      rests = more;
+      run = run-join site s r.rests s (resting count ∷ []) s r.run (s, step, refl);
+      finds = All-append (λ entry. entry.reply ≢ Reply.Refused Refusal.NoPath) r.rests (resting count ∷ []) r.finds
+          (All-cons (λ entry. entry.reply ≢ Reply.Refused Refusal.NoPath) (resting count) [] (λ e. let clash : Reply.Rested ≡ Reply.Refused Refusal.NoPath = e in cc) (All-nil (λ entry. entry.reply ≢ Reply.Refused Refusal.NoPath)));
+      asked = λ agent lt due. subst (λ es. HasAsked es agent) joined (elim (cases_eq agent count) [
+        | inl same ↦ subst (λ a. HasAsked ((asks ++ r.rests) ++ resting count ∷ []) a) (sym same) (asked-last (asks ++ r.rests) (resting count) count refl)
+        | inr ne ↦ asked-left (asks ++ r.rests) (resting count ∷ []) agent (r.asked agent (omega arith) due)
+      ]);
+    }
+
+rests-added : (site : Site) (s : State) (asks : List Entry) (count : ℕ) →
+    ((agent : ℕ) → IsDue site s agent → HasAsked asks agent ⊎ Answers site s Reply.Rested (Event.Request agent) s) → RestsAdded site s asks count
+rests-added site s asks zero told = record {
+  rests = [];
+  run = refl;
+  finds = All-nil (λ entry. entry.reply ≢ Reply.Refused Refusal.NoPath);
+  asked = λ agent lt. absurd (omega arith);
+}
+rests-added site s asks (suc count) told =
+    let r = rests-added site s asks count told in
+    elim (decide-due site s count) [
+      | inr not ↦ rests-same site s asks count r (λ due. absurd (not due))
+      | inl due ↦ elim (told count due) [
+        | inl has ↦ rests-same site s asks count r (λ _. asked-left asks r.rests count has)
+        | inr step ↦ rests-one site s asks count r step
+      ]
+    ]
+
+-- So agents that ask, where each other that is due would be told to rest, and a tick after them are as good as a round: of those entries
+-- and of the requests of the others.
+pub as-round : (site : Site) (old mid new : State) (still : Bool) (asks last : List Entry) → Begins site old still asks mid → Run site old asks mid → Run site mid last new →
+    mid.closed ≡ false → old.clock < new.clock → new.closed ≡ false → FindPaths asks → FindPaths last →
+    (entries : List Entry) × IsRound site old entries new × FindPaths entries
+as-round site old mid new still asks last begins first second mid_open later opens asks_find last_find =
+    let r = rests-added site mid asks (length mid.paths) begins.asked in
+    let P : Entry → Type 0 = λ entry. entry.reply ≢ Reply.Refused Refusal.NoPath in (
+      (asks ++ r.rests) ++ last,
+      record {
+        run = run-join site old (asks ++ r.rests) mid last new (run-join site old asks mid r.rests mid first r.run) second;
+        asked = λ some agent due. asked-left (asks ++ r.rests) last agent (elim (due_until_asked site old asks mid agent first mid_open due) [
+          | inl still_due ↦ r.asked agent still_due.known.known still_due
+          | inr has ↦ asked-left asks r.rests agent has
+        ]);
+        goes_on = later;
+        not_closed = opens;
+      },
+      All-append P (asks ++ r.rests) last (All-append P asks r.rests asks_find r.finds) last_find,
+    )
+
+-- all that were to be asked have asked, not all stood still, and a tick followed
 pub delivering-more : (caller : ℕ) (old now mid new : Seen) (ticks : ℕ) (asks last : List Entry) → IsBegun old →
-    IsDelivering caller old ticks now → GoesOn caller now asks mid → HaveAsked now.site now.state (length now.state.paths) false asks mid.state → GoesOn caller mid last new →
+    IsDelivering caller old ticks now → GoesOn caller now asks mid → Begins now.site now.state false asks mid.state → GoesOn caller mid last new →
     IsOneLater mid.state new.state → IsDelivering caller old (ticks + 1) new
 delivering-more caller old now mid new ticks asks last kept d first asked second later =
     let whole = goes-trans caller now mid new asks last first second in
     let goes = goes-trans caller old now new d.added (asks ++ last) d.goes whole in
     let on = asked.on_time in
-    let opens : now.state.closed ≡ false = sym on.closed ∙ later.was_open in
+    let here = d.goes.stays.site in
+    let there : mid.site ≡ old.site = first.stays.site ∙ here in
     let clock : new.state.clock ≡ now.state.clock + 1 = later.clock ∙ ap (λ n. n + 1) on.clock in
     let before = d.clock in
     let tasks : length new.state.tasks ≡ length now.state.tasks = later.tasks ∙ on.tasks in
-    let round : IsRound old.site now.state (asks ++ last) new.state = record {
-      run = subst (λ s. Run s now.state (asks ++ last) new.state) d.goes.stays.site whole.run;
-      asked = λ some agent due. asked-left asks last agent (asked.asked agent due.known.known);
-      goes_on = omega arith;
-      not_closed = later.not_closed;
-    } in
+    let begins : Begins old.site now.state false asks mid.state = subst (λ s. Begins s now.state false asks mid.state) here asked in
+    let run_first : Run old.site now.state asks mid.state = subst (λ s. Run s now.state asks mid.state) here first.run in
+    let run_second : Run old.site mid.state last new.state = subst (λ s. Run s mid.state last new.state) there second.run in
     record {
       added = d.added ++ (asks ++ last);
       goes = goes;
       clock = omega arith;
       tasks = tasks ∙ d.tasks;
       falls = λ stops formed few.
+          let round = as-round old.site now.state mid.state new.state false asks last begins run_first run_second later.was_open (omega arith) later.not_closed
+          (first.served (subst (λ s. IsFormed s) (sym here) formed)) (second.served (subst (λ s. IsFormed s) (sym there) formed)) in
           let now_few = few-now caller old now stops ticks d few in
-          let new_few = few-after stops now.state new.state (later-run old.site now.state (asks ++ last) new.state round.run) tasks now_few in
-          let finds : FindPaths (asks ++ last) = whole.served (subst (λ s. IsFormed s) (sym d.goes.stays.site) formed) in
+          let new_few = few-after stops now.state new.state (later-run old.site now.state round.0 new.state round.1.run) tasks now_few in
           let at = reached caller old now d.added kept d.goes in
           let none : length new.state.tasks ≡ length now.state.tasks + 0 = omega arith in
           let falls_before = d.falls stops formed few in
-          elim (each_round_brings old.site stops (old.history ++ d.added) (asks ++ last) now.state new.state 0 at round finds new_few none) [
-            | inr still ↦ absurd (asked.moves refl opens (subst (λ s. StandsStill s now.state) (sym d.goes.stays.site) still))
+          elim (each_round_brings old.site stops (old.history ++ d.added) round.0 now.state new.state 0 at round.1 round.2 new_few none) [
+            | inr still ↦ absurd (begins.moves refl still)
             | inl less ↦ omega arith
           ];
     }
 
--- all have asked, and all were told to rest
-pub all-rest : (caller : ℕ) (now new : Seen) (asks : List Entry) → now.site.homes ≡ false → GoesOn caller now asks new →
-    HaveAsked now.site now.state (length now.state.paths) true asks new.state → (new.state ≡ now.state) × StandsStill new.site new.state
-all-rest caller now new asks off goes asked =
-    let still = asked.still refl in
-    let stands : StandsStill now.site now.state = record {
-      resting = λ agent known. idle-rests now.site now.state agent off (still.1 agent known).0.idle;
-      told = λ agent known. (still.1 agent known).1;
-    } in
-    (still.0, subst (λ s. StandsStill s new.state) (sym goes.stays.site) (subst (λ s. StandsStill now.site s) (sym still.0) stands))
-
--- no paths go on home there either
-pub off-now : (caller : ℕ) (old now : Seen) (ticks : ℕ) → IsDelivering caller old ticks now → old.site.homes ≡ false → now.site.homes ≡ false
-off-now caller old now ticks d off = ap (λ (s : Site). s.homes) d.goes.stays.site ∙ off
+-- all stood still as the round began
+pub all-rest : (caller : ℕ) (now new : Seen) (asks : List Entry) → GoesOn caller now asks new → Begins now.site now.state true asks new.state →
+    (new.state ≡ now.state) × StandsStill new.site new.state
+all-rest caller now new asks goes asked =
+    let still = asked.stands refl in
+    (still.0, subst (λ s. StandsStill s new.state) (sym goes.stays.site) (subst (λ s. StandsStill now.site s) (sym still.0) still.1))
 
 -- so all stands still on the site, too, on which it began
-stands-there : (caller : ℕ) (old now new : Seen) (ticks : ℕ) (asks : List Entry) → old.site.homes ≡ false → IsDelivering caller old ticks now → GoesOn caller now asks new →
-    HaveAsked now.site now.state (length now.state.paths) true asks new.state → StandsStill old.site new.state
-stands-there caller old now new ticks asks off d goes asked =
-    subst (λ s. StandsStill s new.state) (goes.stays.site ∙ d.goes.stays.site) (all-rest caller now new asks (off-now caller old now ticks d off) goes asked).1
+stands-there : (caller : ℕ) (old now new : Seen) (ticks : ℕ) (asks : List Entry) → IsDelivering caller old ticks now → GoesOn caller now asks new →
+    Begins now.site now.state true asks new.state → StandsStill old.site new.state
+stands-there caller old now new ticks asks d goes asked =
+    subst (λ s. StandsStill s new.state) (goes.stays.site ∙ d.goes.stays.site) (all-rest caller now new asks goes asked).1
+
+none-stand : (site : Site) (old now : State) → AllLater old.tasks now.tasks → length now.tasks ≡ length old.tasks → NoneCanStand site old → NoneCanStand site now
+none-stand site old now later few none = elim none [
+  | inl homes ↦ inl homes
+  | inr two ↦ inr (two.0, places-after old now later few two.1)
+]
 
 pub delivered : (caller : ℕ) (old now new : Seen) (ticks : ℕ) (asks : List Entry) → IsBegun old → IsDelivering caller old ticks now → GoesOn caller now asks new →
-    HaveAsked now.site now.state (length now.state.paths) true asks new.state → 0 < length old.site.layout.agents → AreOfTwoPlaces old.state → AllDone new.state
-delivered caller old now new ticks asks kept d goes asked some places =
+    Begins now.site now.state true asks new.state → 0 < length old.site.layout.agents → NoneCanStand old.site old.state → AllDone new.state
+delivered caller old now new ticks asks kept d goes asked some none =
     let whole = goes-trans caller old now new d.added asks d.goes goes in
     let at = reached caller old new (d.added ++ asks) kept whole in
-    let now_places = places-after old.state now.state (later-run old.site old.state d.added now.state d.goes.run) d.tasks places in
-    let two : AreOfTwoPlaces new.state = subst (λ s. AreOfTwoPlaces s) (sym (asked.still refl).0) now_places in
-    still_is_done old.site (old.history ++ (d.added ++ asks)) new.state some at (inr (kept.ends_at_stops, two)) (stands-there caller old now new ticks asks kept.ends_at_stops d goes asked)
+    let now_none = none-stand old.site old.state now.state (later-run old.site old.state d.added now.state d.goes.run) d.tasks none in
+    let none_there : NoneCanStand old.site new.state = subst (λ s. NoneCanStand old.site s) (sym (asked.stands refl).0) now_none in
+    still_is_done old.site (old.history ++ (d.added ++ asks)) new.state some at none_there (stands-there caller old now new ticks asks d goes asked)
+
+-- no more ticks than rounds were left to do
+pub within : (caller : ℕ) (old now : Seen) (ticks : ℕ) → IsDelivering caller old ticks now → (stops : ℕ) → IsFormed old.site → HaveAtMost stops old.state →
+    ticks ≤ left_to_do old.site stops old.state
+within caller old now ticks d stops formed few = (let falls = d.falls stops formed few in omega arith)
 
 pub bounded : (caller : ℕ) (old now : Seen) (ticks : ℕ) → IsBegun old →
-    IsDelivering caller old ticks now → (stops : ℕ) → IsFormed old.site → HaveAtMost stops old.state →
+    IsDelivering caller old ticks now → old.site.homes ≡ false → (stops : ℕ) → IsFormed old.site → HaveAtMost stops old.state →
     ticks ≤ 2 * span old.site stops * (length old.site.layout.agents + open_tasks old.state)
-bounded caller old now ticks kept d stops formed few =
-    let bound = left_is_bounded old.site stops old.opening old.history old.state kept.ends_at_stops kept.is_opening kept.run few in
+bounded caller old now ticks kept d off stops formed few =
+    let bound = left_is_bounded old.site stops old.opening old.history old.state off kept.is_opening kept.run few in
     let falls = d.falls stops formed few in
     omega arith
 
@@ -114,18 +215,25 @@ full caller old now kept d =
     omega arith
 
 pub held : (caller : ℕ) (old now new : Seen) (ticks : ℕ) (asks : List Entry) → IsBegun old → IsDelivering caller old ticks now → GoesOn caller now asks new →
-    HaveAsked now.site now.state (length now.state.paths) true asks new.state → 0 < length old.site.layout.agents →
+    Begins now.site now.state true asks new.state → old.site.homes ≡ false → 0 < length old.site.layout.agents →
     (n : ℕ) (task : Task) → IsTask new.state.tasks n task → (phase task ≡ Phase.Done) ⊎ (IsOpen task × IsHeld new.state task)
-held caller old now new ticks asks kept d goes asked some n task there =
+held caller old now new ticks asks kept d goes asked off some n task there =
     let whole = goes-trans caller old now new d.added asks d.goes goes in
     let at = reached caller old new (d.added ++ asks) kept whole in
-    only_held old.site (old.history ++ (d.added ++ asks)) new.state n task kept.ends_at_stops some at (stands-there caller old now new ticks asks kept.ends_at_stops d goes asked) there
+    only_held old.site (old.history ++ (d.added ++ asks)) new.state n task off some at (stands-there caller old now new ticks asks d goes asked) there
 
 -- the clock is at its last only where it had not enough left
+pub late-within : (caller : ℕ) (old now : Seen) (mid : State) (ticks : ℕ) → IsDelivering caller old ticks now → mid.clock ≡ now.state.clock → mid.clock ≡ last_clock →
+    (stops : ℕ) → IsFormed old.site → HaveAtMost stops old.state → last_clock ≤ old.state.clock + left_to_do old.site stops old.state
+late-within caller old now mid ticks d same last stops formed few =
+    let bound = within caller old now ticks d stops formed few in
+    let clock = d.clock in
+    omega arith
+
 pub late : (caller : ℕ) (old now : Seen) (mid : State) (ticks : ℕ) → IsBegun old →
-    IsDelivering caller old ticks now → mid.clock ≡ now.state.clock → mid.clock ≡ last_clock →
+    IsDelivering caller old ticks now → mid.clock ≡ now.state.clock → mid.clock ≡ last_clock → old.site.homes ≡ false →
     (stops : ℕ) → IsFormed old.site → HaveAtMost stops old.state → last_clock ≤ old.state.clock + 2 * span old.site stops * (length old.site.layout.agents + open_tasks old.state)
-late caller old now mid ticks kept d same last stops formed few =
-    let bound = bounded caller old now ticks kept d stops formed few in
+late caller old now mid ticks kept d same last off stops formed few =
+    let bound = bounded caller old now ticks kept d off stops formed few in
     let clock = d.clock in
     omega arith

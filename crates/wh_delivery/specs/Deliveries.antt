@@ -1,14 +1,16 @@
 -- how far a book has gone on while agents ask and the clock ticks
-use Rattle.std.specs.Prelude.{◌≡◌, ℕ, ◌+◌, ◌<◌, ◌≤◌, List, ◌++◌, Bool, true, false, length, All}
+use Rattle.std.specs.Prelude.{◌≡◌, ℕ, ◌+◌, ◌<◌, ◌≤◌, ◌⊎◌, List, [], ◌++◌, Bool, true, false, Some, length, slice_get, All}
 use Rattle.wh_points.specs.Points.{Site}
 use Rattle.wh_points.specs.Formed.{IsFormed}
 use Rattle.wh_core.specs.States.{State}
-use Rattle.wh_core.specs.Steps.{Run, IsDue, last_clock}
+use Rattle.wh_core.specs.Steps.{Answers, Run, IsDue, last_clock}
 use Rattle.wh_event.specs.declared.event.Event.{Event}
+use Rattle.wh_event.specs.declared.reply.Reply.{Reply}
 use Rattle.wh_event.specs.declared.entry.Entry.{Entry}
 use Rattle.wh_book.specs.Drafts.{Seen}
 use Rattle.wh_token.specs.Houses.{StaysAt}
-use Rattle.wh_progress.specs.Progress.{HaveAtMost, HasAsked, FindPaths, MayRest, StandsStill, left_to_do}
+use Rattle.wh_token.specs.Asking.{MayBeAsked, AllWouldRest}
+use Rattle.wh_progress.specs.Progress.{HaveAtMost, HasAsked, FindPaths, StandsStill, left_to_do}
 use Rattle.wh_delivery.specs.declared.broken_off.BrokenOff.{BrokenOff}
 
 -- an agent asks, or the clock ticks
@@ -44,13 +46,24 @@ pub record IsOneLater (old new : State) : Type 0 where
   pub clock : new.clock ≡ old.clock + 1
   pub tasks : length new.tasks ≡ length old.tasks
 
--- The first agents have asked, up to so many. Where all were told to rest, nothing has changed, and each was due and may rest. Where one
--- was not, it did not stand still, or it was closed.
-pub record HaveAsked (site : Site) (old : State) (count : ℕ) (rested : Bool) (added : List Entry) (new : State) : Type 0 where
-  pub asked : (agent : ℕ) → agent < count → HasAsked added agent
+-- These agents have asked, and whether any has. Where none has, nothing has changed; and where one has, not all stood still.
+pub record HaveAsked (site : Site) (old : State) (asked : List Bool) (some : Bool) (added : List Entry) (new : State) : Type 0 where
+  pub seats : length asked ≡ length new.paths
+  pub told : (agent : ℕ) → slice_get asked agent ≡ Some true → HasAsked added agent
   pub on_time : IsOnTime old new
-  pub still : rested ≡ true → (new ≡ old) × ((agent : ℕ) → agent < count → IsDue site old agent × MayRest site old agent)
-  pub moves : rested ≡ false → old.closed ≡ false → ¬ StandsStill site old
+  pub none : some ≡ false → (added ≡ []) × (new ≡ old)
+  pub one : some ≡ true → ¬ StandsStill site old
+
+-- and each other that is due would be told to rest
+abbrev pub AllHaveAsked : Site → State → Bool → List Entry → State → Type 0
+AllHaveAsked site old some added new = (asked : List Bool) × HaveAsked site old asked some added new × AllWouldRest site new (MayBeAsked asked)
+
+-- A round has begun: each agent that is due has asked, or would be told to rest; and whether all stood still.
+pub record Begins (site : Site) (old : State) (still : Bool) (added : List Entry) (new : State) : Type 0 where
+  pub asked : (agent : ℕ) → IsDue site new agent → HasAsked added agent ⊎ Answers site new Reply.Rested (Event.Request agent) new
+  pub on_time : IsOnTime old new
+  pub stands : still ≡ true → (new ≡ old) × StandsStill site old
+  pub moves : still ≡ false → ¬ StandsStill site old
 
 -- After so many ticks: what is left to do has fallen with each of them.
 pub record IsDelivering (caller : ℕ) (old : Seen) (ticks : ℕ) (now : Seen) : Type 0 where

@@ -1,65 +1,94 @@
-//! Agents ask and the clock ticks until all stands still.
+//! Agents ask, the nearest order first, and the clock ticks until all stands still.
 
-ghost use Rattle.std.specs.Prelude.{◌≡◌, ℕ, ◌+◌, ◌*◌, ◌<◌, ◌≤◌, ◌⊎◌, List, [], ◌∷◌, Bool, true, false, length, IfOk, IfErr, IsTrue, ◌↔◌};
+ghost use Rattle.std.specs.Prelude.{◌≡◌, ℕ, ◌+◌, ◌*◌, ◌<◌, ◌≤◌, ◌⊎◌, ◌↔◌, List, [], ◌∷◌, false, length, replicate, IfOk, IfErr, IsTrue};
+ghost use Rattle.wh_path.specs.Paths.{steps_left};
 ghost use Rattle.wh_points.specs.Formed.{IsFormed};
 ghost use Rattle.wh_tasks.specs.declared.task.Task.{Task as Job};
 ghost use Rattle.wh_tasks.specs.declared.task.Phase.{Phase as Stage};
 ghost use Rattle.wh_tasks.specs.Tasks.{IsTask, IsOpen, phase};
 ghost use Rattle.wh_core.specs.Steps.{last_clock};
 ghost use Rattle.wh_event.specs.declared.event.Event.{Event as Asked};
-ghost use Rattle.wh_event.specs.declared.reply.Reply.{Reply as Answer};
 ghost use Rattle.wh_event.specs.declared.entry.Entry.{Entry as Line};
-ghost use Rattle.wh_progress.specs.Progress.{span, open_tasks, HaveAtMost, AreOfTwoPlaces, StandsStill, IsHeld, AllDone};
-ghost use Rattle.wh_delivery.specs.Deliveries.{GoesOn, HaveAsked, IsOneLater, IsWhy};
+ghost use Rattle.wh_progress.specs.Progress.{span, open_tasks, left_to_do, HaveAtMost, AreOfTwoPlaces, StandsStill, IsHeld, AllDone};
+ghost use Rattle.wh_progress.specs.Laws.{NoneCanStand};
+ghost use Rattle.wh_delivery.specs.Deliveries.{GoesOn, AllHaveAsked, Begins, IsOneLater, IsWhy};
 
 use crate::broken_off::BrokenOff;
 use std::alloc::{AllocError, Global};
 use wh_core::LAST_CLOCK;
-use wh_event::{Command, Reply};
+use wh_event::Command;
 use wh_planner::Plans;
-use wh_token::{Committed, Warehouse};
+use wh_token::Warehouse;
 
-/// Whether it is told to rest.
-fn rests(reply: &Reply) -> bool
-    ensures { IsTrue result ↔ (reply.now ≡ Answer.Rested) }
-{
-    matches!(reply, Reply::Rested)
-}
-
-/// The agent asks: whether it is told to rest.
+/// The agent asks.
 fn ask<P: Plans>(
     alloc: Global,
     warehouse: &mut Warehouse<P>,
     caller: u32,
     agent: u32,
-) -> Result<bool, AllocError>
-    ensures asked { IfOk result (λ rested. (entry : Line) × GoesOn caller warehouse.old.book (entry ∷ []) warehouse.new.book
-        × (entry.event ≡ Asked.Request agent) × (IsTrue rested ↔ (entry.reply ≡ Answer.Rested))) }
+) -> Result<(), AllocError>
+    ensures asked { IfOk result (λ _. (entry : Line) × GoesOn caller warehouse.old.book (entry ∷ []) warehouse.new.book × (entry.event ≡ Asked.Request agent)) }
     ensures starved { IfErr result (λ _. GoesOn caller warehouse.old.book [] warehouse.new.book) }
 {
     match warehouse.step(alloc, caller, Command::Token { agent }, None) {
-        Ok(Committed { entry, .. }) => Ok(rests(&entry.reply)),
+        Ok(_) => Ok(()),
         Err(_) => Err(AllocError),
     }
 }
 
-/// Each agent asks: whether all are told to rest.
+/// Nobody of so many agents has asked.
+fn nobody(alloc: Global, agents: u32) -> Result<Vec<bool>, AllocError>
+    ensures { IfOk result (λ asked. asked.items ≡ replicate agents false) }
+{
+    vec![in alloc; false; agents as usize]
+}
+
+/// Agents ask, one after another as `next_to_ask` names them, each at most once, until none is left to ask: whether any did.
 fn ask_all<P: Plans>(
     alloc: Global,
     warehouse: &mut Warehouse<P>,
     caller: u32,
 ) -> Result<bool, AllocError>
     ensures asked { (added : List Line) × GoesOn caller warehouse.old.book added warehouse.new.book
-        × IfOk result (λ rested. HaveAsked warehouse.old.book.site warehouse.old.book.state (length warehouse.old.book.state.paths) rested added warehouse.new.book.state) }
+        × IfOk result (λ some. AllHaveAsked warehouse.old.book.site warehouse.old.book.state some added warehouse.new.book.state) }
 {
-    let agents = warehouse.agents();
-    let mut rested = true;
-    for agent in 0..agents {
-        if !ask(alloc, warehouse, caller, agent)? {
-            rested = false;
+    let mut asked = nobody(alloc, warehouse.agents())?;
+    let mut some = false;
+    while let Some(agent) = warehouse.next_to_ask(asked.as_slice()) {
+        ask(alloc, warehouse, caller, agent)?;
+        asked[agent as usize] = true;
+        some = true;
+    }
+    Ok(some)
+}
+
+/// Whether all agents stand.
+fn all_stand<P: Plans>(warehouse: &Warehouse<P>) -> bool
+    ensures { IsTrue result ↔ ((agent : ℕ) → agent < length warehouse.now.book.state.paths → steps_left warehouse.now.book.state.paths agent ≡ 0) }
+{
+    for agent in 0..warehouse.agents() {
+        if warehouse.remaining(agent) != 0 {
+            return false;
         }
     }
-    Ok(rested)
+    true
+}
+
+/// A round begins, in which all ask that are to be asked: whether all stands still.
+fn begin<P: Plans>(
+    alloc: Global,
+    warehouse: &mut Warehouse<P>,
+    caller: u32,
+) -> Result<bool, AllocError>
+    requires not_closed { warehouse.old.book.state.closed ≡ false }
+    ensures asked { (added : List Line) × GoesOn caller warehouse.old.book added warehouse.new.book
+        × IfOk result (λ still. Begins warehouse.old.book.site warehouse.old.book.state still added warehouse.new.book.state) }
+{
+    let some = ask_all(alloc, warehouse, caller)?;
+    if some {
+        return Ok(false);
+    }
+    Ok(all_stand(warehouse))
 }
 
 /// The clock ticks.
@@ -81,23 +110,27 @@ fn tick<P: Plans>(alloc: Global, warehouse: &mut Warehouse<P>, caller: u32) -> R
     }
 }
 
-/// Has all delivered that can be: all agents ask, in their order, and the clock ticks, one round after another, until all are told to
-/// rest. It returns how many ticks that took, 0 where nothing was left. The history has grown by these requests and ticks, each with
-/// the number of the caller.
+/// Has all delivered that can be, one round after another. In a round agents ask, each at most once, as `next_to_ask` names them: who is
+/// nearest to the order that it would take asks first. Then the clock ticks. It ends where nobody is left to ask as a round begins, and all
+/// stand. It returns how many ticks that took, 0 where nothing was left. The history has grown by these requests and ticks, each with the
+/// number of the caller.
 ///
-/// All stands still then. Each task is done, or it is open and two agents are at two of its stops, neither at its last. Where each
-/// task has its stops at two cells at most, as with two stops or from a shelf to a station and back, all are done. (Both need an
-/// agent.) On a well-formed instance it takes at most two spans for each agent and each open task. A span is one more than a pass
-/// over all passable cells for each stop of the task that has the most: with two stops on 1,000 cells 2,001 ticks. That is a
-/// guarantee, whatever paths the planners find, and no estimate.
+/// All stands still then. Where paths end at the last stop each task is done, or it is open and two agents are at two of its stops, neither
+/// at its last; where each task has its stops at two cells at most, as with two stops or from a shelf to a station and back, all are done.
+/// Where paths go on home to parkings all are done, whatever their stops are, and each agent is at home. (All of this needs an agent.)
+///
+/// On a well-formed instance it takes at most as many ticks as rounds are left to do. Where paths end at the last stop that is at most two
+/// spans for each agent and each open task. A span is one more than a pass over all passable cells for each stop of the task that has the
+/// most: with two stops on 1,000 cells 2,001 ticks. That is a guarantee, whatever paths the planners find, and no estimate.
 ///
 /// # Errors
 ///
 /// In each case all that was done until then stays done, and is in the history.
 ///
-/// - `BrokenOff::NoMemory`: memory ran out at a request or a tick. The call may be repeated, and goes on from there.
-/// - `BrokenOff::Closed`: the warehouse is closed; each request was refused for that.
-/// - `BrokenOff::ClockFull`: the clock is at its last, 1,000,000,000, and not all were told to rest. On a well-formed instance
+/// - `BrokenOff::NoMemory`: memory ran out at a request or a tick, or for the list of who has asked. The call may be repeated, and goes on
+///   from there.
+/// - `BrokenOff::Closed`: the warehouse is closed; nobody asked.
+/// - `BrokenOff::ClockFull`: the clock is at its last, 1,000,000,000, and somebody asked or moves. On a well-formed instance
 ///   this comes only where the clock had fewer ticks left than the bound, or just as many.
 pub fn deliver_all<P: Plans>(
     alloc: Global,
@@ -107,20 +140,27 @@ pub fn deliver_all<P: Plans>(
     ensures goes { (added : List Line) × GoesOn caller warehouse.old.book added warehouse.new.book }
     ensures clock { IfOk result (λ ticks. warehouse.new.book.state.clock ≡ warehouse.old.book.state.clock + ticks) }
     ensures still { IfOk result (λ _. StandsStill warehouse.new.book.site warehouse.new.book.state) }
-    ensures held { IfOk result (λ _. 0 < length warehouse.old.book.site.layout.agents → (n : ℕ) (job : Job) → IsTask warehouse.new.book.state.tasks n job
+    ensures held { IfOk result (λ _. warehouse.old.book.site.homes ≡ false → 0 < length warehouse.old.book.site.layout.agents → (n : ℕ) (job : Job) → IsTask warehouse.new.book.state.tasks n job
         → (phase job ≡ Stage.Done) ⊎ (IsOpen job × IsHeld warehouse.new.book.state job)) }
-    ensures done { IfOk result (λ _. 0 < length warehouse.old.book.site.layout.agents → AreOfTwoPlaces warehouse.old.book.state → AllDone warehouse.new.book.state) }
-    ensures bounded { IfOk result (λ ticks. (stops : ℕ) → IsFormed warehouse.old.book.site → HaveAtMost stops warehouse.old.book.state
+    ensures all_done { IfOk result (λ _. 0 < length warehouse.old.book.site.layout.agents → NoneCanStand warehouse.old.book.site warehouse.old.book.state → AllDone warehouse.new.book.state) }
+    ensures done { IfOk result (λ _. warehouse.old.book.site.homes ≡ false → 0 < length warehouse.old.book.site.layout.agents → AreOfTwoPlaces warehouse.old.book.state → AllDone warehouse.new.book.state) }
+    ensures within { IfOk result (λ ticks. (stops : ℕ) → IsFormed warehouse.old.book.site → HaveAtMost stops warehouse.old.book.state
+        → ticks ≤ left_to_do warehouse.old.book.site stops warehouse.old.book.state) }
+    ensures bounded { IfOk result (λ ticks. warehouse.old.book.site.homes ≡ false → (stops : ℕ) → IsFormed warehouse.old.book.site → HaveAtMost stops warehouse.old.book.state
         → ticks ≤ 2 * span warehouse.old.book.site stops * (length warehouse.old.book.site.layout.agents + open_tasks warehouse.old.book.state)) }
     ensures why { IfErr result (λ fault. IsWhy fault warehouse.new.book.state) }
-    ensures late { IfErr result (λ fault. fault ≡ BrokenOff.ClockFull → (stops : ℕ) → IsFormed warehouse.old.book.site → HaveAtMost stops warehouse.old.book.state
+    ensures late_within { IfErr result (λ fault. fault ≡ BrokenOff.ClockFull → (stops : ℕ) → IsFormed warehouse.old.book.site → HaveAtMost stops warehouse.old.book.state
+        → last_clock ≤ warehouse.old.book.state.clock + left_to_do warehouse.old.book.site stops warehouse.old.book.state) }
+    ensures late { IfErr result (λ fault. fault ≡ BrokenOff.ClockFull → warehouse.old.book.site.homes ≡ false → (stops : ℕ) → IsFormed warehouse.old.book.site → HaveAtMost stops warehouse.old.book.state
         → last_clock ≤ warehouse.old.book.state.clock + 2 * span warehouse.old.book.site stops * (length warehouse.old.book.site.layout.agents + open_tasks warehouse.old.book.state)) }
 {
-    // Called for what their contracts say: the history is a run from an opening, and no paths go on home.
+    // Called for what its contract says: the history is a run from an opening.
     let _run = warehouse.history();
-    let _agents = warehouse.book().setting().agents();
     for ticks in 0..LAST_CLOCK {
-        match ask_all(alloc, warehouse, caller) {
+        if warehouse.closed() {
+            return Err(BrokenOff::Closed);
+        }
+        match begin(alloc, warehouse, caller) {
             Ok(true) => return Ok(ticks),
             Ok(false) => {}
             Err(AllocError) => return Err(BrokenOff::NoMemory),

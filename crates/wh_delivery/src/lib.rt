@@ -1,7 +1,8 @@
-//! One call that requests for all agents and ticks until all rest.
+//! One call that has agents request and ticks until all stand.
 //!
-//! Proved: it ends; each task is then done, or held by two agents at rest; on a well-formed instance within the bound
-//! of `wh_progress`; else memory ran out, the warehouse is closed, or the clock is at its last (`deliver_all`).
+//! Proved: it ends; each task is then done, or held by two agents at rest, and done where paths go on home to parkings;
+//! on a well-formed instance within the bound of `wh_progress`; else memory ran out, the warehouse is closed, or the
+//! clock is at its last (`deliver_all`).
 #![tactic(auto)]
 
 mod broken_off;

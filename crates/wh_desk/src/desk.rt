@@ -25,17 +25,17 @@ use std::alloc::{AllocError, Global};
 use std::sync::{Mutex, Wait};
 use wh_board::{Publisher, Told, Viewer, ViewerFault};
 use wh_event::{Command, Stops};
-use wh_planner::Planner;
+use wh_planner::{Planner, Plans};
 use wh_text::Name;
 use wh_token::Warehouse;
 
 /// The journal under its lock. `H` is the handle that the publisher keeps for its end.
 #[derive(Drop)]
-pub struct Desk<N: DeskName, H: Wait + Drop, P: Planner = Box<dyn Planner>> {
+pub struct Desk<N: DeskName, H: Wait + Drop, P: Plans = Box<dyn Planner>> {
     journal: Mutex<Journal<N, H, P>>,
 }
 
-impl<N: DeskName, H: Wait + Drop, P: Planner> Desk<N, H, P> {
+impl<N: DeskName, H: Wait + Drop, P: Plans> Desk<N, H, P> {
     /// A desk round a warehouse with no entry yet, and a pass for each of 1 to 64 callers. Its journal has as many positions as
     /// there are cells, 1 to 1,000,000. The publisher was made of this warehouse and published nothing since. Where memory
     /// runs out, what was handed in is dropped.

@@ -25,13 +25,13 @@ use std::marker::{Model, PhantomData};
 use std::sync::Wait;
 use wh_board::{Front, Publisher, Viewer, ViewerFault};
 use wh_event::{Command, Entry};
-use wh_planner::Planner;
+use wh_planner::{Planner, Plans};
 use wh_token::{Committed, Warehouse};
 
 /// What is under the lock. Contracts see it as its history, its state, its capacity, what was published last, and the
 /// agents' planners. The cells of the receipts lie here too: as many are set as there are entries.
 #[derive(Drop)]
-pub struct Journal<N: DeskName, H: Wait + Drop, P: Planner = Box<dyn Planner>> {
+pub struct Journal<N: DeskName, H: Wait + Drop, P: Plans = Box<dyn Planner>> {
     warehouse: Warehouse<P>,
     capacity: u64,
     rows: Vec<Row>,
@@ -44,12 +44,12 @@ pub struct Journal<N: DeskName, H: Wait + Drop, P: Planner = Box<dyn Planner>> {
 /// What a desk leaves: the warehouse, with all that was done, and that it was done in the desk's book, so that what a viewer
 /// or another pass knows can be compared with it.
 #[derive(Drop)]
-pub struct History<P: Planner = Box<dyn Planner>> {
+pub struct History<P: Plans = Box<dyn Planner>> {
     pub warehouse: Warehouse<P>,
     pub front: Front,
 }
 
-impl<N: DeskName, H: Wait + Drop, P: Planner> Model for Journal<N, H, P> {
+impl<N: DeskName, H: Wait + Drop, P: Plans> Model for Journal<N, H, P> {
     ghost use Rattle.wh_desk.specs.Lists.{Ledger};
     ghost use Rattle.wh_desk.specs.Kept.{JournalKeeps};
     ghost use Rattle.wh_board.specs.Pasts.{past_of};
@@ -61,7 +61,7 @@ impl<N: DeskName, H: Wait + Drop, P: Planner> Model for Journal<N, H, P> {
     ghost invariant = { λ j. JournalKeeps N.origin N.cells N.book N.callers (past_of j.warehouse.book) j.capacity j.rows.items j.notes.items j.cells j.publisher };
 }
 
-impl<N: DeskName, H: Wait + Drop, P: Planner> Journal<N, H, P> {
+impl<N: DeskName, H: Wait + Drop, P: Plans> Journal<N, H, P> {
     /// A journal of the entries that the warehouse has.
     pub(crate) fn over(
         warehouse: Warehouse<P>,

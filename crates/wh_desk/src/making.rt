@@ -18,7 +18,7 @@ use std::sync::Wait;
 use wh_board::Publisher;
 use wh_book::Book;
 use wh_event::{Command, Entry};
-use wh_planner::Planner;
+use wh_planner::Plans;
 use wh_token::{NoMemory, Ready, Warehouse};
 
 /// A step that was worked out, with the note of the receipt's cell.
@@ -29,7 +29,7 @@ pub(crate) struct Made<P> {
 
 /// Works the step out, adds its entry to the book and writes it into the next cell. After it nothing of the call is refused,
 /// and nothing but the board needs memory. On a refusal the planner comes back, and neither book nor cells have changed.
-pub(crate) fn make_ready<H: Wait + Drop, P: Planner>(
+pub(crate) fn make_ready<H: Wait + Drop, P: Plans>(
     warehouse: &mut Warehouse<P>,
     publisher: &mut Publisher<H>,
     cells: &mut CellRow,

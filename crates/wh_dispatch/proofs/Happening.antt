@@ -94,21 +94,21 @@ asked_few (Ok (Some command)) = omega arith
 asked_few (Ok None) = omega arith
 asked_few (Err fault) = omega arith
 
-pub ran_leads : {X : Type 0} (fits : X → Floor → Bool) (count : X → ℕ) (site : Site) (cs : List Command) (os : List (Option Entry)) (s : State) (spares : List X) (new : State) (rest : List X) (d : Drive) →
-    length cs ≤ 1 → Ran fits count site 0 cs os s spares new rest → Leads site (fleet s d) (runs.entries_of os) (fleet new (gone_on os new d))
-ran_leads fits count site [] [] s spares new rest d few p = record { happenings = []; all = ap (λ (t : State). fleet t d) p.0; entries_are = refl }
-ran_leads fits count site [] (o ∷ os) s spares new rest d few p = absurd p
-ran_leads fits count site (c ∷ []) [] s spares new rest d few p = absurd p
-ran_leads fits count site (c ∷ []) (None ∷ []) s spares new rest d few p =
+pub ran_leads : {X : Type 0} (fits : X → Floor → Bool) (count : X → ℕ) (caller : ℕ) (site : Site) (cs : List Command) (os : List (Option Entry)) (s : State) (spares : List X) (new : State) (rest : List X) (d : Drive) →
+    length cs ≤ 1 → Ran fits count site caller cs os s spares new rest → Leads site (fleet s d) (runs.entries_of os) (fleet new (gone_on os new d))
+ran_leads fits count caller site [] [] s spares new rest d few p = record { happenings = []; all = ap (λ (t : State). fleet t d) p.0; entries_are = refl }
+ran_leads fits count caller site [] (o ∷ os) s spares new rest d few p = absurd p
+ran_leads fits count caller site (c ∷ []) [] s spares new rest d few p = absurd p
+ran_leads fits count caller site (c ∷ []) (None ∷ []) s spares new rest d few p =
     record { happenings = []; all = ap (λ (t : State). fleet t d) (p.3.0 ∙ p.2.0); entries_are = refl }
-ran_leads fits count site (c ∷ []) (Some entry ∷ []) s spares new rest d few p =
+ran_leads fits count caller site (c ∷ []) (Some entry ∷ []) s spares new rest d few p =
     record {
       happenings = Done entry ∷ [];
       all = (fleet new (taken entry.reply new d), (subst (λ (t : State). StepOfState site s entry t) (sym p.3.0) p.2.1, refl), refl);
       entries_are = refl;
     }
-ran_leads fits count site (c ∷ []) (o ∷ more ∷ os) s spares new rest d few p = absurd p.3
-ran_leads fits count site (c ∷ other ∷ cs) os s spares new rest d few p = absurd (omega (arith, few))
+ran_leads fits count caller site (c ∷ []) (o ∷ more ∷ os) s spares new rest d few p = absurd p.3
+ran_leads fits count caller site (c ∷ other ∷ cs) os s spares new rest d few p = absurd (omega (arith, few))
 
 -- ---- the clock
 

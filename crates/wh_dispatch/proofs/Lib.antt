@@ -6,8 +6,12 @@ pub mod Taking
 pub mod Staying
 pub mod Happening
 pub mod Steps
+mod Late
+mod Stands
 pub mod Serving
-pub mod Following
+pub mod Kept
+pub mod Manning
+mod Dispatched
 pub mod Rows
 pub mod Together
 pub mod SettingOut

@@ -1,6 +1,6 @@
 -- one line that is served
-use Rattle.std.proofs.Common.{◌≡◌, ◌≢◌, ◌⊎◌, ℕ, ◌+◌, ◌-◌, ◌≤◌, ◌∙◌, List, [], ◌∷◌, ◌++◌, length, Option, Some, None, Result, Ok, Err, inl, inr, sym, subst, refl, ap, arith, append-nil, Bool}
-use Rattle.std.specs.Prelude.{codes, IfNone, Contains}
+use Rattle.std.proofs.Common.{◌≡◌, ◌≢◌, ◌⊎◌, ℕ, ◌+◌, ◌∙◌, List, [], ◌∷◌, ◌++◌, length, Option, Some, None, Result, Ok, Err, inl, inr, sym, subst, refl, ap, arith, append-nil, Bool}
+use Rattle.std.specs.Prelude.{codes}
 use Rattle.std.specs.List.{AllPairs}
 use Rattle.std.specs.Io.KnownBytes.{Appends}
 use Rattle.std.proofs.KnownBytes.{Appends-nil}
@@ -10,40 +10,39 @@ use Rattle.wh_points.specs.Points.{Site}
 use Rattle.wh_event.specs.declared.event.Command.{Command}
 use Rattle.wh_event.specs.declared.event.Command.TheVariants as commands
 use Rattle.wh_event.specs.declared.entry.Entry.{Entry}
-use Rattle.wh_log.specs.Told.{Answered}
+use Rattle.wh_replay.specs.declared.asker.Asker.{Asker}
 use Rattle.wh_event.specs.declared.fault.LineFault.{LineFault}
 use Rattle.wh_core.specs.States.{State}
 use Rattle.wh_book.specs.Drafts.{Seen}
 use Rattle.wh_token.specs.Runs as runs
+use Rattle.wh_log.specs.Told.{told_text}
 use Rattle.wh_replay.specs.Answers.{asked, answers, reply_line, text_of}
 use Rattle.wh_replay.specs.Scripts.{Gives, Serves as Obeys, ServesUnwritten}
 use Rattle.wh_replay.proofs.Giving.{ran_length}
 use Rattle.wh_replay.proofs.Serving.{gives_none}
-use Rattle.std.proofs.lemmas.List.{length-set}
 use Rattle.std.proofs.lemmas.List.Elements.{All-nil}
 use Rattle.wh_drive.specs.declared.vehicle.Vehicle.{Vehicle}
-use Rattle.wh_drive.specs.Drives.{Drive, clock, reached, MayTick, ticked}
-use Rattle.wh_drive.specs.Runs.{Event, Start, Arrive, Tick, Run}
-use Rattle.wh_order.specs.Orders.{Order, Represents, reached_of, IsFurthestBack}
+use Rattle.wh_drive.specs.Drives.{Drive, clock, MayTick, ticked}
+use Rattle.wh_drive.specs.Runs.{Event, Run}
+use Rattle.wh_order.specs.Orders.{Order, Represents}
 use Rattle.wh_order.specs.Settling.{IsQuiet, OnlySettle, told_by, Settles}
 use Rattle.wh_order.specs.declared.visit.Told.{Told}
-use Rattle.wh_order.proofs.Asking.{vehicles-size, reached-same}
 use Rattle.wh_vehicles.specs.Notices.{notice_text}
-use Rattle.wh_vehicles.specs.Driving.{AnswersReport, TellsLate, NoneIsLate}
+use Rattle.wh_vehicles.specs.Driving.{AnswersReport, TellsLate}
 use Rattle.wh_vehicles.specs.Plans.{Fleet, places, IsCarriedOut, entries_of}
 use Rattle.wh_vehicles.specs.Visits.{Visit, HasMade}
 use Rattle.wh_vehicles.specs.declared.report.Report.{Report}
 use Rattle.wh_vehicles.specs.declared.notice.Notice.{Notice}
-use Rattle.wh_vehicles.specs.declared.notice.Notice.TheVariants.{Arrived, Visited, Go, Behind, UnknownAgent, NotTold}
 use Rattle.wh_vehicles.proofs.Planning.{carried}
 use Rattle.wh_dispatch.specs.declared.script.DispatchFault.{DispatchFault}
 use Rattle.wh_dispatch.specs.declared.script.DispatchFault.TheVariants.{Unwritten, NoMemory}
 use Rattle.wh_dispatch.specs.declared.visits.Pending.{Pending}
 use Rattle.wh_dispatch.specs.Crews.{Crew, IsInStep, IsManned, AreWatched}
-use Rattle.wh_dispatch.specs.Visiting.{due_visits, left_after, kept_first, IsStanding, SomeStanding}
+use Rattle.wh_dispatch.specs.Visiting.{due_visits, left_after, kept_first, SomeStanding}
 use Rattle.wh_dispatch.specs.Lines as lines
-use Rattle.wh_dispatch.specs.Lines.{Depot, Heard, Reported, Asked, AsksToGoOn, AllKeepUp, IsHeldUp, IsObeyed, IsHeardOf, gone_on, TakesLine, ServesLine, InTurn, AreMadeNow, go_lines, visit_lines}
+use Rattle.wh_dispatch.specs.Lines.{Depot, Heard, Reported, Asked, AsksToGoOn, AllKeepUp, gone_on, TakesLine, InTurn, AreMadeNow, go_lines, visit_lines}
 use Rattle.wh_dispatch.specs.Scripts.{TellsAll, TellsSome, Serves, Begins, ServesFrom, BeginsFrom, SomeManned, Hears, HearsSome}
+use Rattle.wh_dispatch.proofs.Late.{late_one}
 use Rattle.wh_dispatch.proofs.Texts.{text_one, all_then, until_then, unwritten}
 use Rattle.wh_dispatch.proofs.Happening.{fleet, Leads, go_leads, settle_goes, report_leads, ran_leads, asked_few, happens_join, entries_join, clock_kept}
 use Rattle.wh_dispatch.proofs.Steps.{Turns, stays, goes, turns, ticks_now}
@@ -98,30 +97,6 @@ goes_in_step old new o p d e entries r l g rep =
           (ways_happen old.site (fleet old.state d) l.happenings (fleet new.state e) begins.layout begins.sound r.ways l.all);
     }
 
--- ---- the clock waits
-
-pub late_one : (o : Order) (bound : ℕ) (notice : Notice) (d : Drive) → Represents o d → TellsLate o bound notice →
-    (agent : ℕ) × IsFurthestBack d.vehicles agent × (bound ≤ clock d - reached d agent) × (notice ≡ Behind agent (clock d - reached d agent))
-late_one o bound (Behind agent steps) d r t =
-    let here = reached-same o d agent r in
-    let time = r.time in
-    let steps_are : steps ≡ clock d - reached d agent = t.1 ∙ ap (λ n. n - reached_of o.vehicles agent) time ∙ ap (λ n. clock d - n) here in
-    let late = t.2 in
-    (agent, subst (λ (vs : List Vehicle). IsFurthestBack vs agent) r.vehicles t.0, omega arith, ap (λ n. Behind agent n) steps_are)
-late_one o bound (UnknownAgent agent) d r t = absurd t
-late_one o bound (NotTold agent step) d r t = absurd t
-late_one o bound (Arrived agent step) d r t = absurd t
-late_one o bound (Visited agent task visit) d r t = absurd t
-late_one o bound (Go agent step cell) d r t = absurd t
-
-pub keep_up : (o : Order) (bound : ℕ) (d : Drive) → Represents o d → NoneIsLate o bound → AllKeepUp d bound
-keep_up o bound d r none agent known =
-    let size = vehicles-size o d r in
-    let here = reached-same o d agent r in
-    let time = r.time in
-    let early = none agent (omega arith) in
-    omega arith
-
 -- ---- reports
 
 none_gone : (os : List (Option Entry)) (s : State) (d : Drive) → length os ≡ 0 → gone_on os s d ≡ d
@@ -160,7 +135,7 @@ tells_none book pending d had = record { events = []; only = tt; run = refl; vis
 
 -- ---- a line
 
-module _ {X : Type 0} (fits : X → Floor → Bool) (count : X → ℕ) (text : Answered → List ℕ) (bound : ℕ) where
+module _ {X : Type 0} (fits : X → Floor → Bool) (count : X → ℕ) (asker : Asker) (bound : ℕ) where
   abbrev depot : Seen → List X → Drive → Depot X
   depot book spares d = record { book = book; spares = spares; drive = d }
 
@@ -170,7 +145,7 @@ module _ {X : Type 0} (fits : X → Floor → Bool) (count : X → ℕ) (text : 
     pub leads : Leads old.book.site (fleet old.book.state old.drive) entries (fleet new.book.state new.drive)
     pub grows : Grows old.book new.book entries
 
-  answered : (line : Heard) (old mid : Depot X) (replies : List (List ℕ)) → lines.Answers fits count text bound line old mid replies → Did old mid
+  answered : (line : Heard) (old mid : Depot X) (replies : List (List ℕ)) → lines.Answers fits count asker bound line old mid replies → Did old mid
   answered (Reported report) old mid replies a = record {
     entries = [];
     leads = subst (λ (b : Seen). Leads old.book.site (fleet old.book.state old.drive) [] (fleet b.state mid.drive)) (sym a.book)
@@ -188,11 +163,11 @@ module _ {X : Type 0} (fits : X → Floor → Bool) (count : X → ℕ) (text : 
       record {
         entries = runs.entries_of g.outcomes;
         leads = subst (λ (e : Drive). Leads old.book.site (fleet old.book.state old.drive) (runs.entries_of g.outcomes) (fleet mid.book.state e)) (sym done.drive)
-            (ran_leads fits count old.book.site (asked kind) g.outcomes old.book.state old.spares mid.book.state mid.spares old.drive (asked_few kind) g.ran);
+            (ran_leads fits count asker.caller old.book.site (asked kind) g.outcomes old.book.state old.spares mid.book.state mid.spares old.drive (asked_few kind) g.ran);
         grows = record { site = g.site; opening = g.opening; history = g.history };
       }
 
-  pub taken_on : (line : Heard) (old new : Depot X) (texts : List (List ℕ)) → TakesLine fits count text bound line old new texts → Did old new
+  pub taken_on : (line : Heard) (old new : Depot X) (texts : List (List ℕ)) → TakesLine fits count asker bound line old new texts → Did old new
   taken_on line old new texts t =
       let a = answered line old t.mid t.replies t.answers in
       let on : Leads old.book.site (fleet t.mid.book.state t.mid.drive) [] (fleet t.mid.book.state new.drive) =
@@ -209,15 +184,15 @@ module _ {X : Type 0} (fits : X → Floor → Bool) (count : X → ℕ) (text : 
   no_visits old new = record { each = λ v c. absurd (none_in v c); in_turn = pairs_nil InTurn }
 
   -- the line is answered, and then vehicles go on
-  takes : (line : Heard) (old : Depot X) (mid : Depot X) (e : Drive) (replies : List (List ℕ)) (events : List Event) (visits : List Visit) → lines.Answers fits count text bound line old mid replies →
+  takes : (line : Heard) (old : Depot X) (mid : Depot X) (e : Drive) (replies : List (List ℕ)) (events : List Event) (visits : List Visit) → lines.Answers fits count asker bound line old mid replies →
       OnlySettle mid.drive events → Run mid.drive events e → AreMadeNow old (depot mid.book mid.spares e) visits →
-      TakesLine fits count text bound line old (depot mid.book mid.spares e) (replies ++ (visit_lines visits ++ go_lines (told_by mid.drive events)))
+      TakesLine fits count asker bound line old (depot mid.book mid.spares e) (replies ++ (visit_lines visits ++ go_lines (told_by mid.drive events)))
   takes line old mid e replies events visits answers only run made =
       record { mid = mid; replies = replies; answers = answers; events = events; only = only; run = run; book = refl; spares = refl; visits = visits; made = made; texts_are = refl }
 
   -- the line is answered, and nothing more is done
-  takes_still : (line : Heard) (old : Depot X) (mid : Depot X) (replies : List (List ℕ)) → lines.Answers fits count text bound line old mid replies →
-      TakesLine fits count text bound line old mid replies
+  takes_still : (line : Heard) (old : Depot X) (mid : Depot X) (replies : List (List ℕ)) → lines.Answers fits count asker bound line old mid replies →
+      TakesLine fits count asker bound line old mid replies
   takes_still line old mid replies answers =
       record { mid = mid; replies = replies; answers = answers; events = []; only = tt; run = refl; book = refl; spares = refl; visits = []; made = no_visits old mid; texts_are = sym (append-nil replies) }
 
@@ -250,9 +225,9 @@ module _ {X : Type 0} (fits : X → Floor → Bool) (count : X → ℕ) (text : 
     module _ (p : Crew) where
       -- served, with vehicles that go on
       pub serves_on : (pending : List Pending) (mid : Drive) (e : Drive) (replies : List (List ℕ)) (a b c : Option (List ℕ)) →
-          lines.Answers fits count text bound line (depot old spares d) (depot new rest mid) replies → AreWatched new.state Before pending →
+          lines.Answers fits count asker bound line (depot old spares d) (depot new rest mid) replies → AreWatched new.state Before pending →
           Represents p.order e → Appends a b (text_of replies) → TellsAll new pending p.pending mid e b c →
-          (f : Drive) × IsManned new p f × Serves fits count text bound line (depot old spares d) (depot new rest f) a c
+          (f : Drive) × IsManned new p f × Serves fits count asker bound line (depot old spares d) (depot new rest f) a c
       unfolding takes
       serves_on pending mid e replies a b c answers watched rep wrote t =
           let opens : new.opening.clock ≡ old.opening.clock = ap (λ (s : State). s.clock) (answered line (depot old spares d) (depot new rest mid) replies answers).grows.opening in
@@ -285,9 +260,9 @@ module _ {X : Type 0} (fits : X → Floor → Bool) (count : X → ℕ) (text : 
           )
 
       -- served, with vehicles that stay, and no visit made
-      pub serves_still : (e : Drive) (replies : List (List ℕ)) (a b : Option (List ℕ)) → lines.Answers fits count text bound line (depot old spares d) (depot new rest e) replies → e ≡ d →
+      pub serves_still : (e : Drive) (replies : List (List ℕ)) (a b : Option (List ℕ)) → lines.Answers fits count asker bound line (depot old spares d) (depot new rest e) replies → e ≡ d →
           Represents p.order d → AreWatched new.state Before p.pending → ((v : Visit) → HasMade old.opening.clock (fleet new.state e) v → Before v) → Appends a b (text_of replies) →
-          (f : Drive) × IsManned new p f × Serves fits count text bound line (depot old spares d) (depot new rest f) a b
+          (f : Drive) × IsManned new p f × Serves fits count asker bound line (depot old spares d) (depot new rest f) a b
       serves_still e replies a b answers same rep watched none wrote =
           let took = takes_still line (depot old spares d) (depot new rest e) replies answers in
           let f = follows e (taken_on line (depot old spares d) (depot new rest e) replies took) in
@@ -304,8 +279,8 @@ module _ {X : Type 0} (fits : X → Floor → Bool) (count : X → ℕ) (text : 
 
     -- begun, with vehicles that go on
     pub begins_on : (pending : List Pending) (fault : DispatchFault) (mid : Drive) (e : Drive) (replies : List (List ℕ)) (a b c : Option (List ℕ)) →
-        lines.Answers fits count text bound line (depot old spares d) (depot new rest mid) replies → AreWatched new.state Before pending → Appends a b (text_of replies) →
-        TellsSome fault new pending mid e b c → (f : Drive) × Begins fits count text bound fault line (depot old spares d) (depot new rest f) a c
+        lines.Answers fits count asker bound line (depot old spares d) (depot new rest mid) replies → AreWatched new.state Before pending → Appends a b (text_of replies) →
+        TellsSome fault new pending mid e b c → (f : Drive) × Begins fits count asker bound fault line (depot old spares d) (depot new rest f) a c
     begins_on pending fault mid e replies a b c answers watched wrote t =
         let opens : new.opening.clock ≡ old.opening.clock = ap (λ (s : State). s.clock) (answered line (depot old spares d) (depot new rest mid) replies answers).grows.opening in
         let made : AreMadeNow (depot old spares d) (depot new rest e) t.visits = elim t.visits_are [
@@ -325,8 +300,8 @@ module _ {X : Type 0} (fits : X → Floor → Bool) (count : X → ℕ) (text : 
 
     -- begun, and its reply was not written to the end
     pub begins_still : (fault : DispatchFault) (e : Drive) (replies : List (List ℕ)) (a b : Option (List ℕ)) →
-        lines.Answers fits count text bound line (depot old spares d) (depot new rest e) replies → fault ≡ Unwritten → WritesFront a b (text_of replies) →
-        (f : Drive) × Begins fits count text bound fault line (depot old spares d) (depot new rest f) a b
+        lines.Answers fits count asker bound line (depot old spares d) (depot new rest e) replies → fault ≡ Unwritten → WritesFront a b (text_of replies) →
+        (f : Drive) × Begins fits count asker bound fault line (depot old spares d) (depot new rest f) a b
     begins_still fault e replies a b answers is w = (
       e,
       record {
@@ -337,7 +312,7 @@ module _ {X : Type 0} (fits : X → Floor → Bool) (count : X → ℕ) (text : 
     )
 
     -- the tasks that are kept stand
-    pub stand_on : (q : Crew) (mid : Drive) (replies : List (List ℕ)) → lines.Answers fits count text bound line (depot old spares d) (depot new rest mid) replies → AreWatched new.state Before q.pending →
+    pub stand_on : (q : Crew) (mid : Drive) (replies : List (List ℕ)) → lines.Answers fits count asker bound line (depot old spares d) (depot new rest mid) replies → AreWatched new.state Before q.pending →
         Represents q.order mid → SomeStanding new q
     stand_on q mid replies answers watched rep =
         let f = follows mid (answered line (depot old spares d) (depot new rest mid) replies answers) in
@@ -373,27 +348,27 @@ module _ {X : Type 0} (fits : X → Floor → Bool) (count : X → ℕ) (text : 
     module _ (new : Seen) (rest : List X) (a b : Option (List ℕ)) where
       -- the command ran, and the drive of the vehicles went on with it
       obeyed : (d e : Drive) (replies : List (List ℕ)) → (AsksToGoOn old.state (Ok (Some c)) → AllKeepUp d bound) →
-          (g : Gives fits count (c ∷ []) (answers text (Ok (Some c))) old spares new rest replies) → e ≡ gone_on g.outcomes new.state d →
-          lines.Answers fits count text bound line_of (depot old spares d) (depot new rest e) replies
+          (g : Gives fits count asker.caller (c ∷ []) (answers (told_text asker.form) (Ok (Some c))) old spares new rest replies) → e ≡ gone_on g.outcomes new.state d →
+          lines.Answers fits count asker bound line_of (depot old spares d) (depot new rest e) replies
       obeyed d e replies in_time g is = inr (record { in_time = in_time; gives = g; drive = is })
 
       -- those that were kept and the one that was taken are kept
-      watched_by : (replies : List (List ℕ)) (g : Gives fits count (c ∷ []) (answers text (Ok (Some c))) old spares new rest replies) (d : Drive) → IsManned old o d →
+      watched_by : (replies : List (List ℕ)) (g : Gives fits count asker.caller (c ∷ []) (answers (told_text asker.form) (Ok (Some c))) old spares new rest replies) (d : Drive) → IsManned old o d →
           AreWatched new.state (HasMade old.opening.clock (fleet old.state d)) (o.pending ++ kept_first (runs.entries_of g.outcomes) new.state.tasks)
       watched_by replies g d m =
           watched_on old.state new.state (HasMade old.opening.clock (fleet old.state d)) o.pending (kept_first (runs.entries_of g.outcomes) new.state.tasks) m.watched
-          (takes_ran fits count old.site c g.outcomes old.state spares new.state rest
+          (takes_ran fits count asker.caller old.site c g.outcomes old.state spares new.state rest
           (unloaded old.site old.state (beginning-reached old.site old.history old.state m.in_step.carried.state) m.in_step.ways) g.ran) (open_untold old d)
 
       -- its reply was not written to the end
       pub from_unwritten : ((d : Drive) → IsManned old o d → AsksToGoOn old.state (Ok (Some c)) → AllKeepUp d bound) →
-          ServesUnwritten fits count text (Ok (Some c)) old spares new rest a b → BeginsFrom fits count text bound line_of Unwritten old spares o new rest a b
+          ServesUnwritten fits count asker (Ok (Some c)) old spares new rest a b → BeginsFrom fits count asker bound line_of Unwritten old spares o new rest a b
       from_unwritten in_time s d m =
           let e = gone_on s.gives.outcomes new.state d in
           begins_still line_of old spares o new rest d m Unwritten e s.replies a b (obeyed d e s.replies (in_time d m) s.gives refl) refl s.writes
 
       module _ (n : ℕ) (in_time : (d : Drive) → IsManned old o d → AsksToGoOn old.state (Ok (Some c)) → AllKeepUp d bound)
-          (s : Obeys fits count text (Ok (Some c)) old spares new rest a b n) where
+          (s : Obeys fits count asker (Ok (Some c)) old spares new rest a b n) where
         -- where the clock stays, so do the vehicles
         abbrev Stays : Type 0
         Stays = new.state.clock ≡ old.state.clock ⊎ (¬ AsksToGoOn old.state (Ok (Some c)))
@@ -404,16 +379,16 @@ module _ {X : Type 0} (fits : X → Floor → Bool) (count : X → ℕ) (text : 
         stays_by (goes later is asks entry step) (inr not) = absurd (not asks)
 
         stays_here : Stays → (new.state.clock ≡ old.state.clock) × ((d : Drive) → gone_on s.gives.outcomes new.state d ≡ d)
-        stays_here still = stays_by (turns fits count old.site c s.gives.outcomes old.state spares new.state rest s.gives.ran) still
+        stays_here still = stays_by (turns fits count asker.caller old.site c s.gives.outcomes old.state spares new.state rest s.gives.ran) still
 
         -- the clock stays, and no task is taken
         pub from_still : (p : Crew) → p.order ≡ o.order → p.pending ≡ o.pending → kept_first (runs.entries_of s.gives.outcomes) new.state.tasks ≡ [] → Stays →
-            ServesFrom fits count text bound line_of old spares o new rest p a b
+            ServesFrom fits count asker bound line_of old spares o new rest p a b
         from_still p same kept none still d m =
             let e = gone_on s.gives.outcomes new.state d in
             let there = stays_here still in
             let here : e ≡ d = there.1 d in
-            let before = before_ran fits count old.site c s.gives.outcomes old.state spares new.state rest s.gives.ran there.0 none in
+            let before = before_ran fits count asker.caller old.site c s.gives.outcomes old.state spares new.state rest s.gives.ran there.0 none in
             let pending : o.pending ++ kept_first (runs.entries_of s.gives.outcomes) new.state.tasks ≡ p.pending =
             ap (λ (ps : List Pending). o.pending ++ ps) none ∙ append-nil o.pending ∙ sym kept in
             serves_still line_of old spares o new rest d m p e s.replies a b (obeyed d e s.replies (in_time d m) s.gives refl) here
@@ -430,14 +405,14 @@ module _ {X : Type 0} (fits : X → Floor → Bool) (count : X → ℕ) (text : 
 
           -- the vehicles go on behind it
           pub from_gone : (p : Crew) (f : Option (List ℕ)) → ((d : Drive) → Represents q.order d → (e : Drive) × Represents p.order e × TellsAll new q.pending p.pending d e b f) →
-              ServesFrom fits count text bound line_of old spares o new rest p a f
+              ServesFrom fits count asker bound line_of old spares o new rest p a f
           from_gone p f go d m =
               let mid = gone_on s.gives.outcomes new.state d in
               let on = go mid (rep d m) in
               serves_on line_of old spares o new rest d m p q.pending mid on.0 s.replies a b f (obeyed d mid s.replies (in_time d m) s.gives refl) (watched_here d m) on.1 s.appends on.2
 
           pub from_gone_some : (fault : DispatchFault) (f : Option (List ℕ)) → ((d : Drive) → Represents q.order d → (e : Drive) × TellsSome fault new q.pending d e b f) →
-              BeginsFrom fits count text bound line_of fault old spares o new rest a f
+              BeginsFrom fits count asker bound line_of fault old spares o new rest a f
           from_gone_some fault f go d m =
               let mid = gone_on s.gives.outcomes new.state d in
               let on = go mid (rep d m) in
@@ -456,7 +431,7 @@ module _ {X : Type 0} (fits : X → Floor → Bool) (count : X → ℕ) (text : 
 
         -- a tick takes none
         pub none_asked : AsksToGoOn old.state (Ok (Some c)) → kept_first (runs.entries_of s.gives.outcomes) new.state.tasks ≡ []
-        none_asked asks = none_by_tick fits count old.site c s.gives.outcomes old.state spares new.state rest s.gives.ran
+        none_asked asks = none_by_tick fits count asker.caller old.site c s.gives.outcomes old.state spares new.state rest s.gives.ran
             (same_Some c commands.Tick (ap (λ (r : Result (Option Command) LineFault). value_of r) asks.tick))
           where
             value_of : Result (Option Command) LineFault → Option Command
@@ -470,32 +445,32 @@ module _ {X : Type 0} (fits : X → Floor → Bool) (count : X → ℕ) (text : 
 
           pub ticked_rep : (d : Drive) → IsManned old o d → Represents q.order (gone_on s.gives.outcomes new.state d)
           ticked_rep d m =
-              let t = ticks_now old o d new.state c (gone_on s.gives.outcomes new.state) m (turns fits count old.site c s.gives.outcomes old.state spares new.state rest s.gives.ran) moved in
+              let t = ticks_now old o d new.state c (gone_on s.gives.outcomes new.state) m (turns fits count asker.caller old.site c s.gives.outcomes old.state spares new.state rest s.gives.ran) moved in
               subst (λ (e : Drive). Represents q.order e) (sym t.is) (tick d m.in_step.represents t.may)
 
     module _ (a b : Option (List ℕ)) where
       -- the clock waits for a vehicle
       held_up : (d : Drive) (notice : Notice) → IsManned old o d → AsksToGoOn old.state (Ok (Some c)) → TellsLate o.order bound notice →
-          lines.Answers fits count text bound line_of (depot old spares d) (depot old spares d) (notice_text notice ∷ [])
+          lines.Answers fits count asker bound line_of (depot old spares d) (depot old spares d) (notice_text notice ∷ [])
       held_up d notice m asks late =
           let l = late_one o.order bound notice d m.in_step.represents late in
           inl (record { asks = asks; agent = l.0; last = l.1; late = l.2; same = refl; replies_are = ap (λ (n : Notice). notice_text n ∷ []) l.3 })
 
       pub from_held : (notice : Notice) → AsksToGoOn old.state (Ok (Some c)) → TellsLate o.order bound notice → Appends a b (reply_line (notice_text notice)) →
-          ServesFrom fits count text bound line_of old spares o old spares o a b
+          ServesFrom fits count asker bound line_of old spares o old spares o a b
       from_held notice asks late wrote d m =
           serves_still line_of old spares o old spares d m o d (notice_text notice ∷ []) a b (held_up d notice m asks late) refl m.in_step.represents m.watched (λ v made. made)
           (subst (Appends a b) (text_one (notice_text notice)) wrote)
 
       pub from_held_some : (notice : Notice) (fault : DispatchFault) → AsksToGoOn old.state (Ok (Some c)) → TellsLate o.order bound notice → fault ≡ Unwritten →
-          WritesFront a b (reply_line (notice_text notice)) → BeginsFrom fits count text bound line_of fault old spares o old spares a b
+          WritesFront a b (reply_line (notice_text notice)) → BeginsFrom fits count asker bound line_of fault old spares o old spares a b
       from_held_some notice fault asks late is w d m =
           begins_still line_of old spares o old spares d m fault d (notice_text notice ∷ []) a b (held_up d notice m asks late) is
           (subst (WritesFront a b) (text_one (notice_text notice)) w)
 
       module _ (in_time : (d : Drive) → IsManned old o d → AsksToGoOn old.state (Ok (Some c)) → AllKeepUp d bound) where
         -- memory runs out for a tick of the plan, or for a task that is taken
-        starved : (d : Drive) → IsManned old o d → lines.Answers fits count text bound line_of (depot old spares d) (depot old spares d) (codes "refused E90" ∷ [])
+        starved : (d : Drive) → IsManned old o d → lines.Answers fits count asker bound line_of (depot old spares d) (depot old spares d) (codes "refused E90" ∷ [])
         starved d m = inr (record {
           in_time = in_time d m;
           gives = record {
@@ -511,13 +486,13 @@ module _ {X : Type 0} (fits : X → Floor → Bool) (count : X → ℕ) (text : 
           drive = refl;
         })
 
-        pub from_starved : (p : Crew) → ((d : Drive) → IsManned old o d → IsManned old p d) → Appends a b (reply_line (codes "refused E90")) → ServesFrom fits count text bound line_of old spares o old spares p a b
+        pub from_starved : (p : Crew) → ((d : Drive) → IsManned old o d → IsManned old p d) → Appends a b (reply_line (codes "refused E90")) → ServesFrom fits count asker bound line_of old spares o old spares p a b
         from_starved p manned wrote d m =
             serves_still line_of old spares o old spares d m p d (codes "refused E90" ∷ []) a b (starved d m) refl (manned d m).in_step.represents (manned d m).watched (λ v made. made)
             (subst (Appends a b) (text_one (codes "refused E90")) wrote)
 
         pub from_starved_some : (fault : DispatchFault) → fault ≡ Unwritten → WritesFront a b (reply_line (codes "refused E90")) →
-            BeginsFrom fits count text bound line_of fault old spares o old spares a b
+            BeginsFrom fits count asker bound line_of fault old spares o old spares a b
         from_starved_some fault is w d m =
             begins_still line_of old spares o old spares d m fault d (codes "refused E90" ∷ []) a b (starved d m) is
             (subst (WritesFront a b) (text_one (codes "refused E90")) w)
@@ -525,10 +500,10 @@ module _ {X : Type 0} (fits : X → Floor → Bool) (count : X → ℕ) (text : 
   -- a line that is no command, or asks for nothing
   module _ (kind here : Result (Option Command) LineFault) (old : Seen) (spares : List X) (o : Crew) (a b : Option (List ℕ)) (none : asked here ≡ []) (says : kind ≡ here)
       (no_tick : here ≢ Ok (Some commands.Tick)) where
-    answered_none : (d : Drive) → lines.Answers fits count text bound (Asked kind) (depot old spares d) (depot old spares d) (answers text here [])
+    answered_none : (d : Drive) → lines.Answers fits count asker bound (Asked kind) (depot old spares d) (depot old spares d) (answers (told_text asker.form) here [])
     answered_none d =
-        let g = gives_none fits count text kind old spares here none says in
-        let many = ran_length fits count old.site 0 (asked kind) g.outcomes old.state spares old.state spares g.ran in
+        let g = gives_none fits count asker kind old spares here none says in
+        let many = ran_length fits count old.site asker.caller (asked kind) g.outcomes old.state spares old.state spares g.ran in
         let zero : length g.outcomes ≡ 0 = many ∙ ap (λ (k : Result (Option Command) LineFault). length (asked k)) says ∙ ap length none in
         inr (record {
           in_time = λ asks. absurd (no_tick (sym says ∙ asks.tick));
@@ -536,22 +511,22 @@ module _ {X : Type 0} (fits : X → Floor → Bool) (count : X → ℕ) (text : 
           drive = sym (none_gone g.outcomes old.state d zero);
         })
 
-    pub from_none : Appends a b (text_of (answers text here [])) → ServesFrom fits count text bound (Asked kind) old spares o old spares o a b
+    pub from_none : Appends a b (text_of (answers (told_text asker.form) here [])) → ServesFrom fits count asker bound (Asked kind) old spares o old spares o a b
     from_none wrote d m =
-        serves_still (Asked kind) old spares o old spares d m o d (answers text here []) a b (answered_none d) refl m.in_step.represents m.watched (λ v made. made) wrote
+        serves_still (Asked kind) old spares o old spares d m o d (answers (told_text asker.form) here []) a b (answered_none d) refl m.in_step.represents m.watched (λ v made. made) wrote
 
-    pub from_none_some : (fault : DispatchFault) → fault ≡ Unwritten → WritesFront a b (text_of (answers text here [])) →
-        BeginsFrom fits count text bound (Asked kind) fault old spares o old spares a b
+    pub from_none_some : (fault : DispatchFault) → fault ≡ Unwritten → WritesFront a b (text_of (answers (told_text asker.form) here [])) →
+        BeginsFrom fits count asker bound (Asked kind) fault old spares o old spares a b
     from_none_some fault is w d m =
-        begins_still (Asked kind) old spares o old spares d m fault d (answers text here []) a b (answered_none d) is w
+        begins_still (Asked kind) old spares o old spares d m fault d (answers (told_text asker.form) here []) a b (answered_none d) is w
 
   -- a report
   module _ (report : Report) (old : Seen) (spares : List X) (o : Crew) (a b : Option (List ℕ)) where
-    heard_of : (d mid : Drive) (notice : Notice) → AnswersReport d report notice mid → lines.Answers fits count text bound (Reported report) (depot old spares d) (depot old spares mid) (notice_text notice ∷ [])
+    heard_of : (d mid : Drive) (notice : Notice) → AnswersReport d report notice mid → lines.Answers fits count asker bound (Reported report) (depot old spares d) (depot old spares mid) (notice_text notice ∷ [])
     heard_of d mid notice answers = record { notice = notice; answers = answers; book = refl; spares = refl; replies_are = refl }
 
     pub from_report : (p : Crew) → ((d : Drive) → Represents o.order d → (e : Drive) × Represents p.order e × Hears report old o.pending p.pending d e a b) →
-        ServesFrom fits count text bound (Reported report) old spares o old spares p a b
+        ServesFrom fits count asker bound (Reported report) old spares o old spares p a b
     from_report p hear d m =
         let on = hear d m.in_step.represents in
         let h = on.2 in
@@ -559,7 +534,7 @@ module _ {X : Type 0} (fits : X → Floor → Bool) (count : X → ℕ) (text : 
         (subst (Appends a h.between) (text_one (notice_text h.notice)) h.wrote) h.tells
 
     pub from_report_some : (fault : DispatchFault) → ((d : Drive) → Represents o.order d → (e : Drive) × HearsSome fault report old o.pending d e a b) →
-        BeginsFrom fits count text bound (Reported report) fault old spares o old spares a b
+        BeginsFrom fits count asker bound (Reported report) fault old spares o old spares a b
     from_report_some fault hear d m =
         let on = hear d m.in_step.represents in
         let h = on.1 in
@@ -572,77 +547,25 @@ module _ {X : Type 0} (fits : X → Floor → Bool) (count : X → ℕ) (text : 
 
   -- what a line says, by another name
   pub served_as : (x y : Heard) (old : Seen) (spares : List X) (o : Crew) (new : Seen) (rest : List X) (p : Crew) (a b : Option (List ℕ)) → x ≡ y →
-      ServesFrom fits count text bound y old spares o new rest p a b → ServesFrom fits count text bound x old spares o new rest p a b
-  served_as x y old spares o new rest p a b e s = subst (λ (z : Heard). ServesFrom fits count text bound z old spares o new rest p a b) (sym e) s
+      ServesFrom fits count asker bound y old spares o new rest p a b → ServesFrom fits count asker bound x old spares o new rest p a b
+  served_as x y old spares o new rest p a b e s = subst (λ (z : Heard). ServesFrom fits count asker bound z old spares o new rest p a b) (sym e) s
 
   pub begun_as : (x y : Heard) (fault : DispatchFault) (old : Seen) (spares : List X) (o : Crew) (new : Seen) (rest : List X) (a b : Option (List ℕ)) → x ≡ y →
-      BeginsFrom fits count text bound y fault old spares o new rest a b → BeginsFrom fits count text bound x fault old spares o new rest a b
-  begun_as x y fault old spares o new rest a b e s = subst (λ (z : Heard). BeginsFrom fits count text bound z fault old spares o new rest a b) (sym e) s
+      BeginsFrom fits count asker bound y fault old spares o new rest a b → BeginsFrom fits count asker bound x fault old spares o new rest a b
+  begun_as x y fault old spares o new rest a b e s = subst (λ (z : Heard). BeginsFrom fits count asker bound z fault old spares o new rest a b) (sym e) s
 
   -- room was made before
   pub from_reserved : (line : Heard) (n : ℕ) (old : Seen) (spares : List X) (o ready : Crew) (new : Seen) (rest : List X) (p : Crew) (a b : Option (List ℕ)) → n ≡ bound →
-      ((d : Drive) → IsManned old o d → IsManned old ready d) → ServesFrom fits count text n line old spares ready new rest p a b → ServesFrom fits count text bound line old spares o new rest p a b
+      ((d : Drive) → IsManned old o d → IsManned old ready d) → ServesFrom fits count asker n line old spares ready new rest p a b → ServesFrom fits count asker bound line old spares o new rest p a b
   from_reserved line n old spares o ready new rest p a b same manned s d m =
-      subst (λ k. ServesFrom fits count text k line old spares ready new rest p a b) same s d (manned d m)
+      subst (λ k. ServesFrom fits count asker k line old spares ready new rest p a b) same s d (manned d m)
 
   pub begun_reserved : (line : Heard) (fault : DispatchFault) (n : ℕ) (old : Seen) (spares : List X) (o ready : Crew) (new : Seen) (rest : List X) (a b : Option (List ℕ)) → n ≡ bound →
-      ((d : Drive) → IsManned old o d → IsManned old ready d) → BeginsFrom fits count text n line fault old spares ready new rest a b → BeginsFrom fits count text bound line fault old spares o new rest a b
+      ((d : Drive) → IsManned old o d → IsManned old ready d) → BeginsFrom fits count asker n line fault old spares ready new rest a b → BeginsFrom fits count asker bound line fault old spares o new rest a b
   begun_reserved line fault n old spares o ready new rest a b same manned s d m =
-      subst (λ k. BeginsFrom fits count text k line fault old spares ready new rest a b) same s d (manned d m)
+      subst (λ k. BeginsFrom fits count asker k line fault old spares ready new rest a b) same s d (manned d m)
 
   pub differ_now : (c : Command) (old : Seen) (spares : List X) (o : Crew) (new : Seen) (rest : List X) (a b : Option (List ℕ)) (n : ℕ) → SomeManned old o →
-      Obeys fits count text (Ok (Some c)) old spares new rest a b n → new.state.clock ≢ old.state.clock → AllPairs (λ x y. x ≢ y) (places new.state)
+      Obeys fits count asker (Ok (Some c)) old spares new rest a b n → new.state.clock ≢ old.state.clock → AllPairs (λ x y. x ≢ y) (places new.state)
   differ_now c old spares o new rest a b n m s moved =
-      (ticks_now old o m.0 new.state c (gone_on s.gives.outcomes new.state) m.1 (turns fits count old.site c s.gives.outcomes old.state spares new.state rest s.gives.ran) moved).may.differ
-
--- a run of vehicles keeps their number
-run_size : (d : Drive) (events : List Event) (e : Drive) → Run d events e → length e.vehicles ≡ length d.vehicles
-run_size d [] e run = ap (λ (f : Drive). length f.vehicles) run
-run_size d (Start agent ∷ events) e run = run_size run.0 events e run.2 ∙ ap (λ (f : Drive). length f.vehicles) run.1.1 ∙ length-set d.vehicles agent _
-run_size d (Arrive agent step ∷ events) e run = run_size run.0 events e run.2 ∙ ap (λ (f : Drive). length f.vehicles) run.1.1 ∙ length-set d.vehicles agent _
-run_size d (Tick cells ∷ events) e run = run_size run.0 events e run.2 ∙ ap (λ (f : Drive). length f.vehicles) run.1.1
-
-stand_as : (tasks : List Task) (n m : ℕ) (ps qs : List Pending) → m ≡ n → qs ≡ ps → ((p : Pending) → Contains ps p → IsStanding tasks n p) → (p : Pending) → Contains qs p → IsStanding tasks m p
-stand_as tasks n m ps qs e same stand p c =
-    let s = stand p (subst (λ (xs : List Pending). Contains xs p) same c) in
-    let known = s.known in
-    record { task = s.task; is_task = s.is_task; known = omega arith; told = s.told }
-
--- the tasks that are kept stand, after vehicles have gone on
-pub stand_settled : (book : Seen) (old new : Crew) → (s : SomeStanding book old) → Settles s.drive new.order [] new.told → new.pending ≡ old.pending →
-    (p : Pending) → Contains new.pending p → IsStanding book.state.tasks (length new.order.vehicles) p
-stand_settled book old new s settles same =
-    let size = run_size s.drive settles.events settles.end settles.run in
-    let here = ap (λ (vs : List Vehicle). length vs) settles.represents.vehicles in
-    stand_as book.state.tasks (length s.drive.vehicles) (length new.order.vehicles) old.pending new.pending (omega arith) same s.stand
-
-answers_size : (d : Drive) (report : Report) (notice : Notice) (e : Drive) → AnswersReport d report notice e → length e.vehicles ≡ length d.vehicles
-answers_size d report (UnknownAgent agent) e a = ap (λ (f : Drive). length f.vehicles) a.2
-answers_size d report (NotTold agent step) e a = ap (λ (f : Drive). length f.vehicles) a.4
-answers_size d report (Arrived agent step) e a = run_size d a.4.events e a.4.run
-answers_size d report (Visited agent task visit) e a = absurd a
-answers_size d report (Go agent step cell) e a = absurd a
-answers_size d report (Behind agent steps) e a = absurd a
-
--- after a report was answered
-pub stand_heard : (book : Seen) (old new : Crew) (report : Report) (notice : Notice) → (s : SomeStanding book old) → (e : Drive) → AnswersReport s.drive report notice e → Represents new.order e →
-    new.pending ≡ old.pending → SomeStanding book new
-stand_heard book old new report notice s e answers rep same =
-    record { drive = e; represents = rep; stand = stand_as book.state.tasks (length s.drive.vehicles) (length e.vehicles) old.pending new.pending (answers_size s.drive report notice e answers) same s.stand }
-
--- the tasks that are kept stand, where all is manned
-pub standing_now : (book : Seen) (crew : Crew) → SomeManned book crew → SomeStanding book crew
-standing_now book crew some =
-    let d = some.0 in
-    let m = some.1 in
-    let c = m.in_step.carried in
-    record {
-      drive = d;
-      represents = m.in_step.represents;
-      stand = standing book.opening.clock book.state d (HasMade book.opening.clock (fleet book.state d)) crew.pending m.watched (length d.vehicles) c.come.all
-          (kept-reached book.site book.history book.state c.state).working (λ v told. told);
-    }
-
-pub none_late : (found : Option Notice) (A : Type 0) → IfNone found A → ((notice : Notice) → found ≡ Some notice → ⊥) → A
-none_late None A a not = a
-none_late (Some notice) A a not = absurd (not notice refl)
+      (ticks_now old o m.0 new.state c (gone_on s.gives.outcomes new.state) m.1 (turns fits count asker.caller old.site c s.gives.outcomes old.state spares new.state rest s.gives.ran) moved).may.differ

@@ -50,13 +50,13 @@ turns_by site s (Reply.Replaced slots) (Event.Replace agent (Spare.Fits count)) 
 turns_by site s Reply.Closed Event.Close new c told step e = stays (ap (λ (t : State). t.clock) step.1) (λ d. refl)
 turns_by site s reply event new c told step e = absurd step
 
-pub turns : {X : Type 0} (fits : X → Floor → Bool) (count : X → ℕ) (site : Site) (c : Command) (os : List (Option Entry)) (s : State) (spares : List X) (new : State) (rest : List X) →
-    Ran fits count site 0 (c ∷ []) os s spares new rest → Turns site s c new (gone_on os new)
-turns fits count site c [] s spares new rest p = absurd p
-turns fits count site c (None ∷ []) s spares new rest p = stays (ap (λ (t : State). t.clock) (p.3.0 ∙ p.2.0)) (λ d. refl)
-turns fits count site c (Some entry ∷ []) s spares new rest p =
+pub turns : {X : Type 0} (fits : X → Floor → Bool) (count : X → ℕ) (caller : ℕ) (site : Site) (c : Command) (os : List (Option Entry)) (s : State) (spares : List X) (new : State) (rest : List X) →
+    Ran fits count site caller (c ∷ []) os s spares new rest → Turns site s c new (gone_on os new)
+turns fits count caller site c [] s spares new rest p = absurd p
+turns fits count caller site c (None ∷ []) s spares new rest p = stays (ap (λ (t : State). t.clock) (p.3.0 ∙ p.2.0)) (λ d. refl)
+turns fits count caller site c (Some entry ∷ []) s spares new rest p =
     turns_by site s entry.reply entry.event new c p.2.2.0 (subst (λ (t : State). Answers site s entry.reply entry.event t) (sym p.3.0) p.2.1) p.2.2.1
-turns fits count site c (o ∷ more ∷ os) s spares new rest p = absurd p.3
+turns fits count caller site c (o ∷ more ∷ os) s spares new rest p = absurd p.3
 
 -- the plan may go on to where the agents are
 pub record Ticks (o : Order) (d : Drive) (new : State) (after : Drive → Drive) : Type 0 where

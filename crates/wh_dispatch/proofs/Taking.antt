@@ -153,13 +153,13 @@ takes_by site old Reply.Closed Event.Close new free step = takes_same old.tasks 
 takes_by site old reply event new free step = absurd step
 
 -- one command
-pub takes_ran : {X : Type 0} (fits : X → Floor → Bool) (count : X → ℕ) (site : Site) (c : Command) (os : List (Option Entry)) (s : State) (spares : List X) (new : State) (rest : List X) →
-    AreUnloaded site s → Ran fits count site 0 (c ∷ []) os s spares new rest → Takes s.tasks new.tasks (kept_first (runs.entries_of os) new.tasks)
-takes_ran fits count site c [] s spares new rest free p = absurd p
-takes_ran fits count site c (None ∷ []) s spares new rest free p = takes_same s.tasks new.tasks (ap (λ (t : State). t.tasks) (p.3.0 ∙ p.2.0))
-takes_ran fits count site c (Some entry ∷ []) s spares new rest free p =
+pub takes_ran : {X : Type 0} (fits : X → Floor → Bool) (count : X → ℕ) (caller : ℕ) (site : Site) (c : Command) (os : List (Option Entry)) (s : State) (spares : List X) (new : State) (rest : List X) →
+    AreUnloaded site s → Ran fits count site caller (c ∷ []) os s spares new rest → Takes s.tasks new.tasks (kept_first (runs.entries_of os) new.tasks)
+takes_ran fits count caller site c [] s spares new rest free p = absurd p
+takes_ran fits count caller site c (None ∷ []) s spares new rest free p = takes_same s.tasks new.tasks (ap (λ (t : State). t.tasks) (p.3.0 ∙ p.2.0))
+takes_ran fits count caller site c (Some entry ∷ []) s spares new rest free p =
     takes_by site s entry.reply entry.event new free (subst (λ (t : State). Answers site s entry.reply entry.event t) (sym p.3.0) p.2.1)
-takes_ran fits count site c (o ∷ more ∷ os) s spares new rest free p = absurd p.3
+takes_ran fits count caller site c (o ∷ more ∷ os) s spares new rest free p = absurd p.3
 
 -- each task of an agent was the agent's before, with the same visits
 abbrev pub AreAsBefore : List Task → List Task → Type 0
@@ -185,13 +185,13 @@ before_by site old (Reply.Replaced slots) (Event.Replace agent (Spare.Fits count
 before_by site old Reply.Closed Event.Close new step still none = as_before old.tasks new.tasks (ap (λ (s : State). s.tasks) step.1)
 before_by site old reply event new step still none = absurd step
 
-pub before_ran : {X : Type 0} (fits : X → Floor → Bool) (count : X → ℕ) (site : Site) (c : Command) (os : List (Option Entry)) (s : State) (spares : List X) (new : State) (rest : List X) →
-    Ran fits count site 0 (c ∷ []) os s spares new rest → new.clock ≡ s.clock → kept_first (runs.entries_of os) new.tasks ≡ [] → AreAsBefore s.tasks new.tasks
-before_ran fits count site c [] s spares new rest p still none = absurd p
-before_ran fits count site c (None ∷ []) s spares new rest p still none = as_before s.tasks new.tasks (ap (λ (t : State). t.tasks) (p.3.0 ∙ p.2.0))
-before_ran fits count site c (Some entry ∷ []) s spares new rest p still none =
+pub before_ran : {X : Type 0} (fits : X → Floor → Bool) (count : X → ℕ) (caller : ℕ) (site : Site) (c : Command) (os : List (Option Entry)) (s : State) (spares : List X) (new : State) (rest : List X) →
+    Ran fits count site caller (c ∷ []) os s spares new rest → new.clock ≡ s.clock → kept_first (runs.entries_of os) new.tasks ≡ [] → AreAsBefore s.tasks new.tasks
+before_ran fits count caller site c [] s spares new rest p still none = absurd p
+before_ran fits count caller site c (None ∷ []) s spares new rest p still none = as_before s.tasks new.tasks (ap (λ (t : State). t.tasks) (p.3.0 ∙ p.2.0))
+before_ran fits count caller site c (Some entry ∷ []) s spares new rest p still none =
     before_by site s entry.reply entry.event new (subst (λ (t : State). Answers site s entry.reply entry.event t) (sym p.3.0) p.2.1) still none
-before_ran fits count site c (o ∷ more ∷ os) s spares new rest p still none = absurd p.3
+before_ran fits count caller site c (o ∷ more ∷ os) s spares new rest p still none = absurd p.3
 
 -- a tick takes no task
 kept_tick : (reply : Reply) (tasks : List Task) → kept_by reply Event.Tick tasks ≡ []
@@ -207,13 +207,13 @@ kept_tick Reply.Closed tasks = refl
 tick_event : (c : Command) (told : Spare) → c ≡ Tick → event_of c told ≡ Event.Tick
 tick_event c told e = ap (λ (d : Command). event_of d told) e
 
-pub none_by_tick : {X : Type 0} (fits : X → Floor → Bool) (count : X → ℕ) (site : Site) (c : Command) (os : List (Option Entry)) (s : State) (spares : List X) (new : State) (rest : List X) →
-    Ran fits count site 0 (c ∷ []) os s spares new rest → c ≡ Tick → kept_first (runs.entries_of os) new.tasks ≡ []
-none_by_tick fits count site c [] s spares new rest p e = absurd p
-none_by_tick fits count site c (None ∷ []) s spares new rest p e = refl
-none_by_tick fits count site c (Some entry ∷ []) s spares new rest p e =
+pub none_by_tick : {X : Type 0} (fits : X → Floor → Bool) (count : X → ℕ) (caller : ℕ) (site : Site) (c : Command) (os : List (Option Entry)) (s : State) (spares : List X) (new : State) (rest : List X) →
+    Ran fits count site caller (c ∷ []) os s spares new rest → c ≡ Tick → kept_first (runs.entries_of os) new.tasks ≡ []
+none_by_tick fits count caller site c [] s spares new rest p e = absurd p
+none_by_tick fits count caller site c (None ∷ []) s spares new rest p e = refl
+none_by_tick fits count caller site c (Some entry ∷ []) s spares new rest p e =
     ap (λ (event : Event). kept_by entry.reply event new.tasks) (p.2.2.1 ∙ tick_event c p.2.2.0 e) ∙ kept_tick entry.reply new.tasks
-none_by_tick fits count site c (o ∷ more ∷ os) s spares new rest p e = absurd p.3
+none_by_tick fits count caller site c (o ∷ more ∷ os) s spares new rest p e = absurd p.3
 
 -- the last step of a run
 run_last : (site : Site) (old : State) (front : List Entry) (entry : Entry) (new : State) → Run site old (front ++ entry ∷ []) new →
@@ -257,12 +257,12 @@ pub with_stops_is : (tasks : List Task) (p q : Pending) → q ≡ record p { sto
 with_stops_is tasks p q e = ap (λ (r : Pending). r ∷ []) (sym e)
 
 -- one command has one entry at most
-pub few_entries : {X : Type 0} (fits : X → Floor → Bool) (count : X → ℕ) (site : Site) (c : Command) (os : List (Option Entry)) (s : State) (spares : List X) (new : State) (rest : List X) →
-    Ran fits count site 0 (c ∷ []) os s spares new rest → length (runs.entries_of os) ≤ 1
-few_entries fits count site c [] s spares new rest p = absurd p
-few_entries fits count site c (None ∷ []) s spares new rest p = omega arith
-few_entries fits count site c (Some entry ∷ []) s spares new rest p = omega arith
-few_entries fits count site c (o ∷ more ∷ os) s spares new rest p = absurd p.3
+pub few_entries : {X : Type 0} (fits : X → Floor → Bool) (count : X → ℕ) (caller : ℕ) (site : Site) (c : Command) (os : List (Option Entry)) (s : State) (spares : List X) (new : State) (rest : List X) →
+    Ran fits count site caller (c ∷ []) os s spares new rest → length (runs.entries_of os) ≤ 1
+few_entries fits count caller site c [] s spares new rest p = absurd p
+few_entries fits count caller site c (None ∷ []) s spares new rest p = omega arith
+few_entries fits count caller site c (Some entry ∷ []) s spares new rest p = omega arith
+few_entries fits count caller site c (o ∷ more ∷ os) s spares new rest p = absurd p.3
 
 pub none_added : (xs ys : List Pending) → xs ++ ys ≡ xs → ys ≡ []
 none_added xs ys e = append_cancel_left xs ys [] (e ∙ sym (append-nil xs))

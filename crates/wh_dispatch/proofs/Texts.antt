@@ -12,7 +12,7 @@ use Rattle.wh_replay.specs.Answers.{reply_line, text_of}
 use Rattle.wh_order.specs.declared.visit.Told.{Told}
 use Rattle.wh_dispatch.specs.Lines.{go_line, go_lines}
 use Rattle.wh_dispatch.specs.declared.script.DispatchFault.{DispatchFault}
-use Rattle.wh_dispatch.specs.declared.script.DispatchFault.TheVariants.{Broken, Endless, Unwritten, NoMemory}
+use Rattle.wh_dispatch.specs.declared.script.DispatchFault.TheVariants.{Broken, Endless, Unwritten, NoMemory, NoRoom}
 use Rattle.wh_dispatch.specs.Scripts.{WritesUntil}
 
 pub text_append : (xs ys : List (List ℕ)) → text_of (xs ++ ys) ≡ text_of xs ++ text_of ys
@@ -38,6 +38,7 @@ until_then Unwritten a b c xs ys p q = front_then a b c xs ys p q
 until_then Broken a b c xs ys p q = absurd q
 until_then Endless a b c xs ys p q = absurd q
 until_then NoMemory a b c xs ys p q = all_then a b c xs ys p q
+until_then NoRoom a b c xs ys p q = front_then a b c xs ys p q
 
 pub unwritten : (fault : DispatchFault) (a b : Option (List ℕ)) (bytes : List ℕ) → fault ≡ Unwritten → WritesFront a b bytes → WritesUntil fault a b bytes
 unwritten fault a b bytes e w = subst (λ (f : DispatchFault). WritesUntil f a b bytes) (sym e) w

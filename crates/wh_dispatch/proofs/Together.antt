@@ -2,7 +2,7 @@
 use Rattle.std.proofs.Common.{◌≡◌, ℕ, ◌<◌, ◌∙◌, inl, inr, List, [], ◌∷◌, ◌++◌, sym, subst, ap, arith, append-nil, append_assoc, Bool}
 use Rattle.wh_grid.specs.Grids.{Floor}
 use Rattle.wh_points.specs.Points.{Site}
-use Rattle.wh_log.specs.Told.{Answered}
+use Rattle.wh_replay.specs.declared.asker.Asker.{Asker}
 use Rattle.wh_event.specs.declared.entry.Entry.{Entry}
 use Rattle.wh_tasks.specs.Tasks.{IsTask}
 use Rattle.wh_core.specs.States.{State}
@@ -43,10 +43,10 @@ happened_join old mid new p q = record {
 }
 
 -- what one line does has happened
-line_happened : {X : Type 0} (fits : X → Floor → Bool) (count : X → ℕ) (text : Answered → List ℕ) (bound : ℕ) (line : Heard) (old new : Depot X) (texts : List (List ℕ)) →
-    TakesLine fits count text bound line old new texts → HasHappened old new
-line_happened fits count text bound line old new texts takes =
-    let did = taken_on fits count text bound line old new texts takes in
+line_happened : {X : Type 0} (fits : X → Floor → Bool) (count : X → ℕ) (asker : Asker) (bound : ℕ) (line : Heard) (old new : Depot X) (texts : List (List ℕ)) →
+    TakesLine fits count asker bound line old new texts → HasHappened old new
+line_happened fits count asker bound line old new texts takes =
+    let did = taken_on fits count asker bound line old new texts takes in
     record {
       happenings = did.leads.happenings;
       all = did.leads.all;
@@ -55,10 +55,10 @@ line_happened fits count text bound line old new texts takes =
       opening = did.grows.opening;
     }
 
-pub each_script_happens : {X : Type 0} (fits : X → Floor → Bool) (count : X → ℕ) (text : Answered → List ℕ) → EachScriptHappens fits count text
-each_script_happens fits count text bound [] old new texts p = happened_none old new p.0
-each_script_happens fits count text bound (line ∷ lines) old new texts p =
-    happened_join old p.0 new (line_happened fits count text bound (heard line) old p.0 p.1 p.3.takes) (each_script_happens fits count text bound lines p.0 new p.2 p.4)
+pub each_script_happens : {X : Type 0} (fits : X → Floor → Bool) (count : X → ℕ) (asker : Asker) → EachScriptHappens fits count asker
+each_script_happens fits count asker bound [] old new texts p = happened_none old new p.0
+each_script_happens fits count asker bound (line ∷ lines) old new texts p =
+    happened_join old p.0 new (line_happened fits count asker bound (heard line) old p.0 p.1 p.3.takes) (each_script_happens fits count asker bound lines p.0 new p.2 p.4)
 
 -- ---- visits
 
@@ -131,10 +131,10 @@ told_join old mid new us vs h k c p q =
       ];
     }
 
-pub each_visit_is_told : {X : Type 0} (fits : X → Floor → Bool) (count : X → ℕ) (text : Answered → List ℕ) → EachVisitIsTold fits count text
-each_visit_is_told fits count text bound [] old new texts p c = told_none old new p.0
-each_visit_is_told fits count text bound (line ∷ lines) old new texts p c =
-    let first = line_happened fits count text bound (heard line) old p.0 p.1 p.3.takes in
-    told_join old p.0 new p.3.takes.visits (visits_of fits count text bound lines p.0 new p.2 p.4) first (each_script_happens fits count text bound lines p.0 new p.2 p.4) c
+pub each_visit_is_told : {X : Type 0} (fits : X → Floor → Bool) (count : X → ℕ) (asker : Asker) → EachVisitIsTold fits count asker
+each_visit_is_told fits count asker bound [] old new texts p c = told_none old new p.0
+each_visit_is_told fits count asker bound (line ∷ lines) old new texts p c =
+    let first = line_happened fits count asker bound (heard line) old p.0 p.1 p.3.takes in
+    told_join old p.0 new p.3.takes.visits (visits_of fits count asker bound lines p.0 new p.2 p.4) first (each_script_happens fits count asker bound lines p.0 new p.2 p.4) c
     (record { made = p.3.takes.made; all = p.3.all })
-    (each_visit_is_told fits count text bound lines p.0 new p.2 p.4 (carried_on old p.0 first c))
+    (each_visit_is_told fits count asker bound lines p.0 new p.2 p.4 (carried_on old p.0 first c))

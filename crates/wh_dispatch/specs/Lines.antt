@@ -9,9 +9,10 @@ use Rattle.wh_event.specs.CommandLines.{command_of}
 use Rattle.wh_event.specs.declared.event.Command.{Command}
 use Rattle.wh_event.specs.declared.event.Command.TheVariants.{Tick}
 use Rattle.wh_event.specs.declared.entry.Entry.{Entry}
-use Rattle.wh_log.specs.Told.{Answered}
+use Rattle.wh_replay.specs.declared.asker.Asker.{Asker}
 use Rattle.wh_event.specs.declared.fault.LineFault.{LineFault}
 use Rattle.wh_event.specs.declared.fault.LineFault.TheVariants.{TooLong}
+use Rattle.wh_log.specs.Told.{told_text}
 use Rattle.wh_replay.specs.Answers.{asked, answers}
 use Rattle.wh_replay.specs.Scripts.{Gives}
 use Rattle.wh_drive.specs.Drives.{Drive, clock, reached}
@@ -114,10 +115,10 @@ gone_on (None ∷ outcomes) s d = d
 gone_on (Some entry ∷ outcomes) s d = taken entry.reply s d
 
 -- The line is answered as a script's without vehicles, and the plan goes on with the clock.
-pub record IsObeyed {X : Type 0} (fits : X → Floor → Bool) (count : X → ℕ) (text : Answered → List ℕ) (bound : ℕ) (kind : Result (Option Command) LineFault)
+pub record IsObeyed {X : Type 0} (fits : X → Floor → Bool) (count : X → ℕ) (asker : Asker) (bound : ℕ) (kind : Result (Option Command) LineFault)
     (old new : Depot X) (replies : List (List ℕ)) : Type 0 where
   pub in_time : AsksToGoOn old.book.state kind → AllKeepUp old.drive bound
-  pub gives : Gives fits count (asked kind) (answers text kind) old.book old.spares new.book new.spares replies
+  pub gives : Gives fits count asker.caller (asked kind) (answers (told_text asker.form) kind) old.book old.spares new.book new.spares replies
   pub drive : new.drive ≡ gone_on gives.outcomes new.book.state old.drive
 
 -- The report is answered; the warehouse stays as it is.
@@ -129,17 +130,17 @@ pub record IsHeardOf {X : Type 0} (report : Report) (old new : Depot X) (replies
   pub replies_are : replies ≡ notice_text notice ∷ []
 
 -- the reply to a line, if it has one, and what the line itself does
-abbrev pub Answers : {X : Type 0} → (X → Floor → Bool) → (X → ℕ) → (Answered → List ℕ) → ℕ → Heard → Depot X → Depot X → List (List ℕ) → Type 0
-Answers fits count text bound (Reported report) old new replies = IsHeardOf report old new replies
-Answers fits count text bound (Asked kind) old new replies = IsHeldUp bound kind old new replies ⊎ IsObeyed fits count text bound kind old new replies
+abbrev pub Answers : {X : Type 0} → (X → Floor → Bool) → (X → ℕ) → Asker → ℕ → Heard → Depot X → Depot X → List (List ℕ) → Type 0
+Answers fits count asker bound (Reported report) old new replies = IsHeardOf report old new replies
+Answers fits count asker bound (Asked kind) old new replies = IsHeldUp bound kind old new replies ⊎ IsObeyed fits count asker bound kind old new replies
 
 -- A line is answered, and then vehicles go on: steps that stay are passed, visits are told that were made, each once, and
 -- then each step that leads away as it is to be made, in order.
-pub record TakesLine {X : Type 0} (fits : X → Floor → Bool) (count : X → ℕ) (text : Answered → List ℕ) (bound : ℕ) (line : Heard) (old new : Depot X)
+pub record TakesLine {X : Type 0} (fits : X → Floor → Bool) (count : X → ℕ) (asker : Asker) (bound : ℕ) (line : Heard) (old new : Depot X)
     (texts : List (List ℕ)) : Type 0 where
   pub mid : Depot X
   pub replies : List (List ℕ)
-  pub answers : Answers fits count text bound line old mid replies
+  pub answers : Answers fits count asker bound line old mid replies
   pub events : List Event
   pub only : OnlySettle mid.drive events
   pub run : Run mid.drive events new.drive
@@ -150,15 +151,15 @@ pub record TakesLine {X : Type 0} (fits : X → Floor → Bool) (count : X → �
   pub texts_are : texts ≡ replies ++ (visit_lines visits ++ go_lines (told_by mid.drive events))
 
 -- All of it is done: nobody who may start has not been told, and no visit that was made is untold.
-pub record ServesLine {X : Type 0} (fits : X → Floor → Bool) (count : X → ℕ) (text : Answered → List ℕ) (bound : ℕ) (line : Heard) (old new : Depot X)
+pub record ServesLine {X : Type 0} (fits : X → Floor → Bool) (count : X → ℕ) (asker : Asker) (bound : ℕ) (line : Heard) (old new : Depot X)
     (texts : List (List ℕ)) : Type 0 where
-  pub takes : TakesLine fits count text bound line old new texts
+  pub takes : TakesLine fits count asker bound line old new texts
   pub quiet : IsQuiet new.drive
   pub all : NoneIsLeft old new takes.visits
 
 -- all lines were served, one after another
-abbrev pub ServesAll : {X : Type 0} → (X → Floor → Bool) → (X → ℕ) → (Answered → List ℕ) → ℕ → List (List ℕ) → Depot X → Depot X → List (List ℕ) → Type 0
-ServesAll fits count text bound [] old new texts = (new ≡ old) × (texts ≡ [])
-ServesAll {X} fits count text bound (line ∷ lines) old new texts =
-    (mid : Depot X) × (first : List (List ℕ)) × (rest : List (List ℕ)) × ServesLine fits count text bound (heard line) old mid first
-    × ServesAll fits count text bound lines mid new rest × (texts ≡ first ++ rest)
+abbrev pub ServesAll : {X : Type 0} → (X → Floor → Bool) → (X → ℕ) → Asker → ℕ → List (List ℕ) → Depot X → Depot X → List (List ℕ) → Type 0
+ServesAll fits count asker bound [] old new texts = (new ≡ old) × (texts ≡ [])
+ServesAll {X} fits count asker bound (line ∷ lines) old new texts =
+    (mid : Depot X) × (first : List (List ℕ)) × (rest : List (List ℕ)) × ServesLine fits count asker bound (heard line) old mid first
+    × ServesAll fits count asker bound lines mid new rest × (texts ≡ first ++ rest)

@@ -2,14 +2,10 @@
 use Rattle.std.specs.Prelude.{◌≡◌, ◌⊎◌, ℕ, Bool, List, [], ◌∷◌, ◌++◌, length, Option}
 use Rattle.std.specs.Io.KnownBytes.{Appends, IsAtEnd}
 use Rattle.wh_text.specs.Lines.{lines_of, IsLine}
-use Rattle.wh_lines.specs.Text.{EndsLine}
 use Rattle.wh_lines.specs.Input.{Input, left, Takes}
 use Rattle.wh_lines.specs.Output.{WritesFront}
-use Rattle.wh_lines.specs.declared.next.LineFault.{LineFault as NoLine}
-use Rattle.wh_lines.specs.declared.next.LineFault.TheVariants.{Read, Flush}
-use Rattle.wh_lines.specs.declared.lines.ReadFault.TheVariants as reads
 use Rattle.wh_grid.specs.Grids.{Floor}
-use Rattle.wh_log.specs.Told.{Answered}
+use Rattle.wh_replay.specs.declared.asker.Asker.{Asker}
 use Rattle.wh_book.specs.Drafts.{Seen}
 use Rattle.wh_replay.specs.Answers.{reply_line, text_of}
 use Rattle.wh_replay.specs.Scripts.{IsWholeUntil, HasCause}
@@ -28,13 +24,14 @@ use Rattle.wh_dispatch.specs.Visiting.{due_visits, left_after}
 use Rattle.wh_dispatch.specs.Lines.{Depot, Heard, heard, TakesLine, ServesLine, ServesAll, go_lines, visit_lines}
 use Rattle.wh_dispatch.specs.declared.visits.Pending.{Pending}
 use Rattle.wh_dispatch.specs.declared.script.DispatchFault.{DispatchFault}
-use Rattle.wh_dispatch.specs.declared.script.DispatchFault.TheVariants.{Broken, Endless, Unwritten, NoMemory}
+use Rattle.wh_dispatch.specs.declared.script.DispatchFault.TheVariants.{Broken, Endless, Unwritten, NoMemory, NoRoom}
 
--- A line that was begun is left for the writer, and then a front is written, or for lack of memory, and then all that was found;
--- it is not left for the reader.
+-- A line that was begun is left for the writer, or for lack of memory for its text, and then a front is written; or for lack of memory
+-- for what vehicles are to do, and then all that was found. It is not left for the reader.
 abbrev pub WritesUntil : DispatchFault → Option (List ℕ) → Option (List ℕ) → List ℕ → Type 0
 WritesUntil Unwritten had has bytes = WritesFront had has bytes
 WritesUntil NoMemory had has bytes = Appends had has bytes
+WritesUntil NoRoom had has bytes = WritesFront had has bytes
 WritesUntil Broken had has bytes = ⊥
 WritesUntil Endless had has bytes = ⊥
 
@@ -58,67 +55,58 @@ pub record TellsSome (fault : DispatchFault) (book : Seen) (pending : List Pendi
   pub writes : WritesUntil fault had has (text_of (visit_lines visits ++ go_lines (told_by d events)))
 
 -- one line was served, and what it is told stands behind what was written
-pub record Serves {X : Type 0} (fits : X → Floor → Bool) (count : X → ℕ) (text : Answered → List ℕ) (bound : ℕ) (line : Heard) (old new : Depot X)
+pub record Serves {X : Type 0} (fits : X → Floor → Bool) (count : X → ℕ) (asker : Asker) (bound : ℕ) (line : Heard) (old new : Depot X)
     (had has : Option (List ℕ)) : Type 0 where
   pub texts : List (List ℕ)
-  pub serves : ServesLine fits count text bound line old new texts
+  pub serves : ServesLine fits count asker bound line old new texts
   pub appends : Appends had has (text_of texts)
 
 -- one line was begun
-pub record Begins {X : Type 0} (fits : X → Floor → Bool) (count : X → ℕ) (text : Answered → List ℕ) (bound : ℕ) (fault : DispatchFault) (line : Heard) (old new : Depot X)
+pub record Begins {X : Type 0} (fits : X → Floor → Bool) (count : X → ℕ) (asker : Asker) (bound : ℕ) (fault : DispatchFault) (line : Heard) (old new : Depot X)
     (had has : Option (List ℕ)) : Type 0 where
   pub texts : List (List ℕ)
-  pub takes : TakesLine fits count text bound line old new texts
+  pub takes : TakesLine fits count asker bound line old new texts
   pub writes : WritesUntil fault had has (text_of texts)
 
--- whole lines were read and served
-pub record Follows {X : Type 0} (fits : X → Floor → Bool) (count : X → ℕ) (text : Answered → List ℕ) (bound : ℕ) (before after : Input) (old new : Depot X)
-    (had has : Option (List ℕ)) : Type 0 where
-  pub read : List ℕ
-  pub takes : Takes before after read
-  pub whole : EndsLine read
-  pub texts : List (List ℕ)
-  pub serves : ServesAll fits count text bound (lines_of read) old new texts
-  pub appends : Appends had has (text_of texts)
-
 -- All was read to the end, and what was written is what the lines are told.
-pub record Dispatches {X : Type 0} (fits : X → Floor → Bool) (count : X → ℕ) (text : Answered → List ℕ) (bound : ℕ) (before after : Input) (old new : Depot X)
+pub record Dispatches {X : Type 0} (fits : X → Floor → Bool) (count : X → ℕ) (asker : Asker) (bound : ℕ) (before after : Input) (old new : Depot X)
     (had has : Option (List ℕ)) : Type 0 where
   pub read : List ℕ
   pub takes : Takes before after read
   pub ended : IsAtEnd (left after)
   pub texts : List (List ℕ)
-  pub serves : ServesAll fits count text bound (lines_of read) old new texts
+  pub serves : ServesAll fits count asker bound (lines_of read) old new texts
   pub appends : Appends had has (text_of texts)
 
 -- all lines were served, and what they are told is written, all of it
-pub record ServesThrough {X : Type 0} (fits : X → Floor → Bool) (count : X → ℕ) (text : Answered → List ℕ) (bound : ℕ) (lines : List (List ℕ)) (old new : Depot X)
+pub record ServesThrough {X : Type 0} (fits : X → Floor → Bool) (count : X → ℕ) (asker : Asker) (bound : ℕ) (lines : List (List ℕ)) (old new : Depot X)
     (had has : Option (List ℕ)) : Type 0 where
   pub texts : List (List ℕ)
-  pub serves : ServesAll fits count text bound lines old new texts
+  pub serves : ServesAll fits count asker bound lines old new texts
   pub appends : Appends had has (text_of texts)
 
 -- All lines but the last were served, and what they are told is written, all of it. The last was begun, and left before its
 -- vehicles had all gone on, or before all that it is told was written.
-pub record LeavesOff {X : Type 0} (fits : X → Floor → Bool) (count : X → ℕ) (text : Answered → List ℕ) (bound : ℕ) (fault : DispatchFault) (lines : List (List ℕ)) (old new : Depot X)
+pub record LeavesOff {X : Type 0} (fits : X → Floor → Bool) (count : X → ℕ) (asker : Asker) (bound : ℕ) (fault : DispatchFault) (lines : List (List ℕ)) (old new : Depot X)
     (had has : Option (List ℕ)) : Type 0 where
   pub before : List (List ℕ)
   pub line : List ℕ
   pub lines_are : lines ≡ before ++ line ∷ []
   pub mid : Depot X
   pub between : Option (List ℕ)
-  pub through : ServesThrough fits count text bound before old mid had between
+  pub through : ServesThrough fits count asker bound before old mid had between
   pub texts : List (List ℕ)
-  pub takes : TakesLine fits count text bound (heard line) mid new texts
+  pub takes : TakesLine fits count asker bound (heard line) mid new texts
   pub writes : WritesUntil fault between has (text_of texts)
 
 -- A reader's fault comes between lines, lack of memory within one, a writer's fault in either place.
-abbrev pub ServesUntil : {X : Type 0} → (X → Floor → Bool) → (X → ℕ) → (Answered → List ℕ) → ℕ → DispatchFault → List (List ℕ) → Depot X → Depot X → Option (List ℕ) → Option (List ℕ) → Type 0
-ServesUntil fits count text bound Broken lines old new had has = ServesThrough fits count text bound lines old new had has
-ServesUntil fits count text bound Endless lines old new had has = ServesThrough fits count text bound lines old new had has
-ServesUntil fits count text bound NoMemory lines old new had has = LeavesOff fits count text bound NoMemory lines old new had has
-ServesUntil fits count text bound Unwritten lines old new had has =
-    ServesThrough fits count text bound lines old new had has ⊎ LeavesOff fits count text bound Unwritten lines old new had has
+abbrev pub ServesUntil : {X : Type 0} → (X → Floor → Bool) → (X → ℕ) → Asker → ℕ → DispatchFault → List (List ℕ) → Depot X → Depot X → Option (List ℕ) → Option (List ℕ) → Type 0
+ServesUntil fits count asker bound Broken lines old new had has = ServesThrough fits count asker bound lines old new had has
+ServesUntil fits count asker bound Endless lines old new had has = ServesThrough fits count asker bound lines old new had has
+ServesUntil fits count asker bound NoMemory lines old new had has = LeavesOff fits count asker bound NoMemory lines old new had has
+ServesUntil fits count asker bound NoRoom lines old new had has = LeavesOff fits count asker bound NoRoom lines old new had has
+ServesUntil fits count asker bound Unwritten lines old new had has =
+    ServesThrough fits count asker bound lines old new had has ⊎ LeavesOff fits count asker bound Unwritten lines old new had has
 
 -- What a fault says of the script's bytes and of its cause is what it says without vehicles; for lack of memory, too, a line is
 -- left that may be the input's last.
@@ -127,48 +115,43 @@ plain_fault Broken = replay.Broken
 plain_fault Endless = replay.Endless
 plain_fault Unwritten = replay.Unwritten
 plain_fault NoMemory = replay.Unwritten
+plain_fault NoRoom = replay.Unwritten
 
 -- A beginning of the script was served, whole lines, and no line behind it. What was taken behind it is part of one line, and
 -- was not served.
-pub record Stops {X : Type 0} (fits : X → Floor → Bool) (count : X → ℕ) (text : Answered → List ℕ) (bound : ℕ) (fault : DispatchFault) (before after : Input) (old new : Depot X)
+pub record Stops {X : Type 0} (fits : X → Floor → Bool) (count : X → ℕ) (asker : Asker) (bound : ℕ) (fault : DispatchFault) (before after : Input) (old new : Depot X)
     (had has : Option (List ℕ)) : Type 0 where
   pub read : List ℕ
   pub begun : List ℕ
   pub takes : Takes before after (read ++ begun)
   pub part : IsLine begun
   pub whole : IsWholeUntil (plain_fault fault) after read
-  pub serves : ServesUntil fits count text bound fault (lines_of read) old new had has
+  pub serves : ServesUntil fits count asker bound fault (lines_of read) old new had has
   pub cause : HasCause (plain_fault fault) before after (length (lines_of read))
 
--- the fault of a script whose next line did not come
-abbrev pub fault_of : NoLine → DispatchFault
-fault_of (Read reads.Broken) = Broken
-fault_of (Read reads.Endless) = Endless
-fault_of Flush = Unwritten
-
 -- From each drive of the vehicles a line was served.
-abbrev pub ServesFrom : {X : Type 0} → (X → Floor → Bool) → (X → ℕ) → (Answered → List ℕ) → ℕ → Heard → Seen → List X → Crew → Seen → List X → Crew → Option (List ℕ) → Option (List ℕ) → Type 0
-ServesFrom fits count text bound line old spares crew new rest next had has =
+abbrev pub ServesFrom : {X : Type 0} → (X → Floor → Bool) → (X → ℕ) → Asker → ℕ → Heard → Seen → List X → Crew → Seen → List X → Crew → Option (List ℕ) → Option (List ℕ) → Type 0
+ServesFrom fits count asker bound line old spares crew new rest next had has =
     (d : Drive) → IsManned old crew d → (e : Drive) × IsManned new next e
-    × Serves fits count text bound line (record { book = old; spares = spares; drive = d }) (record { book = new; spares = rest; drive = e }) had has
+    × Serves fits count asker bound line (record { book = old; spares = spares; drive = d }) (record { book = new; spares = rest; drive = e }) had has
 
 -- From each drive of the vehicles a line was begun.
-abbrev pub BeginsFrom : {X : Type 0} → (X → Floor → Bool) → (X → ℕ) → (Answered → List ℕ) → ℕ → Heard → DispatchFault → Seen → List X → Crew → Seen → List X → Option (List ℕ) → Option (List ℕ) → Type 0
-BeginsFrom fits count text bound line fault old spares crew new rest had has =
+abbrev pub BeginsFrom : {X : Type 0} → (X → Floor → Bool) → (X → ℕ) → Asker → ℕ → Heard → DispatchFault → Seen → List X → Crew → Seen → List X → Option (List ℕ) → Option (List ℕ) → Type 0
+BeginsFrom fits count asker bound line fault old spares crew new rest had has =
     (d : Drive) → IsManned old crew d → (e : Drive)
-    × Begins fits count text bound fault line (record { book = old; spares = spares; drive = d }) (record { book = new; spares = rest; drive = e }) had has
+    × Begins fits count asker bound fault line (record { book = old; spares = spares; drive = d }) (record { book = new; spares = rest; drive = e }) had has
 
 -- From each drive of the vehicles the whole script was served.
-abbrev pub DispatchesFrom : {X : Type 0} → (X → Floor → Bool) → (X → ℕ) → (Answered → List ℕ) → ℕ → Input → Input → Seen → List X → Crew → Seen → List X → Crew → Option (List ℕ) → Option (List ℕ) → Type 0
-DispatchesFrom fits count text bound before after old spares crew new rest next had has =
+abbrev pub DispatchesFrom : {X : Type 0} → (X → Floor → Bool) → (X → ℕ) → Asker → ℕ → Input → Input → Seen → List X → Crew → Seen → List X → Crew → Option (List ℕ) → Option (List ℕ) → Type 0
+DispatchesFrom fits count asker bound before after old spares crew new rest next had has =
     (d : Drive) → IsManned old crew d → (e : Drive) × IsManned new next e
-    × Dispatches fits count text bound before after (record { book = old; spares = spares; drive = d }) (record { book = new; spares = rest; drive = e }) had has
+    × Dispatches fits count asker bound before after (record { book = old; spares = spares; drive = d }) (record { book = new; spares = rest; drive = e }) had has
 
 -- From each drive of the vehicles a beginning of the script was served.
-abbrev pub StopsFrom : {X : Type 0} → (X → Floor → Bool) → (X → ℕ) → (Answered → List ℕ) → ℕ → DispatchFault → Input → Input → Seen → List X → Crew → Seen → List X → Option (List ℕ) → Option (List ℕ) → Type 0
-StopsFrom fits count text bound fault before after old spares crew new rest had has =
+abbrev pub StopsFrom : {X : Type 0} → (X → Floor → Bool) → (X → ℕ) → Asker → ℕ → DispatchFault → Input → Input → Seen → List X → Crew → Seen → List X → Option (List ℕ) → Option (List ℕ) → Type 0
+StopsFrom fits count asker bound fault before after old spares crew new rest had has =
     (d : Drive) → IsManned old crew d → (e : Drive)
-    × Stops fits count text bound fault before after (record { book = old; spares = spares; drive = d }) (record { book = new; spares = rest; drive = e }) had has
+    × Stops fits count asker bound fault before after (record { book = old; spares = spares; drive = d }) (record { book = new; spares = rest; drive = e }) had has
 
 -- the vehicles have a drive in which they stand so
 abbrev pub SomeManned : Seen → Crew → Type 0

@@ -4,7 +4,6 @@ ghost use Rattle.std.specs.Prelude.{◌≡◌, ◌<◌, ◌++◌, ◌↔◌, Ok,
 ghost use Rattle.std.specs.Io.KnownBytes.{Appends};
 ghost use Rattle.wh_lines.specs.Output.{WritesFront};
 ghost use Rattle.wh_lines.specs.Text.{short_line};
-ghost use Rattle.wh_log.specs.Told.{told_text};
 ghost use Rattle.wh_replay.specs.Answers.{said, text_of};
 ghost use Rattle.wh_drive.specs.Drives.{Drive};
 ghost use Rattle.wh_order.specs.Orders.{Represents};
@@ -24,9 +23,8 @@ use std::io::Write;
 use wh_core::LAST_CLOCK;
 use wh_event::{Command, LineFault};
 use wh_lines::CommandLine;
-use wh_log::Form;
 use wh_planner::Plans;
-use wh_replay::{Warehouse, obey, read_kept};
+use wh_replay::{Asker, Warehouse, obey, read_kept};
 use wh_vehicles::{Report, read_report};
 
 /// The report that a line is, of which only a front is kept.
@@ -93,7 +91,7 @@ pub fn set_out<W: Write, P: Plans>(
 fn tick<W: Write, P: Plans>(
     command: &Command,
     alloc: Global,
-    form: Form,
+    asker: Asker,
     writer: &mut W,
     warehouse: &mut Warehouse<P>,
     spares: &mut Vec<P>,
@@ -104,12 +102,12 @@ fn tick<W: Write, P: Plans>(
     requires keep_up { NoneIsLate vehicles.old.order vehicles.old.bound }
     requires ready { vehicles.old.order.ready ≡ true }
     requires row { length vehicles.old.row ≡ length warehouse.old.book.state.paths }
-    ensures ok { OnOk result (ServesFrom P.fits_map P.slot_count (told_text form) vehicles.old.bound (Asked (Ok (Some command.now))) warehouse.old.book spares.old.items vehicles.old warehouse.new.book spares.new.items vehicles.new (W.contents writer.old) (W.contents writer.new)) }
-    ensures err { IfErr result (λ fault. BeginsFrom P.fits_map P.slot_count (told_text form) vehicles.old.bound (Asked (Ok (Some command.now))) fault warehouse.old.book spares.old.items vehicles.old warehouse.new.book spares.new.items (W.contents writer.old) (W.contents writer.new)) }
+    ensures ok { OnOk result (ServesFrom P.fits_map P.slot_count asker vehicles.old.bound (Asked (Ok (Some command.now))) warehouse.old.book spares.old.items vehicles.old warehouse.new.book spares.new.items vehicles.new (W.contents writer.old) (W.contents writer.new)) }
+    ensures err { IfErr result (λ fault. BeginsFrom P.fits_map P.slot_count asker vehicles.old.bound (Asked (Ok (Some command.now))) fault warehouse.old.book spares.old.items vehicles.old warehouse.new.book spares.new.items (W.contents writer.old) (W.contents writer.new)) }
     ensures bound { vehicles.new.bound ≡ vehicles.old.bound }
 {
     let before = warehouse.clock();
-    match obey(command, alloc, form, writer, warehouse, spares) {
+    match obey(command, alloc, asker, writer, warehouse, spares) {
         Ok(_) => {}
         Err(_) => return Err(DispatchFault::Unwritten),
     }
@@ -121,10 +119,11 @@ fn tick<W: Write, P: Plans>(
 }
 
 /// Runs a tick, unless the clock waits for a vehicle, or memory runs out.
+#[inline(always)]
 fn tick_in_time<W: Write, P: Plans>(
     command: &Command,
     alloc: Global,
-    form: Form,
+    asker: Asker,
     writer: &mut W,
     warehouse: &mut Warehouse<P>,
     spares: &mut Vec<P>,
@@ -132,24 +131,25 @@ fn tick_in_time<W: Write, P: Plans>(
 ) -> Result<(), DispatchFault>
     requires manned { SomeManned warehouse.old.book vehicles.old }
     requires asks { AsksToGoOn warehouse.old.book.state (Ok (Some command.now)) }
-    ensures ok { OnOk result (ServesFrom P.fits_map P.slot_count (told_text form) vehicles.old.bound (Asked (Ok (Some command.now))) warehouse.old.book spares.old.items vehicles.old warehouse.new.book spares.new.items vehicles.new (W.contents writer.old) (W.contents writer.new)) }
-    ensures err { IfErr result (λ fault. BeginsFrom P.fits_map P.slot_count (told_text form) vehicles.old.bound (Asked (Ok (Some command.now))) fault warehouse.old.book spares.old.items vehicles.old warehouse.new.book spares.new.items (W.contents writer.old) (W.contents writer.new)) }
+    ensures ok { OnOk result (ServesFrom P.fits_map P.slot_count asker vehicles.old.bound (Asked (Ok (Some command.now))) warehouse.old.book spares.old.items vehicles.old warehouse.new.book spares.new.items vehicles.new (W.contents writer.old) (W.contents writer.new)) }
+    ensures err { IfErr result (λ fault. BeginsFrom P.fits_map P.slot_count asker vehicles.old.bound (Asked (Ok (Some command.now))) fault warehouse.old.book spares.old.items vehicles.old warehouse.new.book spares.new.items (W.contents writer.old) (W.contents writer.new)) }
     ensures bound { vehicles.new.bound ≡ vehicles.old.bound }
 {
     if let Some(notice) = vehicles.late() {
         return tell_notice(writer, &notice);
     }
     match vehicles.reserve(alloc, warehouse) {
-        Ok(()) => tick(command, alloc, form, writer, warehouse, spares, vehicles),
+        Ok(()) => tick(command, alloc, asker, writer, warehouse, spares, vehicles),
         Err(_) => tell_starved(writer),
     }
 }
 
 /// Runs a command at which the clock stays, where there is room for a task that is taken, and has the vehicles go on then.
+#[inline(always)]
 fn run_roomy<W: Write, P: Plans>(
     command: &Command,
     alloc: Global,
-    form: Form,
+    asker: Asker,
     writer: &mut W,
     warehouse: &mut Warehouse<P>,
     spares: &mut Vec<P>,
@@ -158,12 +158,12 @@ fn run_roomy<W: Write, P: Plans>(
     requires manned { SomeManned warehouse.old.book vehicles.old }
     requires still { ¬ AsksToGoOn warehouse.old.book.state (Ok (Some command.now)) }
     requires room { length vehicles.old.pending < vehicles.old.room }
-    ensures ok { OnOk result (ServesFrom P.fits_map P.slot_count (told_text form) vehicles.old.bound (Asked (Ok (Some command.now))) warehouse.old.book spares.old.items vehicles.old warehouse.new.book spares.new.items vehicles.new (W.contents writer.old) (W.contents writer.new)) }
-    ensures err { IfErr result (λ fault. BeginsFrom P.fits_map P.slot_count (told_text form) vehicles.old.bound (Asked (Ok (Some command.now))) fault warehouse.old.book spares.old.items vehicles.old warehouse.new.book spares.new.items (W.contents writer.old) (W.contents writer.new)) }
+    ensures ok { OnOk result (ServesFrom P.fits_map P.slot_count asker vehicles.old.bound (Asked (Ok (Some command.now))) warehouse.old.book spares.old.items vehicles.old warehouse.new.book spares.new.items vehicles.new (W.contents writer.old) (W.contents writer.new)) }
+    ensures err { IfErr result (λ fault. BeginsFrom P.fits_map P.slot_count asker vehicles.old.bound (Asked (Ok (Some command.now))) fault warehouse.old.book spares.old.items vehicles.old warehouse.new.book spares.new.items (W.contents writer.old) (W.contents writer.new)) }
     ensures bound { vehicles.new.bound ≡ vehicles.old.bound }
 {
     let before = warehouse.history().len();
-    match obey(command, alloc, form, writer, warehouse, spares) {
+    match obey(command, alloc, asker, writer, warehouse, spares) {
         Ok(_) => {}
         Err(_) => return Err(DispatchFault::Unwritten),
     }
@@ -175,10 +175,11 @@ fn run_roomy<W: Write, P: Plans>(
 }
 
 /// Runs a command at which the clock stays, unless memory runs out.
+#[inline(always)]
 fn run_still<W: Write, P: Plans>(
     command: &Command,
     alloc: Global,
-    form: Form,
+    asker: Asker,
     writer: &mut W,
     warehouse: &mut Warehouse<P>,
     spares: &mut Vec<P>,
@@ -186,12 +187,12 @@ fn run_still<W: Write, P: Plans>(
 ) -> Result<(), DispatchFault>
     requires manned { SomeManned warehouse.old.book vehicles.old }
     requires still { ¬ AsksToGoOn warehouse.old.book.state (Ok (Some command.now)) }
-    ensures ok { OnOk result (ServesFrom P.fits_map P.slot_count (told_text form) vehicles.old.bound (Asked (Ok (Some command.now))) warehouse.old.book spares.old.items vehicles.old warehouse.new.book spares.new.items vehicles.new (W.contents writer.old) (W.contents writer.new)) }
-    ensures err { IfErr result (λ fault. BeginsFrom P.fits_map P.slot_count (told_text form) vehicles.old.bound (Asked (Ok (Some command.now))) fault warehouse.old.book spares.old.items vehicles.old warehouse.new.book spares.new.items (W.contents writer.old) (W.contents writer.new)) }
+    ensures ok { OnOk result (ServesFrom P.fits_map P.slot_count asker vehicles.old.bound (Asked (Ok (Some command.now))) warehouse.old.book spares.old.items vehicles.old warehouse.new.book spares.new.items vehicles.new (W.contents writer.old) (W.contents writer.new)) }
+    ensures err { IfErr result (λ fault. BeginsFrom P.fits_map P.slot_count asker vehicles.old.bound (Asked (Ok (Some command.now))) fault warehouse.old.book spares.old.items vehicles.old warehouse.new.book spares.new.items (W.contents writer.old) (W.contents writer.new)) }
     ensures bound { vehicles.new.bound ≡ vehicles.old.bound }
 {
     match vehicles.reserve_task() {
-        Ok(()) => run_roomy(command, alloc, form, writer, warehouse, spares, vehicles),
+        Ok(()) => run_roomy(command, alloc, asker, writer, warehouse, spares, vehicles),
         Err(_) => tell_starved(writer),
     }
 }
@@ -208,24 +209,25 @@ fn asks_to_go_on<P: Plans>(command: &Command, warehouse: &Warehouse<P>) -> bool
 }
 
 /// Runs a command.
+#[inline(always)]
 fn run<W: Write, P: Plans>(
     command: &Command,
     alloc: Global,
-    form: Form,
+    asker: Asker,
     writer: &mut W,
     warehouse: &mut Warehouse<P>,
     spares: &mut Vec<P>,
     vehicles: &mut Vehicles,
 ) -> Result<(), DispatchFault>
     requires manned { SomeManned warehouse.old.book vehicles.old }
-    ensures ok { OnOk result (ServesFrom P.fits_map P.slot_count (told_text form) vehicles.old.bound (Asked (Ok (Some command.now))) warehouse.old.book spares.old.items vehicles.old warehouse.new.book spares.new.items vehicles.new (W.contents writer.old) (W.contents writer.new)) }
-    ensures err { IfErr result (λ fault. BeginsFrom P.fits_map P.slot_count (told_text form) vehicles.old.bound (Asked (Ok (Some command.now))) fault warehouse.old.book spares.old.items vehicles.old warehouse.new.book spares.new.items (W.contents writer.old) (W.contents writer.new)) }
+    ensures ok { OnOk result (ServesFrom P.fits_map P.slot_count asker vehicles.old.bound (Asked (Ok (Some command.now))) warehouse.old.book spares.old.items vehicles.old warehouse.new.book spares.new.items vehicles.new (W.contents writer.old) (W.contents writer.new)) }
+    ensures err { IfErr result (λ fault. BeginsFrom P.fits_map P.slot_count asker vehicles.old.bound (Asked (Ok (Some command.now))) fault warehouse.old.book spares.old.items vehicles.old warehouse.new.book spares.new.items (W.contents writer.old) (W.contents writer.new)) }
     ensures bound { vehicles.new.bound ≡ vehicles.old.bound }
 {
     if asks_to_go_on(command, warehouse) {
-        tick_in_time(command, alloc, form, writer, warehouse, spares, vehicles)
+        tick_in_time(command, alloc, asker, writer, warehouse, spares, vehicles)
     } else {
-        run_still(command, alloc, form, writer, warehouse, spares, vehicles)
+        run_still(command, alloc, asker, writer, warehouse, spares, vehicles)
     }
 }
 
@@ -249,23 +251,24 @@ fn hear<W: Write, P: Plans>(
 }
 
 /// Answers a line that is no report, of which only a front is kept.
+#[inline(always)]
 fn serve_command<W: Write, P: Plans>(
     line: &CommandLine,
     command: &mut Command,
     alloc: Global,
-    form: Form,
+    asker: Asker,
     writer: &mut W,
     warehouse: &mut Warehouse<P>,
     spares: &mut Vec<P>,
     vehicles: &mut Vehicles,
 ) -> Result<(), DispatchFault>
     requires manned { SomeManned warehouse.old.book vehicles.old }
-    ensures ok { OnOk result (ServesFrom P.fits_map P.slot_count (told_text form) vehicles.old.bound (Asked (said (short_line line.now))) warehouse.old.book spares.old.items vehicles.old warehouse.new.book spares.new.items vehicles.new (W.contents writer.old) (W.contents writer.new)) }
-    ensures err { IfErr result (λ fault. BeginsFrom P.fits_map P.slot_count (told_text form) vehicles.old.bound (Asked (said (short_line line.now))) fault warehouse.old.book spares.old.items vehicles.old warehouse.new.book spares.new.items (W.contents writer.old) (W.contents writer.new)) }
+    ensures ok { OnOk result (ServesFrom P.fits_map P.slot_count asker vehicles.old.bound (Asked (said (short_line line.now))) warehouse.old.book spares.old.items vehicles.old warehouse.new.book spares.new.items vehicles.new (W.contents writer.old) (W.contents writer.new)) }
+    ensures err { IfErr result (λ fault. BeginsFrom P.fits_map P.slot_count asker vehicles.old.bound (Asked (said (short_line line.now))) fault warehouse.old.book spares.old.items vehicles.old warehouse.new.book spares.new.items (W.contents writer.old) (W.contents writer.new)) }
     ensures bound { vehicles.new.bound ≡ vehicles.old.bound }
 {
     match read_kept(line, command) {
-        Ok(true) => run(command, alloc, form, writer, warehouse, spares, vehicles),
+        Ok(true) => run(command, alloc, asker, writer, warehouse, spares, vehicles),
         Ok(false) => Ok(()),
         Err(LineFault::Form) => tell(writer, b"refused C1\n"),
         Err(LineFault::TooLong) => tell(writer, b"refused C2\n"),
@@ -274,25 +277,26 @@ fn serve_command<W: Write, P: Plans>(
 
 /// Serves a line, of which only a front is kept. The command is a room for what it asks. What the line is told is written at once,
 /// and nothing is flushed.
+#[inline(always)]
 pub fn serve<W: Write, P: Plans>(
     line: &CommandLine,
     command: &mut Command,
     alloc: Global,
-    form: Form,
+    asker: Asker,
     writer: &mut W,
     warehouse: &mut Warehouse<P>,
     spares: &mut Vec<P>,
     vehicles: &mut Vehicles,
 ) -> Result<(), DispatchFault>
     requires manned { SomeManned warehouse.old.book vehicles.old }
-    ensures ok { OnOk result (ServesFrom P.fits_map P.slot_count (told_text form) vehicles.old.bound (heard_in (short_line line.now)) warehouse.old.book spares.old.items vehicles.old warehouse.new.book spares.new.items vehicles.new (W.contents writer.old) (W.contents writer.new)) }
-    ensures err { IfErr result (λ fault. BeginsFrom P.fits_map P.slot_count (told_text form) vehicles.old.bound (heard_in (short_line line.now)) fault warehouse.old.book spares.old.items vehicles.old warehouse.new.book spares.new.items (W.contents writer.old) (W.contents writer.new)) }
+    ensures ok { OnOk result (ServesFrom P.fits_map P.slot_count asker vehicles.old.bound (heard_in (short_line line.now)) warehouse.old.book spares.old.items vehicles.old warehouse.new.book spares.new.items vehicles.new (W.contents writer.old) (W.contents writer.new)) }
+    ensures err { IfErr result (λ fault. BeginsFrom P.fits_map P.slot_count asker vehicles.old.bound (heard_in (short_line line.now)) fault warehouse.old.book spares.old.items vehicles.old warehouse.new.book spares.new.items (W.contents writer.old) (W.contents writer.new)) }
     ensures bound { vehicles.new.bound ≡ vehicles.old.bound }
 {
     match reported(line) {
         Some(report) => hear(report, writer, warehouse, vehicles),
         None => serve_command(
-            line, command, alloc, form, writer, warehouse, spares, vehicles,
+            line, command, alloc, asker, writer, warehouse, spares, vehicles,
         ),
     }
 }

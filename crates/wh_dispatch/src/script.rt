@@ -1,19 +1,21 @@
 //! A script that is served to its end, or until a fault.
 
-ghost use Rattle.std.specs.Prelude.{◌≡◌, IfErr, OnErr, OnOk, true, false};
+ghost use Rattle.std.specs.Prelude.{◌≡◌, ◌≤◌, length, IfErr, OnErr, OnOk, true, false};
 ghost use Rattle.std.specs.Io.KnownBytes.{Keeps};
-ghost use Rattle.wh_log.specs.Told.{told_text};
-ghost use Rattle.wh_dispatch.specs.Scripts.{fault_of, DispatchesFrom, StopsFrom, SomeManned};
+ghost use Rattle.wh_dispatch.specs.Manning.{EndsSo, IsWrittenOr};
+ghost use Rattle.wh_dispatch.specs.Scripts.{DispatchesFrom, StopsFrom, SomeManned};
+ghost use Rattle.wh_replay.specs.Scripts.{script_asker};
 
 use crate::fleet::Vehicles;
-use crate::line::serve;
+use crate::manned::Manned;
 use std::alloc::Global;
 use std::io::{Read, Write};
 use wh_event::Command;
-use wh_lines::{CommandLine, LineFault, Lines, Next, ReadFault};
+use wh_lines::{Lines, write_all};
 use wh_log::Form;
 use wh_planner::Plans;
-use wh_replay::Warehouse;
+use wh_replay::{Asker, Warehouse};
+use wh_session::{NoKeeper, SessionFault};
 
 /// Why a script was not served to its end.
 #[derive(Clone, Copy, Debug, PartialEq, Eq)]
@@ -24,65 +26,57 @@ pub enum DispatchFault {
     Endless,
     /// X3: the writer failed, took no byte, or could not be flushed.
     Unwritten,
-    /// E90: out of memory for what is told to vehicles.
+    /// E90: out of memory for what vehicles are to do. All that was found of it is written.
     NoMemory,
+    /// E90: out of memory for the text of what a line is told. A front of it is written.
+    NoRoom,
 }
 
-fn fault_of(fault: LineFault) -> DispatchFault
-    ensures { result ≡ fault_of fault }
+/// Writes what a line was told that was left in its midst.
+fn write_left<W: Write>(writer: &mut W, said: &[u8], fault: DispatchFault) -> DispatchFault
+    ensures { IsWrittenOr fault result (W.contents writer.old) (W.contents writer.new) said.now }
+{
+    match write_all(writer, said) {
+        Ok(()) => fault,
+        Err(_) => DispatchFault::Unwritten,
+    }
+}
+
+/// Why the script was not served to its end. Where memory ran out in the midst of a line, what waits of that is written.
+fn ended<W: Write>(fault: SessionFault, writer: &mut W, said: &[u8]) -> DispatchFault
+    ensures { EndsSo fault result (W.contents writer.old) (W.contents writer.new) said.now }
 {
     match fault {
-        LineFault::Read(ReadFault::Broken) => DispatchFault::Broken,
-        LineFault::Read(ReadFault::Endless) => DispatchFault::Endless,
-        LineFault::Flush => DispatchFault::Unwritten,
+        SessionFault::Broken => DispatchFault::Broken,
+        SessionFault::Endless => DispatchFault::Endless,
+        SessionFault::NoMemory => write_left(writer, said, DispatchFault::NoMemory),
+        SessionFault::Failed => write_left(writer, said, DispatchFault::NoRoom),
+        _ => DispatchFault::Unwritten,
     }
 }
 
 fn serve_all<R: Read, W: Write, P: Plans>(
     lines: &mut Lines<R>,
-    alloc: Global,
-    form: Form,
     writer: &mut W,
-    warehouse: &mut Warehouse<P>,
-    spares: &mut Vec<P>,
-    vehicles: &mut Vehicles,
+    manned: &mut Manned<'_, P, false>,
 ) -> Result<(), DispatchFault>
-    requires unfailed { lines.old.failed ≡ false }
-    requires manned { SomeManned warehouse.old.book vehicles.old }
-    ensures ok { OnOk result (DispatchesFrom P.fits_map P.slot_count (told_text form) vehicles.old.bound lines.old lines.new warehouse.old.book spares.old.items vehicles.old warehouse.new.book spares.new.items vehicles.new (W.contents writer.old) (W.contents writer.new)) }
-    ensures fault { IfErr result (λ fault. StopsFrom P.fits_map P.slot_count (told_text form) vehicles.old.bound fault lines.old lines.new warehouse.old.book spares.old.items vehicles.old warehouse.new.book spares.new.items (W.contents writer.old) (W.contents writer.new)) }
+    requires going { manned.old.halted ≡ false }
+    requires first { manned.old.first ≤ length manned.old.warehouse.now.book.history }
+    requires begun { manned.old.begun ≤ length manned.old.said.now.items }
+    requires manned { SomeManned manned.old.warehouse.now.book manned.old.vehicles.now }
+    // It holds what it held.
+    ensures warehouse { manned.new.warehouse.ghost_name ≡ manned.old.warehouse.ghost_name }
+    ensures spares { manned.new.spares.ghost_name ≡ manned.old.spares.ghost_name }
+    ensures vehicles { manned.new.vehicles.ghost_name ≡ manned.old.vehicles.ghost_name }
+    ensures ok { OnOk result (DispatchesFrom P.fits_map P.slot_count manned.old.asker manned.old.vehicles.now.bound lines.old lines.new manned.old.warehouse.now.book manned.old.spares.now.items manned.old.vehicles.now manned.new.warehouse.now.book manned.new.spares.now.items manned.new.vehicles.now (W.contents writer.old) (W.contents writer.new)) }
+    ensures fault { IfErr result (λ fault. StopsFrom P.fits_map P.slot_count manned.old.asker manned.old.vehicles.now.bound fault lines.old lines.new manned.old.warehouse.now.book manned.old.spares.now.items manned.old.vehicles.now manned.new.warehouse.now.book manned.new.spares.now.items (W.contents writer.old) (W.contents writer.new)) }
+    ensures failed { OnErr result (lines.new.failed ≡ true) }
+    ensures again { lines.old.failed ≡ true → (result ≡ Err DispatchFault.Broken) × (lines.new ≡ lines.old) × (manned.new ≡ manned.old) × Keeps (W.contents writer.old) (W.contents writer.new) }
 {
-    let mut line = CommandLine::new();
-    let mut command = Command::Close;
-    for _ in 0..u64::MAX {
-        let next = match lines.next_line(writer, &mut line) {
-            Ok(next) => next,
-            Err(fault) => return Err(fault_of(fault)),
-        };
-        if let Next::End = next {
-            return Ok(());
-        }
-        match serve(
-            &line,
-            &mut command,
-            alloc,
-            form,
-            writer,
-            warehouse,
-            spares,
-            vehicles,
-        ) {
-            Ok(()) => {}
-            Err(fault) => return Err(fault),
-        }
-        if let Next::Last = next {
-            if writer.flush().is_err() {
-                return Err(DispatchFault::Unwritten);
-            }
-            return Ok(());
-        }
+    match wh_session::serve(lines, writer, manned, &mut NoKeeper) {
+        Ok(_) => Ok(()),
+        Err(fault) => Err(ended(fault, writer, manned.left())),
     }
-    Err(DispatchFault::Endless)
 }
 
 /// Serves the script that is left in the reader, to the reader's end. A line `at AGENT STEP` is a vehicle's report, each
@@ -100,22 +94,30 @@ pub fn dispatch<R: Read, W: Write, P: Plans>(
 ) -> Result<(), DispatchFault>
     requires manned { SomeManned warehouse.old.book vehicles.old }
     // What was written is what the lines are told; the run is carried out by the vehicles, and nobody who may start is left untold.
-    ensures ok { OnOk result (DispatchesFrom P.fits_map P.slot_count (told_text form) vehicles.old.bound lines.old lines.new warehouse.old.book spares.old.items vehicles.old warehouse.new.book spares.new.items vehicles.new (W.contents writer.old) (W.contents writer.new)) }
+    ensures ok { OnOk result (DispatchesFrom P.fits_map P.slot_count (script_asker form) vehicles.old.bound lines.old lines.new warehouse.old.book spares.old.items vehicles.old warehouse.new.book spares.new.items vehicles.new (W.contents writer.old) (W.contents writer.new)) }
     // On a fault this holds of a beginning of the script, of whole lines: what all but the last are told was written whole, and of
     // the last a front; and the cause is a true one.
-    ensures fault { IfErr result (λ fault. StopsFrom P.fits_map P.slot_count (told_text form) vehicles.old.bound fault lines.old lines.new warehouse.old.book spares.old.items vehicles.old warehouse.new.book spares.new.items (W.contents writer.old) (W.contents writer.new)) }
+    ensures fault { IfErr result (λ fault. StopsFrom P.fits_map P.slot_count (script_asker form) vehicles.old.bound fault lines.old lines.new warehouse.old.book spares.old.items vehicles.old warehouse.new.book spares.new.items (W.contents writer.old) (W.contents writer.new)) }
     // After a fault there is nothing more.
     ensures failed { OnErr result (lines.new.failed ≡ true) }
     ensures again { lines.old.failed ≡ true → (result ≡ Err DispatchFault.Broken) × (lines.new ≡ lines.old) × (warehouse.new.book ≡ warehouse.old.book) × (spares.new.items ≡ spares.old.items) × (vehicles.new ≡ vehicles.old) × Keeps (W.contents writer.old) (W.contents writer.new) }
 {
-    if lines.has_failed() {
-        return Err(DispatchFault::Broken);
-    }
-    match serve_all(lines, alloc, form, writer, warehouse, spares, vehicles) {
-        Ok(()) => Ok(()),
-        Err(fault) => {
-            lines.fail();
-            Err(fault)
-        }
-    }
+    let mut command = Command::Close;
+    let mut said = Vec::new(alloc);
+    let mut came = Vec::new(alloc);
+    let first = warehouse.history().len();
+    let mut manned = Manned {
+        warehouse,
+        spares,
+        vehicles,
+        command: &mut command,
+        said: &mut said,
+        came: &mut came,
+        alloc,
+        asker: Asker { caller: 0, form },
+        first,
+        begun: 0,
+        halted: false,
+    };
+    serve_all(lines, writer, &mut manned)
 }

@@ -5,7 +5,7 @@ ghost use Rattle.std.specs.Prelude.{◌∷◌, [], OnOk, OnErr};
 ghost use Rattle.wh_display.specs.Screens.{Shows};
 
 use crate::screen::{Screen, ShowFault};
-use std::fs::{File, Files, OpenOptions, symlink_metadata};
+use std::fs::{File, Files, Metadata, OpenOptions, symlink_metadata};
 use std::io::{ErrorKind, Read, Write};
 use std::os::unix::fs::{MetadataExt, OpenOptionsExt};
 use std::{fs, io};
@@ -21,13 +21,15 @@ const MOST_ZEROS: u64 = 1_048_576;
 
 /// A file that is replaced as a whole: a reader sees one text or another, never a part of one, also after a power cut. Anything
 /// there that is not a board, such as a log by another name, a link or a pipe, is not replaced; a file that is empty or all zeros is a
-/// board that was not written. The text is written into a file that was made for it, so no link is followed. It tells nothing of
-/// what was shown, since others may write there.
+/// board that was not written. The text is written into a file that was made for it, so no link is followed. What it shows is locked
+/// until it ends, and no other screen replaces that. It tells nothing of what was shown, since others may write there.
 #[derive(Drop)]
 pub struct FileScreen<'a, T: Files<File = File>> {
     files: &'a T,
     path: &'a str,
     beside: String,
+    /// The file with the text that was shown last, locked.
+    showing: Option<File>,
 }
 
 impl<'a, T: Files<File = File>> FileScreen<'a, T> {
@@ -37,6 +39,7 @@ impl<'a, T: Files<File = File>> FileScreen<'a, T> {
             files,
             path,
             beside,
+            showing: None,
         }
     }
 }
@@ -45,7 +48,7 @@ impl<'a, T: Files<File = File>> FileScreen<'a, T> {
 #[derive(Clone, Copy, Debug, PartialEq, Eq)]
 enum Found {
     Nothing,
-    /// A board, or what is left of one that was not written to its end.
+    /// A board, or what is left of one that was not written to its end, which no other screen shows.
     Board,
     Other,
 }
@@ -78,9 +81,20 @@ fn holds_board(file: &mut File, length: u64) -> io::Result<bool> {
     is_all_zeros(file)
 }
 
-/// What stands at a name. A file is opened for both ways, which waits for nobody, and is judged only where it is the one that
-/// has the name itself, and not one behind a link.
-fn find<T: Files<File = File>>(files: &T, path: &str) -> io::Result<Found> {
+/// Whether a file is this one.
+fn is_same(showing: &Option<File>, found: &Metadata) -> io::Result<bool> {
+    match showing {
+        Some(file) => {
+            let own = file.metadata()?;
+            Ok(own.dev() == found.dev() && own.ino() == found.ino())
+        }
+        None => Ok(false),
+    }
+}
+
+/// What stands at a name, where this file is shown already. A file is opened for both ways, which waits for nobody, and is judged
+/// only where it is the one that has the name itself, and not one behind a link.
+fn find<T: Files<File = File>>(files: &T, path: &str, showing: &Option<File>) -> io::Result<Found> {
     let named = match symlink_metadata(files, path) {
         Ok(named) => named,
         Err(error) if error.kind() == ErrorKind::NotFound => return Ok(Found::Nothing),
@@ -94,6 +108,9 @@ fn find<T: Files<File = File>>(files: &T, path: &str) -> io::Result<Found> {
     if !held.is_file() || held.dev() != named.dev() || held.ino() != named.ino() {
         return Ok(Found::Other);
     }
+    if !is_same(showing, &held)? {
+        file.try_lock()?;
+    }
     if holds_board(&mut file, held.len())? {
         Ok(Found::Board)
     } else {
@@ -101,9 +118,9 @@ fn find<T: Files<File = File>>(files: &T, path: &str) -> io::Result<Found> {
     }
 }
 
-/// Makes a file of this name, which holds the text, and syncs it. A board that was left there goes first.
-fn write_anew<T: Files<File = File>>(files: &T, path: &str, text: &[u8]) -> io::Result<()> {
-    match find(files, path)? {
+/// Makes a file of this name, locked, which holds the text, and syncs it. A board that was left there goes first.
+fn write_anew<T: Files<File = File>>(files: &T, path: &str, text: &[u8]) -> io::Result<File> {
+    match find(files, path, &None)? {
         Found::Nothing => {}
         Found::Board => fs::remove_file(files, path)?,
         Found::Other => return Err(io::Error::from(ErrorKind::AlreadyExists)),
@@ -113,27 +130,29 @@ fn write_anew<T: Files<File = File>>(files: &T, path: &str, text: &[u8]) -> io::
         .create_new(true)
         .mode(ALL_MAY_READ)
         .open(files, path)?;
+    file.try_lock()?;
     file.write_all(text)?;
-    file.sync_all()
+    file.sync_all()?;
+    Ok(file)
 }
 
-/// Puts a text into a file that holds a board or is not there, by way of another one beside it.
-fn replace<T: Files<File = File>>(
-    files: &T,
-    path: &str,
-    beside: &str,
-    text: &[u8],
-) -> io::Result<()> {
-    if find(files, path)? == Found::Other {
-        return Err(io::Error::from(ErrorKind::AlreadyExists));
+impl<'a, T: Files<File = File>> FileScreen<'a, T> {
+    /// Puts a text into the file, where that holds a board or is not there, by way of another one beside it.
+    fn replace(&mut self, text: &[u8]) -> io::Result<()> {
+        let beside = self.beside.as_str();
+        if find(self.files, self.path, &self.showing)? == Found::Other {
+            return Err(io::Error::from(ErrorKind::AlreadyExists));
+        }
+        let file = write_anew(self.files, beside, text)?;
+        fs::rename(self.files, beside, self.path)?;
+        self.showing = Some(file);
+        Ok(())
     }
-    write_anew(files, beside, text)?;
-    fs::rename(files, beside, path)
 }
 
 impl<'a, T: Files<File = File>> Screen for FileScreen<'a, T> {
     fn show(&mut self, text: &[u8]) -> Result<(), ShowFault> {
-        match replace(self.files, self.path, self.beside.as_str(), text) {
+        match self.replace(text) {
             Ok(()) => Ok(()),
             Err(_) => Err(ShowFault::Unshown),
         }

@@ -1,5 +1,5 @@
 -- What a run that is found in a journal starts from, and how few callers one client and a worker are.
-use Rattle.std.proofs.Common.{◌≡◌, ◌≤◌, ℕ, List, length, sym, subst, arith, Option, None, Some}
+use Rattle.std.proofs.Common.{◌≡◌, ◌≤◌, ℕ, List, length, sym, subst, arith, inl, Option, None, Some}
 use Rattle.wh_points.specs.Points.{Site}
 use Rattle.wh_continue.specs.Starting.{StartsByFile, StartsIn}
 use Rattle.wh_continue.specs.Running.{IsStartOf}
@@ -9,7 +9,7 @@ use Rattle.wh_host.specs.Pacing.{callers_of}
 
 starts_here : (site : Site) (slots : List ℕ) (file : Option (List ℕ)) (start : Start) → StartsByFile site slots file start → IsStartOf file start
 starts_here site slots None start from = tt
-starts_here site slots (Some held) start from = (site, slots, subst (λ (text : List ℕ). StartsIn site slots text start) from.text_is from.starts)
+starts_here site slots (Some held) start from = inl (site, slots, subst (λ (text : List ℕ). StartsIn site slots text start) from.text_is from.starts)
 
 pub starts_of : (site : Site) (slots : List ℕ) (file now : Option (List ℕ)) (start : Start) → StartsByFile site slots file start → now ≡ file → IsStartOf now start
 starts_of site slots file now start from same = subst (λ (f : Option (List ℕ)). IsStartOf f start) (sym same) (starts_here site slots file start from)

@@ -78,6 +78,14 @@ pub enum Trouble {
     Unshown,
     /// Sections follow the site, where clients come in elsewhere.
     Scripted,
+    /// No log stands beside the text of the site, which is whole: the log of a run was lost.
+    LostLog,
+    /// Standard output or standard error is a file of the run, which would be written over.
+    OwnOutput,
+    /// Vehicles have carried out the run so far, and the words name none.
+    Unmanned,
+    /// Paths are to end at homes, and this is the lowest agent that starts at a station.
+    NotParked { agent: u32 },
     /// The points let agents follow each other: vehicles that follow in a ring would stand still for ever.
     MayFollow,
     /// Out of memory.
@@ -181,6 +189,10 @@ impl Trouble {
             Trouble::NoPipes { client } => put_number(&mut line, b"X5 ", u64::from(client)),
             Trouble::Unshown => put(&mut line, b"X6"),
             Trouble::Scripted => put(&mut line, b"X7"),
+            Trouble::LostLog => put(&mut line, b"X8"),
+            Trouble::OwnOutput => put(&mut line, b"X9"),
+            Trouble::Unmanned => put(&mut line, b"V5"),
+            Trouble::NotParked { agent } => put_number(&mut line, b"H1 ", u64::from(agent)),
             Trouble::MayFollow => put(&mut line, b"V4"),
             Trouble::NoMemory => put(&mut line, b"E90"),
         }
@@ -197,8 +209,9 @@ impl Trouble {
             Trouble::Short { .. } | Trouble::Raced { .. } => Status::Refused,
             Trouble::SectionTooLong | Trouble::TooManyWorkers => Status::Refused,
             Trouble::Log { .. } | Trouble::MayFollow => Status::Refused,
+            Trouble::LostLog | Trouble::Unmanned | Trouble::NotParked { .. } => Status::Refused,
             Trouble::Broken | Trouble::Endless | Trouble::Unwritten => Status::Failed,
-            Trouble::NoThread | Trouble::Differs => Status::Failed,
+            Trouble::NoThread | Trouble::Differs | Trouble::OwnOutput => Status::Failed,
             Trouble::Unkept | Trouble::NoPipes { .. } | Trouble::Unshown => Status::Failed,
             Trouble::Scripted => Status::CommandLine,
             Trouble::NoMemory => Status::NoMemory,

@@ -4,9 +4,9 @@ use Rattle.std.specs.Prelude.{IfSome}
 use Rattle.wh_event.specs.declared.entry.Entry.{Entry}
 use Rattle.wh_board.specs.Pasts.{Origin, Past}
 use Rattle.wh_display.specs.declared.screen.ShowFault.{ShowFault}
-use Rattle.wh_live.specs.Displays.{BoardsFrom}
-use Rattle.wh_live.proofs.Screens.{shown_of_run}
+use Rattle.wh_host.specs.Displays.{BoardsFrom}
 use Rattle.wh_host.specs.Boards.{FirstOn, WatchedOn}
+use Rattle.wh_host.proofs.Screens.{shown_of_run}
 
 -- the first board, and those behind it
 pub boards_from : (origin : Origin) (earlier history : List Entry) (before whole : Past) (last : Result Unit ShowFault) (had mid has : Option (Option (List (List ℕ))))

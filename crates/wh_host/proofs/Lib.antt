@@ -1,3 +1,5 @@
+pub mod Viewing
+pub mod Screens
 pub mod Hosts
 pub mod Keeping
 pub mod Settling

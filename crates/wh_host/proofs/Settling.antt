@@ -9,7 +9,7 @@ use Rattle.wh_event.specs.declared.entry.Entry.{Entry}
 use Rattle.wh_lines.specs.Output.{WritesFront}
 use Rattle.wh_lines.proofs.Written.{front_first}
 use Rattle.wh_journal.specs.Journals.{lines_for}
-use Rattle.wh_journal.proofs.Rounded.{lines_append}
+use Rattle.wh_replay.proofs.Appended.{lines_append}
 use Rattle.wh_scribe.specs.Keeping.{Holds}
 use Rattle.wh_scribe.proofs.Keeping.{same_take}
 use Rattle.wh_journal.specs.Surviving.{HoldsLog}

@@ -1,5 +1,5 @@
 -- Turns through a journal.
-use Rattle.std.proofs.Common.{◌≡◌, ℕ, ◌+◌, ◌<◌, ◌≤◌, ◌⊎◌, inl, inr, false, List, [], ◌∷◌, ◌++◌, length, Option, None, Some, slice_get, ap, sym, ◌∙◌, subst, arith}
+use Rattle.std.proofs.Common.{◌≡◌, ℕ, ◌+◌, ◌<◌, ◌≤◌, ◌⊎◌, inl, inr, List, [], ◌∷◌, ◌++◌, length, Option, None, Some, slice_get, ap, sym, ◌∙◌, subst, arith}
 use Rattle.std.specs.List.{All}
 use Rattle.wh_grid.specs.Grids.{Floor}
 use Rattle.std.specs.Prelude.{Bool}
@@ -40,9 +40,9 @@ module _ {X : Type 0} (fits : X → Floor → Bool) (count : X → ℕ) (grid : 
   left_untold cells command had spares Unkept has left l = received_does command had spares l.0 has left l.1
 
 -- one turn more
-pub turn_more : (known later : Past) (a b c : Received) (turns : ℕ) (commands : List Command) → Taking false known a b turns → Extends known later → IsTurn false later commands → Does commands b c → Taking false later a c (turns + 1)
+pub turn_more : (known later : Past) (a b c : Received) (turns : ℕ) (commands : List Command) → Taking known a b turns → Extends known later → IsTurn later commands → Does commands b c → Taking later a c (turns + 1)
 turn_more known later a b c turns commands taking more turn does =
-    taking_more false known later a b c turns taking more turn.0 turn.1 (subst (λ (l : List Command). Does l b c) turn.2 does)
+    taking_more known later a b c turns taking more turn.0 turn.1 (subst (λ (l : List Command). Does l b c) turn.2 does)
 
 -- ---- no more entries than may be its own
 
@@ -70,17 +70,16 @@ share_untold entries cells command had Unkept has l less = share_more entries co
 -- ---- what was done
 
 -- turns that were taken are all that was done
-pub paces : (cells : ℕ) (pace : Pacing) (known : Past) (a b : Received) (turns : ℕ) → Taking false known a b turns → turns ≤ pace.turns → KeepsShare pace.entries a b → PacesUntil cells pace known a b None
+pub paces : (cells : ℕ) (pace : Pacing) (known : Past) (a b : Received) (turns : ℕ) → Taking known a b turns → turns ≤ pace.turns → KeepsShare pace.entries a b → PacesUntil cells pace known a b None
 paces cells pace known a b turns t few share = record { boards = t.boards; seen = t.seen; few = omega (arith, t.count, few); does = t.does; share = share }
 
 -- the worker ended at a command of a turn
-pub paces_until : (cells : ℕ) (pace : Pacing) (known later : Past) (end : WorkerEnd) (a b c : Received) (turns : ℕ) (commands : List Command) → Taking false known a b turns → turns < pace.turns → Extends known later
-    → IsTurn false later commands → DoesUntil (LeavesOff cells pace.entries) commands end b c → KeepsShare pace.entries a b → KeepsShare pace.entries b c → PacesUntil cells pace later a c (Some end)
+pub paces_until : (cells : ℕ) (pace : Pacing) (known later : Past) (end : WorkerEnd) (a b c : Received) (turns : ℕ) (commands : List Command) → Taking known a b turns → turns < pace.turns → Extends known later
+    → IsTurn later commands → DoesUntil (LeavesOff cells pace.entries) commands end b c → KeepsShare pace.entries a b → KeepsShare pace.entries b c → PacesUntil cells pace later a c (Some end)
 paces_until cells pace known later end a b c turns commands taking less more turn stops before share =
     let leaves = LeavesOff cells pace.entries in
-    let until = taking_stops leaves (record { turns = pace.turns; ends_idle = false; pause = pace.pause }) known later end a b c turns taking less more
-    (turn.0, turn.1, subst (λ (l : List Command). DoesUntil leaves l end b c) turn.2 stops) in
-    record { boards = until.boards; seen = until.seen; few = until.count; does = until.does; share = share_kept pace.entries a b c before share }
+    let until = taking_stops leaves known later end a b c turns taking more turn.0 turn.1 (subst (λ (l : List Command). DoesUntil leaves l end b c) turn.2 stops) in
+    record { boards = until.boards; seen = until.seen; few = omega (arith, until.count, less); does = until.does; share = share_kept pace.entries a b c before share }
 
 -- the worker's caller stays, whatever it did
 untold_caller : (cells : ℕ) (command : Command) (had : Received) (fault : CallFault) (has : Received) → LeavesUntold cells command had fault has → has.caller ≡ had.caller

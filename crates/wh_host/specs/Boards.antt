@@ -4,7 +4,7 @@ use Rattle.wh_board.specs.Pasts.{Past, Extends}
 use Rattle.wh_display.specs.Screens.{Watches}
 use Rattle.wh_display.specs.declared.screen.ShowFault.{ShowFault}
 use Rattle.wh_display.specs.declared.watching.Watched.{Watched}
-use Rattle.wh_live.specs.Displays.{FirstShown, ShowsLast}
+use Rattle.wh_host.specs.Displays.{FirstShown, ShowsLast}
 
 -- Boards were shown that were seen in turn behind the one of this past, and then the board of the whole, where it could be.
 pub record WatchedTo (before whole : Past) (last : Result Unit ShowFault) (had has : Option (List (List ℕ))) : Type 0 where

@@ -1,4 +1,5 @@
 pub mod Pacing
 pub mod Hosting
+pub mod Displays
 pub mod Boards
 pub mod Runs

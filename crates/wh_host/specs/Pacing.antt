@@ -1,5 +1,5 @@
 -- A worker for all agents and the clock, beside clients.
-use Rattle.std.specs.Prelude.{◌≡◌, ◌≤◌, ◌+◌, ◌⊎◌, ℕ, false, List, [], ◌∷◌, length, All, MatchOption, Option, None, Some}
+use Rattle.std.specs.Prelude.{◌≡◌, ◌≤◌, ◌+◌, ◌⊎◌, ℕ, List, [], ◌∷◌, length, All, MatchOption, Option, None, Some}
 use mathlib.Core.List.{IsPrefix}
 use Rattle.wh_event.specs.declared.entry.Entry.{Entry}
 use Rattle.wh_event.specs.declared.event.Command.{Command}
@@ -36,7 +36,7 @@ LeavesOff cells entries command had (Untold fault) has = LeavesUntold cells comm
 -- command, it was the last one. Where it gained entries, it has no more than may be its own.
 pub record PacesUntil (cells : ℕ) (pace : Pacing) (known : Past) (had has : Received) (ended : Option WorkerEnd) : Type 0 where
   pub boards : List Board
-  pub seen : All (MayTurn false known) boards
+  pub seen : All (MayTurn known) boards
   pub few : length boards ≤ pace.turns
   pub does : MatchOption ended (Does (turns_of boards) had has) (λ end. DoesUntil (LeavesOff cells pace.entries) (turns_of boards) end had has)
   pub share : (has.list ≡ had.list) ⊎ (length has.list ≤ pace.entries)

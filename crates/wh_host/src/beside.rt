@@ -4,12 +4,13 @@ ghost use Rattle.std.specs.Prelude.{◌≡◌, IfErr, IfOk, IfSome, Some, length
 ghost use Rattle.wh_desk.specs.Pasts.{origin_of, past_of};
 ghost use Rattle.wh_desk.specs.Calls.{InOrder};
 ghost use Rattle.wh_display.specs.Screens.{Watches};
-ghost use Rattle.wh_live.specs.Lives.{IsWhyDead};
+ghost use Rattle.wh_crew.specs.Troubles.{IsWhyDead};
 ghost use Rattle.wh_serve.specs.Texts.{receipt_text};
 ghost use Rattle.wh_host.specs.Boards.{WatchedOn};
 ghost use Rattle.wh_host.specs.Hosting.{Leaves};
 ghost use Rattle.wh_host.specs.Pacing.{callers_of};
 
+use crate::display::{Seen, Shown, Watcher, show_whole, watch_run};
 use crate::hosting::{Hosted, host_clients};
 use crate::kept_screen::KeptScreen;
 use crate::pacing::Pacing;
@@ -18,11 +19,11 @@ use std::io::{Read, Write};
 use std::sync::Wait;
 use std::thread::{Threads, join};
 use std::time::{Clock, Duration};
+use wh_crew::trouble_of;
 use wh_desk::{Desk, DeskName, Pass};
 use wh_display::{Bell, Screen, ShowFault};
 use wh_edge::Trouble;
 use wh_journal::Journal;
-use wh_live::{Seen, Shown, Watcher, show_whole, trouble_of, watch_run};
 use wh_planner::Planner;
 use wh_scribe::{JournalName, Scribe};
 use wh_serve::{Client, Doors, Form};

@@ -6,14 +6,16 @@
 #![tactic(auto)]
 
 mod beside;
+mod display;
 mod hosting;
 mod kept_screen;
 mod pacing;
 mod run;
 
+pub use display::{Display, trouble_of_show};
 pub use hosting::{Hosted, host_clients};
 pub use pacing::Pacing;
 pub use run::{Ran, run_clients};
 
-// handed on, for callers: what the items above speak of
-pub use wh_live::Display;
+// handed on, for callers: what the items above take and speak of
+pub use wh_display::{Screen, ShowFault};

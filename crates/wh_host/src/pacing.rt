@@ -89,9 +89,7 @@ pub(crate) fn take_turns<
         if bell.rest(rt, pace.pause) || doors.is_over() {
             return None;
         }
-        let Some(turn) = look_for_turn(viewer, false) else {
-            return None;
-        };
+        let turn = look_for_turn(viewer);
         match take_turn(rt, alloc, desk, scribe, pass, pace.entries, turn) {
             Ok(()) => {}
             Err(why) => {

@@ -7,14 +7,15 @@ ghost use Rattle.wh_board.specs.Pasts.{Extends};
 ghost use Rattle.wh_desk.specs.Pasts.{origin_of, past_of};
 ghost use Rattle.wh_journal.specs.Journals.{lines_for};
 ghost use Rattle.wh_journal.specs.Surviving.{HoldsLog};
-ghost use Rattle.wh_live.specs.Displays.{BoardsFrom};
-ghost use Rattle.wh_live.specs.Lives.{IsWhyDead, IsWhyUnlived};
+ghost use Rattle.wh_crew.specs.Troubles.{IsWhyDead};
 ghost use Rattle.wh_serve.specs.Texts.{receipt_text};
 ghost use Rattle.wh_host.specs.Boards.{FirstOn, WatchedOn};
+ghost use Rattle.wh_host.specs.Displays.{BoardsFrom, IsWhyUnlived};
 ghost use Rattle.wh_host.specs.Pacing.{callers_of};
 ghost use Rattle.wh_host.specs.Runs.{ServedFrom, LeavesKept, IsJournalOf, first_lines};
 
 use crate::beside::{Beside, Watch, host_beside};
+use crate::display::{Display, set_up};
 use crate::hosting::Hosted;
 use crate::pacing::Pacing;
 use std::alloc::{AllocError, Global};
@@ -27,7 +28,6 @@ use wh_desk::{Cells, Desk, DeskName, Front, History, Publisher, Unopened, Wareho
 use wh_display::{Screen, ShowFault};
 use wh_edge::Trouble;
 use wh_journal::Journal;
-use wh_live::{Display, set_up};
 use wh_planner::Planner;
 use wh_scribe::{JournalName, Kept, Scribe};
 use wh_serve::{Client, Doors, Form, WorkerEnd};

@@ -6,7 +6,7 @@ use Rattle.wh_grid.specs.Grids.{Floor}
 use Rattle.wh_core.specs.States.{State}
 use Rattle.wh_token.specs.Drafts.{Seen}
 use Rattle.wh_event.specs.declared.entry.Entry.{Entry}
-use Rattle.wh_log.specs.Told.{Answered}
+use Rattle.wh_replay.specs.declared.asker.Asker.{Asker}
 use Rattle.wh_lines.specs.Input.{Input}
 use Rattle.wh_log.specs.declared.version.Version.TheVariants.{Two}
 use Rattle.wh_log.specs.Logs.{Content}
@@ -19,10 +19,10 @@ appended : (holds : Option (List ℕ)) (text bs : List ℕ) → Appends (Some te
 appended None text bs p = absurd p
 appended (Some x) text bs p = ap (λ (l : List ℕ). Some l) p
 
-pub stays_log : {X : Type 0} (fits : X → Floor → Bool) (count : X → ℕ) (text : Answered → List ℕ) (before after : Input) (old : Seen) (spares : List X) (new : Seen) (rest : List X) (had has journal synced holds : Option (List ℕ))
-    → ReplaysJournaled fits count text before after old spares new rest had has journal synced holds → HoldsLog journal old → StaysLog journal holds new
-stays_log fits count text before after old spares new rest had has None synced holds r is = tt
-stays_log fits count text before after old spares new rest had has (Some held) synced holds r is =
+pub stays_log : {X : Type 0} (fits : X → Floor → Bool) (count : X → ℕ) (asker : Asker) (before after : Input) (old : Seen) (spares : List X) (new : Seen) (rest : List X) (had has journal synced holds : Option (List ℕ))
+    → ReplaysJournaled fits count asker before after old spares new rest had has journal synced holds → HoldsLog journal old → StaysLog journal holds new
+stays_log fits count asker before after old spares new rest had has None synced holds r is = tt
+stays_log fits count asker before after old spares new rest had has (Some held) synced holds r is =
     let whole = lines_text (begun_lines Two (told_by old)) in
     let grew : Appends (Some whole) holds (lines_for r.added) = subst (λ (j : Option (List ℕ)). Appends j holds (lines_for r.added)) is r.stands in
     let opening : new.opening ≡ old.opening = r.serves.output.opening in

@@ -2,9 +2,9 @@
 #![tactic(auto)]
 
 ghost use Rattle.std.specs.Prelude.{◌≡◌};
-ghost use Rattle.wh_journal.specs.Faults.{fault_of};
+ghost use Rattle.wh_journal.specs.Faults.{session_fault};
 
-use wh_lines::{LineFault, ReadFault};
+use wh_session::SessionFault;
 
 /// Why a script was not served to its end. Lack of memory is none of these: it never ends a script, and a command that it
 /// refuses is answered.
@@ -20,12 +20,15 @@ pub enum JournaledFault {
     Unjournaled,
 }
 
-pub(crate) fn read_fault(fault: LineFault) -> JournaledFault
-    ensures { result ≡ fault_of fault }
+pub(crate) fn session_fault(fault: SessionFault) -> JournaledFault
+    ensures { result ≡ session_fault fault }
 {
     match fault {
-        LineFault::Read(ReadFault::Broken) => JournaledFault::Broken,
-        LineFault::Read(ReadFault::Endless) => JournaledFault::Endless,
-        LineFault::Flush => JournaledFault::Unwritten,
+        SessionFault::Broken => JournaledFault::Broken,
+        SessionFault::Endless => JournaledFault::Endless,
+        SessionFault::Unkept => JournaledFault::Unjournaled,
+        SessionFault::Unwritten | SessionFault::NoMemory | SessionFault::Failed => {
+            JournaledFault::Unwritten
+        }
     }
 }

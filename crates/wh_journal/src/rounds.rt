@@ -3,21 +3,22 @@
 
 ghost use Rattle.std.specs.Prelude.{◌≡◌, ◌<◌, ◌^◌, true, length, IfOk, IfErr, OnErr};
 ghost use Rattle.std.specs.Io.KnownBytes.{Keeps};
-ghost use Rattle.wh_log.specs.Told.{told_text};
+ghost use Rattle.wh_replay.specs.Machines.{Left};
+ghost use Rattle.wh_journal.specs.Faults.{session_round};
 ghost use Rattle.wh_journal.specs.Journals.{Rounds, Journaled};
-ghost use Rattle.wh_journal.specs.Parts.{Parts};
+ghost use Rattle.wh_journal.specs.Journals.{log_asker};
 
-use crate::answering::Answers;
-use crate::fault::JournaledFault;
-use crate::gathering::{Part, gather};
-use crate::journal::Journal;
-use crate::settling::settle;
-use arrayvec::ArrayVec;
+use crate::fault::{JournaledFault, session_fault};
+use crate::journal::{Journal, LOG_CALLER};
+use crate::keeping::JournalKeeper;
 use std::alloc::Global;
 use std::io::{Read, Write};
+use wh_event::Command;
 use wh_lines::Lines;
-use wh_log::Form;
+use wh_log::{Form, MOST_ENTRIES};
 use wh_planner::Plans;
+use wh_replay::{Asker, ManyAnswers, Script};
+use wh_session::Round as Part;
 use wh_token::Warehouse;
 
 /// What a round came to.
@@ -29,67 +30,38 @@ pub enum Round {
     Ended,
 }
 
-/// Serves as many of the lines as there is room for what they are answered, has the journal keep the entries, and tells the
-/// replies.
-fn serve_part<R: Read, W: Write, J: Journal, P: Plans>(
-    lines: &mut Lines<R>,
-    alloc: Global,
-    form: Form,
-    journal: &mut J,
-    writer: &mut W,
-    warehouse: &mut Warehouse<P>,
-    spares: &mut Vec<P>,
-) -> Result<Part, JournaledFault>
-    requires { J.synced journal.old ≡ J.contents journal.old }
-    ensures ok { IfOk result (λ part. Parts P.fits_map P.slot_count (told_text form) lines.old lines.new warehouse.old.book spares.old.items warehouse.new.book spares.new.items (W.contents writer.old) (W.contents writer.new) (J.contents journal.old) (J.synced journal.new) (J.contents journal.new) part) }
-    ensures fault { IfErr result (λ fault. Journaled P.fits_map P.slot_count (told_text form) fault lines.old lines.new warehouse.old.book spares.old.items warehouse.new.book spares.new.items (W.contents writer.old) (W.contents writer.new) (J.contents journal.old) (J.failed journal.new) (J.synced journal.new) (J.contents journal.new)) }
-    ensures few { length warehouse.old.book.history < 10 ^ 9 → length warehouse.new.book.history < 10 ^ 9 }
+fn session_round(part: Part) -> Round
+    ensures { result ≡ session_round part }
 {
-    let first = warehouse.history().len();
-    let clock = warehouse.clock();
-    let mut answers: Answers = ArrayVec::new();
-    let part = match gather(lines, alloc, writer, &mut answers, warehouse, spares) {
-        Ok(part) => part,
-        Err(fault) => return Err(fault),
-    };
-    match settle(
-        form,
-        journal,
-        writer,
-        answers.as_slice(),
-        warehouse.history(),
-        first,
-        clock,
-    ) {
-        Ok(()) => return Ok(part),
-        Err(fault) => return Err(fault),
+    match part {
+        Part::More | Part::Served => Round::Served,
+        Part::Ended | Part::Torn | Part::Over => Round::Ended,
     }
 }
 
-/// Serves the parts of a round one after another.
-fn serve_parts<R: Read, W: Write, J: Journal, P: Plans>(
+/// Serves a round by the one loop.
+fn serve_script<R: Read, W: Write, J: Journal, P: Plans>(
     lines: &mut Lines<R>,
-    alloc: Global,
-    form: Form,
-    journal: &mut J,
     writer: &mut W,
-    warehouse: &mut Warehouse<P>,
-    spares: &mut Vec<P>,
+    script: &mut Script<'_, P, ManyAnswers>,
+    keeper: &mut JournalKeeper<'_, J>,
 ) -> Result<Round, JournaledFault>
-    requires { J.synced journal.old ≡ J.contents journal.old }
-    ensures ok { IfOk result (Rounds P.fits_map P.slot_count (told_text form) lines.old lines.new warehouse.old.book spares.old.items warehouse.new.book spares.new.items (W.contents writer.old) (W.contents writer.new) (J.contents journal.old) (J.synced journal.new) (J.contents journal.new)) }
-    ensures fault { IfErr result (λ fault. Journaled P.fits_map P.slot_count (told_text form) fault lines.old lines.new warehouse.old.book spares.old.items warehouse.new.book spares.new.items (W.contents writer.old) (W.contents writer.new) (J.contents journal.old) (J.failed journal.new) (J.synced journal.new) (J.contents journal.new)) }
-    ensures few { length warehouse.old.book.history < 10 ^ 9 → length warehouse.new.book.history < 10 ^ 9 }
+    requires synced { J.synced keeper.old.journal.now ≡ J.contents keeper.old.journal.now }
+    requires most { script.old.most ≡ 999999999 }
+    requires left { Left script.old.first script.old.clock script.old.warehouse.now.book script.old.answers.answers.items }
+    ensures seat { script.new.warehouse.ghost_name ≡ script.old.warehouse.ghost_name }
+    ensures room { script.new.spares.ghost_name ≡ script.old.spares.ghost_name }
+    ensures name { keeper.new.journal.ghost_name ≡ keeper.old.journal.ghost_name }
+    ensures ok { IfOk result (Rounds P.fits_map P.slot_count script.old.asker lines.old lines.new script.old.warehouse.now.book script.old.spares.now.items script.new.warehouse.now.book script.new.spares.now.items (W.contents writer.old) (W.contents writer.new) (J.contents keeper.old.journal.now) (J.synced keeper.new.journal.now) (J.contents keeper.new.journal.now)) }
+    ensures fault { IfErr result (λ fault. Journaled P.fits_map P.slot_count script.old.asker fault lines.old lines.new script.old.warehouse.now.book script.old.spares.now.items script.new.warehouse.now.book script.new.spares.now.items (W.contents writer.old) (W.contents writer.new) (J.contents keeper.old.journal.now) (J.failed keeper.new.journal.now) (J.synced keeper.new.journal.now) (J.contents keeper.new.journal.now)) }
+    ensures few { length script.old.warehouse.now.book.history < 10 ^ 9 → length script.new.warehouse.now.book.history < 10 ^ 9 }
+    ensures failed { OnErr result (lines.new.failed ≡ true) }
+    ensures again { lines.old.failed ≡ true → (result ≡ Err JournaledFault.Broken) × (lines.new ≡ lines.old) × (script.new.warehouse.now.book ≡ script.old.warehouse.now.book) × (script.new.spares.now.items ≡ script.old.spares.now.items) × (keeper.new.journal.now ≡ keeper.old.journal.now) × Keeps (W.contents writer.old) (W.contents writer.new) }
 {
-    for _ in 0..u64::MAX {
-        match serve_part(lines, alloc, form, journal, writer, warehouse, spares) {
-            Ok(Part::Full) => {}
-            Ok(Part::Served) => return Ok(Round::Served),
-            Ok(Part::Ended) => return Ok(Round::Ended),
-            Err(fault) => return Err(fault),
-        }
+    match wh_session::serve_round(lines, writer, script, keeper) {
+        Ok(part) => Ok(session_round(part)),
+        Err(fault) => Err(session_fault(fault)),
     }
-    Err(JournaledFault::Endless)
 }
 
 /// Serves the next line of a script, for which it may wait, and each further whole line that waits, has the journal keep
@@ -105,22 +77,32 @@ pub fn serve_round<R: Read, W: Write, J: Journal, P: Plans>(
     spares: &mut Vec<P>,
 ) -> Result<Round, JournaledFault>
     requires { J.synced journal.old ≡ J.contents journal.old }
-    ensures ok { IfOk result (Rounds P.fits_map P.slot_count (told_text form) lines.old lines.new warehouse.old.book spares.old.items warehouse.new.book spares.new.items (W.contents writer.old) (W.contents writer.new) (J.contents journal.old) (J.synced journal.new) (J.contents journal.new)) }
-    ensures fault { IfErr result (λ fault. Journaled P.fits_map P.slot_count (told_text form) fault lines.old lines.new warehouse.old.book spares.old.items warehouse.new.book spares.new.items (W.contents writer.old) (W.contents writer.new) (J.contents journal.old) (J.failed journal.new) (J.synced journal.new) (J.contents journal.new)) }
+    ensures ok { IfOk result (Rounds P.fits_map P.slot_count (log_asker form) lines.old lines.new warehouse.old.book spares.old.items warehouse.new.book spares.new.items (W.contents writer.old) (W.contents writer.new) (J.contents journal.old) (J.synced journal.new) (J.contents journal.new)) }
+    ensures fault { IfErr result (λ fault. Journaled P.fits_map P.slot_count (log_asker form) fault lines.old lines.new warehouse.old.book spares.old.items warehouse.new.book spares.new.items (W.contents writer.old) (W.contents writer.new) (J.contents journal.old) (J.failed journal.new) (J.synced journal.new) (J.contents journal.new)) }
     // With one entry more the journal would be no log.
     ensures few { length warehouse.old.book.history < 10 ^ 9 → length warehouse.new.book.history < 10 ^ 9 }
     // After a fault there is nothing more.
     ensures failed { OnErr result (lines.new.failed ≡ true) }
     ensures again { lines.old.failed ≡ true → (result ≡ Err JournaledFault.Broken) × (lines.new ≡ lines.old) × (warehouse.new.book ≡ warehouse.old.book) × (spares.new.items ≡ spares.old.items) × (journal.new ≡ journal.old) × Keeps (W.contents writer.old) (W.contents writer.new) }
 {
-    if lines.has_failed() {
-        return Err(JournaledFault::Broken);
-    }
-    match serve_parts(lines, alloc, form, journal, writer, warehouse, spares) {
-        Ok(round) => Ok(round),
-        Err(fault) => {
-            lines.fail();
-            Err(fault)
-        }
-    }
+    let mut command = Command::Close;
+    let first = warehouse.history().len();
+    let clock = warehouse.clock();
+    let mut script = Script {
+        warehouse,
+        spares,
+        command: &mut command,
+        alloc,
+        asker: Asker {
+            caller: LOG_CALLER,
+            form,
+        },
+        most: MOST_ENTRIES,
+        replies: 0,
+        first,
+        clock,
+        answers: ManyAnswers::new(),
+    };
+    let mut keeper = JournalKeeper { journal };
+    serve_script(lines, writer, &mut script, &mut keeper)
 }

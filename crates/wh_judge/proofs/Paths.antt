@@ -1,5 +1,5 @@
 -- the paths of a run: how many steps they have at most, and that a log can tell them
-use Rattle.std.proofs.Common.{◌≡◌, ◌≢◌, ℕ, ◌+◌, ◌*◌, ◌<◌, ◌≤◌, ◌∙◌, ◌⊎◌, inl, List, [], ◌∷◌, Bool, true, false, length, map, take, drop, get_or, sym, subst, ap, arith}
+use Rattle.std.proofs.Common.{◌≡◌, ◌≢◌, ℕ, ◌+◌, ◌*◌, ◌<◌, ◌≤◌, ◌∙◌, inl, List, [], ◌∷◌, Bool, true, false, length, map, take, drop, get_or, sym, subst, ap, arith}
 use Prim.Native.Nat.{zero, suc}
 use Rattle.std.specs.List.{AllByRecursion, All}
 use Rattle.std.proofs.lemmas.List.Sums.{count_by-le-length}

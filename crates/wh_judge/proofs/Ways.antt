@@ -1,5 +1,5 @@
 -- the want of a clear way
-use Rattle.std.proofs.Common.{◌≡◌, ℕ, ◌<◌, ◌≤◌, ◌∙◌, List, [], ◌∷◌, Bool, true, false, length, refl, sym, subst}
+use Rattle.std.proofs.Common.{◌≡◌, ℕ, ◌<◌, ◌≤◌, ◌∙◌, List, Bool, true, false, length, refl, sym, subst}
 use Rattle.std.specs.Prelude.{◌↔◌, IsTrue, not, Option, Some, None, IfSome, IfNone, is_some, Contains}
 use Rattle.std.proofs.lemmas.Bool.{false≢true}
 use Rattle.std.proofs.lemmas.Option.{same_Some}
@@ -8,14 +8,13 @@ use Rattle.wh_grid.specs.declared.cell.Cell.{Cell}
 use Rattle.wh_grid.specs.Grids.{Floor}
 use Rattle.wh_field.specs.Distances.{IsRoute, IsLeastRoute, IsNearestRoute}
 use Rattle.wh_points.specs.Points.{Site}
-use Rattle.wh_path.specs.Paths.{cell_at, last_index, place_of, end_of, others, ends}
+use Rattle.wh_path.specs.Paths.{cell_at, end_of}
 use Rattle.wh_tasks.specs.declared.task.Task.{Task}
 use Rattle.wh_tasks.specs.Tasks.{IsTask}
 use Rattle.wh_core.specs.States.{State}
-use Rattle.wh_planner.specs.Duties.{Delivers, HasRoute, HasRoutes}
-use Rattle.wh_core.specs.Steps.{other_ends}
-use Rattle.wh_core.specs.Ordinary.{IsNext, IsClearWay, HasNoClearWay}
-use Rattle.wh_path.proofs.AtLemmas.{at-one}
+use Rattle.wh_planner.specs.Duties.{Delivers, HasNoClearWay, HasRoute, HasRoutes}
+use Rattle.wh_core.specs.Steps.{other_ends, tour}
+use Rattle.wh_core.specs.Ordinary.{IsNext}
 use Rattle.wh_planner.proofs.Routes.{clear_ways_by_stops}
 use Rattle.wh_book.specs.Drafts.{MayPark}
 use Rattle.wh_book.proofs.Naming.{park-allowed}
@@ -26,32 +25,18 @@ not-iff : (b : Bool) (P Q : Type 0) → (IsTrue b ↔ P) → ((¬ P) → Q) → 
 not-iff true P Q iff to from = (λ e. absurd (false≢true e), λ q. absurd (from q (iff.0 refl)))
 not-iff false P Q iff to from = (λ e. to (λ p. false≢true (iff.1 p)), λ q. refl)
 
--- there is a clear way from where the agent is exactly where routes go from there
-ways-by-stops : (g : Floor) (paths : List (List Cell)) (agent : ℕ) (stops : List Cell) → 1 ≤ length stops →
-    ((way : List Cell) × IsClearWay g paths agent (Delivers stops) way) ↔ HasRoutes g (ends (others paths agent)) (place_of paths agent) stops
-ways-by-stops g paths agent stops some =
-    let here = place_of paths agent in
-    let standing : List (List Cell) = (here ∷ []) ∷ others paths agent in
-    let by = clear_ways_by_stops g standing 0 stops some in
-    let is : end_of standing 0 ≡ here = at-one here (last_index (here ∷ [])) in (
-      λ way. subst (λ c. HasRoutes g (ends (others paths agent)) c stops) is
-          (by.0 (way.0, record { walk = way.1.walk; starts_here = way.1.starts_here ∙ sym is; clear = way.1.clear; serves = way.1.serves })),
-      λ routes.
-          let way = by.1 (subst (λ c. HasRoutes g (ends (others paths agent)) c stops) (sym is) routes) in
-          (way.0, record { walk = way.1.walk; starts_here = way.1.starts_here ∙ is; clear = way.1.clear; serves = way.1.serves }),
-    )
-
-pub lacks-delivery : (site : Site) (s : State) (agent n : ℕ) (task : Task) (b : Bool) → IsNext site s agent n task → 1 ≤ length task.stops →
-    (IsTrue b ↔ HasRoutes site.grid (other_ends s agent) (place_of s.paths agent) task.stops) → IsTrue (not b) ↔ LacksDelivery site s agent
+pub lacks-delivery : (site : Site) (s : State) (agent n : ℕ) (task : Task) (b : Bool) → IsNext site s agent n task → 1 ≤ length (tour site agent task.stops) →
+    (IsTrue b ↔ HasRoutes site.grid (other_ends s agent) (end_of s.paths agent) (tour site agent task.stops)) → IsTrue (not b) ↔ LacksDelivery site s agent
 lacks-delivery site s agent n task b next some iff =
-    let by = ways-by-stops site.grid s.paths agent task.stops some in
-    not-iff b (HasRoutes site.grid (other_ends s agent) (place_of s.paths agent) task.stops) (LacksDelivery site s agent) iff
+    let stops = tour site agent task.stops in
+    let by = clear_ways_by_stops site.grid s.paths agent stops some in
+    not-iff b (HasRoutes site.grid (other_ends s agent) (end_of s.paths agent) stops) (LacksDelivery site s agent) iff
     (λ none. (n, task, next, λ way clear. none (by.0 (way, clear))))
     (λ lacks routes.
     let e : lacks.0 ≡ n = next-one site s agent lacks.0 n lacks.1 task lacks.2 next in
     let same : lacks.1 ≡ task = same_Some lacks.1 task (sym (subst (λ k. IsTask s.tasks k lacks.1) e lacks.2.eligible.there) ∙ next.eligible.there) in
     let way = by.1 routes in
-    subst (λ (t : Task). HasNoClearWay site.grid s.paths agent (Delivers t.stops)) same lacks.3 way.0 way.1)
+    subst (λ (t : Task). HasNoClearWay site.grid s.paths agent (Delivers (tour site agent t.stops))) same lacks.3 way.0 way.1)
 
 -- what looks for a route tells whether there is one
 pub route-iff : (g : Floor) (from to : Cell) (avoid : List Cell) (found : Option (List Cell)) → IfSome found (λ p. IsLeastRoute g from to avoid p) →
@@ -77,7 +62,7 @@ nearest-iff g from cells avoid (Some near) some none = (
 
 -- a route to a cell that is listed is a route to one where the agent may park
 pub can-park : (site : Site) (s : State) (agent : ℕ) (cells : List Cell) (b : Bool) → ((cell : Cell) → Contains cells cell ↔ MayPark site.layout s (other_ends s agent) cell) →
-    (IsTrue b ↔ ((cell : Cell) × Contains cells cell × HasRoute site.grid (other_ends s agent) (place_of s.paths agent) cell)) → IsTrue b ↔ CanPark site s agent
+    (IsTrue b ↔ ((cell : Cell) × Contains cells cell × HasRoute site.grid (other_ends s agent) (end_of s.paths agent) cell)) → IsTrue b ↔ CanPark site s agent
 can-park site s agent cells b listed iff = (
   λ t. (let r = iff.0 t in (r.0, (park-allowed site s agent r.0).0 ((listed r.0).0 r.1), r.2)),
   λ can. iff.1 (can.0, (listed can.0).1 ((park-allowed site s agent can.0).1 can.1), can.2),

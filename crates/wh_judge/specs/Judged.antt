@@ -7,11 +7,12 @@ use Rattle.wh_event.specs.declared.entry.Entry.{Entry}
 use Rattle.wh_core.specs.Laws.{IsReachedOnTheirWays}
 use Rattle.wh_event.specs.declared.reply.Reply.{Reply}
 use Rattle.wh_core.specs.States.{State}
-use Rattle.wh_core.specs.Steps.{Step, other_ends}
-use Rattle.wh_core.specs.Ordinary.{Answers, IsNext, NoneIsNext, MakesWay, IsAllowed, HasNoClearWay}
-use Rattle.wh_planner.specs.Duties.{Delivers, ParksAt, HasRoute}
+use Rattle.wh_core.specs.Steps.{Step, other_ends, tour}
+use Rattle.wh_core.specs.Ordinary.{IsNext, NoneIsNext, IsAllowed}
+use Rattle.wh_book.specs.OnTheirWays.{Answers, MakesWay}
+use Rattle.wh_planner.specs.Duties.{Delivers, ParksAt, HasNoClearWay, HasRoute}
 use Rattle.wh_grid.specs.declared.cell.Cell.{Cell}
-use Rattle.wh_path.specs.Paths.{place_of}
+use Rattle.wh_path.specs.Paths.{end_of}
 
 -- to no state does the reply to the event lead from here
 abbrev pub NoAnswer : Site → State → Reply → Event → Type 0
@@ -27,21 +28,21 @@ abbrev pub IsChoice : Site → State → ℕ → Option ℕ → Type 0
 IsChoice site s agent None = NoneIsNext s agent
 IsChoice site s agent (Some n) = (task : Task) × IsNext site s agent n task
 
--- some run leads to the state, without homes
+-- some run leads to the state, in which all are on their ways
 abbrev pub IsReachable : Site → State → Type 0
-IsReachable site s = (entries : List Entry) × IsReachedOnTheirWays site entries s × (site.homes ≡ false)
+IsReachable site s = (entries : List Entry) × IsReachedOnTheirWays site entries s
 
 -- the agent has a task before it, and no clear way to deliver it
 abbrev pub LacksDelivery : Site → State → ℕ → Type 0
-LacksDelivery site s agent = (n : ℕ) × (task : Task) × IsNext site s agent n task × HasNoClearWay site.grid s.paths agent (Delivers task.stops)
+LacksDelivery site s agent = (n : ℕ) × (task : Task) × IsNext site s agent n task × HasNoClearWay site.grid s.paths agent (Delivers (tour site agent task.stops))
 
 -- the agent has to make way, and no clear way to a cell where it may
 abbrev pub LacksParking : Site → State → ℕ → Type 0
-LacksParking site s agent = MakesWay s agent × HasNoClearWay site.grid s.paths agent (ParksAt (IsAllowed site s agent))
+LacksParking site s agent = MakesWay site s agent × HasNoClearWay site.grid s.paths agent (ParksAt (IsAllowed site s agent))
 
--- a route leads round the others' ends to a cell where the agent may park
+-- a route leads from where the agent's path ends, round the ends of the others', to a cell where it may park
 abbrev pub CanPark : Site → State → ℕ → Type 0
-CanPark site s agent = (cell : Cell) × IsAllowed site s agent cell × HasRoute site.grid (other_ends s agent) (place_of s.paths agent) cell
+CanPark site s agent = (cell : Cell) × IsAllowed site s agent cell × HasRoute site.grid (other_ends s agent) (end_of s.paths agent) cell
 
 -- what callers see of a judge: the site and the state
 pub record Judged : Type 0 where

@@ -2,11 +2,11 @@
 #![tactic(auto)]
 
 ghost use Rattle.std.specs.Prelude.{◌≡◌, ◌≢◌, ◌<◌, ◌≤◌, ◌↔◌, false, IsTrue, length};
-ghost use Rattle.wh_path.specs.Paths.{place_of, steps_left};
-ghost use Rattle.wh_core.specs.Steps.{IsKnown, IsDeliveryCell};
-ghost use Rattle.wh_core.specs.Ordinary.{IsDue};
+ghost use Rattle.wh_path.specs.Paths.{place_of, end_of};
+ghost use Rattle.wh_core.specs.Steps.{IsKnown, IsDue, IsIdleIn, IsDeliveryCell};
 
-use wh_book::FleetState;
+use crate::instance::Instance;
+use wh_book::{FleetState, ticks_until_idle};
 use wh_grid::Cell;
 
 /// Whether the warehouse is open and has an agent of this number.
@@ -24,23 +24,23 @@ pub fn is_stranger(floor: &FleetState, agent: u32) -> bool
 }
 
 /// Whether the agent may be given something to do.
-pub fn is_due(floor: &FleetState, agent: u32) -> bool
-    ensures { IsTrue result ↔ IsDue floor.now.state agent }
+pub fn is_due(instance: &Instance, floor: &FleetState, agent: u32) -> bool
+    ensures { IsTrue result ↔ IsDue instance.now floor.now.state agent }
 {
     if !is_known(floor, agent) {
         return false;
     }
-    floor.paths()[agent as usize].remaining() == 0
+    ticks_until_idle(instance.homes(), floor, agent) == 0
 }
 
-/// Whether the agent has just `left` steps left, and not none.
-pub fn is_moving(floor: &FleetState, agent: u32, left: u64) -> bool
-    ensures { IsTrue result ↔ (IsKnown floor.now.state agent × (left ≡ steps_left floor.now.state.paths agent) × (left ≢ 0)) }
+/// Whether the agent is due in just `left` ticks, and not yet.
+pub fn is_moving(instance: &Instance, floor: &FleetState, agent: u32, left: u64) -> bool
+    ensures { IsTrue result ↔ (IsKnown floor.now.state agent × IsIdleIn instance.now floor.now.state agent left × (left ≢ 0)) }
 {
-    if !is_known(floor, agent) {
+    if left == 0 || !is_known(floor, agent) {
         return false;
     }
-    left == floor.paths()[agent as usize].remaining() && left != 0
+    left == ticks_until_idle(instance.homes(), floor, agent)
 }
 
 /// Where the agent is.
@@ -49,6 +49,14 @@ pub fn place(floor: &FleetState, agent: u32) -> Cell
     ensures { result ≡ place_of floor.now.state.paths agent }
 {
     floor.paths()[agent as usize].start()
+}
+
+/// Where the agent's path ends.
+pub fn path_end(floor: &FleetState, agent: u32) -> Cell
+    requires { agent < length floor.now.state.paths }
+    ensures { result ≡ end_of floor.now.state.paths agent }
+{
+    floor.paths()[agent as usize].end()
 }
 
 /// Whether at the agent's cell an open task is to be delivered.

@@ -107,7 +107,7 @@ pub fn is_course(
     path: &TimedPath,
 ) -> bool
     requires known { agent < length paths.now }
-    requires legs { legs ≤ 8 }
+    requires legs { legs ≤ 9 }
     ensures { IsTrue result ↔ IsLawful grid.now nofollow paths.now agent legs (λ _. ⊤) path.now }
 {
     let list = paths.paths();
@@ -125,7 +125,7 @@ pub fn is_course(
     free_of_others(nofollow, paths, agent, path)
 }
 
-/// Whether the agent may adopt the path to deliver a task with these stops.
+/// Whether the agent may adopt the path to go through these stops.
 pub fn may_deliver(
     grid: &Grid,
     nofollow: bool,
@@ -136,7 +136,7 @@ pub fn may_deliver(
 ) -> bool
     requires known { agent < length paths.now }
     requires some { 1 ≤ length stops.now }
-    requires few { length stops.now ≤ 8 }
+    requires few { length stops.now ≤ 9 }
     ensures { IsTrue result ↔ IsLawful grid.now nofollow paths.now agent (length stops.now) (Delivers stops.now) path.now }
 {
     if !goes_through(path, stops) {

@@ -1,49 +1,62 @@
 //! What a log is judged over.
 #![tactic(auto)]
 
-ghost use Rattle.std.specs.Prelude.{◌≡◌, ◌≤◌, ◌↔◌, length, IsTrue, IfOk, false};
-ghost use Rattle.wh_points.specs.Points.{IsLayout, IsPoint, starts};
+ghost use Rattle.std.specs.Prelude.{◌≡◌, ◌<◌, ◌≤◌, ◌↔◌, length, IsTrue, IfOk, false};
+ghost use Rattle.wh_core.specs.Steps.{tour};
+ghost use Rattle.wh_points.specs.Points.{IsLayout, IsPoint, starts, home_of};
 
+use arrayvec::ArrayVec;
 use std::alloc::{AllocError, Global};
 use std::marker::Model;
-use wh_book::starts_of;
+use wh_book::{starts_of, tour_of};
 use wh_grid::{Cell, Grid};
 use wh_points::Points;
 use wh_text::Name;
 
-/// The grid, and the points that were read over it.
+/// The grid, the points that were read over it, and whether paths go on home.
 #[derive(Drop)]
 pub struct Instance<'a> {
     grid: &'a Grid,
     points: &'a Points,
+    homes: bool,
 }
 
 impl<'a> Model for Instance<'a> {
-    ghost use Rattle.std.specs.Prelude.{false};
     ghost use Rattle.wh_points.specs.Points.{Site};
     ghost use Rattle.wh_book.specs.Settings.{IsSite};
 
     ghost Value = { Site };
 
-    ghost view = { λ i. record { grid = i.grid.now; layout = i.points.now; homes = false } };
+    ghost view = { λ i. record { grid = i.grid.now; layout = i.points.now; homes = i.homes } };
 
-    ghost invariant = { λ i. IsSite (record { grid = i.grid.now; layout = i.points.now; homes = false }) };
+    ghost invariant = { λ i. IsSite (record { grid = i.grid.now; layout = i.points.now; homes = i.homes }) };
 }
 
 impl<'a> Instance<'a> {
-    /// The grid with its points.
+    /// The grid with its points, where each path ends at the last stop of its task.
     pub fn new(grid: &'a Grid, points: &'a Points) -> Instance<'a>
         requires { IsLayout grid.now points.now }
         ensures { result ≡ record { grid = grid.now; layout = points.now; homes = false } }
     {
+        Instance::with_homes(grid, points, false)
+    }
+
+    /// The grid with its points, and whether paths go on home.
+    pub fn with_homes(grid: &'a Grid, points: &'a Points, homes: bool) -> Instance<'a>
+        requires { IsLayout grid.now points.now }
+        ensures { result ≡ record { grid = grid.now; layout = points.now; homes = homes } }
+    {
         let _agents = points.agents();
-        Instance { grid, points }
+        Instance {
+            grid,
+            points,
+            homes,
+        }
     }
 
     /// The grid.
     pub fn grid(&self) -> &Grid
         ensures value { result.now ≡ self.now.grid }
-        ensures ends_at_stops { self.now.homes ≡ false }
         ensures layout { IsLayout self.now.grid self.now.layout }
     {
         self.grid
@@ -54,6 +67,34 @@ impl<'a> Instance<'a> {
         ensures { result ≡ self.now.layout.nofollow }
     {
         self.points.nofollow()
+    }
+
+    /// Whether paths go on home.
+    pub fn homes(&self) -> bool
+        ensures { result ≡ self.now.homes }
+    {
+        self.homes
+    }
+
+    /// The home of the agent: the cell where it starts.
+    pub fn home(&self, agent: u32) -> Cell
+        requires { agent < length self.now.layout.agents }
+        ensures { result ≡ home_of self.now.layout agent }
+    {
+        let number = self.points.agents()[agent as usize];
+        self.points.cell(number)
+    }
+
+    /// Where the agent goes for these stops: through them, and then home if paths go on home. It takes no memory.
+    pub fn tour(&self, agent: u32, stops: &[Cell]) -> ArrayVec<Cell, 9>
+        requires known { agent < length self.now.layout.agents }
+        requires two { 2 ≤ length stops.now }
+        requires eight { length stops.now ≤ 8 }
+        ensures value { result.items ≡ tour self.now agent stops.now }
+        ensures two { 2 ≤ length result.items }
+        ensures nine { length result.items ≤ 9 }
+    {
+        tour_of(self.homes, self.home(agent), stops)
     }
 
     /// The points.

@@ -2,12 +2,11 @@
 #![tactic(auto)]
 
 ghost use Rattle.std.specs.Prelude.{◌≡◌, ◌⊎◌, ◌<◌, ◌↔◌, IsTrue, IfOk, length};
-ghost use Rattle.wh_core.specs.Steps.{IsDeliveryCell};
-ghost use Rattle.wh_core.specs.Ordinary.{NoneIsNext, MakesWay};
-ghost use Rattle.wh_path.specs.Paths.{place_of};
+ghost use Rattle.wh_core.specs.Ordinary.{NoneIsNext};
+ghost use Rattle.wh_book.specs.OnTheirWays.{MakesWay, IsOutOfTheWay};
 ghost use Rattle.wh_judge.specs.Judged.{LacksDelivery, LacksParking, CanPark};
 
-use crate::agents::{is_in_the_way, place};
+use crate::agents::{is_in_the_way, path_end};
 use crate::choice::{next, none_is_next};
 use crate::instance::Instance;
 use crate::routes::{has_route_to_any, has_routes};
@@ -20,10 +19,10 @@ use wh_planner::other_ends;
 pub fn may_rest(instance: &Instance, floor: &FleetState, near: &mut LazyField, agent: u32) -> bool
     requires known { agent < length floor.now.state.paths }
     requires grid { near.old.grid ≡ instance.now.grid }
-    ensures rests { IsTrue result ↔ (NoneIsNext floor.now.state agent × (¬ IsDeliveryCell floor.now.state (place_of floor.now.state.paths agent))) }
+    ensures rests { IsTrue result ↔ (NoneIsNext floor.now.state agent × IsOutOfTheWay instance.now floor.now.state agent) }
     ensures grid { near.new.grid ≡ instance.now.grid }
 {
-    if is_in_the_way(floor, agent) {
+    if !instance.homes() && is_in_the_way(floor, agent) {
         return false;
     }
     none_is_next(instance, floor, near, agent)
@@ -33,10 +32,10 @@ pub fn may_rest(instance: &Instance, floor: &FleetState, near: &mut LazyField, a
 pub fn makes_way(instance: &Instance, floor: &FleetState, near: &mut LazyField, agent: u32) -> bool
     requires known { agent < length floor.now.state.paths }
     requires grid { near.old.grid ≡ instance.now.grid }
-    ensures way { IsTrue result ↔ MakesWay floor.now.state agent }
+    ensures way { IsTrue result ↔ MakesWay instance.now floor.now.state agent }
     ensures grid { near.new.grid ≡ instance.now.grid }
 {
-    if !is_in_the_way(floor, agent) {
+    if instance.homes() || !is_in_the_way(floor, agent) {
         return false;
     }
     none_is_next(instance, floor, near, agent)
@@ -51,6 +50,7 @@ fn lacks_delivery(
     agent: u32,
 ) -> Result<bool, AllocError>
     requires known { agent < length floor.now.state.paths }
+    requires home { agent < length instance.now.layout.agents }
     requires grid { near.old.grid ≡ instance.now.grid }
     ensures lacks { IfOk result (λ b. IsTrue b ↔ LacksDelivery instance.now floor.now.state agent) }
     ensures grid { near.new.grid ≡ instance.now.grid }
@@ -58,9 +58,10 @@ fn lacks_delivery(
     match next(instance, floor, near, agent) {
         None => Ok(false),
         Some(n) => {
-            let stops = floor.tasks().task(n).stops.as_slice();
+            let tour = instance.tour(agent, floor.tasks().task(n).stops.as_slice());
             let avoid = other_ends(alloc, floor.paths(), agent as usize)?;
-            Ok(!has_routes(alloc, instance.grid(), &avoid, place(floor, agent), stops)?)
+            let from = path_end(floor, agent);
+            Ok(!has_routes(alloc, instance.grid(), &avoid, from, tour.as_slice())?)
         }
     }
 }
@@ -81,7 +82,7 @@ fn can_park(
         alloc,
         instance.grid(),
         &avoid,
-        place(floor, agent),
+        path_end(floor, agent),
         &allowed,
     )?;
     Ok(leads)
@@ -115,6 +116,7 @@ pub fn lacks_way(
     agent: u32,
 ) -> Result<bool, AllocError>
     requires known { agent < length floor.now.state.paths }
+    requires home { agent < length instance.now.layout.agents }
     requires grid { near.old.grid ≡ instance.now.grid }
     ensures lacks { IfOk result (λ b. IsTrue b ↔ (LacksDelivery instance.now floor.now.state agent ⊎ LacksParking instance.now floor.now.state agent)) }
     ensures grid { near.new.grid ≡ instance.now.grid }

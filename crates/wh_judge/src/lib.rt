@@ -1,8 +1,8 @@
 //! Verification: whether an entry is a step, whether a log is a run, and its first line that is not.
 //!
-//! Proved: whether an entry is a step is decided exactly, from the state alone; a log is called a run exactly if it is
-//! of the format and its entries are a run from the opening that it names; of a text one thing can be said
-//! (`Judge::step`, `verify`, `runs_are_logs`, `verdicts_are_one`).
+//! Proved, whether paths end at the last stop or go on home: whether an entry is a step is decided exactly, from the state
+//! alone; a log is called a run exactly if it is of the format and its entries are a run from the opening that it names; of
+//! a text one thing can be said (`Judge::step`, `verify`, `verify_over`, `runs_are_logs`, `verdicts_are_one`).
 #![tactic(auto)]
 
 mod agents;
@@ -22,7 +22,7 @@ mod verifier;
 
 pub use instance::Instance;
 pub use judge::Judge;
-pub use verifier::{Verified, verify};
+pub use verifier::{Verified, verify, verify_over};
 
 // handed on, for callers: what the items below take, return and speak of
 pub use wh_book::{Book, FleetState, Setting};

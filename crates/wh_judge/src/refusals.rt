@@ -2,7 +2,7 @@
 #![tactic(auto)]
 
 ghost use Rattle.std.specs.Prelude.{◌≡◌, ◌↔◌, IsTrue, IfOk};
-ghost use Rattle.wh_core.specs.Ordinary.{Refuses};
+ghost use Rattle.wh_book.specs.OnTheirWays.{Refuses};
 ghost use Rattle.wh_judge.specs.Judged.{IsReachable};
 
 use crate::agents::{is_known, is_moving, is_stranger};
@@ -44,7 +44,9 @@ pub fn refuses(
         (Refusal::UnknownAgent(told), Event::Request { agent }) => {
             Ok(is_stranger(floor, *agent) && *told == *agent)
         }
-        (Refusal::Moving(left), Event::Request { agent }) => Ok(is_moving(floor, *agent, *left)),
+        (Refusal::Moving(left), Event::Request { agent }) => {
+            Ok(is_moving(instance, floor, *agent, *left))
+        }
         (Refusal::NoPath, Event::Request { agent }) => {
             has_no_path(alloc, instance, floor, near, *agent)
         }

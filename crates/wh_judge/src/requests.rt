@@ -9,7 +9,9 @@ ghost use Rattle.wh_planner.specs.Duties.{Delivers, ParksAt, IsLawful};
 ghost use Rattle.wh_event.specs.declared.event.Event.TheVariants as events;
 ghost use Rattle.wh_event.specs.declared.reply.Reply.TheVariants as replies;
 ghost use Rattle.wh_event.specs.declared.reply.Refusal.TheVariants as refusals;
-ghost use Rattle.wh_core.specs.Ordinary.{Refuses, IsNext, IsAllowed};
+ghost use Rattle.wh_core.specs.Steps.{tour};
+ghost use Rattle.wh_core.specs.Ordinary.{IsNext, IsAllowed};
+ghost use Rattle.wh_book.specs.OnTheirWays.{Refuses};
 ghost use Rattle.wh_judge.specs.Judged.{Decides, IsReachable};
 
 use crate::agents::is_due;
@@ -33,20 +35,21 @@ fn may_take(
     path: &TimedPath,
 ) -> bool
     requires known { agent < length floor.now.state.paths }
+    requires home { agent < length instance.now.layout.agents }
     requires grid { near.old.grid ≡ instance.now.grid }
-    ensures takes { IsTrue result ↔ ((task : Job) × IsNext instance.now floor.now.state agent n task × IsLawful instance.now.grid instance.now.layout.nofollow floor.now.state.paths agent (length task.stops) (Delivers task.stops) path.now) }
+    ensures takes { IsTrue result ↔ ((task : Job) × IsNext instance.now floor.now.state agent n task × IsLawful instance.now.grid instance.now.layout.nofollow floor.now.state.paths agent (length (tour instance.now agent task.stops)) (Delivers (tour instance.now agent task.stops)) path.now) }
     ensures grid { near.new.grid ≡ instance.now.grid }
 {
     if !is_next(instance, floor, near, agent, n) {
         return false;
     }
-    let stops = floor.tasks().task(n).stops.as_slice();
+    let tour = instance.tour(agent, floor.tasks().task(n).stops.as_slice());
     may_deliver(
         instance.grid(),
         instance.nofollow(),
         floor.timetable(),
         agent as usize,
-        stops,
+        tour.as_slice(),
         path,
     )
 }
@@ -86,7 +89,7 @@ pub fn take(
     ensures err { OnErr result (floor.new.state ≡ floor.old.state) }
     ensures grid { near.new.grid ≡ instance.now.grid }
 {
-    if !is_due(floor, agent) {
+    if !is_due(instance, floor, agent) {
         return Ok(false);
     }
     if !may_take(instance, floor, near, agent, n, &path) {
@@ -97,15 +100,15 @@ pub fn take(
     Ok(true)
 }
 
-/// Whether the agent may be told to rest. It takes constant time where at a stop of each open task a path ends, and none
-/// stops where the agent is.
+/// Whether the agent may be told to rest. It takes constant time where it is due, at a stop of each open task another's path
+/// ends, and none stops where its own ends.
 pub fn rest(instance: &Instance, floor: &FleetState, near: &mut LazyField, agent: u32) -> bool
     requires reached { IsReachable instance.now floor.now.state }
     requires grid { near.old.grid ≡ instance.now.grid }
     ensures answer { Decides instance.now floor.now.state replies.Rested (events.Request agent) floor.now.state result }
     ensures grid { near.new.grid ≡ instance.now.grid }
 {
-    if !is_due(floor, agent) {
+    if !is_due(instance, floor, agent) {
         return false;
     }
     if rests_at_once(floor, agent) {
@@ -134,7 +137,7 @@ pub fn park(
     ensures err { OnErr result (floor.new.state ≡ floor.old.state) }
     ensures grid { near.new.grid ≡ instance.now.grid }
 {
-    if !is_due(floor, agent) {
+    if !is_due(instance, floor, agent) {
         return Ok(false);
     }
     if !instance.is_at(point, path.end()) {
@@ -164,7 +167,7 @@ pub fn has_no_path(
     ensures lacks { IfOk result (λ b. IsTrue b ↔ Refuses instance.now floor.now.state refusals.NoPath (events.Request agent)) }
     ensures grid { near.new.grid ≡ instance.now.grid }
 {
-    if !is_due(floor, agent) {
+    if !is_due(instance, floor, agent) {
         return Ok(false);
     }
     lacks_way(alloc, instance, floor, near, agent)

@@ -25,7 +25,8 @@ pub enum Verified {
 /// Whether a text is a log whose entries are a run over the grid and the points, from the opening state with its clock
 /// and its slots. Else the first line is told with which no such log begins: a list of slots of another length than the
 /// agents is a fault of line 2, a line that is missing is the one after the last. The log is read once, with memory
-/// for the state and one line.
+/// for the state and one line. Paths are to end at the last stop: a log of a run in which they go on home is one that
+/// `verify_over` tells.
 ///
 /// Error: `NoMemory` when out of memory.
 pub fn verify(alloc: Global, grid: &Grid, points: &Points, log: &[u8]) -> Result<Verified, NoMemory>
@@ -36,8 +37,22 @@ pub fn verify(alloc: Global, grid: &Grid, points: &Points, log: &[u8]) -> Result
     // A log whose entries are a run is told as one.
     ensures run { (content : Content) → IsLogText content log.now → IsRunOf (record { grid = grid.now; layout = points.now; homes = false }) content → IfOk result (λ told. told ≡ Verified.Run (length content.entries)) }
 {
-    let _agents = points.agents();
-    let mut follower = Follower::new(alloc, Instance::new(grid, points))?;
+    verify_over(alloc, Instance::new(grid, points), log)
+}
+
+/// The same over any instance, whether its paths go on home or end at the last stop.
+///
+/// Error: `NoMemory` when out of memory.
+pub fn verify_over(alloc: Global, instance: Instance, log: &[u8]) -> Result<Verified, NoMemory>
+    requires some { 1 ≤ length instance.layout.agents }
+    // What is said of the text is so.
+    ensures says { IfOk result (Says instance.entry log.now) }
+    // A log whose entries are a run is told as one.
+    ensures run { (content : Content) → IsLogText content log.now → IsRunOf instance.entry content → IfOk result (λ told. told ≡ Verified.Run (length content.entries)) }
+{
+    let _grid = instance.grid();
+    let _agents = instance.agents();
+    let mut follower = Follower::new(alloc, instance)?;
     match follow(alloc, &mut follower, log)? {
         Followed::Whole { entries } => Ok(Verified::Run { entries }),
         Followed::Bad { line } => Ok(Verified::Bad { line }),

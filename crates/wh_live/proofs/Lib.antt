@@ -1,5 +1,6 @@
 pub mod Turns
 pub mod Joining
-pub mod Places
-pub mod Viewing
-pub mod Screens
+mod Asked
+mod Teams
+mod Logged
+mod Hosted

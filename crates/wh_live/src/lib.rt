@@ -1,22 +1,21 @@
-//! `warehouse live` with scripts: clients, agents and clock at work in threads, and the log of it.
+//! The subcommand `live`: scripts of clients, agents and clock at work in threads, and the log of it.
 //!
 //! Proved: the scripts are the sections that were read; the log is the one text of one history, made by these workers
-//! alone; a screen was shown boards of ever longer prefixes of it (`read_clients`, `run_crew`).
+//! alone, each of whose commands is in it or was missed with a cause (`live`).
 #![tactic(auto)]
 
 mod clients;
-mod display;
+mod living;
 mod run;
 mod works;
 
 pub use clients::{MAX_WORKERS, SCRIPT_LIMIT, read_clients};
-pub use display::{Display, Seen, Shown, Watcher, set_up, show_whole, trouble_of_show, watch_run};
-pub use run::{Ran, run_crew, trouble_of};
+pub use living::live;
+pub use run::run_crew;
 pub use works::works_of;
 
 // handed on, for callers: what the items below take, return and speak of
 pub use wh_crew::{
-    Cells, Desk, DeskFault, DeskName, Front, History, Missed, Pace, Pass, Publisher, Receipt,
-    Viewer, Warehouse,
+    Cells, Desk, DeskFault, DeskName, Front, History, Missed, Pass, Publisher, Receipt, Viewer,
+    Warehouse,
 };
-pub use wh_display::{Bell, Screen, ShowFault, Watched};

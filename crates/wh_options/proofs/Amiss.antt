@@ -4,13 +4,12 @@ use Rattle.std.specs.Str.{bytes_eq}
 use Rattle.clap.specs.declared.error.kind.ErrorKind.{ErrorKind}
 use Rattle.clap.specs.declared.error.kind.ErrorKind.TheVariants.{ArgumentConflict, MissingRequiredArgument, ValueValidation}
 use Rattle.wh_options.specs.Setting.{IsLine, Setting, Text, value_of, values_of}
-use Rattle.wh_options.specs.Options.{EachGives, IsAmiss, IsClashing, IsClientless, IsLacking, LacksAny, LiveLacks, Way, WordsGive}
+use Rattle.wh_options.specs.Options.{EachGives, IsAmiss, IsClashing, IsClientless, IsLacking, LacksAny, ServeLacks, Way, WordsGive}
 use Rattle.wh_options.specs.Reads.{IsTold}
 use Rattle.wh_options.specs.declared.chosen.Options.{Options}
-use Rattle.wh_options.specs.declared.chosen.Options.TheVariants.{Attend, Check, Replay, Verify, Live}
+use Rattle.wh_options.specs.declared.chosen.Options.TheVariants.{Check, Replay, Verify, Live, Serve}
 use Rattle.wh_options.proofs.Names.{Named, gives_named, other_word, says_named}
 use Rattle.wh_options.proofs.Menus.{Mistaken, told_as}
-use Rattle.wh_options.proofs.Attending.{no_client}
 use Rattle.wh_options.proofs.Once.{all_agree, one_line}
 
 -- what some settings are told of is told of others that give the same
@@ -26,20 +25,25 @@ same_told kind words name told xs ys p q a b is =
 other_than : (name one other : Text) → bytes_eq one other ≡ false → name ≡ one → name ≡ other → ⊥
 other_than name one other differs m n = other_word one other differs (sym m ∙ n)
 
--- what is told of `live` is told of no other options
+-- what does not go together gives no options
 clash_never : (name : Text) (xs : List Setting) (o : Options) → EachGives name xs o → IsClashing name (λ id. value_of id xs) (values_of (codes "client") xs) → ⊥
-clash_never name xs Check gives clash = other_than name (codes "check") (codes "live") refl gives.0 clash.0
-clash_never name xs (Replay o) gives clash = other_than name (codes "replay") (codes "live") refl gives.0 clash.0
-clash_never name xs Verify gives clash = other_than name (codes "verify") (codes "live") refl gives.0 clash.0
-clash_never name xs (Live o) gives clash = clash.2.0 (no_client xs o gives.1)
-clash_never name xs (Attend o) gives clash = gives.1.agree clash.2
+clash_never name xs (Check o) gives (inl clash) = other_than name (codes "check") (codes "serve") refl gives.0 clash.0
+clash_never name xs (Check o) gives (inr clash) = other_than name (codes "check") (codes "replay") refl gives.0 clash.0
+clash_never name xs (Replay o) gives (inl clash) = other_than name (codes "replay") (codes "serve") refl gives.0 clash.0
+clash_never name xs (Replay o) gives (inr clash) = gives.2 clash.2
+clash_never name xs (Verify o) gives (inl clash) = other_than name (codes "verify") (codes "serve") refl gives.0 clash.0
+clash_never name xs (Verify o) gives (inr clash) = other_than name (codes "verify") (codes "replay") refl gives.0 clash.0
+clash_never name xs (Live o) gives (inl clash) = other_than name (codes "live") (codes "serve") refl gives.0 clash.0
+clash_never name xs (Live o) gives (inr clash) = other_than name (codes "live") (codes "replay") refl gives.0 clash.0
+clash_never name xs (Serve o) gives (inl clash) = gives.1.agree clash.2
+clash_never name xs (Serve o) gives (inr clash) = other_than name (codes "serve") (codes "replay") refl gives.0 clash.0
 
 none_never : (name : Text) (xs : List Setting) (o : Options) → EachGives name xs o → IsClientless name (λ id. value_of id xs) (values_of (codes "client") xs) → ⊥
-none_never name xs Check gives none = other_than name (codes "check") (codes "live") refl gives.0 none.0
-none_never name xs (Replay o) gives none = other_than name (codes "replay") (codes "live") refl gives.0 none.0
-none_never name xs Verify gives none = other_than name (codes "verify") (codes "live") refl gives.0 none.0
-none_never name xs (Live o) gives none = none.3 (no_client xs o gives.1)
-none_never name xs (Attend o) gives none = none.4 o.clients.items gives.1.clients
+none_never name xs (Check o) gives none = other_than name (codes "check") (codes "serve") refl gives.0 none.0
+none_never name xs (Replay o) gives none = other_than name (codes "replay") (codes "serve") refl gives.0 none.0
+none_never name xs (Verify o) gives none = other_than name (codes "verify") (codes "serve") refl gives.0 none.0
+none_never name xs (Live o) gives none = other_than name (codes "live") (codes "serve") refl gives.0 none.0
+none_never name xs (Serve o) gives none = none.3 o.clients.items gives.1.clients
 
 told_never : (kind : ErrorKind) (name : Text) (xs : List Setting) (o : Options) → EachGives name xs o → (LacksAny name (λ id. value_of id xs) → ⊥) → IsTold kind name (λ id. value_of id xs) (values_of (codes "client") xs) → ⊥
 told_never kind name xs o gives never (inl lacks) = never lacks.0
@@ -53,19 +57,29 @@ mistaken_never kind words a o gives =
 
 -- ---- they are told in one way
 
-lacks_other : (name : Text) (given : Text → Option Text) → name ≡ codes "live" → (LiveLacks given → ⊥) → LacksAny name given → ⊥
-lacks_other name given is never (inl lacks) = other_than name (codes "live") (codes "replay") refl is lacks.0
+lacks_other : (name : Text) (given : Text → Option Text) → name ≡ codes "serve" → (ServeLacks given → ⊥) → LacksAny name given → ⊥
+lacks_other name given is never (inl lacks) = other_than name (codes "serve") (codes "replay") refl is lacks.0
 lacks_other name given is never (inr lacks) = never lacks.1
+
+-- what lacks and what clashes are told apart, and so are clashes and texts that name no clients
+lacks_or_clashes : (name : Text) (given : Text → Option Text) (clients : List Text) → IsClashing name given clients → LacksAny name given → ⊥
+lacks_or_clashes name given clients (inl clash) lacks = lacks_other name given clash.0 clash.1 lacks
+lacks_or_clashes name given clients (inr clash) (inl lacks) = clash.1 lacks.1
+lacks_or_clashes name given clients (inr clash) (inr lacks) = other_than name (codes "replay") (codes "serve") refl clash.0 lacks.0
+
+clashes_or_none : (name : Text) (given : Text → Option Text) (clients : List Text) → IsClashing name given clients → IsClientless name given clients → ⊥
+clashes_or_none name given clients (inl clash) none = none.2 clash.2
+clashes_or_none name given clients (inr clash) none = other_than name (codes "replay") (codes "serve") refl clash.0 none.0
 
 one_kind : (j k : ErrorKind) (name : Text) (given : Text → Option Text) (clients : List Text) → IsTold j name given clients → IsTold k name given clients → j ≡ k
 one_kind j k name given clients (inl a) (inl b) = a.1 ∙ sym b.1
-one_kind j k name given clients (inl a) (inr (inl b)) = absurd (lacks_other name given b.0.0 b.0.1 a.0)
+one_kind j k name given clients (inl a) (inr (inl b)) = absurd (lacks_or_clashes name given clients b.0 a.0)
 one_kind j k name given clients (inl a) (inr (inr b)) = absurd (lacks_other name given b.0.0 b.0.1 a.0)
-one_kind j k name given clients (inr (inl a)) (inl b) = absurd (lacks_other name given a.0.0 a.0.1 b.0)
+one_kind j k name given clients (inr (inl a)) (inl b) = absurd (lacks_or_clashes name given clients a.0 b.0)
 one_kind j k name given clients (inr (inl a)) (inr (inl b)) = a.1 ∙ sym b.1
-one_kind j k name given clients (inr (inl a)) (inr (inr b)) = absurd (b.0.2 a.0.2)
+one_kind j k name given clients (inr (inl a)) (inr (inr b)) = absurd (clashes_or_none name given clients a.0 b.0)
 one_kind j k name given clients (inr (inr a)) (inl b) = absurd (lacks_other name given a.0.0 a.0.1 b.0)
-one_kind j k name given clients (inr (inr a)) (inr (inl b)) = absurd (a.0.2 b.0.2)
+one_kind j k name given clients (inr (inr a)) (inr (inl b)) = absurd (clashes_or_none name given clients b.0 a.0)
 one_kind j k name given clients (inr (inr a)) (inr (inr b)) = a.1 ∙ sym b.1
 
 pub mistaken_once : (j k : ErrorKind) (words : List Text) → Mistaken j words → Mistaken k words → j ≡ k

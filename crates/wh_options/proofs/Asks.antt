@@ -11,13 +11,13 @@ use Rattle.clap.specs.Faults.{built_fault, entered_fault, fault_of, level_fault,
 use Rattle.clap.specs.Simple.{App, Shape, built, names_of}
 use Rattle.clap.specs.declared.error.kind.ErrorKind.{ErrorKind}
 use Rattle.clap.specs.declared.error.kind.ErrorKind.TheVariants.{DisplayHelp, DisplayVersion}
-use Rattle.wh_options.specs.Menu.{Choices, IsMenu, LiveChoices, menu}
+use Rattle.wh_options.specs.Menu.{Choices, IsMenu, OtherChoices, menu}
 use Rattle.wh_options.specs.Requests.{AsksBy, IsFront, help_flags, subcommand_names, version_flags}
 use Rattle.wh_options.specs.Setting.{Text}
 use Rattle.wh_options.proofs.Shapes.{bytes_same}
 use Rattle.wh_options.proofs.Top.{stopped_walk}
 use Rattle.wh_options.proofs.Menus.{leaf_at}
-use Rattle.wh_options.proofs.Exact.{Enters, check_enters, either_true, live_enters, replay_enters, verify_enters}
+use Rattle.wh_options.proofs.Exact.{Enters, check_enters, either_true, live_enters, replay_enters, serve_enters, verify_enters}
 
 -- ---- one of some words
 
@@ -30,12 +30,15 @@ one_of_two P a b word e p q = elim (either_true _ _ e) [
   ]
 ]
 
-one_of_four : (P : Text → Type 0) (a b c d word : Text) → list_any (bytes_eq word) (a ∷ b ∷ c ∷ d ∷ []) ≡ true → P a → P b → P c → P d → P word
-one_of_four P a b c d word e p q r s = elim (either_true _ _ e) [
-  | inl is ↦ subst P (sym (bytes_same _ _ is)) p
+one_of_five : (P : Text → Type 0) (a b c d e word : Text) → list_any (bytes_eq word) (a ∷ b ∷ c ∷ d ∷ e ∷ []) ≡ true → P a → P b → P c → P d → P e → P word
+one_of_five P a b c d e word is p q r s t = elim (either_true _ _ is) [
+  | inl at ↦ subst P (sym (bytes_same _ _ at)) p
   | inr f ↦ elim (either_true _ _ f) [
-    | inl is ↦ subst P (sym (bytes_same _ _ is)) q
-    | inr g ↦ one_of_two P c d word g r s
+    | inl at ↦ subst P (sym (bytes_same _ _ at)) q
+    | inr g ↦ elim (either_true _ _ g) [
+      | inl at ↦ subst P (sym (bytes_same _ _ at)) r
+      | inr h ↦ one_of_two P d e word h s t
+    ]
   ]
 ]
 
@@ -60,17 +63,17 @@ below_fails b name leaf after k e f =
 
 -- ---- the program's command
 
-abbrev Answers : ErrorKind → Choices → Choices → Choices → LiveChoices → Text → List Text → List Text → Text → Type 0
+abbrev Answers : ErrorKind → Choices → Choices → Choices → OtherChoices → Text → List Text → List Text → Text → Type 0
 Answers k p t r q program front after flag = fault_of (menu p t r q) (program ∷ front ++ flag ∷ after) ≡ k ∷ []
 
 abbrev LeafAnswers : ErrorKind → Shape → List Text → Text → Type 0
 LeafAnswers k leaf after flag = level_fault leaf [] nothing_held (flag ∷ after) false [] ≡ k ∷ []
 
-top_help : (p t r : Choices) (q : LiveChoices) (program : Text) (after : List Text) → Answers DisplayHelp p t r q program [] after (codes "--help") × Answers DisplayHelp p t r q program [] after (codes "-h")
+top_help : (p t r : Choices) (q : OtherChoices) (program : Text) (after : List Text) → Answers DisplayHelp p t r q program [] after (codes "--help") × Answers DisplayHelp p t r q program [] after (codes "-h")
 unfolding clap_on_literals
 top_help p t r q program after = (refl, refl)
 
-top_version : (p t r : Choices) (q : LiveChoices) (program : Text) (after : List Text) → Answers DisplayVersion p t r q program [] after (codes "--version") × Answers DisplayVersion p t r q program [] after (codes "-V")
+top_version : (p t r : Choices) (q : OtherChoices) (program : Text) (after : List Text) → Answers DisplayVersion p t r q program [] after (codes "--version") × Answers DisplayVersion p t r q program [] after (codes "-V")
 unfolding clap_on_literals
 top_version p t r q program after = (refl, refl)
 
@@ -81,74 +84,82 @@ pub record AnswersAll (leaf : Shape) (after : List Text) : Type 0 where
   pub version : LeafAnswers DisplayVersion leaf after (codes "--version")
   pub short_version : LeafAnswers DisplayVersion leaf after (codes "-V")
 
-check_answers : (p t r : Choices) (q : LiveChoices) (after : List Text) → AnswersAll (leaf_at 0 p t r q) after
+check_answers : (p t r : Choices) (q : OtherChoices) (after : List Text) → AnswersAll (leaf_at 0 p t r q) after
 unfolding clap_on_literals
 check_answers p t r q after = record { help = refl; short_help = refl; version = refl; short_version = refl }
 
-replay_answers : (p t r : Choices) (q : LiveChoices) (after : List Text) → AnswersAll (leaf_at 1 p t r q) after
+replay_answers : (p t r : Choices) (q : OtherChoices) (after : List Text) → AnswersAll (leaf_at 1 p t r q) after
 unfolding clap_on_literals
 replay_answers p t r q after = record { help = refl; short_help = refl; version = refl; short_version = refl }
 
-verify_answers : (p t r : Choices) (q : LiveChoices) (after : List Text) → AnswersAll (leaf_at 2 p t r q) after
+verify_answers : (p t r : Choices) (q : OtherChoices) (after : List Text) → AnswersAll (leaf_at 2 p t r q) after
 unfolding clap_on_literals
 verify_answers p t r q after = record { help = refl; short_help = refl; version = refl; short_version = refl }
 
-live_answers : (p t r : Choices) (q : LiveChoices) (after : List Text) → AnswersAll (leaf_at 3 p t r q) after
+live_answers : (p t r : Choices) (q : OtherChoices) (after : List Text) → AnswersAll (leaf_at 3 p t r q) after
 unfolding clap_on_literals
 live_answers p t r q after = record { help = refl; short_help = refl; version = refl; short_version = refl }
+
+serve_answers : (p t r : Choices) (q : OtherChoices) (after : List Text) → AnswersAll (leaf_at 4 p t r q) after
+unfolding clap_on_literals
+serve_answers p t r q after = record { help = refl; short_help = refl; version = refl; short_version = refl }
 
 -- ---- any front
 
 -- one answer to a flag, at the top and at each subcommand
-pub record AnswersAt (k : ErrorKind) (p t r : Choices) (q : LiveChoices) (program : Text) (after : List Text) (flag : Text) : Type 0 where
+pub record AnswersAt (k : ErrorKind) (p t r : Choices) (q : OtherChoices) (program : Text) (after : List Text) (flag : Text) : Type 0 where
   pub top : Answers k p t r q program [] after flag
   pub check : LeafAnswers k (leaf_at 0 p t r q) after flag
   pub replay : LeafAnswers k (leaf_at 1 p t r q) after flag
   pub verify : LeafAnswers k (leaf_at 2 p t r q) after flag
   pub live : LeafAnswers k (leaf_at 3 p t r q) after flag
+  pub serve : LeafAnswers k (leaf_at 4 p t r q) after flag
 
-named_answers : (k : ErrorKind) (p t r : Choices) (q : LiveChoices) (program : Text) (after : List Text) (flag name : Text) → AnswersAt k p t r q program after flag → list_any (bytes_eq name) subcommand_names ≡ true
+named_answers : (k : ErrorKind) (p t r : Choices) (q : OtherChoices) (program : Text) (after : List Text) (flag name : Text) → AnswersAt k p t r q program after flag → list_any (bytes_eq name) subcommand_names ≡ true
     → Answers k p t r q program (name ∷ []) after flag
 named_answers k p t r q program after flag name a e =
-    one_of_four (λ n. Answers k p t r q program (n ∷ []) after flag) (codes "check") (codes "replay") (codes "verify") (codes "live") name e
+    one_of_five (λ n. Answers k p t r q program (n ∷ []) after flag) (codes "check") (codes "replay") (codes "verify") (codes "live") (codes "serve") name e
     (below_fails (built (menu p t r q)) (codes "check") (leaf_at 0 p t r q) (flag ∷ after) k (check_enters p t r q) a.check)
     (below_fails (built (menu p t r q)) (codes "replay") (leaf_at 1 p t r q) (flag ∷ after) k (replay_enters p t r q) a.replay)
     (below_fails (built (menu p t r q)) (codes "verify") (leaf_at 2 p t r q) (flag ∷ after) k (verify_enters p t r q) a.verify)
     (below_fails (built (menu p t r q)) (codes "live") (leaf_at 3 p t r q) (flag ∷ after) k (live_enters p t r q) a.live)
+    (below_fails (built (menu p t r q)) (codes "serve") (leaf_at 4 p t r q) (flag ∷ after) k (serve_enters p t r q) a.serve)
 
-front_answers : (k : ErrorKind) (p t r : Choices) (q : LiveChoices) (program : Text) (after : List Text) (flag : Text) (front : List Text) → AnswersAt k p t r q program after flag → IsFront front → Answers k p t r q program front after flag
+front_answers : (k : ErrorKind) (p t r : Choices) (q : OtherChoices) (program : Text) (after : List Text) (flag : Text) (front : List Text) → AnswersAt k p t r q program after flag → IsFront front → Answers k p t r q program front after flag
 front_answers k p t r q program after flag front a (inl none) = subst (λ f. Answers k p t r q program f after flag) (sym none) a.top
 front_answers k p t r q program after flag front a (inr some) = subst (λ f. Answers k p t r q program f after flag) (sym some.1) (named_answers k p t r q program after flag some.0 a some.2)
 
-flag_answers : (k : ErrorKind) (p t r : Choices) (q : LiveChoices) (program : Text) (after : List Text) (one other flag : Text) (front : List Text) → AnswersAt k p t r q program after one → AnswersAt k p t r q program after other
+flag_answers : (k : ErrorKind) (p t r : Choices) (q : OtherChoices) (program : Text) (after : List Text) (one other flag : Text) (front : List Text) → AnswersAt k p t r q program after one → AnswersAt k p t r q program after other
     → list_any (bytes_eq flag) (one ∷ other ∷ []) ≡ true → IsFront front → Answers k p t r q program front after flag
 flag_answers k p t r q program after one other flag front a b is at =
     one_of_two (λ f. Answers k p t r q program front after f) one other flag is (front_answers k p t r q program after one front a at) (front_answers k p t r q program after other front b at)
 
-menu_helps : (p t r : Choices) (q : LiveChoices) (words : List Text) → AsksBy help_flags words → fault_of (menu p t r q) words ≡ DisplayHelp ∷ []
+menu_helps : (p t r : Choices) (q : OtherChoices) (words : List Text) → AsksBy help_flags words → fault_of (menu p t r q) words ≡ DisplayHelp ∷ []
 menu_helps p t r q words asks =
     let top = top_help p t r q asks.program asks.after in
     let check = check_answers p t r q asks.after in
     let replay = replay_answers p t r q asks.after in
     let verify = verify_answers p t r q asks.after in
     let live = live_answers p t r q asks.after in
+    let serve = serve_answers p t r q asks.after in
     subst (λ ws. fault_of (menu p t r q) ws ≡ DisplayHelp ∷ []) (sym asks.words_are)
     (flag_answers DisplayHelp p t r q asks.program asks.after (codes "--help") (codes "-h") asks.flag asks.front
-    (record { top = top.0; check = check.help; replay = replay.help; verify = verify.help; live = live.help })
-    (record { top = top.1; check = check.short_help; replay = replay.short_help; verify = verify.short_help; live = live.short_help })
+    (record { top = top.0; check = check.help; replay = replay.help; verify = verify.help; live = live.help; serve = serve.help })
+    (record { top = top.1; check = check.short_help; replay = replay.short_help; verify = verify.short_help; live = live.short_help; serve = serve.short_help })
     asks.is_flag asks.is_front)
 
-menu_tells_version : (p t r : Choices) (q : LiveChoices) (words : List Text) → AsksBy version_flags words → fault_of (menu p t r q) words ≡ DisplayVersion ∷ []
+menu_tells_version : (p t r : Choices) (q : OtherChoices) (words : List Text) → AsksBy version_flags words → fault_of (menu p t r q) words ≡ DisplayVersion ∷ []
 menu_tells_version p t r q words asks =
     let top = top_version p t r q asks.program asks.after in
     let check = check_answers p t r q asks.after in
     let replay = replay_answers p t r q asks.after in
     let verify = verify_answers p t r q asks.after in
     let live = live_answers p t r q asks.after in
+    let serve = serve_answers p t r q asks.after in
     subst (λ ws. fault_of (menu p t r q) ws ≡ DisplayVersion ∷ []) (sym asks.words_are)
     (flag_answers DisplayVersion p t r q asks.program asks.after (codes "--version") (codes "-V") asks.flag asks.front
-    (record { top = top.0; check = check.version; replay = replay.version; verify = verify.version; live = live.version })
-    (record { top = top.1; check = check.short_version; replay = replay.short_version; verify = verify.short_version; live = live.short_version })
+    (record { top = top.0; check = check.version; replay = replay.version; verify = verify.version; live = live.version; serve = serve.version })
+    (record { top = top.1; check = check.short_version; replay = replay.short_version; verify = verify.short_version; live = live.short_version; serve = serve.short_version })
     asks.is_flag asks.is_front)
 
 -- words that ask for help are answered with it

@@ -18,11 +18,12 @@ use Rattle.clap.specs.Simple.{App, Shape, built, entered, filled, label_of, name
 use Rattle.clap.specs.declared.builder.action.ArgAction.TheVariants.{Append, Set}
 use Rattle.clap.specs.declared.builder.value_parser.ValueParser.TheVariants as vp
 use Rattle.wh_options.specs.Setting.{IsInPlace, IsLine, Setting, Spelling, StandsBy, alone, apart, has_some, is_switch, joined, may_repeat, single_names, spelled, value_of}
-use Rattle.wh_options.specs.Options.{EachGives, EachSays, GivesFleet, GivesFile, GivesNumber, GivesPlanner, GivesReplay, GivesReplies, GivesTail, MayGive, IsWritten, SaysLive, WordsGive, all_live_names, board_of, default_turns, log_of, planner_text, replay_names, replies_text, tail_text}
-use Rattle.wh_options.specs.Menu.{Choices, IsMenu, LiveChoices, choice_rule, file_rule, many_rule, menu, number_rule, planner_words, replies_words, switch_rule, tail_words}
+use Rattle.wh_options.specs.Options.{EachGives, EachSays, GivesFleet, GivesFile, GivesHomes, GivesNumber, GivesPlanner, GivesReplay, GivesReplies, GivesRule, GivesTail, GivesLive, MayGive, IsWritten, SaysServe, WordsGive, ends_text, live_names, log_of, planner_text, replay_names, replies_text, rule_names, serve_names, tail_text}
+use Rattle.wh_options.specs.Menu.{Choices, IsMenu, OtherChoices, choice_rule, ends_words, file_rule, many_rule, menu, number_rule, planner_words, replies_words, switch_rule, tail_words}
 use Rattle.wh_options.specs.declared.chosen.Options.{Options}
-use Rattle.wh_options.specs.declared.chosen.Options.TheVariants.{Attend, Check, Replay, Verify, Live}
+use Rattle.wh_options.specs.declared.chosen.Options.TheVariants.{Check, Replay, Verify, Live, Serve}
 use Rattle.wh_options.specs.declared.chosen.Fleet.{Fleet}
+use Rattle.wh_options.specs.declared.chosen.LiveOptions.{LiveOptions}
 use Rattle.wh_options.specs.declared.chosen.ReplayOptions.{ReplayOptions}
 use Rattle.wh_options.specs.declared.chosen.PlannerKind.{PlannerKind}
 use Rattle.wh_options.specs.declared.chosen.PlannerKind.TheVariants.{Near, Patient}
@@ -38,8 +39,8 @@ use Rattle.wh_options.proofs.Rows.{rows_more, use_is, with_value_of}
 use Rattle.wh_options.proofs.Singles.{choice_option, file_option, is_single, many_option, number_option, single_parts, switch_is}
 use Rattle.wh_options.proofs.Spells.{AllTaken, none_both, settings_fine}
 use Rattle.wh_options.proofs.Top.{stopped_walk}
-use Rattle.wh_options.proofs.Attending.{says_of_attend, says_of_live}
-use Rattle.wh_options.proofs.Menus.{asking_plain, leaf_at, live_plain, replay_plain}
+use Rattle.wh_options.proofs.Serving.{says_of_serve}
+use Rattle.wh_options.proofs.Menus.{MenuTexts, check_ruled, leaf_at, live_plain, menu_texts, replay_plain, serve_plain, verify_ruled}
 
 -- ---- one use
 
@@ -214,21 +215,25 @@ top_fine b name leaf after e f =
 
 -- ---- the program's command
 
-pub check_enters : (p t r : Choices) (q : LiveChoices) → Enters (built (menu p t r q)) (codes "check") (leaf_at 0 p t r q)
+pub check_enters : (p t r : Choices) (q : OtherChoices) → Enters (built (menu p t r q)) (codes "check") (leaf_at 0 p t r q)
 unfolding walked defaults_fault
 check_enters p t r q = record { turns = refl; stops = refl; found = refl; defaults = refl; checks = λ rows. refl }
 
-pub replay_enters : (p t r : Choices) (q : LiveChoices) → Enters (built (menu p t r q)) (codes "replay") (leaf_at 1 p t r q)
+pub replay_enters : (p t r : Choices) (q : OtherChoices) → Enters (built (menu p t r q)) (codes "replay") (leaf_at 1 p t r q)
 unfolding walked defaults_fault
 replay_enters p t r q = record { turns = refl; stops = refl; found = refl; defaults = refl; checks = λ rows. refl }
 
-pub verify_enters : (p t r : Choices) (q : LiveChoices) → Enters (built (menu p t r q)) (codes "verify") (leaf_at 2 p t r q)
+pub verify_enters : (p t r : Choices) (q : OtherChoices) → Enters (built (menu p t r q)) (codes "verify") (leaf_at 2 p t r q)
 unfolding walked defaults_fault
 verify_enters p t r q = record { turns = refl; stops = refl; found = refl; defaults = refl; checks = λ rows. refl }
 
-pub live_enters : (p t r : Choices) (q : LiveChoices) → Enters (built (menu p t r q)) (codes "live") (leaf_at 3 p t r q)
+pub live_enters : (p t r : Choices) (q : OtherChoices) → Enters (built (menu p t r q)) (codes "live") (leaf_at 3 p t r q)
 unfolding walked defaults_fault
 live_enters p t r q = record { turns = refl; stops = refl; found = refl; defaults = refl; checks = λ rows. refl }
+
+pub serve_enters : (p t r : Choices) (q : OtherChoices) → Enters (built (menu p t r q)) (codes "serve") (leaf_at 4 p t r q)
+unfolding walked defaults_fault
+serve_enters p t r q = record { turns = refl; stops = refl; found = refl; defaults = refl; checks = λ rows. refl }
 
 -- ---- the value of each setting
 
@@ -285,6 +290,10 @@ word_taken choices words text is e = list_any-map (λ w. bytes_eq w text) (λ s.
 planner_listed : (planner : PlannerKind) → list_any (λ w. bytes_eq w (planner_text planner)) planner_words ≡ true
 planner_listed Near = refl
 planner_listed Patient = refl
+
+ends_listed : (homes : Bool) → list_any (λ w. bytes_eq w (ends_text homes)) ends_words ≡ true
+ends_listed true = refl
+ends_listed false = refl
 
 tail_listed : (tail : Tail) → list_any (λ w. bytes_eq w (tail_text tail)) tail_words ≡ true
 tail_listed Nothing = refl
@@ -360,6 +369,14 @@ valid_planner s settings x choices planner is value found words gives =
     (word_taken choices planner_words x.value words (subst (λ t. list_any (λ w. bytes_eq w t) planner_words ≡ true) (sym given) (planner_listed planner)))
     value.1
 
+valid_ends : (s : Shape) (settings : List Setting) (x : Setting) (choices : Choices) (homes : Bool) → x.name ≡ codes "ends" → IsGiven settings x
+    → arg_by_long s.rules (codes "ends") ≡ Some (filled (choice_rule (codes "ends") choices)) → texts choices.now ≡ ends_words → GivesHomes settings homes → IsValid s x
+valid_ends s settings x choices homes is value found words gives =
+    let given : x.value ≡ ends_text homes = subst (λ o. MatchOption o (homes ≡ false) (λ text. text ≡ ends_text homes)) (value_at settings x (codes "ends") refl is value.0) gives in
+    valid_setting s x (codes "ends") (filled (choice_rule (codes "ends") choices)) is found (choice_option (codes "ends") choices refl) refl refl refl
+    (word_taken choices ends_words x.value words (subst (λ t. list_any (λ w. bytes_eq w t) ends_words ≡ true) (sym given) (ends_listed homes)))
+    value.1
+
 valid_tail : (s : Shape) (settings : List Setting) (x : Setting) (choices : Choices) (tail : Tail) → x.name ≡ codes "tail" → IsGiven settings x
     → arg_by_long s.rules (codes "tail") ≡ Some (filled (choice_rule (codes "tail") choices)) → texts choices.now ≡ tail_words → GivesTail settings tail → IsValid s x
 valid_tail s settings x choices tail is value found words gives =
@@ -401,11 +418,12 @@ either_true false b e = inr e
 abbrev Found : Shape → Text → ℕ → ℕ → Type 0
 Found s name least most = arg_by_long s.rules name ≡ Some (filled (number_rule name least most))
 
-fleet_valid : (s : Shape) (settings : List Setting) (choices : Choices) (fleet : Fleet) (others : List Text) → texts choices.now ≡ planner_words → GivesFleet settings fleet
+fleet_valid : (s : Shape) (settings : List Setting) (choices ends : Choices) (fleet : Fleet) (others : List Text) → texts choices.now ≡ planner_words → texts ends.now ≡ ends_words → GivesFleet settings fleet
     → arg_by_long s.rules (codes "planner") ≡ Some (filled (choice_rule (codes "planner") choices)) → Found s (codes "slots") 2 64 → Found s (codes "bank") 2 65536 → Found s (codes "spares") 0 16
+    → arg_by_long s.rules (codes "ends") ≡ Some (filled (choice_rule (codes "ends") ends))
     → (x : Setting) → IsGiven settings x → (list_any (bytes_eq x.name) others ≡ true → IsValid s x)
-    → list_any (bytes_eq x.name) (codes "planner" ∷ codes "slots" ∷ codes "bank" ∷ codes "spares" ∷ others) ≡ true → IsValid s x
-fleet_valid s settings choices fleet others words gives planner slots bank spares x value rest e = elim (either_true _ _ e) [
+    → list_any (bytes_eq x.name) (codes "planner" ∷ codes "slots" ∷ codes "bank" ∷ codes "spares" ∷ codes "ends" ∷ others) ≡ true → IsValid s x
+fleet_valid s settings choices ends fleet others words ends_are gives planner slots bank spares found x value rest e = elim (either_true _ _ e) [
   | inl is ↦ valid_planner s settings x choices fleet.planner (bytes_same _ _ is) value planner words gives.planner
   | inr f ↦ elim (either_true _ _ f) [
     | inl is ↦ valid_number s settings x (codes "slots") 2 64 4 fleet.slots (bytes_same _ _ is) value slots refl refl refl (lit< tt) gives.slots
@@ -413,29 +431,35 @@ fleet_valid s settings choices fleet others words gives planner slots bank spare
       | inl is ↦ valid_number s settings x (codes "bank") 2 65536 1024 fleet.bank (bytes_same _ _ is) value bank refl refl refl (lit< tt) gives.bank
       | inr h ↦ elim (either_true _ _ h) [
         | inl is ↦ valid_number s settings x (codes "spares") 0 16 0 fleet.spares (bytes_same _ _ is) value spares refl refl refl (lit< tt) gives.spares
-        | inr i ↦ rest i
+        | inr i ↦ elim (either_true _ _ i) [
+          | inl is ↦ valid_ends s settings x ends fleet.homes (bytes_same _ _ is) value found ends_are gives.ends
+          | inr j ↦ rest j
+        ]
       ]
     ]
   ]
 ]
 
-vehicles_valid : (p t r : Choices) (q : LiveChoices) (settings : List Setting) (o : ReplayOptions) → GivesReplay settings o
-    → (x : Setting) → IsGiven settings x → list_any (bytes_eq x.name) (drop 8 replay_names) ≡ true → IsValid (leaf_at 1 p t r q) x
+vehicles_valid : (p t r : Choices) (q : OtherChoices) (settings : List Setting) (o : ReplayOptions) → GivesReplay settings o
+    → (x : Setting) → IsGiven settings x → list_any (bytes_eq x.name) (drop 10 replay_names) ≡ true → IsValid (leaf_at 1 p t r q) x
 vehicles_valid p t r q settings o gives x value e = elim (either_true _ _ e) [
   | inl is ↦ valid_switch (leaf_at 1 p t r q) x (codes "vehicles") (bytes_same _ _ is) refl refl refl refl refl value.1
   | inr f ↦ elim (either_true _ _ f) [
     | inl is ↦ valid_number (leaf_at 1 p t r q) settings x (codes "behind") 1 1000 8 gives.vehicles.pace.behind (bytes_same _ _ is) value refl refl refl refl (lit< tt) gives.vehicles.behind
     | inr g ↦ elim (either_true _ _ g) [
       | inl is ↦ valid_number (leaf_at 1 p t r q) settings x (codes "ahead") 1 1000 1 gives.vehicles.pace.ahead (bytes_same _ _ is) value refl refl refl refl (lit< tt) gives.vehicles.ahead
-      | inr none ↦ absurd (true≢false (sym none))
+      | inr h ↦ elim (either_true _ _ h) [
+        | inl is ↦ valid_switch (leaf_at 1 p t r q) x (codes "deliver") (bytes_same _ _ is) refl refl refl refl refl value.1
+        | inr none ↦ absurd (true≢false (sym none))
+      ]
     ]
   ]
 ]
 
-replay_valid : (p t r : Choices) (q : LiveChoices) (settings : List Setting) (o : ReplayOptions) → texts p.now ≡ planner_words → texts t.now ≡ tail_words → texts r.now ≡ replies_words → GivesReplay settings o
+replay_valid : (p t r : Choices) (q : OtherChoices) (settings : List Setting) (o : ReplayOptions) → texts p.now ≡ planner_words → texts t.now ≡ tail_words → texts r.now ≡ replies_words → texts q.replay_ends.now ≡ ends_words → GivesReplay settings o
     → (x : Setting) → list_any (bytes_eq x.name) replay_names ≡ true → IsGiven settings x → IsValid (leaf_at 1 p t r q) x
-replay_valid p t r q settings o planners tails words gives x listed value =
-    fleet_valid (leaf_at 1 p t r q) settings p o.fleet (drop 4 replay_names) planners gives.fleet refl refl refl refl x value
+replay_valid p t r q settings o planners tails words ends gives x listed value =
+    fleet_valid (leaf_at 1 p t r q) settings p q.replay_ends o.fleet (drop 5 replay_names) planners ends gives.fleet refl refl refl refl refl x value
     (λ e. elim (either_true _ _ e) [
       | inl is ↦ valid_tail (leaf_at 1 p t r q) settings x t o.tail (bytes_same _ _ is) value refl tails gives.tail
       | inr f ↦ elim (either_true _ _ f) [
@@ -444,7 +468,10 @@ replay_valid p t r q settings o planners tails words gives x listed value =
           | inl is ↦ valid_file (leaf_at 1 p t r q) settings x (codes "log") (log_of o) (bytes_same _ _ is) value refl refl refl refl gives.log
           | inr h ↦ elim (either_true _ _ h) [
             | inl is ↦ valid_may (leaf_at 1 p t r q) settings x (codes "told") 0 999999999 o.told (bytes_same _ _ is) value refl refl refl refl (lit< tt) gives.told
-            | inr i ↦ vehicles_valid p t r q settings o gives x value i
+            | inr i ↦ elim (either_true _ _ i) [
+              | inl is ↦ valid_switch (leaf_at 1 p t r q) x (codes "new") (bytes_same _ _ is) refl refl refl refl refl value.1
+              | inr j ↦ vehicles_valid p t r q settings o gives x value j
+            ]
           ]
         ]
       ]
@@ -454,50 +481,70 @@ valid_many : (s : Shape) (x : Setting) (name : Text) → x.name ≡ name → IsI
     → IsValid s x
 valid_many s x name is stands found some plain no_switch many = valid_setting s x name (filled (many_rule name)) is found (many_option name many) some plain no_switch refl stands
 
-attend_valid : (p t r : Choices) (q : LiveChoices) (settings : List Setting) → texts q.replies.now ≡ replies_words → (says : SaysLive settings)
-    → (x : Setting) → IsGiven settings x → list_any (bytes_eq x.name) (drop 9 all_live_names) ≡ true → IsValid (leaf_at 3 p t r q) x
-attend_valid p t r q settings words says x value e = elim (either_true _ _ e) [
-  | inl is ↦ valid_file (leaf_at 3 p t r q) settings x (codes "log") says.log (bytes_same _ _ is) value refl refl refl refl says.gives_log
-  | inr f ↦ elim (either_true _ _ f) [
-    | inl is ↦ valid_replies (leaf_at 3 p t r q) settings x q.replies says.replies (bytes_same _ _ is) value refl words says.gives_replies
-    | inr g ↦ elim (either_true _ _ g) [
-      | inl is ↦ valid_may (leaf_at 3 p t r q) settings x (codes "share") 1 1000000 says.share (bytes_same _ _ is) value refl refl refl refl (lit< tt) says.gives_share
-      | inr h ↦ elim (either_true _ _ h) [
-        | inl is ↦ valid_many (leaf_at 3 p t r q) x (codes "client") (bytes_same _ _ is) value.1 refl refl refl refl refl
-        | inr none ↦ absurd (true≢false (sym none))
+clients_valid : (p t r : Choices) (q : OtherChoices) (settings : List Setting) → texts q.replies.now ≡ replies_words → (says : SaysServe settings)
+    → (x : Setting) → IsGiven settings x → list_any (bytes_eq x.name) (drop 9 serve_names) ≡ true → IsValid (leaf_at 4 p t r q) x
+clients_valid p t r q settings words says x value e = elim (either_true _ _ e) [
+  | inl is ↦ valid_file (leaf_at 4 p t r q) settings x (codes "log") says.kept (bytes_same _ _ is) value refl refl refl refl says.log
+  | inr s ↦ elim (either_true _ _ s) [
+    | inl is ↦ valid_switch (leaf_at 4 p t r q) x (codes "new") (bytes_same _ _ is) refl refl refl refl refl value.1
+    | inr f ↦ elim (either_true _ _ f) [
+      | inl is ↦ valid_replies (leaf_at 4 p t r q) settings x q.replies says.form (bytes_same _ _ is) value refl words says.replies
+      | inr g ↦ elim (either_true _ _ g) [
+        | inl is ↦ valid_may (leaf_at 4 p t r q) settings x (codes "share") 1 1000000 says.part (bytes_same _ _ is) value refl refl refl refl (lit< tt) says.share
+        | inr h ↦ elim (either_true _ _ h) [
+          | inl is ↦ valid_many (leaf_at 4 p t r q) x (codes "client") (bytes_same _ _ is) value.1 refl refl refl refl refl
+          | inr none ↦ absurd (true≢false (sym none))
+        ]
       ]
     ]
   ]
 ]
 
-board_valid : (p t r : Choices) (q : LiveChoices) (settings : List Setting) → texts q.replies.now ≡ replies_words → (says : SaysLive settings)
-    → (x : Setting) → IsGiven settings x → list_any (bytes_eq x.name) (drop 7 all_live_names) ≡ true → IsValid (leaf_at 3 p t r q) x
+board_valid : (p t r : Choices) (q : OtherChoices) (settings : List Setting) → texts q.replies.now ≡ replies_words → (says : SaysServe settings)
+    → (x : Setting) → IsGiven settings x → list_any (bytes_eq x.name) (drop 7 serve_names) ≡ true → IsValid (leaf_at 4 p t r q) x
 board_valid p t r q settings words says x value e = elim (either_true _ _ e) [
-  | inl is ↦ valid_file (leaf_at 3 p t r q) settings x (codes "board") (board_of says.live) (bytes_same _ _ is) value refl refl refl refl says.board
+  | inl is ↦ valid_file (leaf_at 4 p t r q) settings x (codes "board") says.shown (bytes_same _ _ is) value refl refl refl refl says.board
   | inr f ↦ elim (either_true _ _ f) [
-    | inl is ↦ valid_number (leaf_at 3 p t r q) settings x (codes "board-every") 1 60000 100 says.live.board_every (bytes_same _ _ is) value refl refl refl refl (lit< tt) says.board_every
-    | inr g ↦ attend_valid p t r q settings words says x value g
+    | inl is ↦ valid_number (leaf_at 4 p t r q) settings x (codes "board-every") 1 60000 100 says.looks (bytes_same _ _ is) value refl refl refl refl (lit< tt) says.board_every
+    | inr g ↦ clients_valid p t r q settings words says x value g
   ]
 ]
 
-live_valid : (p t r : Choices) (q : LiveChoices) (settings : List Setting) → texts q.planners.now ≡ planner_words → texts q.replies.now ≡ replies_words → (says : SaysLive settings)
-    → (x : Setting) → list_any (bytes_eq x.name) all_live_names ≡ true → IsGiven settings x → IsValid (leaf_at 3 p t r q) x
-live_valid p t r q settings planners words says x listed value =
-    fleet_valid (leaf_at 3 p t r q) settings q.planners says.live.fleet (drop 4 all_live_names) planners says.fleet refl refl refl refl x value
+live_valid : (p t r : Choices) (q : OtherChoices) (settings : List Setting) (o : LiveOptions) → texts q.live.now ≡ planner_words → texts q.live_ends.now ≡ ends_words → GivesLive settings o
+    → (x : Setting) → list_any (bytes_eq x.name) live_names ≡ true → IsGiven settings x → IsValid (leaf_at 3 p t r q) x
+live_valid p t r q settings o planners ends gives x listed value =
+    fleet_valid (leaf_at 3 p t r q) settings q.live q.live_ends o.fleet (drop 5 live_names) planners ends gives.fleet refl refl refl refl refl x value
     (λ e. elim (either_true _ _ e) [
-      | inl is ↦ valid_number (leaf_at 3 p t r q) settings x (codes "turns") 1 100000 (default_turns says.live.every) says.live.turns (bytes_same _ _ is) value refl refl refl refl (lit< tt) says.turns
+      | inl is ↦ valid_number (leaf_at 3 p t r q) settings x (codes "turns") 1 100000 64 o.turns (bytes_same _ _ is) value refl refl refl refl (lit< tt) gives.turns
       | inr f ↦ elim (either_true _ _ f) [
-        | inl is ↦ valid_number (leaf_at 3 p t r q) settings x (codes "journal") 1 1000000 10000 says.live.journal (bytes_same _ _ is) value refl refl refl refl (lit< tt) says.journal
-        | inr g ↦ elim (either_true _ _ g) [
-          | inl is ↦ valid_may (leaf_at 3 p t r q) settings x (codes "every") 1 60000 says.live.every (bytes_same _ _ is) value refl refl refl refl (lit< tt) says.every
-          | inr h ↦ board_valid p t r q settings words says x value h
-        ]
+        | inl is ↦ valid_number (leaf_at 3 p t r q) settings x (codes "journal") 1 1000000 10000 o.journal (bytes_same _ _ is) value refl refl refl refl (lit< tt) gives.journal
+        | inr none ↦ absurd (true≢false (sym none))
       ]
     ]) listed
 
+serve_valid : (p t r : Choices) (q : OtherChoices) (settings : List Setting) → texts q.planners.now ≡ planner_words → texts q.replies.now ≡ replies_words → texts q.serve_ends.now ≡ ends_words → (says : SaysServe settings)
+    → (x : Setting) → list_any (bytes_eq x.name) serve_names ≡ true → IsGiven settings x → IsValid (leaf_at 4 p t r q) x
+serve_valid p t r q settings planners words ends says x listed value =
+    fleet_valid (leaf_at 4 p t r q) settings q.planners q.serve_ends says.planners (drop 5 serve_names) planners ends says.fleet refl refl refl refl refl x value
+    (λ e. elim (either_true _ _ e) [
+      | inl is ↦ valid_number (leaf_at 4 p t r q) settings x (codes "journal") 1 1000000 1000000 says.entries (bytes_same _ _ is) value refl refl refl refl (lit< tt) says.journal
+      | inr f ↦ elim (either_true _ _ f) [
+        | inl is ↦ valid_may (leaf_at 4 p t r q) settings x (codes "every") 1 60000 says.pace (bytes_same _ _ is) value refl refl refl refl (lit< tt) says.every
+        | inr g ↦ board_valid p t r q settings words says x value g
+      ]
+    ]) listed
+
+-- of a subcommand that is told where paths end, and nothing else
+ruled_valid : (s : Shape) (settings : List Setting) (ends : Choices) (homes : Bool) → texts ends.now ≡ ends_words → arg_by_long s.rules (codes "ends") ≡ Some (filled (choice_rule (codes "ends") ends))
+    → GivesRule settings homes → (x : Setting) → list_any (bytes_eq x.name) rule_names ≡ true → IsGiven settings x → IsValid s x
+ruled_valid s settings ends homes words found gives x listed value = elim (either_true _ _ listed) [
+  | inl is ↦ valid_ends s settings x ends homes (bytes_same _ _ is) value found words gives.ends
+  | inr none ↦ absurd (true≢false (sym none))
+]
+
 -- ---- the whole line
 
-line_fine : (p t r : Choices) (q : LiveChoices) (words : List Text) (name told : Text) (settings : List Setting) (leaf : Shape) → told ≡ name → Enters (built (menu p t r q)) name leaf → ArePlain leaf.rules
+line_fine : (p t r : Choices) (q : OtherChoices) (words : List Text) (name told : Text) (settings : List Setting) (leaf : Shape) → told ≡ name → Enters (built (menu p t r q)) name leaf → ArePlain leaf.rules
     → ((rows : List Row) → check_fault leaf rows false ≡ []) → AllTaken leaf settings [] → IsLine words told settings → fault_of (menu p t r q) words ≡ []
 line_fine p t r q words name told settings leaf is enters all checks taken line =
     let after : line.after ≡ flat_map spelled settings ++ line.spelling.rest = line.spelling.words_are in
@@ -507,49 +554,58 @@ line_fine p t r q words name told settings leaf is enters all checks taken line 
     let built_fine : fault_of (menu p t r q) (line.program ∷ name ∷ line.after) ≡ [] = top_fine (built (menu p t r q)) name leaf line.after enters (level_fine leaf line.after all checks fine_after) in
     subst (λ ws. fault_of (menu p t r q) ws ≡ []) (sym whole) built_fine
 
-replay_fine : (p t r : Choices) (q : LiveChoices) (words : List Text) (name : Text) (settings : List Setting) (o : ReplayOptions) → texts p.now ≡ planner_words → texts t.now ≡ tail_words → texts r.now ≡ replies_words
+replay_fine : (p t r : Choices) (q : OtherChoices) (words : List Text) (name : Text) (settings : List Setting) (o : ReplayOptions) → texts p.now ≡ planner_words → texts t.now ≡ tail_words → texts r.now ≡ replies_words → texts q.replay_ends.now ≡ ends_words
     → name ≡ codes "replay" → IsLine words name settings → GivesReplay settings o → fault_of (menu p t r q) words ≡ []
-replay_fine p t r q words name settings o planners tails replies is line gives =
-    let valid = all_zip _ _ _ (replay_valid p t r q settings o planners tails replies gives) settings gives.only (each_given settings line.once line.spelling.in_place) in
+replay_fine p t r q words name settings o planners tails replies ends is line gives =
+    let valid = all_zip _ _ _ (replay_valid p t r q settings o planners tails replies ends gives) settings gives.only (each_given settings line.once line.spelling.in_place) in
     line_fine p t r q words (codes "replay") name settings (leaf_at 1 p t r q) is (replay_enters p t r q) (replay_plain p t r q) (λ rows. refl)
     (valid_taken (leaf_at 1 p t r q) settings [] (replay_plain p t r q) refl valid (none_fresh settings) line.once) line
 
-live_fine : (p t r : Choices) (q : LiveChoices) (words : List Text) (name : Text) (settings : List Setting) → texts q.planners.now ≡ planner_words → texts q.replies.now ≡ replies_words
-    → name ≡ codes "live" → IsLine words name settings → SaysLive settings → fault_of (menu p t r q) words ≡ []
-live_fine p t r q words name settings planners replies is line says =
-    let valid = all_zip _ _ _ (live_valid p t r q settings planners replies says) settings says.only (each_given settings line.once line.spelling.in_place) in
+live_fine : (p t r : Choices) (q : OtherChoices) (words : List Text) (name : Text) (settings : List Setting) (o : LiveOptions) → texts q.live.now ≡ planner_words → texts q.live_ends.now ≡ ends_words
+    → name ≡ codes "live" → IsLine words name settings → GivesLive settings o → fault_of (menu p t r q) words ≡ []
+live_fine p t r q words name settings o planners ends is line gives =
+    let valid = all_zip _ _ _ (live_valid p t r q settings o planners ends gives) settings gives.only (each_given settings line.once line.spelling.in_place) in
     line_fine p t r q words (codes "live") name settings (leaf_at 3 p t r q) is (live_enters p t r q) (live_plain p t r q) (λ rows. refl)
     (valid_taken (leaf_at 3 p t r q) settings [] (live_plain p t r q) refl valid (none_fresh settings) line.once) line
 
-menu_fine : (p t r : Choices) (q : LiveChoices) (words : List Text) (name : Text) (settings : List Setting) (o : Options) → texts p.now ≡ planner_words → texts t.now ≡ tail_words → texts r.now ≡ replies_words → texts q.planners.now ≡ planner_words → texts q.replies.now ≡ replies_words
+serve_fine : (p t r : Choices) (q : OtherChoices) (words : List Text) (name : Text) (settings : List Setting) → texts q.planners.now ≡ planner_words → texts q.replies.now ≡ replies_words → texts q.serve_ends.now ≡ ends_words
+    → name ≡ codes "serve" → IsLine words name settings → SaysServe settings → fault_of (menu p t r q) words ≡ []
+serve_fine p t r q words name settings planners replies ends is line says =
+    let valid = all_zip _ _ _ (serve_valid p t r q settings planners replies ends says) settings says.only (each_given settings line.once line.spelling.in_place) in
+    line_fine p t r q words (codes "serve") name settings (leaf_at 4 p t r q) is (serve_enters p t r q) (serve_plain p t r q) (λ rows. refl)
+    (valid_taken (leaf_at 4 p t r q) settings [] (serve_plain p t r q) refl valid (none_fresh settings) line.once) line
+
+menu_fine : (p t r : Choices) (q : OtherChoices) (words : List Text) (name : Text) (settings : List Setting) (o : Options) → MenuTexts p t r q
     → IsLine words name settings → EachGives name settings o → fault_of (menu p t r q) words ≡ []
-menu_fine p t r q words name settings Check planners tails replies others told line gives =
-    line_fine p t r q words (codes "check") name settings (leaf_at 0 p t r q) gives.0 (check_enters p t r q) asking_plain (λ rows. refl)
-    (subst (λ xs. AllTaken (leaf_at 0 p t r q) xs []) (sym gives.1) tt) line
-menu_fine p t r q words name settings Verify planners tails replies others told line gives =
-    line_fine p t r q words (codes "verify") name settings (leaf_at 2 p t r q) gives.0 (verify_enters p t r q) asking_plain (λ rows. refl)
-    (subst (λ xs. AllTaken (leaf_at 2 p t r q) xs []) (sym gives.1) tt) line
-menu_fine p t r q words name settings (Replay o) planners tails replies others told line gives =
-    replay_fine p t r q words name settings o planners tails replies gives.0 line gives.1
-menu_fine p t r q words name settings (Live o) planners tails replies others told line gives =
-    live_fine p t r q words name settings others told gives.0 line (says_of_live settings o gives.1)
-menu_fine p t r q words name settings (Attend o) planners tails replies others told line gives =
-    live_fine p t r q words name settings others told gives.0 line (says_of_attend settings o gives.1)
+menu_fine p t r q words name settings (Check o) are line gives =
+    let valid = all_zip _ _ _ (ruled_valid (leaf_at 0 p t r q) settings q.check_ends o.homes are.check_ends refl gives.1) settings gives.1.only (each_given settings line.once line.spelling.in_place) in
+    line_fine p t r q words (codes "check") name settings (leaf_at 0 p t r q) gives.0 (check_enters p t r q) (check_ruled p t r q).0 (λ rows. refl)
+    (valid_taken (leaf_at 0 p t r q) settings [] (check_ruled p t r q).0 refl valid (none_fresh settings) line.once) line
+menu_fine p t r q words name settings (Verify o) are line gives =
+    let valid = all_zip _ _ _ (ruled_valid (leaf_at 2 p t r q) settings q.verify_ends o.homes are.verify_ends refl gives.1) settings gives.1.only (each_given settings line.once line.spelling.in_place) in
+    line_fine p t r q words (codes "verify") name settings (leaf_at 2 p t r q) gives.0 (verify_enters p t r q) (verify_ruled p t r q).0 (λ rows. refl)
+    (valid_taken (leaf_at 2 p t r q) settings [] (verify_ruled p t r q).0 refl valid (none_fresh settings) line.once) line
+menu_fine p t r q words name settings (Replay o) are line gives =
+    replay_fine p t r q words name settings o are.planners are.tails are.replies are.replay_ends gives.0 line gives.1
+menu_fine p t r q words name settings (Live o) are line gives =
+    live_fine p t r q words name settings o are.live are.live_ends gives.0 line gives.1
+menu_fine p t r q words name settings (Serve o) are line gives =
+    serve_fine p t r q words name settings are.serve are.told are.serve_ends gives.0 line (says_of_serve settings o gives.1)
 
 -- also where the options do not go together
-menu_said : (p t r : Choices) (q : LiveChoices) (words : List Text) (name : Text) (settings : List Setting) → texts p.now ≡ planner_words → texts t.now ≡ tail_words → texts r.now ≡ replies_words → texts q.planners.now ≡ planner_words → texts q.replies.now ≡ replies_words
+menu_said : (p t r : Choices) (q : OtherChoices) (words : List Text) (name : Text) (settings : List Setting) → MenuTexts p t r q
     → IsLine words name settings → EachSays name settings → fault_of (menu p t r q) words ≡ []
-menu_said p t r q words name settings planners tails replies others told line (inl said) = replay_fine p t r q words name settings said.1 planners tails replies said.0 line said.2
-menu_said p t r q words name settings planners tails replies others told line (inr said) = live_fine p t r q words name settings others told said.0 line said.1
+menu_said p t r q words name settings are line (inl said) = replay_fine p t r q words name settings said.1 are.planners are.tails are.replies are.replay_ends said.0 line said.2
+menu_said p t r q words name settings are line (inr said) = serve_fine p t r q words name settings are.serve are.told are.serve_ends said.0 line said.1
 
 -- words whose options each say something are not refused
 pub said_is_taken : (a : App) (words : List Text) (name : Text) (settings : List Setting) → IsMenu a → IsLine words name settings → EachSays name settings → fault_of a words ≡ []
 said_is_taken a words name settings m line says =
     subst (λ (x : App). fault_of x words ≡ []) (sym m.is)
-    (menu_said m.planners m.tails m.replies m.others words name settings m.planner_texts m.tail_texts m.replies_texts m.other_texts m.other_replies line says)
+    (menu_said m.planners m.tails m.replies m.others words name settings (menu_texts a m) line says)
 
 -- words that give options are not refused
 pub given_is_taken : (a : App) (words : List Text) (o : Options) → IsMenu a → WordsGive words o → fault_of a words ≡ []
 given_is_taken a words o m gives =
     subst (λ (x : App). fault_of x words ≡ []) (sym m.is)
-    (menu_fine m.planners m.tails m.replies m.others words gives.0 gives.1 o m.planner_texts m.tail_texts m.replies_texts m.other_texts m.other_replies gives.2 gives.3.0)
+    (menu_fine m.planners m.tails m.replies m.others words gives.0 gives.1 o (menu_texts a m) gives.2 gives.3.0)

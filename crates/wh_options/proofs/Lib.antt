@@ -8,9 +8,10 @@ pub mod Rows
 pub mod Top
 pub mod Values
 pub mod Names
+mod Entered
 pub mod Singles
-pub mod Restricts
-pub mod Attending
+pub mod Given
+pub mod Serving
 pub mod Menus
 pub mod Spells
 pub mod Exact

@@ -5,9 +5,9 @@ use Rattle.std.specs.Str.{bytes_eq}
 use Rattle.clap.proofs.WalkLemmas.{both}
 use Rattle.clap.specs.Lexer.{has_byte}
 use Rattle.wh_options.specs.Setting.{Setting, Text}
-use Rattle.wh_options.specs.Options.{EachGives, EachSays, HasOnly, all_live_names, live_names, replay_names}
+use Rattle.wh_options.specs.Options.{EachGives, EachSays, HasOnly, live_names, replay_names, rule_names, serve_names}
 use Rattle.wh_options.specs.declared.chosen.Options.{Options}
-use Rattle.wh_options.specs.declared.chosen.Options.TheVariants.{Attend, Check, Replay, Verify, Live}
+use Rattle.wh_options.specs.declared.chosen.Options.TheVariants.{Check, Replay, Verify, Live, Serve}
 use Rattle.wh_options.proofs.Shapes.{bytes_same}
 use Rattle.wh_options.proofs.Words.{self_same}
 
@@ -39,12 +39,12 @@ only_named names (x ∷ xs) all only = (listed_passes plain_name x.name names al
 
 -- settings that each say something have names of options
 pub gives_named : (name : Text) (xs : List Setting) (o : Options) → EachGives name xs o → Named xs
-gives_named name xs Check m = subst Named (sym m.1) tt
-gives_named name xs Verify m = subst Named (sym m.1) tt
+gives_named name xs (Check o) m = only_named rule_names xs refl m.1.only
+gives_named name xs (Verify o) m = only_named rule_names xs refl m.1.only
 gives_named name xs (Replay o) m = only_named replay_names xs refl m.1.only
 gives_named name xs (Live o) m = only_named live_names xs refl m.1.only
-gives_named name xs (Attend o) m = only_named all_live_names xs refl m.1.only
+gives_named name xs (Serve o) m = only_named serve_names xs refl m.1.only
 
 pub says_named : (name : Text) (xs : List Setting) → EachSays name xs → Named xs
 says_named name xs (inl said) = only_named replay_names xs refl said.2.only
-says_named name xs (inr said) = only_named all_live_names xs refl said.1.only
+says_named name xs (inr said) = only_named serve_names xs refl said.1.only

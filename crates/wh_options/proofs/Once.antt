@@ -1,14 +1,14 @@
 -- Words give at most one set of options.
 use Rattle.std.proofs.Common.{◌≡◌, ◌≤◌, ℕ, List, [], ◌∷◌, ◌++◌, drop, refl, sym, ap, ap₂, ◌∙◌, Bool, true, false, cond, None, Some, Option, subst, inl, inr, codes, not, true≢false, append_assoc}
-use Rattle.std.specs.Prelude.{MatchOption, filter, map, slice_get}
+use Rattle.std.specs.Prelude.{MatchOption, filter, is_some, map, slice_get}
 use Rattle.std.specs.List.{AllByRecursion, AllZip, after_first, before_first, flat_map}
 use Rattle.std.specs.Str.{bytes_eq}
 use Rattle.clap.specs.Lexer.{has_byte}
 use Rattle.wh_options.specs.Setting.{Closes, IsInPlace, IsLine, Setting, Spelling, StandsBy, Text, alone, apart, is_switch, joined, spelled, spelled_by, value_of, values_of}
-use Rattle.wh_options.specs.Options.{AreSame, EachGives, GivesAttend, GivesFleet, GivesLive, GivesNumber, GivesPlanner, GivesReplay, GivesReplies, GivesTail, MayGive, GivesVehicles, IsWritten, WordsGive, default_turns, planner_text, replies_text, tail_text}
+use Rattle.wh_options.specs.Options.{AreSame, EachGives, GivesFleet, GivesHomes, GivesLive, GivesNumber, GivesPlanner, GivesReplay, GivesReplies, GivesServe, GivesTail, MayGive, GivesVehicles, GivesRule, IsWritten, WordsGive, ends_text, planner_text, replies_text, tail_text}
 use Rattle.wh_options.specs.declared.chosen.Options.{Options}
-use Rattle.wh_options.specs.declared.chosen.Options.TheVariants.{Attend, Check, Replay, Verify, Live}
-use Rattle.wh_options.specs.declared.chosen.AttendOptions.{AttendOptions}
+use Rattle.wh_options.specs.declared.chosen.Options.TheVariants.{Check, Replay, Verify, Live, Serve}
+use Rattle.wh_options.specs.declared.chosen.ServeOptions.{ServeOptions}
 use Rattle.wh_options.specs.declared.chosen.LiveOptions.{LiveOptions}
 use Rattle.wh_options.specs.declared.chosen.ReplayOptions.{ReplayOptions}
 use Rattle.wh_client.specs.Clients.{GivesClient}
@@ -25,7 +25,6 @@ use Rattle.wh_options.proofs.Shapes.{is_equals}
 use Rattle.wh_options.proofs.Spells.{cut_at_equals, has_equals}
 use Rattle.wh_options.proofs.Rows.{first_value}
 use Rattle.wh_options.proofs.Values.{some_same}
-use Rattle.wh_options.proofs.Attending.{has_client, no_client}
 use Rattle.wh_options.proofs.Names.{Named, gives_named, other_word, plain_name}
 
 -- ---- one setting
@@ -167,6 +166,20 @@ planner_once : (xs ys : List Setting) (p q : PlannerKind) → Agree xs ys → Gi
 planner_once xs ys p q agree a b =
     one_planner (value_of (codes "planner") xs) p q a (subst (λ v. MatchOption v (q ≡ Near) (λ text. text ≡ planner_text q)) (sym (agree (codes "planner"))) b)
 
+ends_same : (p q : Bool) → ends_text p ≡ ends_text q → p ≡ q
+ends_same true true e = refl
+ends_same true false e = absurd (other_word (codes "homes") (codes "stops") refl e)
+ends_same false true e = absurd (other_word (codes "stops") (codes "homes") refl e)
+ends_same false false e = refl
+
+one_ends : (v : Option Text) (p q : Bool) → MatchOption v (p ≡ false) (λ text. text ≡ ends_text p) → MatchOption v (q ≡ false) (λ text. text ≡ ends_text q) → p ≡ q
+one_ends None p q a b = a ∙ sym b
+one_ends (Some text) p q a b = ends_same p q (sym a ∙ b)
+
+ends_once : (xs ys : List Setting) (p q : Bool) → Agree xs ys → GivesHomes xs p → GivesHomes ys q → p ≡ q
+ends_once xs ys p q agree a b =
+    one_ends (value_of (codes "ends") xs) p q a (subst (λ v. MatchOption v (q ≡ false) (λ text. text ≡ ends_text q)) (sym (agree (codes "ends"))) b)
+
 tail_same : (p q : Tail) → tail_text p ≡ tail_text q → p ≡ q
 tail_same Nothing Nothing e = refl
 tail_same Nothing Log e = absurd (other_word (codes "none") (codes "log") refl e)
@@ -233,7 +246,11 @@ fleet_once xs ys f g agree a b =
     let slots = number_once xs ys (codes "slots") 4 2 64 f.slots g.slots agree a.slots b.slots in
     let bank = number_once xs ys (codes "bank") 1024 2 65536 f.bank g.bank agree a.bank b.bank in
     let spares = number_once xs ys (codes "spares") 0 0 16 f.spares g.spares agree a.spares b.spares in
-    λ i. record { planner = planner i; slots = slots i; bank = bank i; spares = spares i }
+    let homes = ends_once xs ys f.homes g.homes agree a.ends b.ends in
+    λ i. record { planner = planner i; slots = slots i; bank = bank i; spares = spares i; homes = homes i }
+
+rule_once : (xs ys : List Setting) (p q : Bool) → AllAgree xs ys → GivesRule xs p → GivesRule ys q → p ≡ q
+rule_once xs ys p q all a b = ends_once xs ys p q (all_agree xs ys all) a.ends b.ends
 
 replay_once : (xs ys : List Setting) (o p : ReplayOptions) → Agree xs ys → GivesReplay xs o → GivesReplay ys p → AreSame (Replay o) (Replay p)
 replay_once xs ys o p agree m n =
@@ -241,29 +258,25 @@ replay_once xs ys o p agree m n =
     let tail = tail_once xs ys o.tail p.tail agree m.tail n.tail in
     let replies = replies_once xs ys o.replies p.replies agree m.replies n.replies in
     let told = may_once xs ys (codes "told") 0 999999999 o.told p.told agree m.told n.told in
-    (fleet, tail, replies, m.log.is ∙ agree (codes "log") ∙ sym n.log.is, told, vehicles_once xs ys o.vehicles p.vehicles agree m.vehicles n.vehicles)
+    let anew : o.anew ≡ p.anew = m.anew ∙ ap is_some (agree (codes "new")) ∙ sym n.anew in
+    (fleet, tail, replies, m.log.is ∙ agree (codes "log") ∙ sym n.log.is, told, anew, vehicles_once xs ys o.vehicles p.vehicles agree m.vehicles n.vehicles, m.deliver ∙ ap is_some (agree (codes "deliver")) ∙ sym n.deliver)
 
-live_once : (xs ys : List Setting) (o p : LiveOptions) → Agree xs ys → GivesLive xs o → GivesLive ys p → AreSame (Live o) (Live p)
+live_once : (xs ys : List Setting) (o p : LiveOptions) → Agree xs ys → GivesLive xs o → GivesLive ys p → o ≡ p
 live_once xs ys o p agree m n =
     let fleet = fleet_once xs ys o.fleet p.fleet agree m.fleet n.fleet in
-    let every = may_once xs ys (codes "every") 1 60000 o.every p.every agree m.every n.every in
-    let other : GivesNumber ys (codes "turns") (default_turns o.every) 1 100000 p.turns = subst (λ e. GivesNumber ys (codes "turns") (default_turns e) 1 100000 p.turns) (sym every) n.turns in
-    let turns = number_once xs ys (codes "turns") (default_turns o.every) 1 100000 o.turns p.turns agree m.turns other in
+    let turns = number_once xs ys (codes "turns") 64 1 100000 o.turns p.turns agree m.turns n.turns in
     let journal = number_once xs ys (codes "journal") 10000 1 1000000 o.journal p.journal agree m.journal n.journal in
-    let board_every = number_once xs ys (codes "board-every") 100 1 60000 o.board_every p.board_every agree m.board_every n.board_every in
-    (fleet, turns, journal, every, m.board.is ∙ agree (codes "board") ∙ sym n.board.is, board_every)
+    λ i. record { fleet = fleet i; turns = turns i; journal = journal i }
 
-attend_once : (xs ys : List Setting) (o p : AttendOptions) → AllAgree xs ys → GivesAttend xs o → GivesAttend ys p → AreSame (Attend o) (Attend p)
-attend_once xs ys o p all m n =
+serve_once : (xs ys : List Setting) (o p : ServeOptions) → AllAgree xs ys → GivesServe xs o → GivesServe ys p → AreSame (Serve o) (Serve p)
+serve_once xs ys o p all m n =
     let agree = all_agree xs ys all in
     let fleet = fleet_once xs ys o.fleet p.fleet agree m.fleet n.fleet in
-    let journal = number_once xs ys (codes "journal") 10000 1 1000000 o.journal p.journal agree m.journal n.journal in
+    let journal = number_once xs ys (codes "journal") 1000000 1 1000000 o.journal p.journal agree m.journal n.journal in
     let replies = replies_once xs ys o.replies p.replies agree m.replies n.replies in
     let share = may_once xs ys (codes "share") 1 1000000 o.share p.share agree m.share n.share in
     let log : Some o.log.now ≡ Some p.log.now = m.log.is ∙ agree (codes "log") ∙ sym n.log.is in
     let every = may_once xs ys (codes "every") 1 60000 o.every p.every agree m.every n.every in
-    let counted : GivesNumber ys (codes "turns") (default_turns o.every) 1 100000 p.turns = subst (λ e. GivesNumber ys (codes "turns") (default_turns e) 1 100000 p.turns) (sym every) n.turns in
-    let turns = number_once xs ys (codes "turns") (default_turns o.every) 1 100000 o.turns p.turns agree m.turns counted in
     let board_every = number_once xs ys (codes "board-every") 100 1 60000 o.board_every p.board_every agree m.board_every n.board_every in
     let other : AllZip GivesClient (values_of (codes "client") xs) p.clients.items = subst (λ ts. AllZip GivesClient ts p.clients.items) (sym (all (codes "client"))) n.clients.each in (
       fleet,
@@ -271,46 +284,42 @@ attend_once xs ys o p all m n =
       share,
       replies,
       some_same o.log.now p.log.now log,
+      m.anew ∙ ap is_some (agree (codes "new")) ∙ sym n.anew,
       every,
-      turns,
       m.board.is ∙ agree (codes "board") ∙ sym n.board.is,
       board_every,
       clients_once (values_of (codes "client") xs) o.clients.items p.clients.items m.clients.each other,
     )
 
--- settings do not give options of running clients and options without
-not_both_ways : (xs ys : List Setting) (o : LiveOptions) (p : AttendOptions) → Agree xs ys → GivesLive xs o → GivesAttend ys p → ⊥
-not_both_ways xs ys o p agree m n = has_client ys p n (sym (agree (codes "client")) ∙ no_client xs o m)
-
 apart_so : (name told one other : Text) → name ≡ told → bytes_eq one other ≡ false → name ≡ one → told ≡ other → ⊥
 apart_so name told one other is differs m n = other_word one other differs (sym m ∙ is ∙ n)
 
 gives_once : (name told : Text) (xs ys : List Setting) (o p : Options) → name ≡ told → AllAgree xs ys → EachGives name xs o → EachGives told ys p → AreSame o p
-gives_once name told xs ys Check Check is all m n = refl
-gives_once name told xs ys Check (Replay p) is all m n = absurd (apart_so name told (codes "check") (codes "replay") is refl m.0 n.0)
-gives_once name told xs ys Check Verify is all m n = absurd (apart_so name told (codes "check") (codes "verify") is refl m.0 n.0)
-gives_once name told xs ys Check (Live p) is all m n = absurd (apart_so name told (codes "check") (codes "live") is refl m.0 n.0)
-gives_once name told xs ys Check (Attend p) is all m n = absurd (apart_so name told (codes "check") (codes "live") is refl m.0 n.0)
-gives_once name told xs ys (Replay o) Check is all m n = absurd (apart_so name told (codes "replay") (codes "check") is refl m.0 n.0)
+gives_once name told xs ys (Check o) (Check p) is all m n = λ i. Check (record { homes = rule_once xs ys o.homes p.homes all m.1 n.1 i })
+gives_once name told xs ys (Check o) (Replay p) is all m n = absurd (apart_so name told (codes "check") (codes "replay") is refl m.0 n.0)
+gives_once name told xs ys (Check o) (Verify p) is all m n = absurd (apart_so name told (codes "check") (codes "verify") is refl m.0 n.0)
+gives_once name told xs ys (Check o) (Live p) is all m n = absurd (apart_so name told (codes "check") (codes "live") is refl m.0 n.0)
+gives_once name told xs ys (Check o) (Serve p) is all m n = absurd (apart_so name told (codes "check") (codes "serve") is refl m.0 n.0)
+gives_once name told xs ys (Replay o) (Check p) is all m n = absurd (apart_so name told (codes "replay") (codes "check") is refl m.0 n.0)
 gives_once name told xs ys (Replay o) (Replay p) is all m n = replay_once xs ys o p (all_agree xs ys all) m.1 n.1
-gives_once name told xs ys (Replay o) Verify is all m n = absurd (apart_so name told (codes "replay") (codes "verify") is refl m.0 n.0)
+gives_once name told xs ys (Replay o) (Verify p) is all m n = absurd (apart_so name told (codes "replay") (codes "verify") is refl m.0 n.0)
 gives_once name told xs ys (Replay o) (Live p) is all m n = absurd (apart_so name told (codes "replay") (codes "live") is refl m.0 n.0)
-gives_once name told xs ys (Replay o) (Attend p) is all m n = absurd (apart_so name told (codes "replay") (codes "live") is refl m.0 n.0)
-gives_once name told xs ys Verify Check is all m n = absurd (apart_so name told (codes "verify") (codes "check") is refl m.0 n.0)
-gives_once name told xs ys Verify (Replay p) is all m n = absurd (apart_so name told (codes "verify") (codes "replay") is refl m.0 n.0)
-gives_once name told xs ys Verify Verify is all m n = refl
-gives_once name told xs ys Verify (Live p) is all m n = absurd (apart_so name told (codes "verify") (codes "live") is refl m.0 n.0)
-gives_once name told xs ys Verify (Attend p) is all m n = absurd (apart_so name told (codes "verify") (codes "live") is refl m.0 n.0)
-gives_once name told xs ys (Live o) Check is all m n = absurd (apart_so name told (codes "live") (codes "check") is refl m.0 n.0)
+gives_once name told xs ys (Replay o) (Serve p) is all m n = absurd (apart_so name told (codes "replay") (codes "serve") is refl m.0 n.0)
+gives_once name told xs ys (Verify o) (Check p) is all m n = absurd (apart_so name told (codes "verify") (codes "check") is refl m.0 n.0)
+gives_once name told xs ys (Verify o) (Replay p) is all m n = absurd (apart_so name told (codes "verify") (codes "replay") is refl m.0 n.0)
+gives_once name told xs ys (Verify o) (Verify p) is all m n = λ i. Verify (record { homes = rule_once xs ys o.homes p.homes all m.1 n.1 i })
+gives_once name told xs ys (Verify o) (Live p) is all m n = absurd (apart_so name told (codes "verify") (codes "live") is refl m.0 n.0)
+gives_once name told xs ys (Verify o) (Serve p) is all m n = absurd (apart_so name told (codes "verify") (codes "serve") is refl m.0 n.0)
+gives_once name told xs ys (Live o) (Check p) is all m n = absurd (apart_so name told (codes "live") (codes "check") is refl m.0 n.0)
 gives_once name told xs ys (Live o) (Replay p) is all m n = absurd (apart_so name told (codes "live") (codes "replay") is refl m.0 n.0)
-gives_once name told xs ys (Live o) Verify is all m n = absurd (apart_so name told (codes "live") (codes "verify") is refl m.0 n.0)
-gives_once name told xs ys (Live o) (Live p) is all m n = live_once xs ys o p (all_agree xs ys all) m.1 n.1
-gives_once name told xs ys (Live o) (Attend p) is all m n = absurd (not_both_ways xs ys o p (all_agree xs ys all) m.1 n.1)
-gives_once name told xs ys (Attend o) Check is all m n = absurd (apart_so name told (codes "live") (codes "check") is refl m.0 n.0)
-gives_once name told xs ys (Attend o) (Replay p) is all m n = absurd (apart_so name told (codes "live") (codes "replay") is refl m.0 n.0)
-gives_once name told xs ys (Attend o) Verify is all m n = absurd (apart_so name told (codes "live") (codes "verify") is refl m.0 n.0)
-gives_once name told xs ys (Attend o) (Live p) is all m n = absurd (not_both_ways ys xs p o (λ id. sym (all_agree xs ys all id)) n.1 m.1)
-gives_once name told xs ys (Attend o) (Attend p) is all m n = attend_once xs ys o p all m.1 n.1
+gives_once name told xs ys (Live o) (Verify p) is all m n = absurd (apart_so name told (codes "live") (codes "verify") is refl m.0 n.0)
+gives_once name told xs ys (Live o) (Live p) is all m n = ap Live (live_once xs ys o p (all_agree xs ys all) m.1 n.1)
+gives_once name told xs ys (Live o) (Serve p) is all m n = absurd (apart_so name told (codes "live") (codes "serve") is refl m.0 n.0)
+gives_once name told xs ys (Serve o) (Check p) is all m n = absurd (apart_so name told (codes "serve") (codes "check") is refl m.0 n.0)
+gives_once name told xs ys (Serve o) (Replay p) is all m n = absurd (apart_so name told (codes "serve") (codes "replay") is refl m.0 n.0)
+gives_once name told xs ys (Serve o) (Verify p) is all m n = absurd (apart_so name told (codes "serve") (codes "verify") is refl m.0 n.0)
+gives_once name told xs ys (Serve o) (Live p) is all m n = absurd (apart_so name told (codes "serve") (codes "live") is refl m.0 n.0)
+gives_once name told xs ys (Serve o) (Serve p) is all m n = serve_once xs ys o p all m.1 n.1
 
 -- words give at most one set of options
 pub given_once : (words : List Text) (o p : Options) → WordsGive words o → WordsGive words p → AreSame o p

@@ -11,9 +11,9 @@ use Rattle.clap.specs.ValueTests.{accepts}
 use Rattle.clap.specs.Walk.{Rule, Text, action_of, arg_by_long, has_long, texts}
 use Rattle.clap.specs.declared.builder.value_parser.ValueParser.TheVariants as vp
 use Rattle.wh_options.specs.Setting.{Setting, value_of}
-use Rattle.wh_options.specs.Options.{GivesFile, GivesNumber, GivesPlanner, GivesReplies, GivesTail, MayGive, GivesVehicles, HasOnly, IsWritten, planner_text, replies_text, tail_text}
-use Rattle.wh_options.specs.Reads.{MayRead, ReadsNumber, ReadsVehicles, planner_of, replies_of, tail_of}
-use Rattle.wh_options.specs.Menu.{Choices, planner_words, replies_words, tail_words}
+use Rattle.wh_options.specs.Options.{GivesFile, GivesHomes, GivesNumber, GivesPlanner, GivesReplies, GivesTail, MayGive, GivesVehicles, HasOnly, IsWritten, ends_text, planner_text, replies_text, tail_text}
+use Rattle.wh_options.specs.Reads.{MayRead, ReadsNumber, ReadsVehicles, homes_of, planner_of, replies_of, tail_of}
+use Rattle.wh_options.specs.Menu.{Choices, ends_words, planner_words, replies_words, tail_words}
 use Rattle.wh_options.specs.declared.chosen.PlannerKind.{PlannerKind}
 use Rattle.wh_options.specs.declared.chosen.PlannerKind.TheVariants.{Near}
 use Rattle.wh_options.specs.declared.chosen.Tail.{Tail}
@@ -63,11 +63,6 @@ only_names c [] all taken = tt
 only_names c (x ∷ xs) all taken =
     let t = taken.0 in
     (listed c x.name t.0 (suits_set x.way t.0 t.2) (long_plain c x.name t.0 all t.1).1 t.1, only_names c xs all taken.1)
-
--- a command without options and switches takes no setting
-pub no_settings : (c : List Rule) (settings : List Setting) → ((name : Text) (a : Rule) → arg_by_long c name ≡ Some a → IsSetting a → ⊥) → AllByRecursion (IsTaken c) settings → settings ≡ []
-no_settings c [] none taken = refl
-no_settings c (x ∷ xs) none taken = absurd (none x.name taken.0.0 taken.0.1 (suits_setting x.way taken.0.0 taken.0.2))
 
 -- ---- the value of a name
 
@@ -171,6 +166,26 @@ planner_given c settings planner taken choices words r is case parser o same rea
         let t = taken_value c settings (codes "planner") text r taken is e in
         let one = one_of_words choices planner_words text words (rw (case, parser) at t) in
         planner_text_is text _ _ refl refl one ∙ ap planner_text (sym p)
+
+ends_text_is : (text : Text) (stops homes : Bool) → bytes_eq (codes "stops") text ≡ stops → bytes_eq (codes "homes") text ≡ homes
+    → (stops || (homes || false)) ≡ true → text ≡ ends_text (homes_of (Some text))
+ends_text_is text stops true s h e = subst (λ t. t ≡ ends_text (homes_of (Some t))) (bytes_same (codes "homes") text h) refl
+ends_text_is text true false s h e = subst (λ t. t ≡ ends_text (homes_of (Some t))) (bytes_same (codes "stops") text s) refl
+ends_text_is text false false s h e = cc
+
+pub ends_given : (c : List Rule) (settings : List Setting) (homes : Bool) → AllByRecursion (IsTaken c) settings
+    → (choices : Choices) → texts choices.now ≡ ends_words
+    → (r : Rule) → arg_by_long c (codes "ends") ≡ Some r → r.ignore_case ≡ false → r.parser ≡ Some (vp.Names choices)
+    → (o : Option Text) → o ≡ value_of (codes "ends") settings → homes ≡ homes_of o → GivesHomes settings homes
+ends_given c settings homes taken choices words r is case parser o same reads =
+    go (value_of (codes "ends") settings) refl (reads ∙ ap homes_of same)
+  where
+    go : (v : Option Text) → value_of (codes "ends") settings ≡ v → homes ≡ homes_of v → MatchOption v (homes ≡ false) (λ text. text ≡ ends_text homes)
+    go None e p = p
+    go (Some text) e p =
+        let t = taken_value c settings (codes "ends") text r taken is e in
+        let one = one_of_words choices ends_words text words (rw (case, parser) at t) in
+        ends_text_is text _ _ refl refl one ∙ ap ends_text (sym p)
 
 tail_text_is : (text : Text) (a b d : Bool) → bytes_eq (codes "none") text ≡ a → bytes_eq (codes "log") text ≡ b → bytes_eq (codes "ledger") text ≡ d
     → (a || (b || (d || false))) ≡ true → text ≡ tail_text (tail_of (Some text))

@@ -1,5 +1,5 @@
 -- Which options the words of a command line give.
-use Rattle.std.specs.Prelude.{◌≡◌, ◌≢◌, ◌≤◌, ◌⊎◌, ◌||◌, ℕ, Bool, List, [], ◌∷◌, ◌++◌, Option, Some, None, MatchOption, codes, option_map, true}
+use Rattle.std.specs.Prelude.{◌≡◌, ◌≢◌, ◌≤◌, ◌⊎◌, ◌||◌, ℕ, Bool, List, [], ◌∷◌, ◌++◌, Option, Some, None, MatchOption, codes, is_some, option_map, false, true}
 use Rattle.std.specs.List.{AllByRecursion, AllZip, list_any}
 use Rattle.std.specs.Str.{bytes_eq}
 use Rattle.std.specs.Str.Parse.{IsNumeral, digits_value, without_leading_plus}
@@ -16,9 +16,9 @@ use Rattle.wh_options.specs.declared.chosen.Fleet.{Fleet}
 use Rattle.wh_options.specs.declared.chosen.VehicleOptions.{VehicleOptions}
 use Rattle.wh_options.specs.declared.chosen.ReplayOptions.{ReplayOptions}
 use Rattle.wh_options.specs.declared.chosen.LiveOptions.{LiveOptions}
-use Rattle.wh_options.specs.declared.chosen.AttendOptions.{AttendOptions}
+use Rattle.wh_options.specs.declared.chosen.ServeOptions.{ServeOptions}
 use Rattle.wh_options.specs.declared.chosen.Options.{Options}
-use Rattle.wh_options.specs.declared.chosen.Options.TheVariants.{Attend, Check, Replay, Verify, Live}
+use Rattle.wh_options.specs.declared.chosen.Options.TheVariants.{Check, Replay, Verify, Live, Serve}
 
 -- the text is n in decimal digits, perhaps after a plus
 abbrev pub IsWritten : ℕ → Text → Type 0
@@ -59,17 +59,23 @@ abbrev pub GivesReplies : List Setting → Replies → Type 0
 GivesReplies settings replies = MatchOption (value_of (codes "replies") settings)
     (replies ≡ Short) (λ text. text ≡ replies_text replies)
 
+-- the word for paths that end at homes, and for those that end at their last stops
+abbrev pub ends_text : Bool → Text
+ends_text true = codes "homes"
+ends_text false = codes "stops"
+
+-- whether paths end at homes, given by its word, or at their last stops
+abbrev pub GivesHomes : List Setting → Bool → Type 0
+GivesHomes settings homes = MatchOption (value_of (codes "ends") settings)
+    (homes ≡ false) (λ text. text ≡ ends_text homes)
+
 -- the text of the name of the log's file
 abbrev pub log_of : ReplayOptions → Option Text
 log_of o = option_map (λ s. s.now) o.log
 
 -- the text of the name of the board's file
-abbrev pub board_of : LiveOptions → Option Text
+abbrev pub board_of : ServeOptions → Option Text
 board_of o = option_map (λ s. s.now) o.board
-
--- the same, beside running clients
-abbrev pub attend_board_of : AttendOptions → Option Text
-attend_board_of o = option_map (λ s. s.now) o.board
 
 -- the file named by this option, if one is, by a name that is not empty
 pub record GivesFile (settings : List Setting) (option : Text) (file : Option Text) : Type 0 where
@@ -81,6 +87,10 @@ abbrev pub MayGive : List Setting → Text → ℕ → ℕ → Option ℕ → Ty
 MayGive settings name least most given = MatchOption (value_of name settings)
     (given ≡ None) (λ text. (n : ℕ) × (given ≡ Some n) × IsWritten n text × (least ≤ n) × (n ≤ most))
 
+-- whether this switch is given
+abbrev pub GivesSwitch : List Setting → Text → Bool → Type 0
+GivesSwitch settings name given = given ≡ is_some (value_of name settings)
+
 -- how vehicles carry out the plan, if they do: each number as given, or by default
 pub record GivesVehicles (settings : List Setting) (vehicles : Option VehicleOptions) : Type 0 where
   pub pace : VehicleOptions
@@ -89,12 +99,13 @@ pub record GivesVehicles (settings : List Setting) (vehicles : Option VehicleOpt
   pub is : MatchOption (value_of (codes "vehicles") settings)
       (vehicles ≡ None) (λ text. vehicles ≡ Some pace)
 
--- the settings give these planners
+-- the settings give these planners, and this rule
 pub record GivesFleet (settings : List Setting) (fleet : Fleet) : Type 0 where
   pub planner : GivesPlanner settings fleet.planner
   pub slots : GivesNumber settings (codes "slots") 4 2 64 fleet.slots
   pub bank : GivesNumber settings (codes "bank") 1024 2 65536 fleet.bank
   pub spares : GivesNumber settings (codes "spares") 0 0 16 fleet.spares
+  pub ends : GivesHomes settings fleet.homes
 
 -- each setting is of one of these names
 abbrev pub HasOnly : List Text → List Setting → Type 0
@@ -102,22 +113,29 @@ HasOnly names =
     AllByRecursion (λ (s : Setting). list_any (bytes_eq s.name) names ≡ true)
 
 abbrev pub fleet_names : List Text
-fleet_names = codes "planner" ∷ codes "slots" ∷ codes "bank" ∷ codes "spares" ∷ []
+fleet_names = codes "planner" ∷ codes "slots" ∷ codes "bank" ∷ codes "spares" ∷ codes "ends" ∷ []
+
+abbrev pub rule_names : List Text
+rule_names = codes "ends" ∷ []
 
 abbrev pub replay_names : List Text
-replay_names = codes "planner" ∷ codes "slots" ∷ codes "bank" ∷ codes "spares" ∷ codes "tail"
-    ∷ codes "replies" ∷ codes "log" ∷ codes "told" ∷ codes "vehicles" ∷ codes "behind"
-    ∷ codes "ahead" ∷ []
+replay_names = codes "planner" ∷ codes "slots" ∷ codes "bank" ∷ codes "spares" ∷ codes "ends" ∷ codes "tail"
+    ∷ codes "replies" ∷ codes "log" ∷ codes "told" ∷ codes "new" ∷ codes "vehicles"
+    ∷ codes "behind" ∷ codes "ahead" ∷ codes "deliver" ∷ []
 
 abbrev pub live_names : List Text
-live_names = codes "planner" ∷ codes "slots" ∷ codes "bank" ∷ codes "spares" ∷ codes "turns"
-    ∷ codes "journal" ∷ codes "every" ∷ codes "board" ∷ codes "board-every" ∷ []
+live_names = codes "planner" ∷ codes "slots" ∷ codes "bank" ∷ codes "spares" ∷ codes "ends" ∷ codes "turns"
+    ∷ codes "journal" ∷ []
 
--- all options of `live`; each may stand beside running clients
-abbrev pub all_live_names : List Text
-all_live_names = codes "planner" ∷ codes "slots" ∷ codes "bank" ∷ codes "spares" ∷ codes "turns"
-    ∷ codes "journal" ∷ codes "every" ∷ codes "board" ∷ codes "board-every" ∷ codes "log"
+abbrev pub serve_names : List Text
+serve_names = codes "planner" ∷ codes "slots" ∷ codes "bank" ∷ codes "spares" ∷ codes "ends" ∷ codes "journal"
+    ∷ codes "every" ∷ codes "board" ∷ codes "board-every" ∷ codes "log" ∷ codes "new"
     ∷ codes "replies" ∷ codes "share" ∷ codes "client" ∷ []
+
+-- what the settings of `check` or `verify` say
+pub record GivesRule (settings : List Setting) (homes : Bool) : Type 0 where
+  pub only : HasOnly rule_names settings
+  pub ends : GivesHomes settings homes
 
 -- what each setting of `replay` says by itself
 pub record GivesReplay (settings : List Setting) (o : ReplayOptions) : Type 0 where
@@ -127,22 +145,16 @@ pub record GivesReplay (settings : List Setting) (o : ReplayOptions) : Type 0 wh
   pub replies : GivesReplies settings o.replies
   pub log : GivesFile settings (codes "log") (log_of o)
   pub told : MayGive settings (codes "told") 0 999999999 o.told
+  pub anew : GivesSwitch settings (codes "new") o.anew
   pub vehicles : GivesVehicles settings o.vehicles
-
--- how many turns there are where no number is given for them
-abbrev pub default_turns : Option ℕ → ℕ
-default_turns None = 64
-default_turns (Some every) = 100000
+  pub deliver : GivesSwitch settings (codes "deliver") o.deliver
 
 -- what each setting of `live` says by itself
 pub record GivesLive (settings : List Setting) (o : LiveOptions) : Type 0 where
   pub only : HasOnly live_names settings
   pub fleet : GivesFleet settings o.fleet
-  pub turns : GivesNumber settings (codes "turns") (default_turns o.every) 1 100000 o.turns
+  pub turns : GivesNumber settings (codes "turns") 64 1 100000 o.turns
   pub journal : GivesNumber settings (codes "journal") 10000 1 1000000 o.journal
-  pub every : MayGive settings (codes "every") 1 60000 o.every
-  pub board : GivesFile settings (codes "board") (board_of o)
-  pub board_every : GivesNumber settings (codes "board-every") 100 1 60000 o.board_every
 
 -- one is given, and the other is not
 abbrev pub Lacks : (Text → Option Text) → Text → Text → Type 0
@@ -161,52 +173,51 @@ pub record CoversLog (given : Text → Option Text) : Type 0 where
   pub log_is : given (codes "log") ≡ Some log
   pub covered : covers board log ≡ true
 
--- beside running clients the worker's turns are counted, and there is no worker; or the board is given a file of the log
-abbrev pub Clashes : (Text → Option Text) → Type 0
-Clashes given = (given (codes "client") ≢ None) × (Lacks given (codes "turns") (codes "every") ⊎ CoversLog given)
-
--- what the settings of `live` say with running clients: at least one, and a log
-pub record GivesAttend (settings : List Setting) (o : AttendOptions) : Type 0 where
-  pub only : HasOnly all_live_names settings
+-- what the settings of `serve` say: at least one client, a log, and a board in none of the log's files
+pub record GivesServe (settings : List Setting) (o : ServeOptions) : Type 0 where
+  pub only : HasOnly serve_names settings
   pub fleet : GivesFleet settings o.fleet
-  pub journal : GivesNumber settings (codes "journal") 10000 1 1000000 o.journal
+  pub journal : GivesNumber settings (codes "journal") 1000000 1 1000000 o.journal
   pub share : MayGive settings (codes "share") 1 1000000 o.share
   pub replies : GivesReplies settings o.replies
   pub log : GivesFile settings (codes "log") (Some o.log.now)
+  pub anew : GivesSwitch settings (codes "new") o.anew
   pub every : MayGive settings (codes "every") 1 60000 o.every
-  pub turns : GivesNumber settings (codes "turns") (default_turns o.every) 1 100000 o.turns
-  pub board : GivesFile settings (codes "board") (attend_board_of o)
+  pub board : GivesFile settings (codes "board") (board_of o)
   pub board_every : GivesNumber settings (codes "board-every") 100 1 60000 o.board_every
   pub clients : GiveClients (values_of (codes "client") settings) o.clients.items
   pub some : o.clients.items ≢ []
-  pub agree : ¬ Clashes (λ id. value_of id settings)
+  pub agree : ¬ CoversLog (λ id. value_of id settings)
+
+-- all is to be delivered behind the script, and by vehicles
+abbrev pub DeliversByVehicles : (Text → Option Text) → Type 0
+DeliversByVehicles given = (given (codes "deliver") ≢ None) × (given (codes "vehicles") ≢ None)
 
 -- what each setting of a subcommand says by itself
 abbrev pub EachGives : Text → List Setting → Options → Type 0
-EachGives name settings Check = (name ≡ codes "check") × (settings ≡ [])
-EachGives name settings (Replay o) = (name ≡ codes "replay") × GivesReplay settings o
-EachGives name settings Verify = (name ≡ codes "verify") × (settings ≡ [])
+EachGives name settings (Check o) = (name ≡ codes "check") × GivesRule settings o.homes
+EachGives name settings (Replay o) = (name ≡ codes "replay") × GivesReplay settings o × (¬ DeliversByVehicles (λ id. value_of id settings))
+EachGives name settings (Verify o) = (name ≡ codes "verify") × GivesRule settings o.homes
 EachGives name settings (Live o) = (name ≡ codes "live") × GivesLive settings o
-EachGives name settings (Attend o) = (name ≡ codes "live") × GivesAttend settings o
+EachGives name settings (Serve o) = (name ≡ codes "serve") × GivesServe settings o
 
 -- an option of `replay` is given without the one that it belongs to
 abbrev pub ReplayLacks : (Text → Option Text) → Type 0
 ReplayLacks given = Lacks given (codes "told") (codes "log")
+    ⊎ (Lacks given (codes "new") (codes "log")
     ⊎ (Lacks given (codes "behind") (codes "vehicles")
-    ⊎ Lacks given (codes "ahead") (codes "vehicles"))
+    ⊎ Lacks given (codes "ahead") (codes "vehicles")))
 
--- an option of `live` is given without the one that it belongs to
-abbrev pub LiveLacks : (Text → Option Text) → Type 0
-LiveLacks given = Lacks given (codes "board-every") (codes "board")
-    ⊎ (Lacks given (codes "client") (codes "log")
-    ⊎ (Lacks given (codes "log") (codes "client")
-    ⊎ (Lacks given (codes "replies") (codes "client")
-    ⊎ Lacks given (codes "share") (codes "client"))))
+-- `serve` is given no log, or no client, or how often the board is looked at and no board
+abbrev pub ServeLacks : (Text → Option Text) → Type 0
+ServeLacks given = (given (codes "log") ≡ None)
+    ⊎ ((given (codes "client") ≡ None)
+    ⊎ Lacks given (codes "board-every") (codes "board"))
 
--- an option of this subcommand is given without the one that it belongs to
+-- this subcommand is given an option without the one that it belongs to, or not what it needs
 abbrev pub LacksAny : Text → (Text → Option Text) → Type 0
 LacksAny name given = ((name ≡ codes "replay") × ReplayLacks given)
-    ⊎ ((name ≡ codes "live") × LiveLacks given)
+    ⊎ ((name ≡ codes "serve") × ServeLacks given)
 
 -- the subcommand and its settings mean these options
 abbrev pub Means : Text → List Setting → Options → Type 0
@@ -218,45 +229,49 @@ abbrev pub WordsGive : List Text → Options → Type 0
 WordsGive words options = (name : Text) × (settings : List Setting)
     × IsLine words name settings × Means name settings options
 
--- each setting of `live` says something by itself, whatever stands beside it; only whether its texts name clients is
+-- each setting of `serve` says something by itself, whatever stands beside it; only whether its texts name clients is
 -- left open
-pub record SaysLive (settings : List Setting) : Type 0 where
-  pub live : LiveOptions
-  pub replies : Replies
-  pub log : Option Text
-  pub share : Option ℕ
-  pub only : HasOnly all_live_names settings
-  pub fleet : GivesFleet settings live.fleet
-  pub turns : GivesNumber settings (codes "turns") (default_turns live.every) 1 100000 live.turns
-  pub journal : GivesNumber settings (codes "journal") 10000 1 1000000 live.journal
-  pub every : MayGive settings (codes "every") 1 60000 live.every
-  pub board : GivesFile settings (codes "board") (board_of live)
-  pub board_every : GivesNumber settings (codes "board-every") 100 1 60000 live.board_every
-  pub gives_replies : GivesReplies settings replies
-  pub gives_log : GivesFile settings (codes "log") log
-  pub gives_share : MayGive settings (codes "share") 1 1000000 share
+pub record SaysServe (settings : List Setting) : Type 0 where
+  pub planners : Fleet
+  pub entries : ℕ
+  pub part : Option ℕ
+  pub form : Replies
+  pub kept : Option Text
+  pub pace : Option ℕ
+  pub shown : Option Text
+  pub looks : ℕ
+  pub only : HasOnly serve_names settings
+  pub fleet : GivesFleet settings planners
+  pub journal : GivesNumber settings (codes "journal") 1000000 1 1000000 entries
+  pub share : MayGive settings (codes "share") 1 1000000 part
+  pub replies : GivesReplies settings form
+  pub log : GivesFile settings (codes "log") kept
+  pub every : MayGive settings (codes "every") 1 60000 pace
+  pub board : GivesFile settings (codes "board") shown
+  pub board_every : GivesNumber settings (codes "board-every") 100 1 60000 looks
 
--- each setting of `replay` or `live` says something by itself
+-- each setting of `replay` or `serve` says something by itself
 abbrev pub EachSays : Text → List Setting → Type 0
 EachSays name settings = ((name ≡ codes "replay") × (o : ReplayOptions) × GivesReplay settings o)
-    ⊎ ((name ≡ codes "live") × SaysLive settings)
+    ⊎ ((name ≡ codes "serve") × SaysServe settings)
 
 -- a way in which the settings of a subcommand, by what each name and `client` are given, do not go together
 abbrev pub Way : Type 1
 Way = Text → (Text → Option Text) → List Text → Type 0
 
--- one lacks the other that it belongs to
+-- one lacks the other that it belongs to, or what the subcommand needs is not there
 abbrev pub IsLacking : Way
 IsLacking name given clients = LacksAny name given
 
--- none lacks another, and what is given beside clients clashes
+-- nothing lacks, and the board of `serve` is given a file of the log, or `replay` is to deliver by vehicles
 abbrev pub IsClashing : Way
-IsClashing name given clients = (name ≡ codes "live") × (¬ LiveLacks given) × Clashes given
+IsClashing name given clients = ((name ≡ codes "serve") × (¬ ServeLacks given) × CoversLog given)
+    ⊎ ((name ≡ codes "replay") × (¬ ReplayLacks given) × DeliversByVehicles given)
 
--- none lacks another and nothing clashes, and the texts given for clients name none, or not each its own
+-- nothing lacks and nothing clashes, and the texts given for clients name none, or not each its own
 abbrev pub IsClientless : Way
-IsClientless name given clients = (name ≡ codes "live") × (¬ LiveLacks given) × (¬ Clashes given)
-    × (given (codes "client") ≢ None) × ((cs : List ClientOptions) → ¬ GiveClients clients cs)
+IsClientless name given clients = (name ≡ codes "serve") × (¬ ServeLacks given) × (¬ CoversLog given)
+    × ((cs : List ClientOptions) → ¬ GiveClients clients cs)
 
 -- words whose settings each say something by itself, while they do not go together in this way
 pub record IsAmiss (Goes : Way) (words : List Text) : Type 0 where
@@ -269,10 +284,8 @@ pub record IsAmiss (Goes : Way) (words : List Text) : Type 0 where
 -- the same options: a name of a file or a folder counts by its text, wherever that text lies
 abbrev pub AreSame : Options → Options → Type 0
 AreSame (Replay o) (Replay p) = (o.fleet ≡ p.fleet) × (o.tail ≡ p.tail) × (o.replies ≡ p.replies)
-    × (log_of o ≡ log_of p) × (o.told ≡ p.told) × (o.vehicles ≡ p.vehicles)
-AreSame (Live o) (Live p) = (o.fleet ≡ p.fleet) × (o.turns ≡ p.turns) × (o.journal ≡ p.journal)
-    × (o.every ≡ p.every) × (board_of o ≡ board_of p) × (o.board_every ≡ p.board_every)
-AreSame (Attend o) (Attend p) = (o.fleet ≡ p.fleet) × (o.journal ≡ p.journal) × (o.share ≡ p.share) × (o.replies ≡ p.replies)
-    × (o.log.now ≡ p.log.now) × (o.every ≡ p.every) × (o.turns ≡ p.turns) × (attend_board_of o ≡ attend_board_of p)
+    × (log_of o ≡ log_of p) × (o.told ≡ p.told) × (o.anew ≡ p.anew) × (o.vehicles ≡ p.vehicles) × (o.deliver ≡ p.deliver)
+AreSame (Serve o) (Serve p) = (o.fleet ≡ p.fleet) × (o.journal ≡ p.journal) × (o.share ≡ p.share) × (o.replies ≡ p.replies)
+    × (o.log.now ≡ p.log.now) × (o.anew ≡ p.anew) × (o.every ≡ p.every) × (board_of o ≡ board_of p)
     × (o.board_every ≡ p.board_every) × AllZip IsSameClient o.clients.items p.clients.items
 AreSame o p = o ≡ p

@@ -1,14 +1,15 @@
 -- How the values that `clap` found are read.
-use Rattle.std.specs.Prelude.{◌≡◌, ◌≢◌, ◌⊎◌, ◌<◌, ◌^◌, ℕ, List, [], Option, Some, None, MatchOption, Result, Ok, Err, if◌then◌else◌, codes, unwrap_or}
+use Rattle.std.specs.Prelude.{◌≡◌, ◌≢◌, ◌⊎◌, ◌<◌, ◌^◌, ℕ, Bool, List, [], Option, Some, None, MatchOption, Result, Ok, Err, if◌then◌else◌, codes, false, is_some, unwrap_or}
+use Rattle.std.specs.Borrow.{Bor}
 use Rattle.std.specs.Str.{bytes_eq}
 use Rattle.std.specs.Str.Parse.{IsNumeral, digits_value, without_leading_plus}
 use Rattle.clap.specs.Words.{Row, Text, all_of}
 use Rattle.clap.specs.declared.error.kind.ErrorKind.{ErrorKind}
 use Rattle.clap.specs.declared.error.kind.ErrorKind.TheVariants.{ArgumentConflict, MissingRequiredArgument, ValueValidation}
 use Rattle.wh_client.specs.Clients.{GiveClients}
-use Rattle.wh_options.specs.Options.{Clashes, IsClashing, IsClientless, IsLacking, LiveLacks, ReplayLacks, Way, attend_board_of, board_of, default_turns, log_of}
+use Rattle.wh_options.specs.Options.{CoversLog, DeliversByVehicles, IsClashing, IsClientless, IsLacking, ReplayLacks, ServeLacks, Way, board_of, log_of}
 use Rattle.wh_options.specs.declared.mistake.Mistake.{Mistake}
-use Rattle.wh_options.specs.declared.mistake.Mistake.TheVariants.{AheadWithoutVehicles, BehindWithoutVehicles, BoardCoversLog, BoardEveryWithoutBoard, ClientWithoutLog, LogWithoutClient, NoClients, RepliesWithoutClient, ShareWithoutClient, ToldWithoutLog, TurnsWithClient}
+use Rattle.wh_options.specs.declared.mistake.Mistake.TheVariants.{AheadWithoutVehicles, BehindWithoutVehicles, BoardCoversLog, DeliverWithVehicles, BoardEveryWithoutBoard, NewWithoutLog, NoClients, ServeWithoutClient, ServeWithoutLog, ToldWithoutLog}
 use Rattle.wh_options.specs.declared.chosen.PlannerKind.{PlannerKind}
 use Rattle.wh_options.specs.declared.chosen.PlannerKind.TheVariants.{Near, Patient}
 use Rattle.wh_options.specs.declared.chosen.Tail.{Tail}
@@ -19,9 +20,9 @@ use Rattle.wh_options.specs.declared.chosen.Fleet.{Fleet}
 use Rattle.wh_options.specs.declared.chosen.VehicleOptions.{VehicleOptions}
 use Rattle.wh_options.specs.declared.chosen.ReplayOptions.{ReplayOptions}
 use Rattle.wh_options.specs.declared.chosen.LiveOptions.{LiveOptions}
-use Rattle.wh_options.specs.declared.chosen.AttendOptions.{AttendOptions}
+use Rattle.wh_options.specs.declared.chosen.ServeOptions.{ServeOptions}
 use Rattle.wh_options.specs.declared.chosen.Options.{Options}
-use Rattle.wh_options.specs.declared.chosen.Options.TheVariants.{Attend, Check, Replay, Verify, Live}
+use Rattle.wh_options.specs.declared.chosen.Options.TheVariants.{Check, Replay, Verify, Live, Serve}
 
 -- n is the number that the text writes, where it writes one of 32 bits
 abbrev pub ReadsNumber : Option Text → ℕ → ℕ → Type 0
@@ -44,6 +45,11 @@ replies_of None = Short
 replies_of (Some text) = if bytes_eq text (codes "full") then Full
     else (if bytes_eq text (codes "placed") then Placed else Short)
 
+-- whether paths end at homes
+abbrev pub homes_of : Option Text → Bool
+homes_of None = false
+homes_of (Some text) = bytes_eq text (codes "homes")
+
 -- the number that the text writes, if there is one and it writes one of 32 bits
 abbrev pub MayRead : Option Text → Option ℕ → Type 0
 MayRead None read = read ≡ None
@@ -56,12 +62,13 @@ pub record ReadsVehicles (given : Text → Option Text) (vehicles : Option Vehic
   pub ahead : ReadsNumber (given (codes "ahead")) 1 pace.ahead
   pub is : MatchOption (given (codes "vehicles")) (vehicles ≡ None) (λ text. vehicles ≡ Some pace)
 
--- the planners read from what was found
+-- the planners and the rule, read from what was found
 pub record ReadsFleet (given : Text → Option Text) (fleet : Fleet) : Type 0 where
   pub planner : fleet.planner ≡ planner_of (given (codes "planner"))
   pub slots : ReadsNumber (given (codes "slots")) 4 fleet.slots
   pub bank : ReadsNumber (given (codes "bank")) 1024 fleet.bank
   pub spares : ReadsNumber (given (codes "spares")) 0 fleet.spares
+  pub ends : fleet.homes ≡ homes_of (given (codes "ends"))
 
 pub record ReadsReplay (given : Text → Option Text) (o : ReplayOptions) : Type 0 where
   pub fleet : ReadsFleet given o.fleet
@@ -69,51 +76,49 @@ pub record ReadsReplay (given : Text → Option Text) (o : ReplayOptions) : Type
   pub replies : o.replies ≡ replies_of (given (codes "replies"))
   pub log : log_of o ≡ given (codes "log")
   pub told : MayRead (given (codes "told")) o.told
+  pub anew : o.anew ≡ is_some (given (codes "new"))
   pub vehicles : ReadsVehicles given o.vehicles
+  pub deliver : o.deliver ≡ is_some (given (codes "deliver"))
 
 pub record ReadsLive (given : Text → Option Text) (o : LiveOptions) : Type 0 where
   pub fleet : ReadsFleet given o.fleet
-  pub turns : ReadsNumber (given (codes "turns")) (default_turns o.every) o.turns
+  pub turns : ReadsNumber (given (codes "turns")) 64 o.turns
   pub journal : ReadsNumber (given (codes "journal")) 10000 o.journal
-  pub every : MayRead (given (codes "every")) o.every
-  pub board : board_of o ≡ given (codes "board")
-  pub board_every : ReadsNumber (given (codes "board-every")) 100 o.board_every
 
--- the options of `live` with running clients, read from what was found, and from all that was found for `client`
-pub record ReadsAttend (given : Text → Option Text) (clients : List Text) (o : AttendOptions) : Type 0 where
+-- the options of `serve`, read from what was found, and from all that was found for `client`
+pub record ReadsServe (given : Text → Option Text) (clients : List Text) (o : ServeOptions) : Type 0 where
   pub fleet : ReadsFleet given o.fleet
-  pub journal : ReadsNumber (given (codes "journal")) 10000 o.journal
+  pub journal : ReadsNumber (given (codes "journal")) 1000000 o.journal
   pub share : MayRead (given (codes "share")) o.share
   pub replies : o.replies ≡ replies_of (given (codes "replies"))
   pub log : Some o.log.now ≡ given (codes "log")
+  pub anew : o.anew ≡ is_some (given (codes "new"))
   pub every : MayRead (given (codes "every")) o.every
-  pub turns : ReadsNumber (given (codes "turns")) (default_turns o.every) o.turns
-  pub board : attend_board_of o ≡ given (codes "board")
+  pub board : board_of o ≡ given (codes "board")
   pub board_every : ReadsNumber (given (codes "board-every")) 100 o.board_every
   pub clients_are : GiveClients clients o.clients.items
 
 -- the subcommand and what was found for its arguments, as options
 abbrev pub Reads : Text → (Text → Option Text) → List Text → Options → Type 0
-Reads name given clients Check = (name ≢ codes "replay") × (name ≢ codes "live") × (name ≢ codes "verify")
-Reads name given clients (Replay o) = (name ≡ codes "replay") × ReadsReplay given o × (¬ ReplayLacks given)
-Reads name given clients Verify = name ≡ codes "verify"
-Reads name given clients (Live o) = (name ≡ codes "live") × ReadsLive given o × (¬ LiveLacks given)
-    × (given (codes "log") ≡ None)
-Reads name given clients (Attend o) = (name ≡ codes "live") × ReadsAttend given clients o × (¬ LiveLacks given)
-    × (¬ Clashes given)
+Reads name given clients (Check o) = (name ≢ codes "replay") × (name ≢ codes "live") × (name ≢ codes "serve") × (name ≢ codes "verify")
+    × (name ≡ codes "check" → o.homes ≡ homes_of (given (codes "ends")))
+Reads name given clients (Replay o) = (name ≡ codes "replay") × ReadsReplay given o × (¬ ReplayLacks given) × (¬ DeliversByVehicles given)
+Reads name given clients (Verify o) = (name ≡ codes "verify") × (o.homes ≡ homes_of (given (codes "ends")))
+Reads name given clients (Live o) = (name ≡ codes "live") × ReadsLive given o
+Reads name given clients (Serve o) = (name ≡ codes "serve") × ReadsServe given clients o × (¬ ServeLacks given)
+    × (¬ CoversLog given)
 
 -- the kind of error that tells of a mistake
 abbrev pub kind_of_mistake : Mistake → ErrorKind
 kind_of_mistake ToldWithoutLog = MissingRequiredArgument
+kind_of_mistake NewWithoutLog = MissingRequiredArgument
 kind_of_mistake BehindWithoutVehicles = MissingRequiredArgument
 kind_of_mistake AheadWithoutVehicles = MissingRequiredArgument
 kind_of_mistake BoardEveryWithoutBoard = MissingRequiredArgument
-kind_of_mistake ClientWithoutLog = MissingRequiredArgument
-kind_of_mistake LogWithoutClient = MissingRequiredArgument
-kind_of_mistake RepliesWithoutClient = MissingRequiredArgument
-kind_of_mistake ShareWithoutClient = MissingRequiredArgument
-kind_of_mistake TurnsWithClient = ArgumentConflict
+kind_of_mistake ServeWithoutLog = MissingRequiredArgument
+kind_of_mistake ServeWithoutClient = MissingRequiredArgument
 kind_of_mistake BoardCoversLog = ArgumentConflict
+kind_of_mistake DeliverWithVehicles = ArgumentConflict
 kind_of_mistake NoClients = ValueValidation
 
 -- the options do not go together, and an error of this kind tells so
@@ -126,11 +131,23 @@ IsTold kind name given clients = (IsLacking name given clients × (kind ≡ Miss
 abbrev pub Judges : ErrorKind → ((Text → Option Text) → Type 0) → (Text → Option Text) → Option Mistake → Type 0
 Judges kind Wrong given found = MatchOption found (¬ Wrong given) (λ mistake. Wrong given × (kind_of_mistake mistake ≡ kind))
 
+-- nothing of this was found for `replay` that does not go together, or a mistake that says what does not
+abbrev pub JudgesReplay : (Text → Option Text) → Option Mistake → Type 0
+JudgesReplay given found = MatchOption found ((¬ ReplayLacks given) × (¬ DeliversByVehicles given))
+    (λ mistake. (ReplayLacks given × (kind_of_mistake mistake ≡ MissingRequiredArgument))
+    ⊎ ((¬ ReplayLacks given) × DeliversByVehicles given × (kind_of_mistake mistake ≡ ArgumentConflict)))
+
+-- the name of the log's file, where what was found for `serve` goes together; else a mistake that says what does not
+abbrev pub JudgesServe : (Text → Option Text) → Result (Bor Text) Mistake → Type 0
+JudgesServe given (Ok log) = (Some log.now ≡ given (codes "log")) × (¬ ServeLacks given) × (¬ CoversLog given)
+JudgesServe given (Err mistake) = (ServeLacks given × (kind_of_mistake mistake ≡ MissingRequiredArgument))
+    ⊎ ((¬ ServeLacks given) × CoversLog given × (kind_of_mistake mistake ≡ ArgumentConflict))
+
 -- all the texts that were found for `client`
 abbrev pub clients_in : List Row → List Text
 clients_in rows = unwrap_or (all_of (codes "client") rows) []
 
--- the options of `live`, or the mistake in them
+-- the options of `serve`, or the mistake in them
 abbrev pub ReadsLine : (Text → Option Text) → List Text → Result Options Mistake → Type 0
-ReadsLine given clients (Ok o) = Reads (codes "live") given clients o
-ReadsLine given clients (Err mistake) = IsTold (kind_of_mistake mistake) (codes "live") given clients
+ReadsLine given clients (Ok o) = Reads (codes "serve") given clients o
+ReadsLine given clients (Err mistake) = IsTold (kind_of_mistake mistake) (codes "serve") given clients

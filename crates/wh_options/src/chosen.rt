@@ -32,7 +32,7 @@ pub enum Replies {
     Placed,
 }
 
-/// The planners that a run is given, and the slots that they share.
+/// The planners that a run is given, the slots that they share, and the rule of the run.
 #[derive(Clone, Copy, Debug, PartialEq, Eq)]
 pub struct Fleet {
     /// The kind of each planner.
@@ -43,6 +43,22 @@ pub struct Fleet {
     pub bank: u32,
     /// How many planners stand by to replace others, 0 to 16.
     pub spares: u32,
+    /// Whether a path goes on from its last stop to the agent's home; else it ends there.
+    pub homes: bool,
+}
+
+/// The options of `check`.
+#[derive(Clone, Copy, Debug, PartialEq, Eq)]
+pub struct CheckOptions {
+    /// Whether paths are to end at homes, so that no agent may start at a station.
+    pub homes: bool,
+}
+
+/// The options of `verify`.
+#[derive(Clone, Copy, Debug, PartialEq, Eq)]
+pub struct VerifyOptions {
+    /// Whether the log is of a run whose paths end at homes.
+    pub homes: bool,
 }
 
 /// How late vehicles may be, and how far ahead they are told.
@@ -50,7 +66,7 @@ pub struct Fleet {
 pub struct VehicleOptions {
     /// The clock waits while a vehicle is this many steps behind, 1 to 1000.
     pub behind: u32,
-    /// How many cells ahead a vehicle may be told, 1 to 1000.
+    /// How many steps ahead a vehicle may be told, 1 to 1000.
     pub ahead: u32,
 }
 
@@ -67,32 +83,28 @@ pub struct ReplayOptions<'a> {
     pub log: Option<&'a str>,
     /// From which entry on the log's entries are told again at the start, if they are; there is a log then.
     pub told: Option<u32>,
-    /// How vehicles carry out the plan, if they do at their own pace; there is no log then.
+    /// Whether the run may begin anew where its log was lost; there is a log then.
+    pub anew: bool,
+    /// How vehicles carry out the plan, if they do at their own pace.
     pub vehicles: Option<VehicleOptions>,
+    /// Whether all is delivered behind the script that can be; no vehicles carry out the plan then.
+    pub deliver: bool,
 }
 
-/// The options of `live`. They keep a text of the words that gave them.
+/// The options of `live`.
 #[derive(Clone, Copy, Debug, PartialEq, Eq)]
-pub struct LiveOptions<'a> {
+pub struct LiveOptions {
     /// The planners of the run; each client has its own `spares`.
     pub fleet: Fleet,
-    /// How many requests each agent makes, and how many ticks the clock; with `every`, at most how many turns their worker
-    /// takes. 1 to 100000.
+    /// How many requests each agent makes, and how many ticks the clock, 1 to 100000.
     pub turns: u32,
     /// How many entries the journal may hold, 1 to 1000000.
     pub journal: u32,
-    /// How many milliseconds the worker of all agents and the clock rests after each turn, 1 to 60000, if there is one
-    /// instead of a thread for each.
-    pub every: Option<u32>,
-    /// The name of the file that shows the board while the run lasts, if one is to; never empty.
-    pub board: Option<&'a str>,
-    /// How many milliseconds at least lie between two looks at the board, 1 to 60000.
-    pub board_every: u32,
 }
 
-/// The options of `live` with running clients, over named pipes. They keep a text of the words that gave them.
+/// The options of `serve`. They keep a text of the words that gave them.
 #[derive(Debug, PartialEq, Eq, Drop)]
-pub struct AttendOptions<'a> {
+pub struct ServeOptions<'a> {
     /// The planners of the run; each client has its own `spares`.
     pub fleet: Fleet,
     /// How many more entries the history may have, 1 to 1000000.
@@ -104,11 +116,11 @@ pub struct AttendOptions<'a> {
     pub replies: Replies,
     /// The name of the file that keeps the run's log; never empty.
     pub log: &'a str,
+    /// Whether the run may begin anew where its log was lost.
+    pub anew: bool,
     /// How many milliseconds the worker of all agents and the clock rests after each turn, 1 to 60000, if there is one beside
     /// the clients.
     pub every: Option<u32>,
-    /// At most how many turns that worker takes, 1 to 100000; ignored without it.
-    pub turns: u32,
     /// The name of the file that shows the board while the run lasts, if one is to; never empty, and none of the log's.
     pub board: Option<&'a str>,
     /// How many milliseconds at least lie between two looks at the board, 1 to 60000.
@@ -121,13 +133,13 @@ pub struct AttendOptions<'a> {
 #[derive(Debug, PartialEq, Eq, Drop)]
 pub enum Options<'a> {
     /// `check`: whether the warehouse is well-formed.
-    Check,
+    Check(CheckOptions),
     /// `replay`: the replies to a script.
     Replay(ReplayOptions<'a>),
     /// `verify`: whether a log is a run.
-    Verify,
-    /// `live`: clients, agents and a clock in threads.
-    Live(LiveOptions<'a>),
-    /// `live` with running clients.
-    Attend(AttendOptions<'a>),
+    Verify(VerifyOptions),
+    /// `live`: scripts of clients, agents and a clock in threads.
+    Live(LiveOptions),
+    /// `serve`: running clients, over named pipes, with a log.
+    Serve(ServeOptions<'a>),
 }

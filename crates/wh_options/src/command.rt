@@ -1,7 +1,7 @@
 //! The command line as `clap` is told of it: the subcommands, their options and the help texts.
 ghost use Rattle.std.specs.Prelude.{◌≡◌, IfOk, codes, false};
 ghost use Rattle.clap.specs.Words.{App, app_of, new_app, rule_of, with_rule, with_subcommand};
-ghost use Rattle.wh_options.specs.Menu.{AddsLive, AddsReplay, choice_rule, file_rule, many_rule, number_rule, switch_rule, HasShape, IsFleetCommand, IsLiveCommand, IsMenu, IsReplayCommand, with_attend_rules, with_board_rules, with_log_rules, with_settings, with_telling_rules, with_vehicle_rules};
+ghost use Rattle.wh_options.specs.Menu.{AddsLive, AddsReplay, AddsRuled, AddsServe, choice_rule, file_rule, many_rule, number_rule, switch_rule, HasShape, IsFleetCommand, IsLiveCommand, IsMenu, IsReplayCommand, IsRuledCommand, IsServeCommand, with_board_rules, with_client_rules, with_deliver_rule, with_ends_rule, with_log_rules, with_settings, with_telling_rules, with_vehicle_rules};
 
 use clap::builder::ValueParser;
 use clap::{Arg, ArgAction, Command};
@@ -10,7 +10,7 @@ use std::alloc::{AllocError, Global};
 /// The number of the last entry that a log can have; a greater one is a mistake.
 const LAST_ENTRY: u64 = 999_999_999;
 
-/// The most entries that `live` makes room for; more are a mistake.
+/// The most entries that a journal makes room for; more are a mistake.
 const MOST_ROOM: u64 = 1_000_000;
 
 static VERSION: &str = "0.1.0";
@@ -20,6 +20,8 @@ static PLANNERS: [&str; 2] = ["near", "patient"];
 static TAILS: [&str; 3] = ["none", "log", "ledger"];
 
 static REPLIES: [&str; 3] = ["short", "full", "placed"];
+
+static ENDS: [&str; 2] = ["stops", "homes"];
 
 // An option whose value is a number from `least` to `most`.
 fn number_arg<'a>(alloc: Global, name: &'a str, least: u64, most: u64, help: &'a str) -> Arg<'a>
@@ -145,6 +147,30 @@ fn with_many<'a>(
     command.arg(many_arg(alloc, name, value, help))
 }
 
+// The command with one option more, as of switch_arg.
+fn with_switch<'a>(
+    alloc: Global,
+    command: Command<'a>,
+    name: &'a str,
+    help: &'a str,
+) -> Result<Command<'a>, AllocError>
+    ensures { (a : App) → HasShape command.entry a → IfOk result (λ c. HasShape c (with_rule a (switch_rule name.entry.now))) }
+{
+    command.arg(switch_arg(alloc, name, help))
+}
+
+// The option that says where paths end.
+fn with_ends<'a>(
+    alloc: Global,
+    command: Command<'a>,
+    ends: &'a [&'a str],
+) -> Result<Command<'a>, AllocError>
+    ensures { (a : App) → HasShape command.entry a → IfOk result (λ c. HasShape c (with_ends_rule ends.entry a)) }
+{
+    let help = "For few stations, homes: paths go on to where agents started [default: stops]";
+    with_choice(alloc, command, "ends", ends, help)
+}
+
 // A subcommand with the options of a fleet. Defaults are named in the help texts and applied by
 // the readers of the values: clap's own would count as given.
 fn fleet_command<'a>(
@@ -162,24 +188,31 @@ fn fleet_command<'a>(
     let help = "Slots that all planners share, 2 to 65536 [default: 1024]";
     let command = with_number(alloc, command, "bank", 2, 65536, help)?;
     let help = "Planners that stand by to replace others, 0 to 16 [default: 0]";
-    with_number(alloc, command, "spares", 0, 16, help)
+    let command = with_number(alloc, command, "spares", 0, 16, help)?;
+    with_ends(alloc, command, ENDS.as_slice())
 }
 
 // The options of vehicles behind the others of `replay`.
 fn with_vehicles<'a>(alloc: Global, command: Command<'a>) -> Result<Command<'a>, AllocError>
     ensures { (a : App) → HasShape command.entry a → IfOk result (λ c. HasShape c (with_vehicle_rules a)) }
 {
-    let vehicles = switch_arg(
-        alloc,
-        "vehicles",
-        "Vehicles carry out the plan, each at its own pace: takes `at AGENT STEP`, tells `go AGENT STEP X,Y`",
-    );
-    let command = command.arg(vehicles)?;
+    let help =
+        "Vehicles carry out the plan, each at its own pace: takes `at AGENT STEP`, tells `go AGENT STEP X,Y`";
+    let command = with_switch(alloc, command, "vehicles", help)?;
     let help =
         "With --vehicles: steps that a vehicle may be behind before the clock waits, 1 to 1000 [default: 8]";
     let command = with_number(alloc, command, "behind", 1, 1000, help)?;
-    let help = "With --vehicles: cells ahead that a vehicle may be told, 1 to 1000 [default: 1]";
+    let help = "With --vehicles: steps ahead that a vehicle may be told, 1 to 1000 [default: 1]";
     with_number(alloc, command, "ahead", 1, 1000, help)
+}
+
+// The option that has all delivered behind the script.
+fn with_deliver<'a>(alloc: Global, command: Command<'a>) -> Result<Command<'a>, AllocError>
+    ensures { (a : App) → HasShape command.entry a → IfOk result (λ c. HasShape c (with_deliver_rule a)) }
+{
+    let help =
+        "Behind the script, agents ask and the clock ticks until all rest; standard error has the orders that stay open";
+    with_switch(alloc, command, "deliver", help)
 }
 
 // How replies are told, and what follows them.
@@ -205,18 +238,36 @@ fn with_log<'a>(alloc: Global, command: Command<'a>) -> Result<Command<'a>, Allo
     let help = "Keeps the log of the run in FILE, and goes on from the log that FILE has";
     let command = with_file(alloc, command, "log", help)?;
     let help = "With --log: tells the entries of FILE again, from this one on, before the script";
-    with_number(alloc, command, "told", 0, LAST_ENTRY, help)
+    let command = with_number(alloc, command, "told", 0, LAST_ENTRY, help)?;
+    let help =
+        "With --log: begins a new run although FILE was lost, or never begun, beside its FILE.site";
+    with_switch(alloc, command, "new", help)
 }
 
 /// The subcommand `replay`.
 pub(crate) fn replay_command<'a>(alloc: Global) -> Result<Command<'a>, AllocError>
     ensures { IfOk result IsReplayCommand }
 {
-    let about = "Answers each command of a script (input: map, points, script)";
+    let about =
+        "For one client at a pipe: answers each command of a script (input: map, points, script)";
     let command = fleet_command(alloc, "replay", about)?;
     let command = with_telling(alloc, command, TAILS.as_slice(), REPLIES.as_slice())?;
     let command = with_log(alloc, command)?;
-    with_vehicles(alloc, command)
+    let command = with_vehicles(alloc, command)?;
+    with_deliver(alloc, command)
+}
+
+// The subcommand `live`.
+fn live_command<'a>(alloc: Global) -> Result<Command<'a>, AllocError>
+    ensures { IfOk result IsLiveCommand }
+{
+    let about =
+        "For a demonstration: runs clients, agents and a clock in threads (input: map, points, scripts)";
+    let command = fleet_command(alloc, "live", about)?;
+    let help = "Requests of each agent, and ticks of the clock, 1 to 100000 [default: 64]";
+    let command = with_number(alloc, command, "turns", 1, 100_000, help)?;
+    let help = "Entries that the log may have, 1 to 1000000 [default: 10000]";
+    with_number(alloc, command, "journal", 1, MOST_ROOM, help)
 }
 
 // The file that shows the board, and how often.
@@ -224,64 +275,75 @@ fn with_board<'a>(alloc: Global, command: Command<'a>) -> Result<Command<'a>, Al
     ensures { (a : App) → HasShape command.entry a → IfOk result (λ c. HasShape c (with_board_rules a)) }
 {
     let help =
-        "Shows the board in FILE while the run lasts: counts of tasks, and where each agent is, with --client by the entries that are synced; FILE is replaced as a whole, and is no file of the log";
+        "Shows the board in FILE while the run lasts: counts of tasks, and where each agent is, by the entries that are synced; FILE is replaced as a whole, and is no file of the log";
     let command = with_file(alloc, command, "board", help)?;
     let help =
         "With --board: rests N milliseconds at least between two looks, 1 to 60000 [default: 100]";
     with_number(alloc, command, "board-every", 1, 60_000, help)
 }
 
-// The running clients, and what goes with them.
-fn with_attending<'a>(
+// The log, the clients, and how they are served.
+fn with_clients<'a>(
     alloc: Global,
     command: Command<'a>,
     replies: &'a [&'a str],
 ) -> Result<Command<'a>, AllocError>
-    ensures { (a : App) → HasShape command.entry a → IfOk result (λ c. HasShape c (with_attend_rules replies.entry a)) }
+    ensures { (a : App) → HasShape command.entry a → IfOk result (λ c. HasShape c (with_client_rules replies.entry a)) }
 {
     let help =
-        "With --client: keeps the log of the run in FILE, and goes on from the log that FILE has";
+        "Keeps the log of the run in FILE, and goes on from the log that FILE has [always needed]";
     let command = with_file(alloc, command, "log", help)?;
+    let help = "Begins a new run although FILE was lost, or never begun, beside its FILE.site";
+    let command = with_switch(alloc, command, "new", help)?;
     let help =
-        "With --client: how a reply is told: short, of a path its end; full, each cell; placed, full behind its entry's number and the clock [default: short]";
+        "How a reply is told: short, of a path its end; full, each cell; placed, full behind its entry's number and the clock [default: short]";
     let command = with_choice(alloc, command, "replies", replies, help)?;
     let help =
-        "With --client: entries more that each client may have, 1 to 1000000 [default: an equal part of --journal]";
+        "Entries more that each client may have, 1 to 1000000 [default: an equal part of --journal]";
     let command = with_number(alloc, command, "share", 1, MOST_ROOM, help)?;
     let help =
-        "A running client: N=FOLDER or N=FOLDER:RIGHTS, with two named pipes in FOLDER, `in` and `out`; N is 0 to 61; RIGHTS are words of submit,token,tick,replace,close by commas, or all [default: submit]; many times";
+        "A running client: N=FOLDER or N=FOLDER:RIGHTS, with two named pipes in FOLDER, `in` and `out`; N is 0 to 61; RIGHTS are words of submit,token,tick,replace,close by commas, or all [default: submit]; once at least, many times";
     with_many(alloc, command, "client", "CLIENT", help)
 }
 
-/// The subcommand `live`.
-pub(crate) fn live_command<'a>(alloc: Global) -> Result<Command<'a>, AllocError>
-    ensures { IfOk result IsLiveCommand }
+/// The subcommand `serve`.
+pub(crate) fn serve_command<'a>(alloc: Global) -> Result<Command<'a>, AllocError>
+    ensures { IfOk result IsServeCommand }
 {
-    let about = "Runs clients, agents and a clock in threads (input: map, points, scripts)";
-    let command = fleet_command(alloc, "live", about)?;
-    let help =
-        "Requests of each agent, and ticks of the clock; with --every, turns of the worker at most; with --client, beside --every alone; 1 to 100000 [default: 64; with --every 100000]";
-    let command = with_number(alloc, command, "turns", 1, 100_000, help)?;
-    let help =
-        "Entries that the log may have, with --client entries more, 1 to 1000000 [default: 10000]";
+    let about = "For a real fleet: serves running clients over named pipes (input: map, points)";
+    let command = fleet_command(alloc, "serve", about)?;
+    let help = "Entries more that the log may have, 1 to 1000000 [default: 1000000]";
     let command = with_number(alloc, command, "journal", 1, MOST_ROOM, help)?;
     let help =
-        "One worker for all agents and the clock, in place of a thread for each, with --client beside the clients: rests N milliseconds behind each turn, 1 to 60000; without --client it ends where no task is open or under way";
+        "A worker beside the clients, for all agents and the clock: rests N milliseconds behind each turn, 1 to 60000";
     let command = with_number(alloc, command, "every", 1, 60_000, help)?;
     let command = with_board(alloc, command)?;
-    with_attending(alloc, command, REPLIES.as_slice())
+    with_clients(alloc, command, REPLIES.as_slice())
 }
 
-// The command with one subcommand more, which has no options.
-fn with_plain<'a>(
+// A subcommand that is told where paths end, and nothing else.
+fn ruled_command<'a>(
+    alloc: Global,
+    name: &'a str,
+    about: &'a str,
+) -> Result<Command<'a>, AllocError>
+    ensures { IfOk result (λ c. IsRuledCommand c name.entry.now) }
+{
+    let command = plain_command(alloc, name, about);
+    with_ends(alloc, command, ENDS.as_slice())
+}
+
+// The command with one subcommand more, which is told where paths end.
+fn with_ruled<'a>(
     alloc: Global,
     command: Command<'a>,
     name: &'a str,
     about: &'a str,
 ) -> Result<Command<'a>, AllocError>
-    ensures { IfOk result (λ c. app_of c ≡ with_subcommand (app_of command.entry) (new_app name.entry.now).top) }
+    ensures { IfOk result (λ c. AddsRuled name.entry.now command.entry c) }
 {
-    command.subcommand(plain_command(alloc, name, about))
+    let ruled = ruled_command(alloc, name, about)?;
+    command.subcommand(ruled)
 }
 
 // The command with the subcommand `replay`.
@@ -298,6 +360,14 @@ fn with_live<'a>(alloc: Global, command: Command<'a>) -> Result<Command<'a>, All
 {
     let live = live_command(alloc)?;
     command.subcommand(live)
+}
+
+// The command with the subcommand `serve`.
+fn with_serve<'a>(alloc: Global, command: Command<'a>) -> Result<Command<'a>, AllocError>
+    ensures { IfOk result (AddsServe command.entry) }
+{
+    let serve = serve_command(alloc)?;
+    command.subcommand(serve)
 }
 
 // The program's command line before its subcommands.
@@ -319,10 +389,12 @@ fn bare_command<'a>(alloc: Global) -> Command<'a>
 pub(crate) fn warehouse_command<'a>(alloc: Global) -> Result<Command<'a>, AllocError>
     ensures { IfOk result (λ c. IsMenu (app_of c)) }
 {
-    let about = "Tells whether the warehouse is well-formed (input: map, points)";
-    let command = with_plain(alloc, bare_command(alloc), "check", about)?;
+    let about = "For a new map: tells whether the warehouse is well-formed (input: map, points)";
+    let command = with_ruled(alloc, bare_command(alloc), "check", about)?;
     let command = with_replay(alloc, command)?;
-    let about = "Tells whether a log is a run of the warehouse (input: map, points, log)";
-    let command = with_plain(alloc, command, "verify", about)?;
-    with_live(alloc, command)
+    let about =
+        "For an audit: tells whether a log is a run of the warehouse (input: map, points, log)";
+    let command = with_ruled(alloc, command, "verify", about)?;
+    let command = with_live(alloc, command)?;
+    with_serve(alloc, command)
 }

@@ -14,8 +14,8 @@ mod read;
 mod refused;
 
 pub use chosen::{
-    AttendOptions, Fleet, LiveOptions, Options, PlannerKind, ReplayOptions, Replies, Tail,
-    VehicleOptions,
+    CheckOptions, Fleet, LiveOptions, Options, PlannerKind, ReplayOptions, Replies, ServeOptions,
+    Tail, VehicleOptions, VerifyOptions,
 };
 pub use read::options;
 pub use refused::{Refusal, refusal_of};

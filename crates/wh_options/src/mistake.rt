@@ -2,10 +2,10 @@
 ghost use Rattle.std.specs.Prelude.{◌≡◌, ◌++◌, IfOk, MatchBool, codes, is_some};
 ghost use Rattle.std.specs.Str.{bytes_eq};
 ghost use Rattle.clap.specs.Words.{first_value, found_of, kind_of};
-ghost use Rattle.wh_options.specs.Options.{Clashes, CoversLog, LiveLacks, ReplayLacks, covers};
-ghost use Rattle.wh_options.specs.Reads.{Judges, kind_of_mistake};
+ghost use Rattle.wh_options.specs.Options.{ReplayLacks, covers};
+ghost use Rattle.wh_options.specs.Reads.{Judges, JudgesReplay, JudgesServe, kind_of_mistake};
 
-use crate::command::{live_command, replay_command};
+use crate::command::{replay_command, serve_command};
 use clap::error::ErrorKind;
 use clap::{ArgMatches, Command, Error};
 use std::alloc::{AllocError, Global};
@@ -15,24 +15,22 @@ use std::alloc::{AllocError, Global};
 pub(crate) enum Mistake {
     /// Entries are to be told again, of no log.
     ToldWithoutLog,
+    /// A run may begin anew where its log was lost, and there is no log.
+    NewWithoutLog,
     /// How far vehicles may be behind, without vehicles.
     BehindWithoutVehicles,
     /// How far ahead vehicles are told, and there are none.
     AheadWithoutVehicles,
     /// How often the board is looked at, and none is shown.
     BoardEveryWithoutBoard,
-    /// Running clients, and no log.
-    ClientWithoutLog,
-    /// A log of `live`, and no running clients.
-    LogWithoutClient,
-    /// How replies are told, and there are no running clients.
-    RepliesWithoutClient,
-    /// How many entries each running client may have, and there are none.
-    ShareWithoutClient,
-    /// Turns beside running clients, and no worker that takes them.
-    TurnsWithClient,
+    /// A service, and no log.
+    ServeWithoutLog,
+    /// A service, and no clients.
+    ServeWithoutClient,
     /// A board in a file of the log.
     BoardCoversLog,
+    /// All is to be delivered behind the script, and by vehicles.
+    DeliverWithVehicles,
     /// Texts that do not name clients, each by a number and a folder of its own.
     NoClients,
 }
@@ -41,24 +39,19 @@ impl Mistake {
     fn text(self) -> &'static str {
         match self {
             Mistake::ToldWithoutLog => "the argument '--told <N>' needs '--log <FILE>'",
+            Mistake::NewWithoutLog => "the argument '--new' needs '--log <FILE>'",
             Mistake::BehindWithoutVehicles => "the argument '--behind <N>' needs '--vehicles'",
             Mistake::AheadWithoutVehicles => "the argument '--ahead <N>' needs '--vehicles'",
             Mistake::BoardEveryWithoutBoard => {
                 "the argument '--board-every <N>' needs '--board <FILE>'"
             }
-            Mistake::ClientWithoutLog => "the argument '--client <CLIENT>' needs '--log <FILE>'",
-            Mistake::LogWithoutClient => "the argument '--log <FILE>' needs '--client <CLIENT>'",
-            Mistake::RepliesWithoutClient => {
-                "the argument '--replies <WORD>' needs '--client <CLIENT>'"
-            }
-            Mistake::ShareWithoutClient => {
-                "the argument '--share <N>' needs '--client <CLIENT>'"
-            }
-            Mistake::TurnsWithClient => {
-                "the argument '--turns <N>' cannot be used with '--client <CLIENT>', unless '--every <N>' is given"
-            }
+            Mistake::ServeWithoutLog => "'serve' needs '--log <FILE>'",
+            Mistake::ServeWithoutClient => "'serve' needs at least one '--client <CLIENT>'",
             Mistake::BoardCoversLog => {
                 "the argument '--board <FILE>' cannot be used with '--log <FILE>' where the board would replace the log, or FILE.site beside it"
+            }
+            Mistake::DeliverWithVehicles => {
+                "the argument '--deliver' cannot be used with '--vehicles'"
             }
             Mistake::NoClients => {
                 "invalid value for '--client <CLIENT>': each wants N=FOLDER or N=FOLDER:RIGHTS, with a number from 0 to 61 and a folder of its own"
@@ -71,14 +64,13 @@ impl Mistake {
     {
         match self {
             Mistake::ToldWithoutLog
+            | Mistake::NewWithoutLog
             | Mistake::BehindWithoutVehicles
             | Mistake::AheadWithoutVehicles
             | Mistake::BoardEveryWithoutBoard
-            | Mistake::ClientWithoutLog
-            | Mistake::LogWithoutClient
-            | Mistake::RepliesWithoutClient
-            | Mistake::ShareWithoutClient => ErrorKind::MissingRequiredArgument,
-            Mistake::TurnsWithClient | Mistake::BoardCoversLog => ErrorKind::ArgumentConflict,
+            | Mistake::ServeWithoutLog
+            | Mistake::ServeWithoutClient => ErrorKind::MissingRequiredArgument,
+            Mistake::BoardCoversLog | Mistake::DeliverWithVehicles => ErrorKind::ArgumentConflict,
             Mistake::NoClients => ErrorKind::ValueValidation,
         }
     }
@@ -87,9 +79,11 @@ impl Mistake {
     fn command<'a>(self, alloc: Global) -> Result<Command<'a>, AllocError> {
         match self {
             Mistake::ToldWithoutLog
+            | Mistake::NewWithoutLog
             | Mistake::BehindWithoutVehicles
-            | Mistake::AheadWithoutVehicles => replay_command(alloc)?.bin_name("warehouse replay"),
-            _ => live_command(alloc)?.bin_name("warehouse live"),
+            | Mistake::AheadWithoutVehicles
+            | Mistake::DeliverWithVehicles => replay_command(alloc)?.bin_name("warehouse replay"),
+            _ => serve_command(alloc)?.bin_name("warehouse serve"),
         }
     }
 
@@ -102,20 +96,23 @@ impl Mistake {
     }
 }
 
-fn is_given(matches: &ArgMatches<'_>, name: &str) -> bool
+pub(crate) fn is_given(matches: &ArgMatches<'_>, name: &str) -> bool
     ensures { result ≡ is_some (first_value (found_of matches.now) name.now) }
 {
     matches.get_str(name).is_some()
 }
 
 /// Which option of `replay` is given without the one that it belongs to, if one is.
-pub(crate) fn mistake_of_replay(replay: &ArgMatches<'_>) -> Option<Mistake>
+fn lack_of_replay(replay: &ArgMatches<'_>) -> Option<Mistake>
     ensures { Judges ErrorKind.MissingRequiredArgument ReplayLacks (first_value (found_of replay.now)) result }
 {
     let has_log = is_given(replay, "log");
     let has_vehicles = is_given(replay, "vehicles");
     if is_given(replay, "told") && !has_log {
         return Some(Mistake::ToldWithoutLog);
+    }
+    if is_given(replay, "new") && !has_log {
+        return Some(Mistake::NewWithoutLog);
     }
     if is_given(replay, "behind") && !has_vehicles {
         return Some(Mistake::BehindWithoutVehicles);
@@ -126,28 +123,17 @@ pub(crate) fn mistake_of_replay(replay: &ArgMatches<'_>) -> Option<Mistake>
     None
 }
 
-/// Which option of `live` is given without the one that it belongs to, if one is.
-pub(crate) fn mistake_of_live(live: &ArgMatches<'_>) -> Option<Mistake>
-    ensures { Judges ErrorKind.MissingRequiredArgument LiveLacks (first_value (found_of live.now)) result }
+/// What of the options of `replay` does not go together, if something does not.
+pub(crate) fn mistake_of_replay(replay: &ArgMatches<'_>) -> Option<Mistake>
+    ensures { JudgesReplay (first_value (found_of replay.now)) result }
 {
-    let has_client = is_given(live, "client");
-    let has_log = is_given(live, "log");
-    if is_given(live, "board-every") && !is_given(live, "board") {
-        return Some(Mistake::BoardEveryWithoutBoard);
+    match lack_of_replay(replay) {
+        Some(mistake) => Some(mistake),
+        None if is_given(replay, "deliver") && is_given(replay, "vehicles") => {
+            Some(Mistake::DeliverWithVehicles)
+        }
+        None => None,
     }
-    if has_client && !has_log {
-        return Some(Mistake::ClientWithoutLog);
-    }
-    if has_log && !has_client {
-        return Some(Mistake::LogWithoutClient);
-    }
-    if is_given(live, "replies") && !has_client {
-        return Some(Mistake::RepliesWithoutClient);
-    }
-    if is_given(live, "share") && !has_client {
-        return Some(Mistake::ShareWithoutClient);
-    }
-    None
 }
 
 /// Whether a name is another followed by this end.
@@ -167,26 +153,21 @@ fn covers(board: &str, log: &str) -> bool
     board == log || is_beside(log, board, ".new") || is_beside(board, log, ".site")
 }
 
-/// Whether the board is given a file of the log.
-fn board_covers_log(live: &ArgMatches<'_>) -> bool
-    ensures { MatchBool result (CoversLog (first_value (found_of live.now))) (¬ CoversLog (first_value (found_of live.now))) }
+/// The name of the log's file, where what `serve` is given goes together; else what does not.
+pub(crate) fn log_of_serve<'a>(serve: &ArgMatches<'a>) -> Result<&'a str, Mistake>
+    ensures { JudgesServe (first_value (found_of serve.now)) result }
 {
-    match (live.get_str("board"), live.get_str("log")) {
-        (Some(board), Some(log)) => covers(board, log),
-        _ => false,
+    let Some(log) = serve.get_str("log") else {
+        return Err(Mistake::ServeWithoutLog);
+    };
+    if !is_given(serve, "client") {
+        return Err(Mistake::ServeWithoutClient);
     }
-}
-
-/// What is given beside running clients, and does not go with them, if anything is.
-pub(crate) fn clash_of_live(live: &ArgMatches<'_>) -> Option<Mistake>
-    ensures { Judges ErrorKind.ArgumentConflict Clashes (first_value (found_of live.now)) result }
-{
-    let has_client = is_given(live, "client");
-    if is_given(live, "turns") && !is_given(live, "every") && has_client {
-        return Some(Mistake::TurnsWithClient);
+    if is_given(serve, "board-every") && !is_given(serve, "board") {
+        return Err(Mistake::BoardEveryWithoutBoard);
     }
-    if board_covers_log(live) && has_client {
-        return Some(Mistake::BoardCoversLog);
+    match serve.get_str("board") {
+        Some(board) if covers(board, log) => Err(Mistake::BoardCoversLog),
+        _ => Ok(log),
     }
-    None
 }

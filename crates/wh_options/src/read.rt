@@ -3,16 +3,16 @@ ghost use Rattle.std.specs.Prelude.{◌≡◌, IfErr, IfOk, IsErrAnd, List, Matc
 ghost use Rattle.clap.specs.Words.{Row, Text, first_of, first_value, found_of, kind_of, rows_of, subcommand_rows_of};
 ghost use Rattle.wh_client.specs.Clients.{GiveClients};
 ghost use Rattle.wh_client.specs.declared.client.ClientOptions.{ClientOptions};
-ghost use Rattle.wh_options.specs.Options.{AreSame, IsAmiss, IsClashing, IsClientless, IsLacking, WordsGive, default_turns};
+ghost use Rattle.wh_options.specs.Options.{AreSame, IsAmiss, IsClashing, IsClientless, IsLacking, WordsGive};
 ghost use Rattle.wh_options.specs.Requests.{AsksBy, IsKind, help_flags, version_flags};
-ghost use Rattle.wh_options.specs.Reads.{IsTold, MayRead, Reads, ReadsAttend, ReadsFleet, ReadsLine, ReadsLive, ReadsNumber, ReadsReplay, ReadsVehicles, clients_in, kind_of_mistake, planner_of, replies_of, tail_of};
+ghost use Rattle.wh_options.specs.Reads.{IsTold, MayRead, Reads, ReadsFleet, ReadsLine, ReadsLive, ReadsNumber, ReadsReplay, ReadsServe, ReadsVehicles, clients_in, homes_of, kind_of_mistake, planner_of, replies_of, tail_of};
 
 use crate::chosen::{
-    AttendOptions, Fleet, LiveOptions, Options, PlannerKind, ReplayOptions, Replies, Tail,
-    VehicleOptions,
+    CheckOptions, Fleet, LiveOptions, Options, PlannerKind, ReplayOptions, Replies, ServeOptions,
+    Tail, VehicleOptions, VerifyOptions,
 };
 use crate::command::warehouse_command;
-use crate::mistake::{Mistake, clash_of_live, mistake_of_live, mistake_of_replay};
+use crate::mistake::{Mistake, is_given, log_of_serve, mistake_of_replay};
 use clap::error::ErrorKind;
 use clap::{ArgMatches, Error};
 use std::alloc::{AllocError, Global};
@@ -40,6 +40,15 @@ fn planner(matches: &ArgMatches<'_>) -> PlannerKind
             }
         }
         None => PlannerKind::Near,
+    }
+}
+
+fn homes(matches: &ArgMatches<'_>) -> bool
+    ensures { result ≡ homes_of (first_value (found_of matches.now) (codes "ends")) }
+{
+    match matches.get_str("ends") {
+        Some(text) => text == "homes",
+        None => false,
     }
 }
 
@@ -114,6 +123,7 @@ fn fleet(matches: &ArgMatches<'_>) -> Fleet
         slots: number(matches, "slots", 4),
         bank: number(matches, "bank", 1024),
         spares: number(matches, "spares", 0),
+        homes: homes(matches),
     }
 }
 
@@ -126,93 +136,88 @@ fn replay_options<'a>(matches: &ArgMatches<'a>) -> ReplayOptions<'a>
         replies: replies(matches),
         log: matches.get_str("log"),
         told: number_if_given(matches, "told"),
+        anew: is_given(matches, "new"),
         vehicles: vehicles(matches),
+        deliver: is_given(matches, "deliver"),
     }
 }
 
-/// How many turns there are where no number is given.
-fn default_turns(every: Option<u32>) -> u32
-    ensures { result ≡ default_turns every }
-{
-    match every {
-        Some(_) => 100_000,
-        None => 64,
-    }
-}
-
-fn live_options<'a>(matches: &ArgMatches<'a>) -> LiveOptions<'a>
+fn live_options(matches: &ArgMatches<'_>) -> LiveOptions
     ensures { ReadsLive (first_value (found_of matches.now)) result }
 {
-    let every = number_if_given(matches, "every");
     LiveOptions {
         fleet: fleet(matches),
-        turns: number(matches, "turns", default_turns(every)),
+        turns: number(matches, "turns", 64),
         journal: number(matches, "journal", 10_000),
-        every,
-        board: matches.get_str("board"),
-        board_every: number(matches, "board-every", 100),
     }
 }
 
 // The clients that the texts name, where each names one of its own.
 fn clients<'a>(
     alloc: Global,
-    live: &ArgMatches<'a>,
+    serve: &ArgMatches<'a>,
 ) -> Result<Option<Vec<ClientOptions<'a>>>, AllocError>
     ensures { IfOk result (λ found. MatchOption found
-        ((cs : List ClientOptions) → ¬ GiveClients (clients_in (rows_of (found_of live.now))) cs)
-        (λ clients. GiveClients (clients_in (rows_of (found_of live.now))) clients.items)) }
+        ((cs : List ClientOptions) → ¬ GiveClients (clients_in (rows_of (found_of serve.now))) cs)
+        (λ clients. GiveClients (clients_in (rows_of (found_of serve.now))) clients.items)) }
 {
-    clients_of(alloc, live.get_strs("client").unwrap_or(&[]))
+    clients_of(alloc, serve.get_strs("client").unwrap_or(&[]))
 }
 
-// The options of `live` with running clients, where the texts name some.
-fn attend_options<'a>(
+// The options of `serve`, where the texts name clients.
+fn serve_options<'a>(
     alloc: Global,
-    live: &ArgMatches<'a>,
+    serve: &ArgMatches<'a>,
     log: &'a str,
-) -> Result<Option<AttendOptions<'a>>, AllocError>
-    ensures { Some log.now ≡ first_value (found_of live.now) (codes "log") → IfOk result (λ found. MatchOption found
-        ((cs : List ClientOptions) → ¬ GiveClients (clients_in (rows_of (found_of live.now))) cs)
-        (ReadsAttend (first_value (found_of live.now)) (clients_in (rows_of (found_of live.now))))) }
+) -> Result<Option<ServeOptions<'a>>, AllocError>
+    ensures { Some log.now ≡ first_value (found_of serve.now) (codes "log") → IfOk result (λ found. MatchOption found
+        ((cs : List ClientOptions) → ¬ GiveClients (clients_in (rows_of (found_of serve.now))) cs)
+        (ReadsServe (first_value (found_of serve.now)) (clients_in (rows_of (found_of serve.now))))) }
 {
-    let Some(clients) = clients(alloc, live)? else {
+    let Some(clients) = clients(alloc, serve)? else {
         return Ok(None);
     };
-    let every = number_if_given(live, "every");
-    Ok(Some(AttendOptions {
-        fleet: fleet(live),
-        journal: number(live, "journal", 10_000),
-        share: number_if_given(live, "share"),
-        replies: replies(live),
+    Ok(Some(ServeOptions {
+        fleet: fleet(serve),
+        journal: number(serve, "journal", 1_000_000),
+        share: number_if_given(serve, "share"),
+        replies: replies(serve),
         log,
-        every,
-        turns: number(live, "turns", default_turns(every)),
-        board: live.get_str("board"),
-        board_every: number(live, "board-every", 100),
+        anew: is_given(serve, "new"),
+        every: number_if_given(serve, "every"),
+        board: serve.get_str("board"),
+        board_every: number(serve, "board-every", 100),
         clients,
     }))
 }
 
-// What the matches of `live` say. A log goes with running clients alone.
-fn read_live<'a>(
+// What the matches of `serve` say.
+fn read_serve<'a>(
     alloc: Global,
-    live: &ArgMatches<'a>,
+    serve: &ArgMatches<'a>,
 ) -> Result<Result<Options<'a>, Mistake>, AllocError>
-    ensures { IfOk result (ReadsLine (first_value (found_of live.now)) (clients_in (rows_of (found_of live.now)))) }
+    ensures { IfOk result (ReadsLine (first_value (found_of serve.now)) (clients_in (rows_of (found_of serve.now)))) }
 {
-    if let Some(mistake) = mistake_of_live(live) {
-        return Ok(Err(mistake));
-    }
-    if let Some(mistake) = clash_of_live(live) {
-        return Ok(Err(mistake));
-    }
-    let Some(log) = live.get_str("log") else {
-        return Ok(Ok(Options::Live(live_options(live))));
+    let log = match log_of_serve(serve) {
+        Ok(log) => log,
+        Err(mistake) => return Ok(Err(mistake)),
     };
-    match attend_options(alloc, live, log)? {
-        Some(attend) => Ok(Ok(Options::Attend(attend))),
+    match serve_options(alloc, serve, log)? {
+        Some(options) => Ok(Ok(Options::Serve(options))),
         None => Ok(Err(Mistake::NoClients)),
+    }
+}
+
+// What the matches of `check` say, where it was entered.
+fn check_options(matches: &ArgMatches<'_>) -> CheckOptions
+    ensures { (name : Text) (rows : List Row) → subcommand_rows_of matches.now ≡ Some (name, rows)
+        → name ≡ codes "check" → result.homes ≡ homes_of (first_of (codes "ends") rows) }
+{
+    match matches.subcommand_matches("check") {
+        Some(check) => CheckOptions {
+            homes: homes(check),
+        },
+        None => CheckOptions { homes: false },
     }
 }
 
@@ -235,12 +240,16 @@ fn read_options<'a>(
         };
     }
     if let Some(live) = matches.subcommand_matches("live") {
-        return read_live(alloc, live);
+        return Ok(Ok(Options::Live(live_options(live))));
     }
-    if matches.subcommand_matches("verify").is_some() {
-        return Ok(Ok(Options::Verify));
+    if let Some(serve) = matches.subcommand_matches("serve") {
+        return read_serve(alloc, serve);
     }
-    Ok(Ok(Options::Check))
+    if let Some(verify) = matches.subcommand_matches("verify") {
+        let homes = homes(verify);
+        return Ok(Ok(Options::Verify(VerifyOptions { homes })));
+    }
+    Ok(Ok(Options::Check(check_options(matches))))
 }
 
 /// The options that the words of a command line give; the first word is the program's name, and may
@@ -261,7 +270,7 @@ pub fn options<'a, W: AsStr>(alloc: Global, words: &'a [W]) -> Result<Options<'a
     // Where an option is given without the one that it belongs to, that is told.
     ensures lacking { IsAmiss IsLacking (map W.text words.now)
         → IsErrAnd result (IsKind ErrorKind.MissingRequiredArgument) }
-    // Where what is given beside running clients does not go with them, that is told.
+    // Where what is given does not go together, that is told.
     ensures clashing { IsAmiss IsClashing (map W.text words.now)
         → IsErrAnd result (IsKind ErrorKind.ArgumentConflict) }
     // Where the texts given for clients name none, or not each its own, that is told.

@@ -12,9 +12,11 @@ use std::sync::atomic::AtomicBool;
 use std::sync::atomic::Ordering::SeqCst;
 use wh_serve::Full;
 
-/// The two pipes of one client, where its thread stands in them, whether it was told what is full, and whether the service is over.
+/// The folder of one client, locked where it could be, its two pipes, where its thread stands in them, whether it was told what is full,
+/// and whether the service is over.
 #[derive(Drop)]
 pub(crate) struct ClientPipes {
+    folder: Option<File>,
     pub(crate) commands: String,
     pub(crate) replies: String,
     pub(crate) standing: Standing,
@@ -23,13 +25,31 @@ pub(crate) struct ClientPipes {
     is_over: Arc<AtomicBool>,
 }
 
+/// Whoever owns a file may write to it, and perhaps a group: not all.
+const ALL_MAY_WRITE: u32 = 0o002;
+
+/// Opens a folder and locks it, where not all may write to it and no other service has it.
+fn lock_folder<T: Files<File = File>>(files: &T, path: &str) -> io::Result<File> {
+    let folder = File::open(files, path)?;
+    if folder.metadata()?.mode() & ALL_MAY_WRITE != 0 {
+        return Err(io::Error::from(ErrorKind::InvalidInput));
+    }
+    folder.try_lock()?;
+    Ok(folder)
+}
+
 impl ClientPipes {
-    pub(crate) fn new(
+    /// Those in a folder, which is locked from now on for as long as they last, if it can be.
+    pub(crate) fn new<T: Files<File = File>>(
+        files: &T,
         alloc: Global,
         folder: &str,
         is_over: Arc<AtomicBool>,
     ) -> Result<ClientPipes, AllocError> {
+        // a file that is no folder has no such name, and a pipe is not waited for
+        let place = joined(alloc, folder, "/.")?;
         Ok(ClientPipes {
+            folder: lock_folder(files, place.as_str()).ok(),
             commands: joined(alloc, folder, "/in")?,
             replies: joined(alloc, folder, "/out")?,
             standing: Standing::new(),
@@ -41,6 +61,11 @@ impl ClientPipes {
 
     pub(crate) fn is_over(&self) -> bool {
         self.is_over.load(SeqCst)
+    }
+
+    /// Whether the folder could be locked.
+    pub(crate) fn is_locked(&self) -> bool {
+        self.folder.is_some()
     }
 
     /// Whether this is told for the first time, so that a client that asks on and on does not flood the log.
@@ -77,10 +102,12 @@ pub(crate) fn open_pipe<T: Files<File = File>>(
 /// Which file it is: no two have the same numbers.
 type Identity = (u64, u64);
 
-/// Which pipe stands there, if one does.
+/// Which pipe stands there, if one does that not all may write to.
 fn pipe_at<T: Files>(files: &T, path: &str) -> Option<Identity> {
     match metadata(files, path) {
-        Ok(found) if found.file_type().is_fifo() => Some((found.dev(), found.ino())),
+        Ok(found) if found.file_type().is_fifo() && found.mode() & ALL_MAY_WRITE == 0 => {
+            Some((found.dev(), found.ino()))
+        }
         _ => None,
     }
 }
@@ -96,7 +123,7 @@ fn is_new(found: &mut Vec<Identity>, pipe: Option<Identity>) -> Result<bool, All
     }
 }
 
-/// The first client, by its number, whose folder has not two pipes that are no other client's, if there is one.
+/// The first client, by its number, whose folder could not be locked, or has not two pipes that are no other client's, if there is one.
 pub(crate) fn first_without_pipes<T: Files>(
     files: &T,
     alloc: Global,
@@ -108,7 +135,8 @@ pub(crate) fn first_without_pipes<T: Files>(
         if let Some(pipes) = client {
             let commands = pipe_at(files, pipes.commands.as_str());
             let replies = pipe_at(files, pipes.replies.as_str());
-            if !is_new(&mut found, commands)? || !is_new(&mut found, replies)? {
+            let are_new = is_new(&mut found, commands)? && is_new(&mut found, replies)?;
+            if !are_new || !pipes.is_locked() {
                 return Ok(Some(number));
             }
         }

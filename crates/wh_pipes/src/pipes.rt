@@ -32,7 +32,7 @@ pub struct Pipes<'a, T: Files<File = File> + Clock> {
 type PipeConnection<'a, T> = Connection<Inlet<'a, T>, BufWriter<Outlet>>;
 
 impl<'a, T: Files<File = File> + Clock> Pipes<'a, T> {
-    /// The pipes in these folders: a client's number is its place, and one without a folder never comes.
+    /// The pipes in these folders, which are locked: a client's number is its place, and one without a folder never comes.
     pub fn new(
         rt: &'a T,
         alloc: Global,
@@ -43,7 +43,8 @@ impl<'a, T: Files<File = File> + Clock> Pipes<'a, T> {
         for folder in folders {
             let client = match folder {
                 Some(folder) => {
-                    let pipes = ClientPipes::new(alloc, folder, Arc::try_clone(&is_over)?)?;
+                    let over = Arc::try_clone(&is_over)?;
+                    let pipes = ClientPipes::new(rt, alloc, folder, over)?;
                     Some(Arc::new(alloc, pipes)?)
                 }
                 None => None,

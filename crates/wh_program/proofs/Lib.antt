@@ -2,3 +2,4 @@ pub mod Starved
 pub mod Whole
 mod Late
 mod Screens
+mod Opened

@@ -1,25 +1,18 @@
--- Runs of `live` over a file as their screen.
+-- Runs of `serve` over a file as their screen.
 use Rattle.std.proofs.Common.{◌≡◌, ℕ, Bool, List, Option, Result, inr, subst}
 use Rattle.std.specs.declared.alloc.AllocError.{AllocError}
 use Rattle.wh_grid.specs.Grids.{Floor}
 use Rattle.wh_lines.specs.Input.{Input}
 use Rattle.wh_edge.specs.declared.trouble.Status.{Status}
 use Rattle.wh_edge.specs.declared.trouble.Trouble.{Trouble}
-use Rattle.wh_options.specs.declared.chosen.AttendOptions.{AttendOptions}
-use Rattle.wh_options.specs.declared.chosen.LiveOptions.{LiveOptions}
+use Rattle.wh_options.specs.declared.chosen.ServeOptions.{ServeOptions}
 use Rattle.wh_program.specs.Attending.{Attended, AttendsOver}
-use Rattle.wh_program.specs.Programs.{Lived, LivedOver, silent}
+use Rattle.wh_program.specs.Programs.{silent}
 use Rattle.wh_service.specs.Kept.{Siding}
 use Rattle.wh_service.specs.declared.parts.PlannerParts.{PlannerParts}
 
 -- a screen tells what one over the file of the options' name does
-pub over_file : {X : Type 0} (fits : X → Floor → Bool) (count : X → ℕ) (gives : PlannerParts → Result X AllocError → Type 0) (o : LiveOptions) (showed shows : Option (Option (List (List ℕ)))) (came : Result Status Trouble)
-    (old new : Input) (had has : Option (List ℕ)) → showed ≡ silent o.board → LivedOver fits count gives o showed shows came old new had has → Lived fits count gives o came old new had has
-over_file fits count gives o showed shows came old new had has named over =
-    (shows, subst (λ (s : Option (Option (List (List ℕ)))). LivedOver fits count gives o s shows came old new had has) named over)
-
--- the same with running clients
-pub attended_over : {R W X : Type 0} (fits : X → Floor → Bool) (count : X → ℕ) (gives : PlannerParts → Result X AllocError → Type 0) (remaining : R → Option (List ℕ)) (contents : W → Option (List ℕ)) (o : AttendOptions) (file : Option (List ℕ)) (beside : Siding)
+pub attended_over : {R W X : Type 0} (fits : X → Floor → Bool) (count : X → ℕ) (gives : PlannerParts → Result X AllocError → Type 0) (remaining : R → Option (List ℕ)) (contents : W → Option (List ℕ)) (o : ServeOptions) (file : Option (List ℕ)) (beside : Siding)
     (showed shows : Option (Option (List (List ℕ)))) (came : Result Status Trouble) (old new : Input) (had has : Option (List ℕ)) → showed ≡ silent o.board
     → AttendsOver fits count gives remaining contents o file beside showed shows came old new had has → Attended fits count gives remaining contents o came old new had has
 attended_over fits count gives remaining contents o file beside showed shows came old new had has named over =

@@ -1,7 +1,7 @@
 -- What the whole program comes to.
 use Rattle.std.proofs.Common.{◌≡◌, ◌≢◌, ◌⊎◌, ◌≤◌, ℕ, Bool, true, false, List, [], ◌∷◌, length, ◌<◌, All, Option, Some, None, Result, Ok, Err, MatchOption, codes, inl, inr, refl, subst, sym, ◌∙◌, ap, arith}
 use Rattle.std.specs.Prelude.{OnOk, OnErr, IfSome, is_some, option_map}
-use Rattle.std.specs.Io.KnownBytes.{Appends}
+use Rattle.std.specs.Io.KnownBytes.{Appends, Keeps}
 use Rattle.std.specs.List.{AllByRecursion, AllZip}
 use Rattle.std.proofs.lemmas.List.Elements.{All-from_recursion}
 use Rattle.wh_lines.specs.Input.{Input}
@@ -19,7 +19,7 @@ use Rattle.wh_client.specs.declared.client.ClientOptions.{ClientOptions}
 use Rattle.wh_options.specs.declared.chosen.ReplayOptions.{ReplayOptions}
 use Rattle.wh_options.specs.declared.chosen.VehicleOptions.{VehicleOptions}
 use Rattle.wh_options.specs.declared.chosen.Options.{Options}
-use Rattle.wh_options.specs.declared.chosen.Options.TheVariants.{Attend, Check, Replay, Verify, Live}
+use Rattle.wh_options.specs.declared.chosen.Options.TheVariants.{Check, Replay, Verify, Live, Serve}
 use Rattle.wh_options.specs.declared.refused.Refusal.{Refusal}
 use Rattle.wh_options.specs.declared.refused.Refusal.TheVariants as refusal
 use Rattle.wh_service.specs.Fleets.{IsOfFleet}
@@ -71,22 +71,22 @@ below : (texts : List Text) (clients : List ClientOptions) → AllZip GivesClien
 below [] [] zip = tt
 below [] (c ∷ cs) zip = absurd zip
 below (t ∷ ts) [] zip = absurd zip
-below (t ∷ ts) (c ∷ cs) zip = (let n = zip.0.1.2 in omega (arith, n), below ts cs zip.1)
+below (t ∷ ts) (c ∷ cs) zip = (let n = zip.0.1.1 in omega (arith, n), below ts cs zip.1)
 
 -- each client that texts give has a number from 0 to 61
 numbered : (texts : List Text) (clients : List ClientOptions) → AllZip GivesClient texts clients → All (λ c. c.number < 62) clients
 numbered texts clients zip = All-from_recursion (λ (c : ClientOptions). c.number < 62) clients (below texts clients zip)
 
 pub in_range : (words : List Text) (o : Options) → WordsGive words o → HasRange o
-in_range words Check gives = tt
+in_range words (Check o) gives = tt
 in_range words (Replay o) gives =
     let v = gives.3.0.1.vehicles in (
       ranged (value_of (codes "slots") gives.1) o.fleet.slots gives.3.0.1.fleet.slots,
       some_ahead (value_of (codes "vehicles") gives.1) o.vehicles v.pace v.is (one_ahead (value_of (codes "ahead") gives.1) v.pace.ahead v.ahead),
     )
-in_range words Verify gives = tt
+in_range words (Verify o) gives = tt
 in_range words (Live o) gives = ranged (value_of (codes "slots") gives.1) o.fleet.slots gives.3.0.1.fleet.slots
-in_range words (Attend o) gives = (
+in_range words (Serve o) gives = (
   ranged (value_of (codes "slots") gives.1) o.fleet.slots gives.3.0.1.fleet.slots,
   record {
     some = some_long o.clients.items gives.3.0.1.some;
@@ -100,12 +100,16 @@ asked : (shown : Bool) (ended : Status) (had has : Option (List ℕ)) → Ends (
 asked true ended had has ends bad = let e : status.Done ≡ status.CommandLine = sym ends.0 ∙ bad in absurd (grind arith)
 asked false ended had has ends bad = let e : status.Failed ≡ status.CommandLine = sym ends.0 ∙ bad in absurd (grind arith)
 
+fed : (shown : Bool) (ended : Status) (had has : Option (List ℕ)) → Ends (ended_by refusal.Asked shown) ended had has → ended ≢ status.NoMemory
+fed true ended had has ends bad = let e : status.Done ≡ status.NoMemory = sym ends.0 ∙ bad in absurd (grind arith)
+fed false ended had has ends bad = let e : status.Failed ≡ status.NoMemory = sym ends.0 ∙ bad in absurd (grind arith)
+
 memory : (shown : Bool) (ended : Status) (had has : Option (List ℕ)) → Ends (ended_by refusal.NoMemory shown) ended had has → ended ≡ status.NoMemory
 memory shown ended had has ends = ends.0
 
 module _ {K : Type 0} (helping showing starving : K) (words : List Text) (of : K) (why : Refusal) (came : Result Status Trouble) (ended : Status) (input : Input) (had has : Option (List ℕ)) (shown : Bool)
     (is_asked : (of ≡ helping) ⊎ (of ≡ showing) → why ≡ refusal.Asked) (is_memory : of ≡ starving → why ≡ refusal.NoMemory)
-    (came_is : came ≡ ended_by why shown) (ends : Ends came ended had has) where
+    (came_is : came ≡ ended_by why shown) (ends : Ends came ended had has) (before after : Option (List ℕ)) (kept : why ≢ refusal.Asked → Keeps before after) where
   as_told : (w : Refusal) → why ≡ w → Ends (ended_by w shown) ended had has
   as_told w e = subst (λ (c : Result Status Trouble). Ends c ended had has) (came_is ∙ ap (λ (x : Refusal). ended_by x shown) e) ends
 
@@ -119,10 +123,12 @@ module _ {K : Type 0} (helping showing starving : K) (words : List Text) (of : K
   none_at_memory e bad = let no : status.NoMemory ≡ status.CommandLine = sym (at_memory e) ∙ bad in absurd (grind arith)
 
   pub declines : ((o : Options) → WordsGive words o → of ≡ starving) → (AsksBy help_flags words → (of ≡ helping) ⊎ (of ≡ starving))
-      → (AsksBy version_flags words → (of ≡ showing) ⊎ (of ≡ starving)) → Declines words ended input input
+      → (AsksBy version_flags words → (of ≡ showing) ⊎ (of ≡ starving)) → Declines words ended input input before after
   declines refused help version = record {
     none = λ o gives. at_memory (refused o gives);
     help = λ asks. elim (help asks) [ inl e ↦ no_mistake (inl e) | inr e ↦ none_at_memory e ];
     version = λ asks. elim (version asks) [ inl e ↦ no_mistake (inr e) | inr e ↦ none_at_memory e ];
     unread = refl;
+    mistake = λ bad. kept (λ e. asked shown ended had has (as_told refusal.Asked e) bad);
+    starved = λ none. kept (λ e. fed shown ended had has (as_told refusal.Asked e) none);
   }

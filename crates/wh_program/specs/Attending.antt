@@ -1,4 +1,4 @@
--- What `live` with running clients comes to, over the files and the folders that the options name.
+-- What `serve` comes to, over the files and the folders that the options name.
 use Rattle.std.specs.Prelude.{◌≡◌, ◌≢◌, ◌⊎◌, ℕ, Bool, List, length, All, Option, None, Some, Result, Ok, Err}
 use Rattle.std.specs.declared.alloc.AllocError.{AllocError}
 use Rattle.std.specs.Io.KnownBytes.{Keeps}
@@ -11,7 +11,7 @@ use Rattle.wh_edge.specs.declared.trouble.Status.TheVariants.{Done}
 use Rattle.wh_edge.specs.declared.trouble.Trouble.{Trouble}
 use Rattle.wh_edge.specs.declared.trouble.Trouble.TheVariants as trouble
 use Rattle.wh_options.specs.Setting.{Text}
-use Rattle.wh_options.specs.declared.chosen.AttendOptions.{AttendOptions}
+use Rattle.wh_options.specs.declared.chosen.ServeOptions.{ServeOptions}
 use Rattle.wh_service.specs.Kept.{Siding}
 use Rattle.wh_service.specs.declared.parts.PlannerParts.{PlannerParts}
 use Rattle.wh_attend.specs.Guests.{IsNamed}
@@ -31,17 +31,17 @@ pub record AreFolders (clients : List ClientOptions) (folders : List (Option Tex
 -- It was so over a log file that told this, the file beside it, and a screen, or none. Here and below fits and count say
 -- what a planner returns, gives what makes it, remaining and contents what a client's reader and writer tell; showed is what the screen told before, if
 -- there is one, and shows what it tells then.
-abbrev pub AttendsOver : {R W X : Type 0} → (X → Floor → Bool) → (X → ℕ) → (PlannerParts → Result X AllocError → Type 0) → (R → Option (List ℕ)) → (W → Option (List ℕ)) → AttendOptions → (file : Option (List ℕ)) → Siding
+abbrev pub AttendsOver : {R W X : Type 0} → (X → Floor → Bool) → (X → ℕ) → (PlannerParts → Result X AllocError → Type 0) → (R → Option (List ℕ)) → (W → Option (List ℕ)) → ServeOptions → (file : Option (List ℕ)) → Siding
     → (showed shows : Option (Option (List (List ℕ)))) → Result Status Trouble → (old new : Input) → (had has : Option (List ℕ)) → Type 0
 AttendsOver fits count gives remaining contents o file beside showed shows (Ok status) old new had has =
     (status ≡ Done) × ((synced holds : Option (List ℕ)) × Attends fits count remaining contents gives o old new had has file synced holds beside showed shows)
 AttendsOver fits count gives remaining contents o file beside showed shows (Err told) old new had has =
     IsWhyUnattended fits count remaining contents gives o told old new had has file beside showed shows
 
--- `live` with running clients came to this: memory ran out for names or for the doors, and nothing was read or written; or it was so,
+-- `serve` came to this: memory ran out for names or for the doors, and nothing was read or written; or it was so,
 -- over a log file and the one beside it, and over the file of the board, if one is named.
 abbrev pub Attended : {R W X : Type 0} → (X → Floor → Bool) → (X → ℕ) → (PlannerParts → Result X AllocError → Type 0) → (R → Option (List ℕ)) → (W → Option (List ℕ))
-    → AttendOptions → Result Status Trouble → (old new : Input) → (had has : Option (List ℕ)) → Type 0
+    → ServeOptions → Result Status Trouble → (old new : Input) → (had has : Option (List ℕ)) → Type 0
 Attended fits count gives remaining contents o came old new had has =
     ((came ≡ Err trouble.NoMemory) × (new ≡ old) × Keeps had has)
     ⊎ ((file : Option (List ℕ)) × (beside : Siding) × (shows : Option (Option (List (List ℕ)))) × AttendsOver fits count gives remaining contents o file beside (silent o.board) shows came old new had has)

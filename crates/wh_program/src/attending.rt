@@ -1,4 +1,4 @@
-//! `live` with running clients, over the files and the doors that the options name.
+//! `serve`, over the files and the doors that the options name.
 
 ghost use Rattle.std.specs.Prelude.{IfOk, map, option_map};
 ghost use Rattle.wh_service.specs.Fleets.{IsOfFleet};
@@ -16,7 +16,7 @@ use wh_attend::{Doors, FileJournal, Hall, LogFile, attend, named_by};
 use wh_display::Screen;
 use wh_edge::{Status, Trouble};
 use wh_lines::Lines;
-use wh_options::{AttendOptions, ClientOptions};
+use wh_options::{ClientOptions, ServeOptions};
 use wh_pipes::{Inlet, Outlet, Pipes};
 use wh_planner::Planner;
 use wh_service::PlannerParts;
@@ -66,7 +66,7 @@ fn attend_over<
     alloc: Global,
     lines: &mut Lines<R>,
     output: &mut W,
-    options: &AttendOptions<'_>,
+    options: &ServeOptions<'_>,
     file: L,
     beside: &mut B,
     screen: &mut Option<V>,
@@ -101,7 +101,7 @@ pub(crate) fn attend_by_name<
     alloc: Global,
     lines: &mut Lines<R>,
     output: &mut W,
-    options: &AttendOptions<'a>,
+    options: &ServeOptions<'a>,
     make: F,
 ) -> Result<Status, Trouble>
     requires range { IsOfFleet options.now.fleet }

@@ -27,7 +27,7 @@ pub(crate) fn late<'a>(options: &Options<'a>) -> Option<(ReplayOptions<'a>, Vehi
             Some(pace) => Some((*replay, pace)),
             None => None,
         },
-        Options::Check | Options::Verify | Options::Live(_) | Options::Attend(_) => None,
+        Options::Check(_) | Options::Verify(_) | Options::Live(_) | Options::Serve(_) => None,
     }
 }
 

@@ -1,10 +1,11 @@
 //! The whole program as one call, from arguments and input to output and status.
 //!
-//! Proved: where the arguments give options, what these ask for was done, and the status says what it came to; else no
-//! input is read. Nothing is said of the bytes of a file or pipe (`run`).
+//! Proved: what the arguments ask for was done, and the status says what it came to; or no input was read, and it says
+//! why. Nothing is said of the bytes of a file or pipe (`run`).
 #![tactic(auto)]
 
 mod attending;
+mod barring;
 mod driving;
 mod running;
 

@@ -1,13 +1,15 @@
 //! The whole program: from its words and its input to its output and its status.
 
-ghost use Rattle.std.specs.Prelude.{◌≡◌, ◌≤◌, ◌++◌, Bool, IfOk, Option, is_some, map, option_map};
+ghost use Rattle.std.specs.Prelude.{◌≡◌, ◌≢◌, ◌≤◌, ◌++◌, [], Bool, Err, IfOk, Option, is_some, map, option_map};
+ghost use Rattle.std.specs.Io.KnownBytes.{Keeps};
 ghost use Rattle.std.specs.String.{string_bytes};
 ghost use Rattle.wh_service.specs.Fleets.{IsOfFleet, MakesPlanners};
 ghost use Rattle.wh_program.specs.Attending.{Attended};
-ghost use Rattle.wh_program.specs.Programs.{Comes, Did, Drove, Ends, Files, HasRange, LateFiles, Lived, LivedOver, ReplayedOver, names_file, silent};
+ghost use Rattle.wh_program.specs.Programs.{Comes, Did, Drove, Ends, EndsOpen, Files, HasRange, LateFiles, Lived, ReplayedOver, TellsOpen, names_file, silent};
 ghost use Rattle.wh_service.specs.Serves.{ended_by};
 
 use crate::attending::attend_by_name;
+use crate::barring::{Bar, let_begin};
 use crate::driving::{drive_over, end_drive, late};
 use std::alloc::{AllocError, Global};
 use std::convert::AsStr;
@@ -42,7 +44,7 @@ fn log_name<'a>(options: &Options<'a>) -> Option<&'a str>
 {
     match options {
         Options::Replay(options) => options.log,
-        Options::Check | Options::Verify | Options::Live(_) | Options::Attend(_) => None,
+        Options::Check(_) | Options::Verify(_) | Options::Live(_) | Options::Serve(_) => None,
     }
 }
 
@@ -57,7 +59,7 @@ pub(crate) fn name_beside(alloc: Global, name: &str, end: &str) -> Result<String
 }
 
 /// The names of the files beside this log, of its site and of arrivals.
-fn names_beside(alloc: Global, log: &str) -> Result<(String, String), AllocError> {
+pub(crate) fn names_beside(alloc: Global, log: &str) -> Result<(String, String), AllocError> {
     Ok((
         name_beside(alloc, log, ".site")?,
         name_beside(alloc, log, ".at")?,
@@ -78,41 +80,47 @@ fn kept_files<'a, T: Files<File = File>>(
     }
 }
 
-/// Replays over files, or over none.
+/// Replays over files, or over none. What is to be told of open orders is put into `report`.
 fn replay<R: Read, W: Write, L: LogFile, P: Planner, F: Fn(PlannerParts) -> Result<P, AllocError>>(
     alloc: Global,
     lines: &mut Lines<R>,
     output: &mut W,
     options: &ReplayOptions<'_>,
     files: &mut Option<KeptFiles<L>>,
+    report: &mut Vec<u8>,
     make: F,
 ) -> Result<Status, Trouble>
     requires range { IsOfFleet options.now.fleet }
     requires callable { F.IsAlwaysCallable make }
     requires makes { MakesPlanners P.fits_map P.slot_count (F.post make) }
-    ensures { ReplayedOver P.fits_map P.slot_count (F.post make) options.now (option_map (λ f. record { log = L.contents f.log; site = L.contents f.site }) files.old) result lines.old lines.new (W.contents output.old) (W.contents output.new) }
+    ensures { ReplayedOver P.fits_map P.slot_count (F.post make) options.now (option_map (λ f. record { log = L.contents f.log; site = L.contents f.site }) files.old) result report.new.items lines.old lines.new (W.contents output.old) (W.contents output.new) }
 {
     match files {
         None => match wh_service::replay(alloc, lines, output, options, make) {
-            Ok(_replayed) => Ok(Status::Done),
+            Ok(played) => {
+                *report = played.report;
+                Ok(Status::Done)
+            }
             Err(trouble) => Err(trouble),
         },
         Some(files) => {
             let site = &mut files.site;
             match serve_kept(alloc, lines, output, options, &mut files.log, site, make) {
-                Ok(()) => Ok(Status::Done),
+                Ok(text) => {
+                    *report = text;
+                    Ok(Status::Done)
+                }
                 Err(trouble) => Err(trouble),
             }
         }
     }
 }
 
-/// Has clients, agents and a clock work over a screen, or over none.
-fn live_over<
-    T: Threads + Wait + Clock + Sync,
+/// Has clients, agents and a clock work.
+fn live<
+    T: Threads + Wait + Sync,
     R: Read,
     W: Write,
-    S: Screen + Send + Drop,
     P: Planner,
     F: Fn(PlannerParts) -> Result<P, AllocError>,
 >(
@@ -120,16 +128,15 @@ fn live_over<
     alloc: Global,
     lines: &mut Lines<R>,
     output: &mut W,
-    options: &LiveOptions<'_>,
-    screen: &mut Option<S>,
+    options: &LiveOptions,
     make: F,
 ) -> Result<Status, Trouble>
     requires range { IsOfFleet options.now.fleet }
     requires callable { F.IsAlwaysCallable make }
     requires makes { MakesPlanners P.fits_map P.slot_count (F.post make) }
-    ensures { LivedOver P.fits_map P.slot_count (F.post make) options.now (option_map S.shown screen.old) (option_map S.shown screen.new) result lines.old lines.new (W.contents output.old) (W.contents output.new) }
+    ensures { Lived P.fits_map P.slot_count (F.post make) options.now result lines.old lines.new (W.contents output.old) (W.contents output.new) }
 {
-    match wh_service::live(rt, alloc, lines, output, options, screen, make) {
+    match wh_live::live(rt, alloc, lines, output, options, make) {
         Ok(()) => Ok(Status::Done),
         Err(trouble) => Err(trouble),
     }
@@ -152,35 +159,6 @@ pub(crate) fn screen_over<'a>(
     }
 }
 
-/// Has clients, agents and a clock work, and shows boards of the run in the file that the options name, if they name one.
-#[tactic(auto, using(crate::proofs::Starved::starved_live))]
-fn live_by_name<
-    'a,
-    T: Threads + Wait + Clock + Sync,
-    R: Read,
-    W: Write,
-    P: Planner,
-    F: Fn(PlannerParts) -> Result<P, AllocError>,
->(
-    rt: &T,
-    files: &'a HostRuntime,
-    alloc: Global,
-    lines: &mut Lines<R>,
-    output: &mut W,
-    options: &LiveOptions<'a>,
-    make: F,
-) -> Result<Status, Trouble>
-    requires range { IsOfFleet options.now.fleet }
-    requires callable { F.IsAlwaysCallable make }
-    requires makes { MakesPlanners P.fits_map P.slot_count (F.post make) }
-    ensures { Lived P.fits_map P.slot_count (F.post make) options.now result lines.old lines.new (W.contents output.old) (W.contents output.new) }
-{
-    match screen_over(files, alloc, options.board) {
-        Ok(mut screen) => live_over(rt, alloc, lines, output, options, &mut screen, make),
-        Err(_) => Err(Trouble::NoMemory),
-    }
-}
-
 /// Does what the options ask for, a replay over these files, or over none.
 fn obey<
     'a,
@@ -198,21 +176,21 @@ fn obey<
     output: &mut W,
     options: &Options<'a>,
     kept: &mut Option<KeptFiles<L>>,
+    report: &mut Vec<u8>,
     make: F,
 ) -> Result<Status, Trouble>
     requires range { HasRange options.now }
+    requires none { report.old.items ≡ [] }
     requires callable { F.IsAlwaysCallable make }
     requires makes { MakesPlanners P.fits_map P.slot_count (F.post make) }
-    ensures { Did P.fits_map P.slot_count (F.post make) (Attended P.fits_map P.slot_count (F.post make) ⟦<Inlet<'a, HostRuntime> as Read>⟧.remaining ⟦<BufWriter<Outlet> as Write>⟧.contents) options.now (option_map (λ f. record { log = L.contents f.log; site = L.contents f.site }) kept.old) result lines.old lines.new (W.contents output.old) (W.contents output.new) }
+    ensures { Did P.fits_map P.slot_count (F.post make) (Attended P.fits_map P.slot_count (F.post make) ⟦<Inlet<'a, HostRuntime> as Read>⟧.remaining ⟦<BufWriter<Outlet> as Write>⟧.contents) options.now (option_map (λ f. record { log = L.contents f.log; site = L.contents f.site }) kept.old) result report.new.items lines.old lines.new (W.contents output.old) (W.contents output.new) }
 {
     match options {
-        Options::Check => wh_service::check(rt, alloc, lines, output),
-        Options::Verify => wh_service::verify(alloc, lines, output),
-        Options::Replay(options) => replay(alloc, lines, output, options, kept, make),
-        Options::Live(options) => live_by_name(rt, files, alloc, lines, output, options, make),
-        Options::Attend(options) => {
-            attend_by_name(rt, files, alloc, lines, output, options, make)
-        }
+        Options::Check(options) => wh_service::check(rt, alloc, lines, output, *options),
+        Options::Verify(options) => wh_service::verify(alloc, lines, output, *options),
+        Options::Replay(options) => replay(alloc, lines, output, options, kept, report, make),
+        Options::Live(options) => live(rt, alloc, lines, output, options, make),
+        Options::Serve(options) => attend_by_name(rt, files, alloc, lines, output, options, make),
     }
 }
 
@@ -232,21 +210,27 @@ fn obey_by_name<
     lines: &mut Lines<R>,
     output: &mut W,
     options: &Options<'a>,
+    report: &mut Vec<u8>,
     make: F,
 ) -> Result<Status, Trouble>
     requires range { HasRange options.now }
+    requires none { report.old.items ≡ [] }
     requires callable { F.IsAlwaysCallable make }
     requires makes { MakesPlanners P.fits_map P.slot_count (F.post make) }
-    ensures { (files : Option Files) × (is_some files ≡ names_file options.now) × Did P.fits_map P.slot_count (F.post make) (Attended P.fits_map P.slot_count (F.post make) ⟦<Inlet<'a, HostRuntime> as Read>⟧.remaining ⟦<BufWriter<Outlet> as Write>⟧.contents) options.now files result lines.old lines.new (W.contents output.old) (W.contents output.new) }
+    ensures { (files : Option Files) × (is_some files ≡ names_file options.now) × Did P.fits_map P.slot_count (F.post make) (Attended P.fits_map P.slot_count (F.post make) ⟦<Inlet<'a, HostRuntime> as Read>⟧.remaining ⟦<BufWriter<Outlet> as Write>⟧.contents) options.now files result report.new.items lines.old lines.new (W.contents output.old) (W.contents output.new) }
 {
     let Some(log) = log_name(options) else {
         let mut none: Option<KeptFiles<FileJournal<'a, HostRuntime>>> = None;
-        return obey(rt, files, alloc, lines, output, options, &mut none, make);
+        return obey(
+            rt, files, alloc, lines, output, options, &mut none, report, make,
+        );
     };
     match names_beside(alloc, log) {
         Ok((site, arrivals)) => {
             let mut kept = Some(kept_files(files, log, site.as_str(), arrivals.as_str()));
-            obey(rt, files, alloc, lines, output, options, &mut kept, make)
+            obey(
+                rt, files, alloc, lines, output, options, &mut kept, report, make,
+            )
         }
         Err(_) => Err(Trouble::NoMemory),
     }
@@ -301,7 +285,8 @@ fn decline<W: Write, E: Write, X: Display>(
     refusal: Refusal,
     text: &X,
 ) -> Result<Status, Trouble>
-    ensures { (is_shown : Bool) × (result ≡ ended_by refusal is_shown) }
+    ensures told { (is_shown : Bool) × (result ≡ ended_by refusal is_shown) }
+    ensures output { refusal ≢ Refusal.Asked → Keeps (W.contents output.old) (W.contents output.new) }
 {
     let is_shown = match refusal {
         Refusal::Asked => show(output, text),
@@ -321,6 +306,41 @@ pub fn end<E: Write>(errors: &mut E, came: Result<Status, Trouble>) -> Status
             let _shown = write_text(errors, trouble.text().as_slice());
             trouble.status()
         }
+    }
+}
+
+/// Tells this report of open orders, if there is something to tell, as far as standard error takes it.
+fn tell_open<E: Write>(errors: &mut E, report: &[u8])
+    ensures { TellsOpen report.now (E.contents errors.old) (E.contents errors.new) }
+{
+    if report.is_empty() {
+        return;
+    }
+    let _shown = write_text(errors, report);
+}
+
+/// The status that tells the outcome. What is to be told of open orders, or a trouble, is told by lines on standard error, as far as that
+/// can be written.
+fn end_open<E: Write>(errors: &mut E, came: Result<Status, Trouble>, report: &[u8]) -> Status
+    ensures { EndsOpen came report.now result (E.contents errors.old) (E.contents errors.new) }
+{
+    match came {
+        Ok(status) => {
+            tell_open(errors, report);
+            status
+        }
+        Err(trouble) => end(errors, Err(trouble)),
+    }
+}
+
+/// The status that tells why a run was not begun. A line on standard error tells it too, where that may be written.
+fn bar_out<E: Write>(errors: &mut E, bar: Bar) -> Status
+    ensures { Ends (Err bar.trouble) result (E.contents errors.old) (E.contents errors.new) }
+{
+    if bar.is_told {
+        end(errors, Err(bar.trouble))
+    } else {
+        bar.trouble.status()
     }
 }
 
@@ -353,15 +373,28 @@ pub fn run<
     ensures { Comes P.fits_map P.slot_count (F.post make) (Attended P.fits_map P.slot_count (F.post make) ⟦<Inlet<'a, HostRuntime> as Read>⟧.remaining ⟦<BufWriter<Outlet> as Write>⟧.contents) (map A.text words.now) result lines.old lines.new (W.contents output.old) (W.contents output.new) (E.contents errors.old) (E.contents errors.new) }
 {
     match options(alloc, words) {
-        Ok(options) => match late(&options) {
-            Some((replay, pace)) => {
-                let came = drive_by_name(files, alloc, lines, output, &replay, pace, make);
-                end_drive(errors, came)
-            }
-            None => {
-                let came = obey_by_name(rt, files, alloc, lines, output, &options, make);
-                end(errors, came)
-            }
+        Ok(options) => match let_begin(files, alloc, &options) {
+            Ok(()) => match late(&options) {
+                Some((replay, pace)) => {
+                    let came = drive_by_name(files, alloc, lines, output, &replay, pace, make);
+                    end_drive(errors, came)
+                }
+                None => {
+                    let mut report = Vec::new(alloc);
+                    let came = obey_by_name(
+                        rt,
+                        files,
+                        alloc,
+                        lines,
+                        output,
+                        &options,
+                        &mut report,
+                        make,
+                    );
+                    end_open(errors, came, report.as_slice())
+                }
+            },
+            Err(bar) => bar_out(errors, bar),
         },
         Err(error) => {
             let came = decline(output, errors, refusal_of(&error), &error);

@@ -3,9 +3,9 @@
 ghost use Rattle.std.specs.Prelude.{◌≡◌, ◌+◌, [], IfOk, IfSome, length};
 ghost use Rattle.std.specs.Arc.{arc_value};
 ghost use Rattle.wh_claims.specs.Bank.{Belongs};
-ghost use Rattle.wh_service.specs.Pasts.{origin_of, past_of};
-ghost use Rattle.wh_service.specs.Lists.{AllAt};
-ghost use Rattle.wh_service.specs.Calls.{TellsReceipt};
+ghost use Rattle.wh_live.specs.Pasts.{origin_of, past_of};
+ghost use Rattle.wh_live.specs.Lists.{AllAt};
+ghost use Rattle.wh_live.specs.Calls.{TellsReceipt};
 
 use crate::again::{Halt, TRIES, again, refused, tell};
 use crate::fleet::{bank, open, room};
@@ -14,11 +14,9 @@ use std::marker::Brand;
 use std::sync::{Arc, Wait};
 use wh_claims::{Bank, BankSeat};
 use wh_event::{Command, Entry, read_line, write_reply};
+use wh_live::{Cells, Desk, DeskFault, DeskName, Pass, Publisher, Receipt, Viewer};
 use wh_planner::Planner;
-use wh_service::{
-    Book, Cells, Desk, DeskFault, DeskName, Pass, PlannerParts, Publisher, Receipt, Viewer,
-    Warehouse,
-};
+use wh_service::{Book, PlannerParts, Warehouse};
 
 /// How many positions the journal has.
 const POSITIONS: u64 = 3;

@@ -44,7 +44,7 @@ fn shared<R: Print>(rt: &R, alloc: Global, mut grid: Grid) -> Result<Arc<Grid>, 
 pub fn floor<R: Print>(rt: &R, alloc: Global) -> Result<(Arc<Grid>, Points), Halt>
     ensures { IfOk result (λ r. IsLayout r.0.value r.1) }
 {
-    let Site { grid, points } = read(rt, alloc, MAP_AND_POINTS)?;
+    let Site { grid, points, .. } = read(rt, alloc, MAP_AND_POINTS)?;
     match shared(rt, alloc, grid) {
         Ok(grid) => Ok((grid, points)),
         Err(halt) => {

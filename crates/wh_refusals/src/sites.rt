@@ -46,7 +46,7 @@ pub fn read<R: Print>(rt: &R, alloc: Global, text: &[u8]) -> Result<Site, Halt>
     ensures layout { IfOk result (λ site. IsLayout site.grid site.points) }
     ensures agents { IfOk result (λ site. 1 ≤ length site.points.agents) }
 {
-    again!(rt, read_site(&mut Lines::new(text), alloc))
+    again!(rt, read_site(&mut Lines::new(text), alloc, false))
 }
 
 /// The grid of a map.

@@ -19,9 +19,10 @@ use Rattle.wh_event.specs.declared.entry.Entry.{Entry}
 use Rattle.wh_event.specs.declared.reply.Reply.{Reply}
 use Rattle.wh_event.specs.declared.reply.Refusal.{Refusal}
 use Rattle.wh_event.specs.declared.fault.LineFault.{LineFault}
-use Rattle.wh_log.specs.Told.{Answered}
+use Rattle.wh_log.specs.Told.{Answered, told_text}
+use Rattle.wh_replay.specs.declared.asker.Asker.{Asker}
 use Rattle.wh_event.specs.declared.fault.LineFault.TheVariants.{Form, TooLong}
-use Rattle.wh_replay.specs.Answers.{answered_from, asked, commands_of, outcome_text, answers, replies_to, reply_line}
+use Rattle.wh_replay.specs.Answers.{answered_from, asked, commands_of, outcome_text, answers, replies_to, reply_line, text_of}
 use Rattle.wh_replay.specs.Scripts.{Gives, IsOutputOf, Tells}
 use Rattle.wh_replay.proofs.Placing.{answered_behind, answered_length}
 
@@ -52,32 +53,31 @@ entries_append (Some e ∷ os) ps = ap (λ es. e ∷ es) (entries_append os ps)
 
 -- ---- lines
 
-commands_push : (lines : List (List ℕ)) (line : List ℕ) → commands_of (lines ++ line ∷ []) ≡ commands_of lines ++ asked (command_of line)
-commands_push [] line = append-nil (asked (command_of line))
-commands_push (l ∷ lines) line = ap (λ cs. asked (command_of l) ++ cs) (commands_push lines line) ∙ sym (append_assoc (asked (command_of l)) (commands_of lines) (asked (command_of line)))
+commands_append : (xs ys : List (List ℕ)) → commands_of (xs ++ ys) ≡ commands_of xs ++ commands_of ys
+commands_append [] ys = refl
+commands_append (x ∷ xs) ys = ap (λ cs. asked (command_of x) ++ cs) (commands_append xs ys) ∙ sym (append_assoc (asked (command_of x)) (commands_of xs) (commands_of ys))
 
 -- one line more in front, whatever it says
-replies_by : (text : Answered → List ℕ) (kind : Result (Option Command) LineFault) (lines : List (List ℕ)) (line : List ℕ) (os ps : List (Option Answered)) (told : List (List ℕ))
-    → ((ns : List (Option Answered)) → length ns ≡ length (commands_of lines) → replies_to text (lines ++ line ∷ []) (ns ++ ps) ≡ replies_to text lines ns ++ told)
-    → length os ≡ length (asked kind ++ commands_of lines)
-    → answers text kind (os ++ ps) ++ replies_to text (lines ++ line ∷ []) (drop (length (asked kind)) (os ++ ps)) ≡ (answers text kind os ++ replies_to text lines (drop (length (asked kind)) os)) ++ told
-replies_by text (Ok None) lines line os ps told more e = more os e
-replies_by text (Err Form) lines line os ps told more e = ap (λ rs. codes "refused C1" ∷ rs) (more os e)
-replies_by text (Err TooLong) lines line os ps told more e = ap (λ rs. codes "refused C2" ∷ rs) (more os e)
-replies_by text (Ok (Some command)) lines line [] ps told more e = absurd (omega (arith, e))
-replies_by text (Ok (Some command)) lines line (o ∷ os) ps told more e = ap (λ rs. answers text (Ok (Some command)) (o ∷ os) ++ rs) (more os (omega (arith, e)))
+replies_by : (text : Answered → List ℕ) (kind : Result (Option Command) LineFault) (xs ys : List (List ℕ)) (os ps : List (Option Answered)) (told : List (List ℕ))
+    → ((ns : List (Option Answered)) → length ns ≡ length (commands_of xs) → replies_to text (xs ++ ys) (ns ++ ps) ≡ replies_to text xs ns ++ told)
+    → length os ≡ length (asked kind ++ commands_of xs)
+    → answers text kind (os ++ ps) ++ replies_to text (xs ++ ys) (drop (length (asked kind)) (os ++ ps)) ≡ (answers text kind os ++ replies_to text xs (drop (length (asked kind)) os)) ++ told
+replies_by text (Ok None) xs ys os ps told more e = more os e
+replies_by text (Err Form) xs ys os ps told more e = ap (λ rs. codes "refused C1" ∷ rs) (more os e)
+replies_by text (Err TooLong) xs ys os ps told more e = ap (λ rs. codes "refused C2" ∷ rs) (more os e)
+replies_by text (Ok (Some command)) xs ys [] ps told more e = absurd (omega (arith, e))
+replies_by text (Ok (Some command)) xs ys (o ∷ os) ps told more e = ap (λ rs. answers text (Ok (Some command)) (o ∷ os) ++ rs) (more os (omega (arith, e)))
 
-replies_push : (text : Answered → List ℕ) (lines : List (List ℕ)) (line : List ℕ) (os ps : List (Option Answered)) → length os ≡ length (commands_of lines)
-    → replies_to text (lines ++ line ∷ []) (os ++ ps) ≡ replies_to text lines os ++ answers text (command_of line) ps
-replies_push text [] line [] ps e = append-nil (answers text (command_of line) ps)
-replies_push text [] line (o ∷ os) ps e = absurd (omega (arith, e))
-replies_push text (l ∷ lines) line os ps e = replies_by text (command_of l) lines line os ps (answers text (command_of line) ps) (λ ns d. replies_push text lines line ns ps d) e
+replies_append : (text : Answered → List ℕ) (xs ys : List (List ℕ)) (os ps : List (Option Answered)) → length os ≡ length (commands_of xs) → replies_to text (xs ++ ys) (os ++ ps) ≡ replies_to text xs os ++ replies_to text ys ps
+replies_append text [] ys [] ps e = refl
+replies_append text [] ys (o ∷ os) ps e = absurd (omega (arith, e))
+replies_append text (x ∷ xs) ys os ps e = replies_by text (command_of x) xs ys os ps (replies_to text ys ps) (λ ns d. replies_append text xs ys ns ps d) e
 
 -- ---- what is given
 
-pub gives_nothing : {X : Type 0} (fits : X → Floor → Bool) (count : X → ℕ) (told : List (Option Answered) → List (List ℕ)) (old : Seen) (spares : List X)
-    → Gives fits count [] told old spares old spares (told [])
-gives_nothing fits count told old spares = record {
+pub gives_nothing : {X : Type 0} (fits : X → Floor → Bool) (count : X → ℕ) (caller : ℕ) (told : List (Option Answered) → List (List ℕ)) (old : Seen) (spares : List X)
+    → Gives fits count caller [] told old spares old spares (told [])
+gives_nothing fits count caller told old spares = record {
   outcomes = [];
   replies_are = refl;
   ran = (refl, refl);
@@ -89,30 +89,54 @@ gives_nothing fits count told old spares = record {
 }
 
 -- what comes after at the same site
-pub output_push : {X : Type 0} (fits : X → Floor → Bool) (count : X → ℕ) (text : Answered → List ℕ) (lines : List (List ℕ)) (line : List ℕ) (old : Seen) (spares : List X) (mid : Seen) (left : List X) (new : Seen) (rest : List X)
-    (had more : List (List ℕ)) → IsOutputOf fits count text lines old spares mid left had → Gives fits count (asked (command_of line)) (answers text (command_of line)) mid left new rest more
-    → IsOutputOf fits count text (lines ++ line ∷ []) old spares new rest (had ++ more)
-output_push {X} fits count text lines line old spares mid left new rest had more p q =
-    let here : Ran fits count old.site 0 (asked (command_of line)) q.outcomes mid.state left new.state rest =
-    subst (λ (t : Site). Ran fits count t 0 (asked (command_of line)) q.outcomes mid.state left new.state rest) p.site q.ran in
-    let ran : Ran fits count old.site 0 (commands_of (lines ++ line ∷ [])) (p.outcomes ++ q.outcomes) old.state spares new.state rest =
-    subst (λ cs. Ran fits count old.site 0 cs (p.outcomes ++ q.outcomes) old.state spares new.state rest) (sym (commands_push lines line))
-    (ran_append fits count old.site 0 (commands_of lines) p.outcomes (asked (command_of line)) q.outcomes old.state spares mid.state left new.state rest p.ran here) in
+pub output_join : {X : Type 0} (fits : X → Floor → Bool) (count : X → ℕ) (asker : Asker) (xs ys : List (List ℕ)) (old : Seen) (spares : List X) (mid : Seen) (left : List X) (new : Seen) (rest : List X)
+    (had more : List (List ℕ)) → IsOutputOf fits count asker xs old spares mid left had → IsOutputOf fits count asker ys mid left new rest more → IsOutputOf fits count asker (xs ++ ys) old spares new rest (had ++ more)
+output_join {X} fits count asker xs ys old spares mid left new rest had more p q =
+    let here : Ran fits count old.site asker.caller (commands_of ys) q.outcomes mid.state left new.state rest =
+    subst (λ (t : Site). Ran fits count t asker.caller (commands_of ys) q.outcomes mid.state left new.state rest) p.site q.ran in
+    let ran : Ran fits count old.site asker.caller (commands_of (xs ++ ys)) (p.outcomes ++ q.outcomes) old.state spares new.state rest =
+    subst (λ cs. Ran fits count old.site asker.caller cs (p.outcomes ++ q.outcomes) old.state spares new.state rest) (sym (commands_append xs ys))
+    (ran_append fits count old.site asker.caller (commands_of xs) p.outcomes (commands_of ys) q.outcomes old.state spares mid.state left new.state rest p.ran here) in
     let first = answered_from (length old.history) old.state.clock p.outcomes in
     let second = answered_from (length mid.history) mid.state.clock q.outcomes in
-    let long = answered_length (length old.history) old.state.clock p.outcomes ∙ ran_length fits count old.site 0 (commands_of lines) p.outcomes old.state spares mid.state left p.ran in
+    let long = answered_length (length old.history) old.state.clock p.outcomes ∙ ran_length fits count old.site asker.caller (commands_of xs) p.outcomes old.state spares mid.state left p.ran in
     record {
       outcomes = p.outcomes ++ q.outcomes;
-      replies_are = ap (λ rs. rs ++ more) p.replies_are ∙ ap (λ rs. replies_to text lines first ++ rs) q.replies_are ∙ sym (replies_push text lines line first second long)
-          ∙ ap (λ rs. replies_to text (lines ++ line ∷ []) rs) (sym (answered_behind old.site old.state mid.state old.history mid.history p.outcomes q.outcomes p.history p.run));
+      replies_are = ap (λ rs. rs ++ more) p.replies_are ∙ ap (λ rs. replies_to (told_text asker.form) xs first ++ rs) q.replies_are ∙ sym (replies_append (told_text asker.form) xs ys first second long)
+          ∙ ap (λ rs. replies_to (told_text asker.form) (xs ++ ys) rs) (sym (answered_behind old.site old.state mid.state old.history mid.history p.outcomes q.outcomes p.history p.run));
       ran = ran;
       history = q.history ∙ ap (λ es. es ++ entries_of q.outcomes) p.history ∙ append_assoc old.history (entries_of p.outcomes) (entries_of q.outcomes) ∙ ap (λ es. old.history ++ es) (sym (entries_append p.outcomes q.outcomes));
-      run = ran-run fits count old.site 0 (commands_of (lines ++ line ∷ [])) (p.outcomes ++ q.outcomes) old.state spares new.state rest ran;
+      run = ran-run fits count old.site asker.caller (commands_of (xs ++ ys)) (p.outcomes ++ q.outcomes) old.state spares new.state rest ran;
       served = λ formed. subst AllServed (sym (entries_append p.outcomes q.outcomes))
           (All-append (λ entry. entry.reply ≢ Reply.Refused Refusal.NoPath) (entries_of p.outcomes) (entries_of q.outcomes) (p.served formed) (q.served (subst (λ (t : Site). IsFormed t) (sym p.site) formed)));
       site = q.site ∙ p.site;
       opening = q.opening ∙ p.opening;
     }
+
+-- what one line gives
+pub output_one : {X : Type 0} (fits : X → Floor → Bool) (count : X → ℕ) (asker : Asker) (line : List ℕ) (old : Seen) (spares : List X) (new : Seen) (rest : List X) (replies : List (List ℕ))
+    → Gives fits count asker.caller (asked (command_of line)) (answers (told_text asker.form) (command_of line)) old spares new rest replies → IsOutputOf fits count asker (line ∷ []) old spares new rest replies
+output_one fits count asker line old spares new rest replies g = record {
+  outcomes = g.outcomes;
+  replies_are = g.replies_are ∙ sym (append-nil (answers (told_text asker.form) (command_of line) (answered_from (length old.history) old.state.clock g.outcomes)));
+  ran = subst (λ (cs : List Command). Ran fits count old.site asker.caller cs g.outcomes old.state spares new.state rest) (sym (append-nil (asked (command_of line)))) g.ran;
+  history = g.history;
+  run = g.run;
+  served = g.served;
+  site = g.site;
+  opening = g.opening;
+}
+
+-- one line more behind others
+pub output_push : {X : Type 0} (fits : X → Floor → Bool) (count : X → ℕ) (asker : Asker) (lines : List (List ℕ)) (line : List ℕ) (old : Seen) (spares : List X) (mid : Seen) (left : List X) (new : Seen) (rest : List X)
+    (had more : List (List ℕ)) → IsOutputOf fits count asker lines old spares mid left had → Gives fits count asker.caller (asked (command_of line)) (answers (told_text asker.form) (command_of line)) mid left new rest more
+    → IsOutputOf fits count asker (lines ++ line ∷ []) old spares new rest (had ++ more)
+output_push fits count asker lines line old spares mid left new rest had more p q =
+    output_join fits count asker lines (line ∷ []) old spares mid left new rest had more p (output_one fits count asker line mid left new rest more q)
+
+pub replies_text : (xs ys : List (List ℕ)) → text_of (xs ++ ys) ≡ text_of xs ++ text_of ys
+replies_text [] ys = refl
+replies_text (x ∷ xs) ys = ap (λ l. reply_line x ++ l) (replies_text xs ys) ∙ sym (append_assoc (reply_line x) (text_of xs) (text_of ys))
 
 -- what one outcome answers
 abbrev pub answered_at : ℕ → ℕ → Option Entry → Option Answered
@@ -136,18 +160,18 @@ pub tells_outcome : (text : Answered → List ℕ) (place clock : ℕ) (outcome 
 tells_outcome text place clock None added had has result before after is e none some = none (sym is)
 tells_outcome text place clock (Some entry) added had has result before after is e none some = some (sym is) had entry e
 
-pub gives_one : {X : Type 0} (fits : X → Floor → Bool) (count : X → ℕ) (text : Answered → List ℕ) (place clock : ℕ) (command : Command) (old : Seen) (spares : List X) (new : Seen) (rest : List X) (added : Bool)
+pub gives_one : {X : Type 0} (fits : X → Floor → Bool) (count : X → ℕ) (asker : Asker) (place clock : ℕ) (command : Command) (old : Seen) (spares : List X) (new : Seen) (rest : List X) (added : Bool)
     → place ≡ length old.history → clock ≡ old.state.clock
     → IsOpening old.site old.opening → Run old.site old.opening old.history old.state
-    → (one : RunsOne fits count 0 command added old spares new rest)
-    → Gives fits count (command ∷ []) (answers text (Ok (Some command))) old spares new rest (reply_to text place clock one.outcome ∷ [])
-gives_one fits count text place clock command old spares new rest added here now is_opening before one =
-    let ran : Ran fits count old.site 0 (command ∷ []) (one.outcome ∷ []) old.state spares new.state rest = (new.state, rest, one.moves, (refl, refl)) in
-    let run = ran-run fits count old.site 0 (command ∷ []) (one.outcome ∷ []) old.state spares new.state rest ran in
+    → (one : RunsOne fits count asker.caller command added old spares new rest)
+    → Gives fits count asker.caller (command ∷ []) (answers (told_text asker.form) (Ok (Some command))) old spares new rest (reply_to (told_text asker.form) place clock one.outcome ∷ [])
+gives_one fits count asker place clock command old spares new rest added here now is_opening before one =
+    let ran : Ran fits count old.site asker.caller (command ∷ []) (one.outcome ∷ []) old.state spares new.state rest = (new.state, rest, one.moves, (refl, refl)) in
+    let run = ran-run fits count old.site asker.caller (command ∷ []) (one.outcome ∷ []) old.state spares new.state rest ran in
     record {
       outcomes = one.outcome ∷ [];
-      replies_are = ap (λ (n : ℕ). reply_to text n clock one.outcome ∷ []) here ∙ ap (λ (n : ℕ). reply_to text (length old.history) n one.outcome ∷ []) now
-          ∙ ap (answers text (Ok (Some command))) (sym (answered_one (length old.history) old.state.clock one.outcome));
+      replies_are = ap (λ (n : ℕ). reply_to (told_text asker.form) n clock one.outcome ∷ []) here ∙ ap (λ (n : ℕ). reply_to (told_text asker.form) (length old.history) n one.outcome ∷ []) now
+          ∙ ap (answers (told_text asker.form) (Ok (Some command))) (sym (answered_one (length old.history) old.state.clock one.outcome));
       ran = ran;
       history = one.history;
       run = run;

@@ -1,8 +1,7 @@
 -- What is said of a script that was not served to its end.
-use Rattle.std.proofs.Common.{◌≡◌, ◌<◌, ◌≤◌, ◌⊎◌, ℕ, List, [], ◌++◌, length, take, refl, sym, inl, inr, arith, Option, append-nil, true, false}
+use Rattle.std.proofs.Common.{◌≡◌, ◌<◌, ◌≤◌, ◌⊎◌, ℕ, List, [], ◌++◌, length, refl, sym, inl, inr, arith, Option, append-nil, true, false}
 use Rattle.std.specs.Io.KnownBytes.{Appends, Keeps}
 use Rattle.std.proofs.KnownBytes.{Appends-nil, Appends-kept}
-use Rattle.wh_lines.specs.Text.{EndsLine}
 use Rattle.wh_lines.specs.Input.{Input, with_failed}
 use Rattle.wh_lines.specs.declared.next.LineFault.{LineFault}
 use Rattle.wh_lines.specs.declared.next.LineFault.TheVariants.{Read, Flush}
@@ -58,12 +57,6 @@ until_all Unwritten a b replies p = written_all a b replies p
 until_all Broken a b replies p = p
 until_all Endless a b replies p = p
 
--- whole lines were served, whatever the fault
-pub whole_until : (fault : ReplayFault) (after : Input) (read : List ℕ) → EndsLine read → IsWholeUntil fault after read
-whole_until Unwritten after read whole = inl whole
-whole_until Broken after read whole = whole
-whole_until Endless after read whole = whole
-
 -- the same is said of a reader that is told to have failed
 pub whole_failed : (fault : ReplayFault) (after : Input) (read : List ℕ) → IsWholeUntil fault after read → IsWholeUntil fault (with_failed after true) read
 whole_failed Unwritten after read whole = whole
@@ -74,17 +67,3 @@ pub cause_failed : (fault : ReplayFault) (before after : Input) (lines : ℕ) �
 cause_failed Unwritten before after lines cause = cause
 cause_failed Broken before after lines cause = cause
 cause_failed Endless before after lines cause = cause
-
--- a writer that kept what it had says the same
-pub until_left : (fault : ReplayFault) (a b c : Option (List ℕ)) (replies : List (List ℕ)) → WritesUntil fault a b replies → Keeps b c → WritesUntil fault a c replies
-until_left Unwritten a b c replies w kept = record {
-  told = w.told;
-  last = w.last;
-  replies_are = w.replies_are;
-  few = w.few;
-  between = w.between;
-  whole = w.whole;
-  front = record { count = w.front.count; appends = Appends-kept w.between b c (take w.front.count (text_of w.last)) w.front.appends kept };
-}
-until_left Broken a b c replies w kept = Appends-kept a b c (text_of replies) w kept
-until_left Endless a b c replies w kept = Appends-kept a b c (text_of replies) w kept

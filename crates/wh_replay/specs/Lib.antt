@@ -1,4 +1,8 @@
 pub mod Answers
+pub mod Answering
+pub mod Appending
+pub mod Replying
+pub mod Machines
 pub mod Scripts
 pub mod Clocks
 -- re-exported for the crates above

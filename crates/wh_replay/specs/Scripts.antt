@@ -13,7 +13,9 @@ use Rattle.wh_token.specs.Runs.{Ran, entries_of}
 use Rattle.wh_event.specs.declared.event.Command.{Command}
 use Rattle.wh_event.specs.declared.entry.Entry.{Entry}
 use Rattle.wh_event.specs.declared.fault.LineFault.{LineFault}
-use Rattle.wh_log.specs.Told.{Answered}
+use Rattle.wh_log.specs.Told.{Answered, told_text}
+use Rattle.wh_log.specs.declared.form.Form.{Form}
+use Rattle.wh_replay.specs.declared.asker.Asker.{Asker}
 use Rattle.wh_lines.specs.declared.next.LineFault.{LineFault as NoLine}
 use Rattle.wh_lines.specs.declared.next.LineFault.TheVariants.{Read, Flush}
 use Rattle.wh_lines.specs.declared.lines.ReadFault.TheVariants as reads
@@ -23,14 +25,18 @@ use Rattle.wh_replay.specs.Answers.{answered_from, asked, commands_of, answers, 
 -- re-exported for the crates above
 pub use Rattle.wh_lines.specs.Output.{WritesFront}
 
--- The commands, all of caller 0, have run one after another and had these outcomes, which tell the replies, each by its
+-- who asks where a script is served of which nothing is kept
+abbrev pub script_asker : Form → Asker
+script_asker form = record { caller = 0; form = form }
+
+-- The commands, all of this caller, have run one after another and had these outcomes, which tell the replies, each by its
 -- entry's place in the history and the clock before that too. The history has grown by the entries, and by nothing else. Fits
--- and count say what a planner returns; text, here and below, what a reply is told as.
-pub record Gives {X : Type 0} (fits : X → Floor → Bool) (count : X → ℕ) (commands : List Command) (told : List (Option Answered) → List (List ℕ))
+-- and count say what a planner returns; asker, below, which caller the entries tell, and the form in which it is told replies.
+pub record Gives {X : Type 0} (fits : X → Floor → Bool) (count : X → ℕ) (caller : ℕ) (commands : List Command) (told : List (Option Answered) → List (List ℕ))
     (old : Seen) (spares : List X) (new : Seen) (rest : List X) (replies : List (List ℕ)) : Type 0 where
   pub outcomes : List (Option Entry)
   pub replies_are : replies ≡ told (answered_from (length old.history) old.state.clock outcomes)
-  pub ran : Ran fits count old.site 0 commands outcomes old.state spares new.state rest
+  pub ran : Ran fits count old.site caller commands outcomes old.state spares new.state rest
   pub history : new.history ≡ old.history ++ entries_of outcomes
   pub run : Run old.site old.state (entries_of outcomes) new.state
   -- where the instance is well-formed, no request is refused for lack of a path
@@ -40,8 +46,8 @@ pub record Gives {X : Type 0} (fits : X → Floor → Bool) (count : X → ℕ) 
 
 -- The output of lines: in their order nothing for a line that is skipped, `refused C1` or `refused C2` for one that is no
 -- command, `refused E90` for some commands, and for the others the replies of one run.
-abbrev pub IsOutputOf : {X : Type 0} → (X → Floor → Bool) → (X → ℕ) → (Answered → List ℕ) → List (List ℕ) → Seen → List X → Seen → List X → List (List ℕ) → Type 0
-IsOutputOf fits count text lines old spares new rest replies = Gives fits count (commands_of lines) (replies_to text lines) old spares new rest replies
+abbrev pub IsOutputOf : {X : Type 0} → (X → Floor → Bool) → (X → ℕ) → Asker → List (List ℕ) → Seen → List X → Seen → List X → List (List ℕ) → Type 0
+IsOutputOf fits count asker lines old spares new rest replies = Gives fits count asker.caller (commands_of lines) (replies_to (told_text asker.form) lines) old spares new rest replies
 
 -- a line was written, or a front of it
 abbrev pub Tells : Result ℕ WriteFault → Option (List ℕ) → Option (List ℕ) → List ℕ → Type 0
@@ -49,48 +55,37 @@ Tells (Ok count) had has line = Appends had has line × (count ≡ 1)
 Tells (Err fault) had has line = WritesFront had has line
 
 -- one line was served: what it is answered was written
-pub record Serves {X : Type 0} (fits : X → Floor → Bool) (count : X → ℕ) (text : Answered → List ℕ) (line : Result (Option Command) LineFault) (old : Seen) (spares : List X) (new : Seen) (rest : List X)
+pub record Serves {X : Type 0} (fits : X → Floor → Bool) (count : X → ℕ) (asker : Asker) (line : Result (Option Command) LineFault) (old : Seen) (spares : List X) (new : Seen) (rest : List X)
     (had has : Option (List ℕ)) (written : ℕ) : Type 0 where
   pub replies : List (List ℕ)
-  pub gives : Gives fits count (asked line) (answers text line) old spares new rest replies
+  pub gives : Gives fits count asker.caller (asked line) (answers (told_text asker.form) line) old spares new rest replies
   pub appends : Appends had has (text_of replies)
   pub written_is : written ≡ length replies
 
 -- one line was served, and its reply was not written to the end
-pub record ServesUnwritten {X : Type 0} (fits : X → Floor → Bool) (count : X → ℕ) (text : Answered → List ℕ) (line : Result (Option Command) LineFault) (old : Seen) (spares : List X) (new : Seen) (rest : List X)
+pub record ServesUnwritten {X : Type 0} (fits : X → Floor → Bool) (count : X → ℕ) (asker : Asker) (line : Result (Option Command) LineFault) (old : Seen) (spares : List X) (new : Seen) (rest : List X)
     (had has : Option (List ℕ)) : Type 0 where
   pub replies : List (List ℕ)
-  pub gives : Gives fits count (asked line) (answers text line) old spares new rest replies
+  pub gives : Gives fits count asker.caller (asked line) (answers (told_text asker.form) line) old spares new rest replies
   pub few : length replies ≤ 1
   pub writes : WritesFront had has (text_of replies)
 
--- whole lines were read and served
-pub record Follows {X : Type 0} (fits : X → Floor → Bool) (count : X → ℕ) (text : Answered → List ℕ) (before after : Input) (old : Seen) (spares : List X) (new : Seen) (rest : List X)
-    (had has : Option (List ℕ)) (written : ℕ) : Type 0 where
-  pub read : List ℕ
-  pub takes : Takes before after read
-  pub whole : EndsLine read
-  pub replies : List (List ℕ)
-  pub output : IsOutputOf fits count text (lines_of read) old spares new rest replies
-  pub appends : Appends had has (text_of replies)
-  pub written_is : written ≡ length replies
-
 -- All was read to the end, and what was written is the output of what was read, in this many lines.
-pub record Replays {X : Type 0} (fits : X → Floor → Bool) (count : X → ℕ) (text : Answered → List ℕ) (before after : Input) (old : Seen) (spares : List X) (new : Seen) (rest : List X)
+pub record Replays {X : Type 0} (fits : X → Floor → Bool) (count : X → ℕ) (asker : Asker) (before after : Input) (old : Seen) (spares : List X) (new : Seen) (rest : List X)
     (had has : Option (List ℕ)) (written : ℕ) : Type 0 where
   pub read : List ℕ
   pub takes : Takes before after read
   pub ended : IsAtEnd (left after)
   pub replies : List (List ℕ)
-  pub output : IsOutputOf fits count text (lines_of read) old spares new rest replies
+  pub output : IsOutputOf fits count asker (lines_of read) old spares new rest replies
   pub appends : Appends had has (text_of replies)
   pub written_is : written ≡ length replies
 
 -- these bytes were served, all of them
-pub record Outputs {X : Type 0} (fits : X → Floor → Bool) (count : X → ℕ) (text : Answered → List ℕ) (script : List ℕ) (old : Seen) (spares : List X) (new : Seen) (rest : List X)
+pub record Outputs {X : Type 0} (fits : X → Floor → Bool) (count : X → ℕ) (asker : Asker) (script : List ℕ) (old : Seen) (spares : List X) (new : Seen) (rest : List X)
     (had has : Option (List ℕ)) (written : ℕ) : Type 0 where
   pub replies : List (List ℕ)
-  pub output : IsOutputOf fits count text (lines_of script) old spares new rest replies
+  pub output : IsOutputOf fits count asker (lines_of script) old spares new rest replies
   pub appends : Appends had has (text_of replies)
   pub written_is : written ≡ length replies
 
@@ -125,7 +120,7 @@ HasCause Unwritten before after lines = Unit {0}
 
 -- A beginning of the script was served, and no line behind it: the events of its commands stand, also the last one, whose
 -- reply may not have been written to the end. What was taken behind it is part of one line, and was not served.
-pub record Stops {X : Type 0} (fits : X → Floor → Bool) (count : X → ℕ) (text : Answered → List ℕ) (fault : ReplayFault) (before after : Input) (old : Seen) (spares : List X) (new : Seen) (rest : List X)
+pub record Stops {X : Type 0} (fits : X → Floor → Bool) (count : X → ℕ) (asker : Asker) (fault : ReplayFault) (before after : Input) (old : Seen) (spares : List X) (new : Seen) (rest : List X)
     (had has : Option (List ℕ)) : Type 0 where
   pub read : List ℕ
   pub begun : List ℕ
@@ -133,7 +128,7 @@ pub record Stops {X : Type 0} (fits : X → Floor → Bool) (count : X → ℕ) 
   pub part : IsLine begun
   pub whole : IsWholeUntil fault after read
   pub replies : List (List ℕ)
-  pub output : IsOutputOf fits count text (lines_of read) old spares new rest replies
+  pub output : IsOutputOf fits count asker (lines_of read) old spares new rest replies
   pub writes : WritesUntil fault had has replies
   pub cause : HasCause fault before after (length (lines_of read))
 

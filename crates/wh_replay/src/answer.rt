@@ -9,6 +9,7 @@ ghost use Rattle.wh_log.specs.Told.{told_text};
 ghost use Rattle.wh_replay.specs.Answers.{reply_line, said};
 ghost use Rattle.wh_replay.specs.Scripts.{Tells, Serves, ServesUnwritten};
 
+use crate::asker::Asker;
 use arrayvec::ArrayVec;
 use std::alloc::Global;
 use std::io::Write;
@@ -17,9 +18,6 @@ use wh_lines::{CommandLine, WriteFault, write_all};
 use wh_log::{Form, tell};
 use wh_planner::Plans;
 use wh_token::Warehouse;
-
-/// The caller of each event of a script.
-const CALLER: u32 = 0;
 
 /// Writes a line, the line feed at its end too, at once.
 #[inline(always)]
@@ -73,7 +71,7 @@ fn tell_long<W: Write>(
 
 /// Tells a reply in this form, as a line.
 #[inline(always)]
-fn tell_reply<W: Write>(
+pub(crate) fn tell_reply<W: Write>(
     form: Form,
     writer: &mut W,
     place: u64,
@@ -132,20 +130,20 @@ fn tell_outcome<W: Write>(
 pub fn obey<W: Write, P: Plans>(
     command: &Command,
     alloc: Global,
-    form: Form,
+    asker: Asker,
     writer: &mut W,
     warehouse: &mut Warehouse<P>,
     spares: &mut Vec<P>,
 ) -> Result<u64, WriteFault>
-    ensures ok { IfOk result (λ count. Serves P.fits_map P.slot_count (told_text form) (Ok (Some command.now)) warehouse.old.book spares.old.items warehouse.new.book spares.new.items (W.contents writer.old) (W.contents writer.new) count) }
+    ensures ok { IfOk result (λ count. Serves P.fits_map P.slot_count asker (Ok (Some command.now)) warehouse.old.book spares.old.items warehouse.new.book spares.new.items (W.contents writer.old) (W.contents writer.new) count) }
     ensures few { IfOk result (λ count. count ≤ 1) }
-    ensures err { OnErr result (ServesUnwritten P.fits_map P.slot_count (told_text form) (Ok (Some command.now)) warehouse.old.book spares.old.items warehouse.new.book spares.new.items (W.contents writer.old) (W.contents writer.new)) }
+    ensures err { OnErr result (ServesUnwritten P.fits_map P.slot_count asker (Ok (Some command.now)) warehouse.old.book spares.old.items warehouse.new.book spares.new.items (W.contents writer.old) (W.contents writer.new)) }
 {
     let before = warehouse.history();
     let place = before.len() as u64;
     let clock = warehouse.clock();
-    let added = warehouse.run_event(alloc, CALLER, command, spares);
-    tell_outcome(form, writer, place, clock, added, warehouse.history())
+    let added = warehouse.run_event(alloc, asker.caller, command, spares);
+    tell_outcome(asker.form, writer, place, clock, added, warehouse.history())
 }
 
 /// Reads a line, of which only a front is kept, into a room: whether it asks for a command, which then stands there.
@@ -164,17 +162,17 @@ pub(crate) fn answer<W: Write, P: Plans>(
     line: &CommandLine,
     command: &mut Command,
     alloc: Global,
-    form: Form,
+    asker: Asker,
     writer: &mut W,
     warehouse: &mut Warehouse<P>,
     spares: &mut Vec<P>,
 ) -> Result<u64, WriteFault>
-    ensures ok { IfOk result (λ count. Serves P.fits_map P.slot_count (told_text form) (said (short_line line.now)) warehouse.old.book spares.old.items warehouse.new.book spares.new.items (W.contents writer.old) (W.contents writer.new) count) }
+    ensures ok { IfOk result (λ count. Serves P.fits_map P.slot_count asker (said (short_line line.now)) warehouse.old.book spares.old.items warehouse.new.book spares.new.items (W.contents writer.old) (W.contents writer.new) count) }
     ensures few { IfOk result (λ count. count ≤ 1) }
-    ensures err { OnErr result (ServesUnwritten P.fits_map P.slot_count (told_text form) (said (short_line line.now)) warehouse.old.book spares.old.items warehouse.new.book spares.new.items (W.contents writer.old) (W.contents writer.new)) }
+    ensures err { OnErr result (ServesUnwritten P.fits_map P.slot_count asker (said (short_line line.now)) warehouse.old.book spares.old.items warehouse.new.book spares.new.items (W.contents writer.old) (W.contents writer.new)) }
 {
     match read_kept(line, command) {
-        Ok(true) => obey(command, alloc, form, writer, warehouse, spares),
+        Ok(true) => obey(command, alloc, asker, writer, warehouse, spares),
         Ok(false) => Ok(0),
         Err(LineFault::Form) => write_line(writer, b"refused C1\n"),
         Err(LineFault::TooLong) => write_line(writer, b"refused C2\n"),

@@ -1,20 +1,24 @@
 //! A script that is served to its end, or until a fault.
 
-ghost use Rattle.std.specs.Prelude.{◌≡◌, ◌≤◌, ℕ, List, IfOk, IfSome, IfErr, OnErr, Ok, Some, true, false};
+ghost use Rattle.std.specs.Prelude.{◌≡◌, ◌≤◌, IfOk, IfSome, IfErr, OnErr, Err, Some, true};
 ghost use Rattle.std.specs.Io.KnownBytes.{Keeps};
 ghost use Rattle.wh_lines.specs.Text.{short_line};
-ghost use Rattle.wh_lines.specs.Input.{left, Gathered};
-ghost use Rattle.wh_log.specs.Told.{told_text};
+ghost use Rattle.wh_lines.specs.Input.{left};
 ghost use Rattle.wh_replay.specs.Answers.{said};
-ghost use Rattle.wh_replay.specs.Scripts.{fault_of, Serves, ServesUnwritten, Replays, Outputs, Stops};
+ghost use Rattle.wh_replay.specs.Machines.{session_fault, Left};
+ghost use Rattle.wh_replay.specs.Scripts.{Serves, ServesUnwritten, Replays, Outputs, Stops, script_asker};
 
-use crate::answer::{answer, obey};
+use crate::answer::answer;
+use crate::asker::Asker;
+use crate::scripted::Script;
+use crate::waiting::OneAnswer;
 use std::alloc::Global;
 use std::io::{Read, Write};
-use wh_event::{Command, read_front_into};
-use wh_lines::{CommandLine, LineFault, Lines, Next, ReadFault};
+use wh_event::Command;
+use wh_lines::{CommandLine, Lines};
 use wh_log::Form;
 use wh_planner::Plans;
+use wh_session::{NoKeeper, SessionFault};
 use wh_token::Warehouse;
 
 /// How many lines were written.
@@ -34,97 +38,61 @@ pub enum ReplayFault {
     Unwritten,
 }
 
-fn fault_of(fault: LineFault) -> ReplayFault
-    ensures { result ≡ fault_of fault }
-{
-    match fault {
-        LineFault::Read(ReadFault::Broken) => ReplayFault::Broken,
-        LineFault::Read(ReadFault::Endless) => ReplayFault::Endless,
-        LineFault::Flush => ReplayFault::Unwritten,
-    }
-}
-
 /// Serves a line, of which only a front is kept. How many replies it got: one or none. The command is a room for what it asks.
 pub fn serve<W: Write, P: Plans>(
     line: &CommandLine,
     command: &mut Command,
     alloc: Global,
-    form: Form,
+    asker: Asker,
     writer: &mut W,
     warehouse: &mut Warehouse<P>,
     spares: &mut Vec<P>,
 ) -> Result<u64, ReplayFault>
-    ensures ok { IfOk result (λ count. Serves P.fits_map P.slot_count (told_text form) (said (short_line line.now)) warehouse.old.book spares.old.items warehouse.new.book spares.new.items (W.contents writer.old) (W.contents writer.new) count) }
+    ensures ok { IfOk result (λ count. Serves P.fits_map P.slot_count asker (said (short_line line.now)) warehouse.old.book spares.old.items warehouse.new.book spares.new.items (W.contents writer.old) (W.contents writer.new) count) }
     ensures few { IfOk result (λ count. count ≤ 1) }
-    ensures err { OnErr result (ServesUnwritten P.fits_map P.slot_count (told_text form) (said (short_line line.now)) warehouse.old.book spares.old.items warehouse.new.book spares.new.items (W.contents writer.old) (W.contents writer.new)) }
+    ensures err { OnErr result (ServesUnwritten P.fits_map P.slot_count asker (said (short_line line.now)) warehouse.old.book spares.old.items warehouse.new.book spares.new.items (W.contents writer.old) (W.contents writer.new)) }
     ensures fault { IfErr result (λ fault. fault ≡ ReplayFault.Unwritten) }
 {
-    match answer(line, command, alloc, form, writer, warehouse, spares) {
+    match answer(line, command, alloc, asker, writer, warehouse, spares) {
         Ok(count) => Ok(count),
         Err(_) => Err(ReplayFault::Unwritten),
     }
 }
 
-/// Takes the next line where it waits as a whole and asks for the token as nearly all lines do: whether it did. The request
-/// then stands in the room.
-#[inline(always)]
-fn take_request<R: Read>(lines: &mut Lines<R>, command: &mut Command) -> bool
-    ensures takes { result ≡ true → ((kept : List ℕ) × Gathered Next.Whole lines.old lines.new kept × (said (short_line kept) ≡ Ok (Some command.new))) }
-    ensures reads { lines.new.reads ≡ lines.old.reads }
-    ensures failed { lines.new.failed ≡ lines.old.failed }
-    ensures left { result ≡ false → lines.new ≡ lines.old }
+fn session_fault(fault: SessionFault) -> ReplayFault
+    ensures { result ≡ session_fault fault }
 {
-    match read_front_into(lines.waiting(), command) {
-        Some(length) => {
-            lines.take(length);
-            true
-        }
-        None => false,
+    match fault {
+        SessionFault::Broken => ReplayFault::Broken,
+        SessionFault::Endless => ReplayFault::Endless,
+        SessionFault::Unwritten
+        | SessionFault::Unkept
+        | SessionFault::NoMemory
+        | SessionFault::Failed => ReplayFault::Unwritten,
     }
 }
 
-fn serve_all<R: Read, W: Write, P: Plans>(
+/// Serves a script by the one loop.
+fn serve_script<R: Read, W: Write, P: Plans>(
     lines: &mut Lines<R>,
-    alloc: Global,
-    form: Form,
     writer: &mut W,
-    warehouse: &mut Warehouse<P>,
-    spares: &mut Vec<P>,
+    script: &mut Script<'_, P, OneAnswer>,
 ) -> Result<Replayed, ReplayFault>
-    requires { lines.old.failed ≡ false }
-    ensures ok { IfOk result (λ r. Replays P.fits_map P.slot_count (told_text form) lines.old lines.new warehouse.old.book spares.old.items warehouse.new.book spares.new.items (W.contents writer.old) (W.contents writer.new) r.replies) }
-    ensures fault { IfErr result (λ fault. Stops P.fits_map P.slot_count (told_text form) fault lines.old lines.new warehouse.old.book spares.old.items warehouse.new.book spares.new.items (W.contents writer.old) (W.contents writer.new)) }
+    requires replies { script.old.replies ≡ 0 }
+    requires left { Left script.old.first script.old.clock script.old.warehouse.now.book script.old.answers.answer.items }
+    ensures seat { script.new.warehouse.ghost_name ≡ script.old.warehouse.ghost_name }
+    ensures room { script.new.spares.ghost_name ≡ script.old.spares.ghost_name }
+    ensures ok { IfOk result (λ r. Replays P.fits_map P.slot_count script.old.asker lines.old lines.new script.old.warehouse.now.book script.old.spares.now.items script.new.warehouse.now.book script.new.spares.now.items (W.contents writer.old) (W.contents writer.new) r.replies) }
+    ensures fault { IfErr result (λ fault. Stops P.fits_map P.slot_count script.old.asker fault lines.old lines.new script.old.warehouse.now.book script.old.spares.now.items script.new.warehouse.now.book script.new.spares.now.items (W.contents writer.old) (W.contents writer.new)) }
+    ensures failed { OnErr result (lines.new.failed ≡ true) }
+    ensures again { lines.old.failed ≡ true → (result ≡ Err ReplayFault.Broken) × (lines.new ≡ lines.old) × (script.new.warehouse.now.book ≡ script.old.warehouse.now.book) × (script.new.spares.now.items ≡ script.old.spares.now.items) × Keeps (W.contents writer.old) (W.contents writer.new) }
 {
-    let mut line = CommandLine::new();
-    let mut command = Command::Close;
-    let mut replies = 0;
-    for _ in 0..u64::MAX {
-        if take_request(lines, &mut command) {
-            match obey(&command, alloc, form, writer, warehouse, spares) {
-                Ok(count) => replies += count,
-                Err(_) => return Err(ReplayFault::Unwritten),
-            }
-            continue;
-        }
-        let next = match lines.next_line(writer, &mut line) {
-            Ok(next) => next,
-            Err(fault) => return Err(fault_of(fault)),
-        };
-        if let Next::End = next {
-            return Ok(Replayed { replies });
-        }
-        match serve(&line, &mut command, alloc, form, writer, warehouse, spares) {
-            Ok(count) => replies += count,
-            Err(fault) => return Err(fault),
-        }
-        if let Next::Last = next {
-            if writer.flush().is_err() {
-                return Err(ReplayFault::Unwritten);
-            }
-            return Ok(Replayed { replies });
-        }
+    match wh_session::serve(lines, writer, script, &mut NoKeeper) {
+        Ok(_) => Ok(Replayed {
+            replies: script.replies,
+        }),
+        Err(fault) => Err(session_fault(fault)),
     }
-    Err(ReplayFault::Endless)
 }
 
 /// Serves the script that is left in the reader, to the reader's end. Each line that is a command is an event of caller
@@ -142,24 +110,30 @@ pub fn replay<R: Read, W: Write, P: Plans>(
     spares: &mut Vec<P>,
 ) -> Result<Replayed, ReplayFault>
     // What was written is the output of what was read, and the history has grown by its run.
-    ensures ok { IfOk result (λ r. Replays P.fits_map P.slot_count (told_text form) lines.old lines.new warehouse.old.book spares.old.items warehouse.new.book spares.new.items (W.contents writer.old) (W.contents writer.new) r.replies) }
+    ensures ok { IfOk result (λ r. Replays P.fits_map P.slot_count (script_asker form) lines.old lines.new warehouse.old.book spares.old.items warehouse.new.book spares.new.items (W.contents writer.old) (W.contents writer.new) r.replies) }
     // Where the reader tells its bytes, these are the script.
-    ensures output { IfOk result (λ r. IfSome (left lines.old) (λ script. Outputs P.fits_map P.slot_count (told_text form) script warehouse.old.book spares.old.items warehouse.new.book spares.new.items (W.contents writer.old) (W.contents writer.new) r.replies)) }
+    ensures output { IfOk result (λ r. IfSome (left lines.old) (λ script. Outputs P.fits_map P.slot_count (script_asker form) script warehouse.old.book spares.old.items warehouse.new.book spares.new.items (W.contents writer.old) (W.contents writer.new) r.replies)) }
     // On a fault this holds of a beginning of the script, of whole lines: all replies but the last were written, and the cause is
     // a true one.
-    ensures fault { IfErr result (λ fault. Stops P.fits_map P.slot_count (told_text form) fault lines.old lines.new warehouse.old.book spares.old.items warehouse.new.book spares.new.items (W.contents writer.old) (W.contents writer.new)) }
+    ensures fault { IfErr result (λ fault. Stops P.fits_map P.slot_count (script_asker form) fault lines.old lines.new warehouse.old.book spares.old.items warehouse.new.book spares.new.items (W.contents writer.old) (W.contents writer.new)) }
     // After a fault there is nothing more.
     ensures failed { OnErr result (lines.new.failed ≡ true) }
     ensures again { lines.old.failed ≡ true → (result ≡ Err ReplayFault.Broken) × (lines.new ≡ lines.old) × (warehouse.new.book ≡ warehouse.old.book) × (spares.new.items ≡ spares.old.items) × Keeps (W.contents writer.old) (W.contents writer.new) }
 {
-    if lines.has_failed() {
-        return Err(ReplayFault::Broken);
-    }
-    match serve_all(lines, alloc, form, writer, warehouse, spares) {
-        Ok(replayed) => Ok(replayed),
-        Err(fault) => {
-            lines.fail();
-            Err(fault)
-        }
-    }
+    let mut command = Command::Close;
+    let first = warehouse.history().len();
+    let clock = warehouse.clock();
+    let mut script = Script {
+        warehouse,
+        spares,
+        command: &mut command,
+        alloc,
+        asker: Asker { caller: 0, form },
+        most: usize::MAX,
+        replies: 0,
+        first,
+        clock,
+        answers: OneAnswer::new(),
+    };
+    serve_script(lines, writer, &mut script)
 }

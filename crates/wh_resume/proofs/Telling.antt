@@ -134,11 +134,11 @@ led_parts site content last clock slots history state led a b c d =
       history_is = h;
     }
 
-pub site_of : (s : Site) (grid : Floor) (layout : Layout) → grid ≡ s.grid → layout ≡ s.layout → s.homes ≡ false → record { grid = grid; layout = layout; homes = false } ≡ s
-site_of s grid layout e f off =
-    ap (λ (g : Floor). let x : Site = record { grid = g; layout = layout; homes = false } in x) e
-    ∙ ap (λ (l : Layout). let x : Site = record { grid = s.grid; layout = l; homes = false } in x) f
-    ∙ ap (λ (b : Bool). let x : Site = record { grid = s.grid; layout = s.layout; homes = b } in x) (sym off)
+pub site_of : (s : Site) (grid : Floor) (layout : Layout) (homes : Bool) → grid ≡ s.grid → layout ≡ s.layout → homes ≡ s.homes → record { grid = grid; layout = layout; homes = homes } ≡ s
+site_of s grid layout homes e f h =
+    ap (λ (g : Floor). let x : Site = record { grid = g; layout = layout; homes = homes } in x) e
+    ∙ ap (λ (l : Layout). let x : Site = record { grid = s.grid; layout = l; homes = homes } in x) f
+    ∙ ap (λ (b : Bool). let x : Site = record { grid = s.grid; layout = s.layout; homes = b } in x) h
 
 leads_run : (site : Site) (first : Kept) (content : Content) (new : Kept) → IsLayout site.grid site.layout → first.judge.site ≡ site → first.content.entries ≡ []
     → Leads Opens Steps first content new → IsRunOf site content

@@ -51,9 +51,10 @@ fn begun_otherwise(text: &[u8]) -> Recovery
     }
 }
 
-/// Recovers the book of the run that a log tells, as far as its lines stand whole. The log may have been cut anywhere. A text
-/// in which not even the first two lines stand whole is taken for a run that was not begun only where it is a front of the
-/// two lines that would begin it: no other file is. Only the book, a piece and a line of what is read are kept.
+/// Recovers the book of the run that a log tells, as far as its lines stand whole. Whether paths are to end at the last stop
+/// or to go on home, the setting tells. The log may have been cut anywhere. A text in which not even the first two lines
+/// stand whole is taken for a run that was not begun only where it is a front of the two lines that would begin it: no other
+/// file is. Only the book, a piece and a line of what is read are kept.
 ///
 /// Errors: `Unread` where the log cannot be read to its end, or to its first bad line; `NoMemory`.
 pub fn recover<S: Source>(
@@ -67,7 +68,8 @@ pub fn recover<S: Source>(
     ensures same { S.held source.new ≡ S.held source.old }
 {
     let _agents = setting.agents();
-    let mut keeper = match Keeper::new(alloc, Instance::new(setting.grid(), setting.points())) {
+    let instance = Instance::with_homes(setting.grid(), setting.points(), setting.homes());
+    let mut keeper = match Keeper::new(alloc, instance) {
         Ok(keeper) => keeper,
         Err(NoMemory) => {
             drop(setting);

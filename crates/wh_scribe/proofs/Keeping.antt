@@ -13,7 +13,7 @@ use Rattle.wh_desk.specs.Lists.{IsRunFrom}
 use Rattle.wh_lines.proofs.Written.{front_first}
 use Rattle.wh_journal.specs.Scripts.{WritesFront}
 use Rattle.wh_journal.specs.Journals.{lines_for}
-use Rattle.wh_journal.proofs.Rounded.{lines_append}
+use Rattle.wh_replay.proofs.Appended.{lines_append}
 use Rattle.wh_scribe.specs.Keeping.{IsKept, KeepsFirst, MarkKeeps, Holds, PageKeeps, standing, StretchKeeps, stretch, lines_between}
 
 -- ---- beginnings of one list

@@ -10,7 +10,7 @@ use std::alloc::Global;
 use std::sync::Wait;
 use wh_desk::{Answer, Desk, DeskFault, DeskName, Pass, Receipt};
 use wh_event::Command;
-use wh_planner::Planner;
+use wh_planner::Plans;
 
 /// Why a call has no receipt that may be told.
 #[derive(Clone, Copy, Debug, PartialEq, Eq)]
@@ -25,7 +25,7 @@ pub enum CallFault {
 }
 
 /// One call of the desk for the command. Where it is refused, the pass has what it had, and the spares stay as they were.
-pub(crate) fn call_desk<N: DeskName, H: Wait + Drop, P: Planner, X: Wait>(
+pub(crate) fn call_desk<N: DeskName, H: Wait + Drop, P: Plans, X: Wait>(
     rt: &X,
     alloc: Global,
     desk: &Desk<N, H, P>,
@@ -49,7 +49,7 @@ pub(crate) fn call_desk<N: DeskName, H: Wait + Drop, P: Planner, X: Wait>(
 }
 
 /// Lends the last spare. What comes back after an answer is dropped; after a refusal the spare goes back to its place.
-fn lend<N: DeskName, H: Wait + Drop, P: Planner, X: Wait>(
+fn lend<N: DeskName, H: Wait + Drop, P: Plans, X: Wait>(
     rt: &X,
     alloc: Global,
     desk: &Desk<N, H, P>,

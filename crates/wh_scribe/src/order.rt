@@ -14,7 +14,7 @@ use std::alloc::Global;
 use std::sync::Wait;
 use wh_desk::{Desk, DeskFault, DeskName, Front, Pass, Receipt};
 use wh_event::Command;
-use wh_planner::Planner;
+use wh_planner::Plans;
 
 /// The lines that wait, and whether no call is made any more: the journal failed, or a line could not be entered.
 #[derive(Drop)]
@@ -37,7 +37,7 @@ impl<N: DeskName> Order<N> {
     }
 
     /// One call of the desk, whose entry's line then waits. None is made after a fault, nor where there is no memory for a line.
-    pub(crate) fn enter<H: Wait + Drop, P: Planner, X: Wait>(
+    pub(crate) fn enter<H: Wait + Drop, P: Plans, X: Wait>(
         &mut self,
         rt: &X,
         alloc: Global,

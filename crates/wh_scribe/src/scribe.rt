@@ -19,7 +19,7 @@ use std::sync::{Condvar, Mutex, Wait};
 use wh_desk::{Desk, DeskName, Front, Pass, Receipt};
 use wh_event::Command;
 use wh_journal::Journal;
-use wh_planner::Planner;
+use wh_planner::Plans;
 
 /// A journal that each call of a desk goes through. Calls are made one after another, under one lock, and each leaves its entry's
 /// line there. Under another lock the lines that wait are appended and synced, so that no call is held up by the disk. What is
@@ -69,7 +69,7 @@ impl<N: DeskName, S: JournalName, J: Journal + Drop> Scribe<N, S, J> {
     /// entries before. A Replace is lent the last spare planner, which goes back to its place where the desk refused. It may wait
     /// for other calls, and with a receipt for the sync; one that is refused waits for no sync. E90 also where there is no memory
     /// for a line. Once the journal has failed, nothing is appended any more, and no receipt is told.
-    pub fn call<H: Wait + Drop, P: Planner, X: Wait>(
+    pub fn call<H: Wait + Drop, P: Plans, X: Wait>(
         &self,
         rt: &X,
         alloc: Global,

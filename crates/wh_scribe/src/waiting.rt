@@ -10,7 +10,8 @@ use std::marker::{Model, PhantomData};
 use std::{mem, slice};
 use wh_desk::{DeskName, Front};
 use wh_event::Entry;
-use wh_journal::{MemoryJournal, append_entries};
+use wh_replay::append_entries;
+use wh_session::Memory;
 
 /// Room for the line of one entry, but for one with a very long path.
 const ROOM: usize = 65_536;
@@ -141,14 +142,12 @@ fn write_line(alloc: Global, text: &mut Vec<u8>, entry: &Entry) -> bool
     ensures { MatchBool result (text.new.items ≡ text.old.items ++ lines_for (entry.now ∷ [])) (text.new.items ≡ text.old.items) }
 {
     let before = text.len();
-    let mut journal = MemoryJournal {
-        held: mem::replace(text, Vec::new(alloc)),
-        safe: 0,
-        has_failed: false,
+    let mut memory = Memory {
+        log: mem::replace(text, Vec::new(alloc)),
+        more: Vec::new(alloc),
     };
-    let outcome = append_entries(&mut journal, slice::from_ref(entry));
-    let MemoryJournal { held, .. } = journal;
-    *text = held;
+    let outcome = append_entries(&mut memory, slice::from_ref(entry));
+    *text = memory.log;
     match outcome {
         Ok(()) => true,
         Err(_) => {

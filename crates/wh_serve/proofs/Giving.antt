@@ -83,25 +83,25 @@ made_length may fits count grid held (c ∷ cs) [] spares rest p = absurd p
 
 -- ---- lines
 
-commands_push : (lines : List (List ℕ)) (line : List ℕ) → commands_of (lines ++ line ∷ []) ≡ commands_of lines ++ asked (command_of line)
-commands_push [] line = append-nil (asked (command_of line))
-commands_push (l ∷ lines) line = ap (λ cs. asked (command_of l) ++ cs) (commands_push lines line) ∙ sym (append_assoc (asked (command_of l)) (commands_of lines) (asked (command_of line)))
+commands_both : (lines more : List (List ℕ)) → commands_of (lines ++ more) ≡ commands_of lines ++ commands_of more
+commands_both [] more = refl
+commands_both (l ∷ lines) more = ap (λ cs. asked (command_of l) ++ cs) (commands_both lines more) ∙ sym (append_assoc (asked (command_of l)) (commands_of lines) (commands_of more))
 
 -- one line more in front, whatever it says
-replies_by : (text : ℕ × Entry → List ℕ) (kind : Result (Option Command) LineFault) (lines : List (List ℕ)) (line : List ℕ) (os ps : List Outcome) (told : List (List ℕ))
-    → ((ns : List Outcome) → length ns ≡ length (commands_of lines) → replies_to text (lines ++ line ∷ []) (ns ++ ps) ≡ replies_to text lines ns ++ told)
+replies_by : (text : ℕ × Entry → List ℕ) (kind : Result (Option Command) LineFault) (lines more : List (List ℕ)) (os ps : List Outcome) (told : List (List ℕ))
+    → ((ns : List Outcome) → length ns ≡ length (commands_of lines) → replies_to text (lines ++ more) (ns ++ ps) ≡ replies_to text lines ns ++ told)
     → length os ≡ length (asked kind ++ commands_of lines)
-    → answers text kind (os ++ ps) ++ replies_to text (lines ++ line ∷ []) (drop (length (asked kind)) (os ++ ps)) ≡ (answers text kind os ++ replies_to text lines (drop (length (asked kind)) os)) ++ told
-replies_by text (Ok None) lines line os ps told more e = more os e
-replies_by text (Err fault) lines line os ps told more e = ap (λ rs. line_text fault ∷ rs) (more os e)
-replies_by text (Ok (Some command)) lines line [] ps told more e = absurd (omega (arith, e))
-replies_by text (Ok (Some command)) lines line (o ∷ os) ps told more e = ap (λ rs. answers text (Ok (Some command)) (o ∷ os) ++ rs) (more os (omega (arith, e)))
+    → answers text kind (os ++ ps) ++ replies_to text (lines ++ more) (drop (length (asked kind)) (os ++ ps)) ≡ (answers text kind os ++ replies_to text lines (drop (length (asked kind)) os)) ++ told
+replies_by text (Ok None) lines more os ps told further e = further os e
+replies_by text (Err fault) lines more os ps told further e = ap (λ rs. line_text fault ∷ rs) (further os e)
+replies_by text (Ok (Some command)) lines more [] ps told further e = absurd (omega (arith, e))
+replies_by text (Ok (Some command)) lines more (o ∷ os) ps told further e = ap (λ rs. answers text (Ok (Some command)) (o ∷ os) ++ rs) (further os (omega (arith, e)))
 
-replies_push : (text : ℕ × Entry → List ℕ) (lines : List (List ℕ)) (line : List ℕ) (os ps : List Outcome) → length os ≡ length (commands_of lines)
-    → replies_to text (lines ++ line ∷ []) (os ++ ps) ≡ replies_to text lines os ++ answers text (command_of line) ps
-replies_push text [] line [] ps e = append-nil (answers text (command_of line) ps)
-replies_push text [] line (o ∷ os) ps e = absurd (omega (arith, e))
-replies_push text (l ∷ lines) line os ps e = replies_by text (command_of l) lines line os ps (answers text (command_of line) ps) (λ ns d. replies_push text lines line ns ps d) e
+replies_both : (text : ℕ × Entry → List ℕ) (lines more : List (List ℕ)) (os ps : List Outcome) → length os ≡ length (commands_of lines)
+    → replies_to text (lines ++ more) (os ++ ps) ≡ replies_to text lines os ++ replies_to text more ps
+replies_both text [] more [] ps e = refl
+replies_both text [] more (o ∷ os) ps e = absurd (omega (arith, e))
+replies_both text (l ∷ lines) more os ps e = replies_by text (command_of l) lines more os ps (replies_to text more ps) (λ ns d. replies_both text lines more ns ps d) e
 
 -- ---- what is given
 
@@ -139,18 +139,31 @@ full_of cells os ps mid new more p q (inr full) = q full
 full_then : (cells : ℕ) (os ps : List Outcome) (mid new : List Entry) → IsPrefix mid new → (HasFull os → cells ≤ length mid) → (HasFull ps → cells ≤ length new) → HasFull (os ++ ps) → cells ≤ length new
 full_then cells os ps mid new more p q full = full_of cells os ps mid new more p q (full_in os ps full)
 
--- the output of one line more
-pub output_push : {X : Type 0} (may : Allowance) (cells : ℕ) (fits : X → Floor → Bool) (count : X → ℕ) (grid : Floor) (text : ℕ × Entry → List ℕ) (lines : List (List ℕ)) (line : List ℕ) (old : Received) (spares : List X) (mid : Received) (left : List X) (new : Received) (rest : List X)
-    (had more : List (List ℕ)) → IsOutputOf may cells fits count grid text lines old spares mid left had → Gives may cells fits count grid (asked (command_of line)) (answers text (command_of line)) mid left new rest more
-    → IsOutputOf may cells fits count grid text (lines ++ line ∷ []) old spares new rest (had ++ more)
-output_push may cells fits count grid text lines line old spares mid left new rest had more p q =
+-- the output of one line
+pub output_one : {X : Type 0} (may : Allowance) (cells : ℕ) (fits : X → Floor → Bool) (count : X → ℕ) (grid : Floor) (text : ℕ × Entry → List ℕ) (line : List ℕ) (old : Received) (spares : List X) (new : Received) (rest : List X) (replies : List (List ℕ))
+    → Gives may cells fits count grid (asked (command_of line)) (answers text (command_of line)) old spares new rest replies → IsOutputOf may cells fits count grid text (line ∷ []) old spares new rest replies
+output_one may cells fits count grid text line old spares new rest replies g = record {
+  outcomes = g.outcomes;
+  replies_are = g.replies_are ∙ sym (append-nil (answers text (command_of line) g.outcomes));
+  made = subst (λ cs. Made may fits count grid (length old.list) cs g.outcomes spares rest) (sym (append-nil (asked (command_of line)))) g.made;
+  caller_is = g.caller_is;
+  gained = g.gained;
+  known = g.known;
+  filled = g.filled;
+}
+
+-- the output of lines and then others
+pub output_both : {X : Type 0} (may : Allowance) (cells : ℕ) (fits : X → Floor → Bool) (count : X → ℕ) (grid : Floor) (text : ℕ × Entry → List ℕ) (lines more : List (List ℕ)) (old : Received) (spares : List X) (mid : Received) (left : List X) (new : Received) (rest : List X)
+    (had has : List (List ℕ)) → IsOutputOf may cells fits count grid text lines old spares mid left had → IsOutputOf may cells fits count grid text more mid left new rest has
+    → IsOutputOf may cells fits count grid text (lines ++ more) old spares new rest (had ++ has)
+output_both may cells fits count grid text lines more old spares mid left new rest had has p q =
     let long = made_length may fits count grid (length old.list) (commands_of lines) p.outcomes spares left p.made in
     record {
       outcomes = p.outcomes ++ q.outcomes;
-      replies_are = ap (λ rs. rs ++ more) p.replies_are ∙ ap (λ rs. replies_to text lines p.outcomes ++ rs) q.replies_are ∙ sym (replies_push text lines line p.outcomes q.outcomes long);
-      made = subst (λ cs. Made may fits count grid (length old.list) cs (p.outcomes ++ q.outcomes) spares rest) (sym (commands_push lines line))
-          (made_append may fits count grid (length old.list) (commands_of lines) p.outcomes (asked (command_of line)) q.outcomes spares left rest p.made
-          (subst (λ n. Made may fits count grid n (asked (command_of line)) q.outcomes left rest) (ap length p.gained ∙ length-append old.list (receipts_of p.outcomes)) q.made));
+      replies_are = ap (λ rs. rs ++ has) p.replies_are ∙ ap (λ rs. replies_to text lines p.outcomes ++ rs) q.replies_are ∙ sym (replies_both text lines more p.outcomes q.outcomes long);
+      made = subst (λ cs. Made may fits count grid (length old.list) cs (p.outcomes ++ q.outcomes) spares rest) (sym (commands_both lines more))
+          (made_append may fits count grid (length old.list) (commands_of lines) p.outcomes (commands_of more) q.outcomes spares left rest p.made
+          (subst (λ n. Made may fits count grid n (commands_of more) q.outcomes left rest) (ap length p.gained ∙ length-append old.list (receipts_of p.outcomes)) q.made));
       caller_is = q.caller_is ∙ p.caller_is;
       gained = q.gained ∙ ap (λ rs. rs ++ receipts_of q.outcomes) p.gained ∙ append_assoc old.list (receipts_of p.outcomes) (receipts_of q.outcomes) ∙ ap (λ rs. old.list ++ rs) (sym (receipts_append p.outcomes q.outcomes));
       known = prefix_trans old.known mid.known new.known p.known q.known;

@@ -1,185 +1,127 @@
 -- A client that is served line by line.
-use Rattle.std.proofs.Common.{◌≡◌, ◌+◌, ◌≤◌, ℕ, List, [], ◌∷◌, ◌++◌, length, refl, sym, ap, ◌∙◌, arith, subst, Option, Some, None, append_assoc, append-nil, Bool, true, Result}
+use Rattle.std.proofs.Common.{◌≡◌, ◌+◌, ◌≤◌, ℕ, List, [], ◌∷◌, ◌++◌, length, refl, sym, ap, ◌∙◌, arith, subst, Option, Some, None, append_assoc, append-nil, Bool, Result}
+use Rattle.std.specs.Prelude.{◌-◌, ◌^◌, IfSome}
 use Rattle.std.proofs.lemmas.List.{length-append}
-use Rattle.std.specs.Prelude.{IfSome}
-use Rattle.std.specs.Io.KnownBytes.{Appends, Keeps, Consumes, IsAtEnd}
-use Rattle.std.proofs.KnownBytes.{Keeps-refl, Consumes-nil, Consumes-trans, Appends-nil, Appends-trans, Appends-kept}
-use Rattle.wh_text.specs.Lines.{lines_of, without_cr, IsLine}
-use Rattle.wh_text.proofs.CutLemmas.{lines-feed}
-use Rattle.wh_lines.specs.Text.{short_line}
-use Rattle.wh_lines.proofs.Cuts.{whole_next}
-use Rattle.wh_lines.specs.Input.{Input, left, Takes, Gathered, Taken, with_failed}
-use Rattle.wh_lines.specs.declared.lines.Next.TheVariants.{Whole, Last, End}
+use Rattle.std.specs.Io.KnownBytes.{Consumes, IsAtEnd}
+use mathlib.Core.List.{IsPrefix}
+use Rattle.wh_lines.specs.Input.{Input, left}
 use Rattle.wh_grid.specs.Grids.{Floor}
+use Rattle.wh_board.proofs.Fronts.{prefix_self, prefix_trans}
 use Rattle.wh_desk.specs.Lists.{Received}
+use Rattle.wh_desk.specs.Pasts.{Origin}
 use Rattle.wh_event.specs.declared.entry.Entry.{Entry}
-use Rattle.wh_event.specs.CommandLines.{command_of}
 use Rattle.wh_event.specs.declared.event.Command.{Command}
 use Rattle.wh_event.specs.declared.fault.LineFault.{LineFault}
-use Rattle.wh_replay.specs.declared.script.ReplayFault.{ReplayFault}
-use Rattle.wh_replay.specs.declared.script.ReplayFault.TheVariants.{Unwritten}
-use Rattle.wh_replay.specs.Answers.{asked, reply_line, text_of, said}
+use Rattle.wh_log.specs.declared.form.Form.{Form}
+use Rattle.wh_replay.specs.Answers.{asked, text_of}
+use Rattle.wh_replay.proofs.Giving.{replies_text}
+use Rattle.wh_replay.proofs.Returns.{said_fits}
+use Rattle.wh_session.specs.declared.machine.Halt.{Halt}
+use Rattle.wh_session.specs.Machines.{Records, fitting, ServesAll as AllServed}
+use Rattle.wh_serve.specs.declared.allowance.Allowance.{Allowance}
 use Rattle.wh_serve.specs.declared.served.End.{End as Ending}
 use Rattle.wh_serve.specs.declared.served.End.TheVariants as ended
-use Rattle.wh_serve.specs.declared.served.ServeFault.{ServeFault}
-use Rattle.wh_serve.specs.declared.served.ServeFault.TheVariants.{Cut, Unjournaled}
-use Rattle.wh_serve.specs.declared.allowance.Allowance.{Allowance}
+use Rattle.wh_serve.specs.Texts.{receipt_text}
 use Rattle.wh_serve.specs.Outcomes.{Gives, IsOutputOf, answers}
-use Rattle.wh_serve.specs.Sessions.{Serves, ServesUnwritten, Follows, IsUnserved, IsReadTo, ServesAll, StandsBehind, Outputs, HasCause, Stops}
-use Rattle.wh_replay.proofs.Returns.{said_is}
-use Rattle.wh_replay.proofs.Until.{written_to_last, until_all, cause_failed}
-use Rattle.wh_serve.proofs.Giving.{gives_nothing, output_push}
+use Rattle.wh_serve.specs.Machines.{Standing, IsSameClient, ServesBy, ServesSo, HaltsSo}
+use Rattle.wh_serve.specs.Sessions.{IsUnserved, IsReadTo, ServesAll, StandsBehind, Outputs}
+use Rattle.wh_serve.proofs.Giving.{gives_nothing, output_one, output_both}
 
-text_append : (xs ys : List (List ℕ)) → text_of (xs ++ ys) ≡ text_of xs ++ text_of ys
-text_append [] ys = refl
-text_append (x ∷ xs) ys = ap (λ l. reply_line x ++ l) (text_append xs ys) ∙ sym (append_assoc (reply_line x) (text_of xs) (text_of ys))
+pub same_self : {X : Type 0} (s : Standing X) → IsSameClient s s
+same_self s = record { seat_is = refl; room_is = refl; may_is = refl; form_is = refl }
 
-texts_more : (a b c d : Option (List ℕ)) (xs ys : List (List ℕ)) → Appends a b (text_of xs) → Keeps b c → Appends c d (text_of ys) → Appends a d (text_of (xs ++ ys))
-texts_more a b c d xs ys p k q = subst (Appends a d) (sym (text_append xs ys)) (Appends-trans a c d (text_of xs) (text_of ys) (Appends-kept a b c (text_of xs) p k) q)
+pub same_both : {X : Type 0} (a b c : Standing X) → IsSameClient a b → IsSameClient b c → IsSameClient a c
+same_both a b c p q = record { seat_is = q.seat_is ∙ p.seat_is; room_is = q.room_is ∙ p.room_is; may_is = q.may_is ∙ p.may_is; form_is = q.form_is ∙ p.form_is }
 
--- Whole lines were read and served, no fewer than the given number.
-pub record Following {X : Type 0} (may : Allowance) (cells : ℕ) (fits : X → Floor → Bool) (count : X → ℕ) (grid : Floor) (text : ℕ × Entry → List ℕ) (before after : Input)
-    (old : Received) (spares : List X) (new : Received) (rest : List X) (had has : Option (List ℕ)) (written turns : ℕ) : Type 0 where
-  pub follows : Follows may cells fits count grid text before after old spares new rest had has written
-  pub many : turns ≤ length (lines_of follows.read)
-  pub reads : before.reads ≤ after.reads
+module _ {X : Type 0} (cells : ℕ) (fits : X → Floor → Bool) (count : X → ℕ) (origin : Origin) where
+  -- ---- lines, as one history has them
+
+  module _ (history : List Entry) where
+    -- lines were answered, each as this history has it
+    pub record Answered (lines : List (List ℕ)) (told : List ℕ) (old new : Standing X) : Type 0 where
+      pub replies : List (List ℕ)
+      pub output : IsOutputOf old.may cells fits count origin.site.grid (receipt_text old.form origin history) lines old.pass old.spares new.pass new.spares replies
+      pub told_is : told ≡ text_of replies
+      pub few : length replies ≤ length lines
+      pub counted : old.replies + length replies ≤ 2 ^ 64 - 1 → new.replies ≡ old.replies + length replies
+      pub same : IsSameClient old new
+
+    answered_none : (s e : Standing X) (told : List ℕ) → e ≡ s → told ≡ [] → Answered [] told s e
+    answered_none s e told same none =
+        subst (λ (x : Standing X). Answered [] told s x) (sym same) (record {
+          replies = [];
+          output = gives_nothing s.may cells fits count origin.site.grid (λ outcomes. []) s.pass s.spares;
+          told_is = none;
+          few = omega arith;
+          counted = λ fit. omega arith;
+          same = same_self s;
+        })
+
+    -- the output of lines of the same client
+    pub output_same : (lines : List (List ℕ)) (old mid new : Standing X) (replies : List (List ℕ)) → IsSameClient old mid
+        → IsOutputOf mid.may cells fits count origin.site.grid (receipt_text mid.form origin history) lines mid.pass mid.spares new.pass new.spares replies
+        → IsOutputOf old.may cells fits count origin.site.grid (receipt_text old.form origin history) lines mid.pass mid.spares new.pass new.spares replies
+    output_same lines old mid new replies same o =
+        subst (λ (m : Allowance). IsOutputOf m cells fits count origin.site.grid (receipt_text old.form origin history) lines mid.pass mid.spares new.pass new.spares replies) same.may_is
+        (subst (λ (f : Form). IsOutputOf mid.may cells fits count origin.site.grid (receipt_text f origin history) lines mid.pass mid.spares new.pass new.spares replies) same.form_is o)
+
+    -- lines and then others
+    pub output_then : (lines more : List (List ℕ)) (old mid new : Standing X) (had has : List (List ℕ)) → IsSameClient old mid
+        → IsOutputOf old.may cells fits count origin.site.grid (receipt_text old.form origin history) lines old.pass old.spares mid.pass mid.spares had
+        → IsOutputOf mid.may cells fits count origin.site.grid (receipt_text mid.form origin history) more mid.pass mid.spares new.pass new.spares has
+        → IsOutputOf old.may cells fits count origin.site.grid (receipt_text old.form origin history) (lines ++ more) old.pass old.spares new.pass new.spares (had ++ has)
+    output_then lines more old mid new had has same p q =
+        output_both old.may cells fits count origin.site.grid (receipt_text old.form origin history) lines more old.pass old.spares mid.pass mid.spares new.pass new.spares had has p
+        (output_same more old mid new has same q)
+
+    -- one line and then others
+    answered_more : (line : List ℕ) (lines : List (List ℕ)) (s mid e : Standing X) (told first rest : List ℕ) → ServesBy cells fits count origin history (fitting line) first s mid → Answered lines rest mid e → told ≡ first ++ rest
+        → Answered (line ∷ lines) told s e
+    answered_more line lines s mid e told first rest p q is =
+        let text = receipt_text s.form origin history in
+        let sum = length-append p.replies q.replies in
+        let here = output_one s.may cells fits count origin.site.grid text line s.pass s.spares mid.pass mid.spares p.replies
+        (subst (λ (kind : Result (Option Command) LineFault). Gives s.may cells fits count origin.site.grid (asked kind) (answers text kind) s.pass s.spares mid.pass mid.spares p.replies) (said_fits line) p.gives) in
+        record {
+          replies = p.replies ++ q.replies;
+          output = output_then (line ∷ []) lines s mid e p.replies q.replies p.same here q.output;
+          told_is = is ∙ ap (λ (t : List ℕ). t ++ rest) p.told_is ∙ ap (λ (t : List ℕ). text_of p.replies ++ t) q.told_is ∙ sym (replies_text p.replies q.replies);
+          few = omega (arith, sum, p.few, q.few);
+          counted = λ fit.
+              let first_is = p.counted (omega (arith, sum, fit)) in
+              let rest_is = q.counted (omega (arith, sum, fit, first_is)) in
+              omega (arith, sum, first_is, rest_is);
+          same = same_both s mid e p.same q.same;
+        }
+
+  -- ---- lines that were served one after another
+
+  abbrev pub serves_so : Standing X → Option (List ℕ) → List ℕ → Records → Standing X → Type 0
+  serves_so = λ old line told kept new. ServesSo cells fits count origin line told old new
+
+  abbrev pub halts_so : Standing X → Option (List ℕ) → Halt → Standing X → Type 0
+  halts_so = λ old line halt new. HaltsSo cells fits count origin line halt old new
+
+  -- what the pass knows goes on
+  pub all_grow : (lines : List (List ℕ)) (s : Standing X) (told : List ℕ) (kept : Records) (e : Standing X) → AllServed serves_so lines s told kept e → IsPrefix s.pass.known e.pass.known
+  all_grow [] s told kept e all = subst (λ (x : Standing X). IsPrefix s.pass.known x.pass.known) (sym all.0) (prefix_self s.pass.known)
+  all_grow (line ∷ lines) s told kept e all =
+      let mid = all.0 in
+      prefix_trans s.pass.known mid.pass.known e.pass.known (all.5 mid.pass.known (prefix_self mid.pass.known)).gives.known (all_grow lines mid all.2 all.4 e all.6)
+
+  -- lines served so are answered by each history that goes on from what is known at the end
+  pub all_answered : (history : List Entry) (lines : List (List ℕ)) (s : Standing X) (told : List ℕ) (kept : Records) (e : Standing X) → AllServed serves_so lines s told kept e → IsPrefix e.pass.known history → Answered history lines told s e
+  all_answered history [] s told kept e all begins = answered_none history s e told all.0 all.1
+  all_answered history (line ∷ lines) s told kept e all begins =
+      let mid = all.0 in
+      let grown = all_grow lines mid all.2 all.4 e all.6 in
+      answered_more history line lines s mid e told all.1 all.2 (all.5 history (prefix_trans mid.pass.known e.pass.known history grown begins)) (all_answered history lines mid all.2 all.4 e all.6 begins) all.7
+
+  -- by the same client
+  pub all_same : (lines : List (List ℕ)) (s : Standing X) (told : List ℕ) (kept : Records) (e : Standing X) → AllServed serves_so lines s told kept e → IsSameClient s e
+  all_same lines s told kept e all = (all_answered e.pass.known lines s told kept e all (prefix_self e.pass.known)).same
 
 module _ {X : Type 0} (may : Allowance) (cells : ℕ) (fits : X → Floor → Bool) (count : X → ℕ) (grid : Floor) (text : ℕ × Entry → List ℕ) where
-  pub follows_start : (i : Input) (old : Received) (spares : List X) (had : Option (List ℕ)) → Follows may cells fits count grid text i i old spares old spares had had 0
-  follows_start i old spares had = record {
-    read = [];
-    takes = Consumes-nil (left i);
-    whole = λ more. refl;
-    replies = [];
-    output = gives_nothing may cells fits count grid (λ outcomes. []) old spares;
-    appends = Appends-nil had;
-    written_is = refl;
-  }
-
-  pub following_start : (i : Input) (old : Received) (spares : List X) (had : Option (List ℕ)) → Following may cells fits count grid text i i old spares old spares had had 0 0
-  following_start i old spares had = record { follows = follows_start i old spares had; many = omega arith; reads = omega arith }
-
-  -- what a line gives of which only a front is kept
-  gives_front : (raw kept : List ℕ) (old : Received) (spares : List X) (new : Received) (rest : List X) (replies : List (List ℕ)) → short_line kept ≡ short_line raw
-      → Gives may cells fits count grid (asked (said (short_line kept))) (answers text (said (short_line kept))) old spares new rest replies
-      → Gives may cells fits count grid (asked (command_of (without_cr raw))) (answers text (command_of (without_cr raw))) old spares new rest replies
-  gives_front raw kept old spares new rest replies e h =
-      subst (λ (k : Result (Option Command) LineFault). Gives may cells fits count grid (asked k) (answers text k) old spares new rest replies) (ap said e ∙ said_is raw) h
-
-  module _ (i j k : Input) (old : Received) (spares : List X) (mid : Received) (held : List X) (new : Received) (rest : List X) (a b c d : Option (List ℕ)) (n : ℕ) (kept : List ℕ)
-      (f : Follows may cells fits count grid text i j old spares mid held a b n) (flushed : Keeps b c) where
-    -- the output of the lines with one more
-    pub output_line : (bytes raw : List ℕ) (replies : List (List ℕ)) → lines_of bytes ≡ without_cr raw ∷ [] → short_line kept ≡ short_line raw
-        → Gives may cells fits count grid (asked (said (short_line kept))) (answers text (said (short_line kept))) mid held new rest replies
-        → IsOutputOf may cells fits count grid text (lines_of (f.read ++ bytes)) old spares new rest (f.replies ++ replies)
-    output_line bytes raw replies one says gives =
-        subst (λ ls. IsOutputOf may cells fits count grid text ls old spares new rest (f.replies ++ replies)) (sym (f.whole bytes ∙ ap (λ l. lines_of f.read ++ l) one))
-        (output_push may cells fits count grid text (lines_of f.read) (without_cr raw) old spares mid held new rest f.replies replies f.output (gives_front raw kept mid held new rest replies says gives))
-
-    lines_more : (raw : List ℕ) → IsLine raw → length (lines_of (f.read ++ (raw ++ 10 ∷ []))) ≡ length (lines_of f.read) + 1
-    lines_more raw plain =
-        ap (λ (ls : List (List ℕ)). length ls) (f.whole (raw ++ 10 ∷ []) ∙ ap (λ l. lines_of f.read ++ l) (lines-feed raw [] plain))
-        ∙ length-append (lines_of f.read) (without_cr raw ∷ [])
-
-    pub following_line : (written m turns : ℕ) → turns ≤ length (lines_of f.read) → i.reads ≤ j.reads → j.reads ≤ k.reads → Gathered Whole j k kept → Serves may cells fits count grid text (said (short_line kept)) mid held new rest c d written → m ≡ n + written
-        → Following may cells fits count grid text i k old spares new rest a d m (turns + 1)
-    following_line written m turns many before now g s e =
-        let bytes = g.raw ++ 10 ∷ [] in
-        record {
-          follows = record {
-            read = f.read ++ bytes;
-            takes = Consumes-trans (left i) (left j) (left k) f.read bytes f.takes g.ends;
-            whole = whole_next f.read g.raw f.whole g.plain;
-            replies = f.replies ++ s.replies;
-            output = output_line bytes g.raw s.replies (lines-feed g.raw [] g.plain) g.says s.gives;
-            appends = texts_more a b c d f.replies s.replies f.appends flushed s.appends;
-            written_is = omega (arith, e, f.written_is, s.written_is, length-append f.replies s.replies);
-          };
-          many = omega (arith, many, lines_more g.raw g.plain);
-          reads = omega (arith, before, now);
-        }
-
-    pub stops_line : Gathered Whole j k kept → ServesUnwritten may cells fits count grid text (said (short_line kept)) mid held new rest c d → Stops may cells fits count grid text (Cut Unwritten) i k old spares new rest a d
-    stops_line g s =
-        let bytes = g.raw ++ 10 ∷ [] in
-        record {
-          read = f.read ++ bytes;
-          behind = [];
-          takes = subst (λ l. Takes i k l) (sym (append-nil (f.read ++ bytes))) (Consumes-trans (left i) (left j) (left k) f.read bytes f.takes g.ends);
-          lost = tt;
-          whole = whole_next f.read g.raw f.whole g.plain;
-          replies = f.replies ++ s.replies;
-          output = output_line bytes g.raw s.replies (lines-feed g.raw [] g.plain) g.says s.gives;
-          writes = written_to_last a b c d f.replies s.replies f.appends flushed s.writes s.few;
-          cause = tt;
-        }
-
-  module _ (i j k : Input) (old : Received) (spares : List X) (mid : Received) (held : List X) (a b c : Option (List ℕ)) (n : ℕ)
-      (f : Follows may cells fits count grid text i j old spares mid held a b n) (flushed : Keeps b c) where
-    -- the connection ended with what was served, and no more than a line was taken behind it
-    served_to : (raw : List ℕ) (end : Ending) → IsUnserved end raw → IsReadTo end k → Takes j k raw → ServesAll may cells fits count grid text i k old spares mid held a c n end
-    served_to raw end unserved read_to takes = record {
-      read = f.read;
-      behind = raw;
-      takes = Consumes-trans (left i) (left j) (left k) f.read raw f.takes takes;
-      whole = f.whole;
-      unserved = unserved;
-      read_to = read_to;
-      replies = f.replies;
-      output = f.output;
-      appends = Appends-kept a b c (text_of f.replies) f.appends flushed;
-      written_is = f.written_is;
-    }
-
-    pub served_end : (kept : List ℕ) → Gathered End j k kept → ServesAll may cells fits count grid text i k old spares mid held a c n ended.Input
-    served_end kept g = served_to g.raw ended.Input g.ends.1 g.ends.2 g.ends.0
-
-    pub served_last : (kept : List ℕ) → Gathered Last j k kept → ServesAll may cells fits count grid text i k old spares mid held a c n ended.Torn
-    served_last kept g = served_to g.raw ended.Torn (g.plain, g.ends.1) g.ends.2 g.ends.0
-
-    pub served_over : (kept : List ℕ) → Gathered Whole j k kept → ServesAll may cells fits count grid text i k old spares mid held a c n ended.Over
-    served_over kept g = served_to (g.raw ++ 10 ∷ []) ended.Over (g.raw, g.plain, refl) tt g.ends
-
-    -- no next line
-    pub stops_between : (fault : ReplayFault) → Taken j k → HasCause (Cut fault) i k (length (lines_of f.read)) → Stops may cells fits count grid text (Cut fault) i k old spares mid held a c
-    stops_between fault t cause = record {
-      read = f.read;
-      behind = t.bytes;
-      takes = Consumes-trans (left i) (left j) (left k) f.read t.bytes f.takes t.takes;
-      lost = t.plain;
-      whole = f.whole;
-      replies = f.replies;
-      output = f.output;
-      writes = until_all fault a c f.replies (Appends-kept a b c (text_of f.replies) f.appends flushed);
-      cause = cause;
-    }
-
-  -- nothing more was taken
-  pub stops_now : (i j : Input) (old : Received) (spares : List X) (mid : Received) (held : List X) (a b : Option (List ℕ)) (n : ℕ) (fault : ReplayFault)
-      (f : Follows may cells fits count grid text i j old spares mid held a b n) → HasCause (Cut fault) i j (length (lines_of f.read)) → Stops may cells fits count grid text (Cut fault) i j old spares mid held a b
-  stops_now i j old spares mid held a b n fault f cause =
-      stops_between i j j old spares mid held a b b n f (Keeps-refl b) fault (record { bytes = []; plain = tt; takes = Consumes-nil (left j) }) cause
-
-  -- the reader is told to have failed
-  cause_still : (fault : ServeFault) (before after : Input) (lines : ℕ) → HasCause fault before after lines → HasCause fault before (with_failed after true) lines
-  cause_still (Cut fault) before after lines cause = cause_failed fault before after lines cause
-  cause_still Unjournaled before after lines cause = cause
-
-  pub stops_failed : (i j k : Input) (old : Received) (spares : List X) (new : Received) (rest : List X) (had has : Option (List ℕ)) (fault : ServeFault)
-      → k ≡ with_failed j true → Stops may cells fits count grid text fault i j old spares new rest had has → Stops may cells fits count grid text fault i k old spares new rest had has
-  stops_failed i j k old spares new rest had has fault failed s =
-      subst (λ (x : Input). Stops may cells fits count grid text fault i x old spares new rest had has) (sym failed) (record {
-        read = s.read;
-        behind = s.behind;
-        takes = s.takes;
-        lost = s.lost;
-        whole = s.whole;
-        replies = s.replies;
-        output = s.output;
-        writes = s.writes;
-        cause = cause_still fault i j (length (lines_of s.read)) s.cause;
-      })
-
   -- ---- a reader that tells its bytes
 
   -- of the bytes that it gave these are the first, and all but where the service was over before

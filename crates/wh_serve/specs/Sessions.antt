@@ -1,54 +1,26 @@
 -- what a client is served, and what a beginning of it is
-use Rattle.std.specs.Prelude.{◌≡◌, ◌≤◌, ◌<◌, ◌⊎◌, ℕ, Bool, List, [], ◌∷◌, ◌++◌, length, Option, Result}
+use Rattle.std.specs.Prelude.{◌≡◌, ◌≤◌, ◌<◌, ◌⊎◌, ℕ, Bool, List, [], ◌++◌, length, Option}
 use Rattle.std.specs.Io.KnownBytes.{Appends, IsAtEnd}
 use Rattle.wh_text.specs.Lines.{lines_of, IsLine}
 use Rattle.wh_lines.specs.Text.{EndsLine}
 use Rattle.wh_lines.specs.Input.{Input, left, Takes}
 use Rattle.wh_grid.specs.Grids.{Floor}
-use Rattle.wh_event.specs.declared.event.Command.{Command}
 use Rattle.wh_event.specs.declared.entry.Entry.{Entry}
-use Rattle.wh_event.specs.declared.fault.LineFault.{LineFault}
 use Rattle.wh_desk.specs.Lists.{Received}
-use Rattle.wh_replay.specs.Answers.{asked, text_of}
-use Rattle.wh_replay.specs.Scripts.{WritesFront}
+use Rattle.wh_replay.specs.Answers.{text_of}
 use Rattle.wh_replay.specs.Scripts as script
+use Rattle.wh_replay.specs.declared.script.ReplayFault.TheVariants as replay
+use Rattle.wh_session.specs.Sessions.{IsWholeLine}
+use Rattle.wh_session.specs.declared.fault.End.{End as SessionEnd}
+use Rattle.wh_session.specs.declared.fault.End.TheVariants as session
+use Rattle.wh_session.specs.declared.fault.SessionFault.{SessionFault}
+use Rattle.wh_session.specs.declared.fault.SessionFault.TheVariants as faults
 use Rattle.wh_serve.specs.declared.served.End.{End}
 use Rattle.wh_serve.specs.declared.served.End.TheVariants as ended
 use Rattle.wh_serve.specs.declared.served.ServeFault.{ServeFault}
 use Rattle.wh_serve.specs.declared.served.ServeFault.TheVariants.{Cut, Unjournaled}
 use Rattle.wh_serve.specs.declared.allowance.Allowance.{Allowance}
-use Rattle.wh_serve.specs.Outcomes.{Gives, IsOutputOf, answers}
-
--- one line was served: what it is answered was written
-pub record Serves {X : Type 0} (may : Allowance) (cells : ℕ) (fits : X → Floor → Bool) (count : X → ℕ) (grid : Floor) (text : ℕ × Entry → List ℕ) (line : Result (Option Command) LineFault)
-    (old : Received) (spares : List X) (new : Received) (rest : List X) (had has : Option (List ℕ)) (written : ℕ) : Type 0 where
-  pub replies : List (List ℕ)
-  pub gives : Gives may cells fits count grid (asked line) (answers text line) old spares new rest replies
-  pub appends : Appends had has (text_of replies)
-  pub written_is : written ≡ length replies
-
--- one line was served, and its reply was not written to the end
-pub record ServesUnwritten {X : Type 0} (may : Allowance) (cells : ℕ) (fits : X → Floor → Bool) (count : X → ℕ) (grid : Floor) (text : ℕ × Entry → List ℕ) (line : Result (Option Command) LineFault)
-    (old : Received) (spares : List X) (new : Received) (rest : List X) (had has : Option (List ℕ)) : Type 0 where
-  pub replies : List (List ℕ)
-  pub gives : Gives may cells fits count grid (asked line) (answers text line) old spares new rest replies
-  pub few : length replies ≤ 1
-  pub writes : WritesFront had has (text_of replies)
-
--- whole lines were read and served
-pub record Follows {X : Type 0} (may : Allowance) (cells : ℕ) (fits : X → Floor → Bool) (count : X → ℕ) (grid : Floor) (text : ℕ × Entry → List ℕ) (before after : Input)
-    (old : Received) (spares : List X) (new : Received) (rest : List X) (had has : Option (List ℕ)) (written : ℕ) : Type 0 where
-  pub read : List ℕ
-  pub takes : Takes before after read
-  pub whole : EndsLine read
-  pub replies : List (List ℕ)
-  pub output : IsOutputOf may cells fits count grid text (lines_of read) old spares new rest replies
-  pub appends : Appends had has (text_of replies)
-  pub written_is : written ≡ length replies
-
--- a line with the line feed behind it
-abbrev pub IsWholeLine : List ℕ → Type 0
-IsWholeLine bytes = (line : List ℕ) × IsLine line × (bytes ≡ line ++ 10 ∷ [])
+use Rattle.wh_serve.specs.Outcomes.{IsOutputOf}
 
 -- What was taken and not served where the connection ended: nothing, part of a line that nobody ended, or one line, which had come
 -- when the service was over.
@@ -134,3 +106,17 @@ pub record Stops {X : Type 0} (may : Allowance) (cells : ℕ) (fits : X → Floo
   pub output : IsOutputOf may cells fits count grid text (lines_of read) old spares new rest replies
   pub writes : WritesUntil fault had has replies
   pub cause : HasCause fault before after (length (lines_of read))
+
+-- how a connection ended, and why it did not, by how its session did
+abbrev pub end_of : SessionEnd → End
+end_of session.Input = ended.Input
+end_of session.Torn = ended.Torn
+end_of session.Over = ended.Over
+
+abbrev pub fault_of : SessionFault → ServeFault
+fault_of faults.Broken = Cut replay.Broken
+fault_of faults.Endless = Cut replay.Endless
+fault_of faults.Unwritten = Cut replay.Unwritten
+fault_of faults.Failed = Unjournaled
+fault_of faults.NoMemory = Unjournaled
+fault_of faults.Unkept = Unjournaled

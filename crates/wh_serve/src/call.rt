@@ -9,7 +9,7 @@ use std::sync::Wait;
 use wh_desk::{Desk, DeskFault, DeskName, Pass, Receipt};
 use wh_event::Command;
 use wh_journal::Journal;
-use wh_planner::Planner;
+use wh_planner::Plans;
 use wh_scribe::{CallFault, JournalName, Scribe};
 
 /// Why a command has no receipt.
@@ -49,7 +49,7 @@ pub(crate) fn call_allowed<
     S: JournalName,
     J: Journal + Drop,
     H: Wait + Drop,
-    P: Planner,
+    P: Plans,
     X: Wait,
 >(
     rt: &X,

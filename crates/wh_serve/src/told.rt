@@ -1,7 +1,7 @@
 //! The reply to a line, and how it is written.
 
-ghost use Rattle.std.specs.Prelude.{◌≡◌, ◌++◌, ◌∷◌, ◌≤◌, [], IfOk, IfErr, OnOk, OnErr, length, MatchResult};
-ghost use Rattle.std.specs.Io.KnownBytes.{Appends};
+ghost use Rattle.std.specs.Prelude.{◌≡◌, ◌++◌, ◌∷◌, [], IfOk, IfErr, OnOk, OnErr, length, MatchResult};
+ghost use Rattle.std.specs.Io.KnownBytes.{Appends, Keeps};
 ghost use Rattle.wh_lines.specs.Text.{short_line};
 ghost use Rattle.wh_replay.specs.Answers.{asked, said, text_of};
 ghost use Rattle.wh_replay.specs.Scripts.{WritesFront};
@@ -22,7 +22,7 @@ use wh_event::{Command, LineFault, Reply, put_number, read_line};
 use wh_journal::Journal;
 use wh_lines::CommandLine;
 use wh_log::{Form, tell};
-use wh_planner::Planner;
+use wh_planner::Plans;
 use wh_replay::{WriteFault, write_all};
 use wh_scribe::{JournalName, Scribe};
 
@@ -60,6 +60,16 @@ pub(crate) fn full_of(told: &Told) -> Option<Full>
     }
 }
 
+/// How many replies it is: one or none.
+pub(crate) fn count_of(told: &Told) -> u64
+    ensures { (form : _) → result ≡ length (texts form told.now) }
+{
+    match told {
+        Told::Nothing => 0,
+        Told::NoCommand(_) | Told::Without(_) | Told::Received(_) => 1,
+    }
+}
+
 /// What a line says, of which only a front is kept.
 fn read_kept(line: &CommandLine) -> Result<Option<Command>, LineFault>
     ensures { result ≡ said (short_line line.now) }
@@ -76,7 +86,7 @@ pub(crate) fn answer<
     S: JournalName,
     J: Journal + Drop,
     H: Wait + Drop,
-    P: Planner,
+    P: Plans,
     X: Wait,
 >(
     rt: &X,
@@ -138,26 +148,15 @@ fn without_receipt(why: NoReceipt) -> &'static [u8]
     }
 }
 
-/// Ends a line of output once its reply was written.
-fn end_line<W: Write>(writer: &mut W) -> Result<u64, WriteFault>
-    ensures ok { IfOk result (λ count. Appends (W.contents writer.old) (W.contents writer.new) (10 ∷ []) × (count ≡ 1)) }
-    ensures err { OnErr result (WritesFront (W.contents writer.old) (W.contents writer.new) (10 ∷ [])) }
-{
-    match write_all(writer, b"\n") {
-        Ok(()) => Ok(1),
-        Err(fault) => Err(fault),
-    }
-}
-
 /// Writes a reply and a line feed.
 #[tactic(auto, using(crate::proofs::Fronts::line_ended, crate::proofs::Fronts::line_begun, crate::proofs::Fronts::line_unended))]
-fn write_line<W: Write>(writer: &mut W, reply: &[u8]) -> Result<u64, WriteFault>
-    ensures ok { IfOk result (λ count. Appends (W.contents writer.old) (W.contents writer.new) (text_of (reply.now ∷ [])) × (count ≡ 1)) }
+fn write_line<W: Write>(writer: &mut W, reply: &[u8]) -> Result<(), WriteFault>
+    ensures ok { OnOk result (Appends (W.contents writer.old) (W.contents writer.new) (text_of (reply.now ∷ []))) }
     ensures err { OnErr result (WritesFront (W.contents writer.old) (W.contents writer.new) (text_of (reply.now ∷ []))) }
 {
     match write_all(writer, reply) {
-        Ok(()) => match end_line(writer) {
-            Ok(count) => Ok(count),
+        Ok(()) => match write_all(writer, b"\n") {
+            Ok(()) => Ok(()),
             Err(fault) => Err(fault),
         },
         Err(fault) => Err(fault),
@@ -172,15 +171,15 @@ pub(crate) fn write_entries<W: Write>(writer: &mut W, count: u64) -> Result<(), 
     let mut line = ArrayVec::new();
     put_number(&mut line, b"entries ", count);
     match write_line(writer, line.as_slice()) {
-        Ok(_) => Ok(()),
+        Ok(()) => Ok(()),
         Err(fault) => Err(fault),
     }
 }
 
 /// Writes what a receipt is told as and a line feed.
 #[tactic(auto, using(crate::proofs::Fronts::line_ended, crate::proofs::Fronts::line_begun, crate::proofs::Fronts::line_unended))]
-fn write_receipt<W: Write>(form: Form, writer: &mut W, receipt: &Receipt) -> Result<u64, WriteFault>
-    ensures ok { IfOk result (λ count. Appends (W.contents writer.old) (W.contents writer.new) (text_of (own_text form receipt.now ∷ [])) × (count ≡ 1)) }
+fn write_receipt<W: Write>(form: Form, writer: &mut W, receipt: &Receipt) -> Result<(), WriteFault>
+    ensures ok { OnOk result (Appends (W.contents writer.old) (W.contents writer.new) (text_of (own_text form receipt.now ∷ []))) }
     ensures err { OnErr result (WritesFront (W.contents writer.old) (W.contents writer.new) (text_of (own_text form receipt.now ∷ []))) }
 {
     match tell(
@@ -190,37 +189,60 @@ fn write_receipt<W: Write>(form: Form, writer: &mut W, receipt: &Receipt) -> Res
         receipt.clock,
         &receipt.entry.reply,
     ) {
-        Ok(()) => match end_line(writer) {
-            Ok(count) => Ok(count),
+        Ok(()) => match write_all(writer, b"\n") {
+            Ok(()) => Ok(()),
             Err(fault) => Err(fault),
         },
         Err(fault) => Err(fault),
     }
 }
 
-/// Writes what a line is answered, with a line feed. How many lines these are: one or none.
-pub(crate) fn write_told<W: Write>(
-    form: Form,
-    writer: &mut W,
-    told: &Told,
-) -> Result<u64, WriteFault>
-    ensures ok { IfOk result (λ count. Appends (W.contents writer.old) (W.contents writer.new) (text_of (texts form told.now)) × (count ≡ length (texts form told.now))) }
-    ensures few { IfOk result (λ count. count ≤ 1) }
+/// Writes what a line is answered, with a line feed.
+fn write_told<W: Write>(form: Form, writer: &mut W, told: &Told) -> Result<(), WriteFault>
+    ensures ok { OnOk result (Appends (W.contents writer.old) (W.contents writer.new) (text_of (texts form told.now))) }
     ensures err { OnErr result (WritesFront (W.contents writer.old) (W.contents writer.new) (text_of (texts form told.now))) }
 {
     match told {
-        Told::Nothing => Ok(0),
+        Told::Nothing => Ok(()),
         Told::NoCommand(fault) => match write_line(writer, line_fault(*fault)) {
-            Ok(count) => Ok(count),
+            Ok(()) => Ok(()),
             Err(fault) => Err(fault),
         },
         Told::Without(why) => match write_line(writer, without_receipt(*why)) {
-            Ok(count) => Ok(count),
+            Ok(()) => Ok(()),
             Err(fault) => Err(fault),
         },
         Told::Received(receipt) => match write_receipt(form, writer, receipt) {
-            Ok(count) => Ok(count),
+            Ok(()) => Ok(()),
             Err(fault) => Err(fault),
         },
+    }
+}
+
+/// Where it tells that the warehouse is closed, it is flushed.
+fn flush_closed<W: Write>(writer: &mut W, told: &Told)
+    ensures { Keeps (W.contents writer.old) (W.contents writer.new) }
+{
+    if closes(told) {
+        // If it could not be flushed, the next read tells so.
+        let _ = writer.flush();
+    }
+}
+
+/// Writes what a line is answered, and flushes it where it tells that the warehouse is closed.
+#[tactic(auto, using(crate::proofs::Fronts::told_still, crate::proofs::Fronts::front_still))]
+pub(crate) fn pass_on<W: Write>(form: Form, writer: &mut W, told: &Told) -> Result<(), WriteFault>
+    ensures ok { OnOk result (Appends (W.contents writer.old) (W.contents writer.new) (text_of (texts form told.now))) }
+    ensures err { OnErr result (WritesFront (W.contents writer.old) (W.contents writer.new) (text_of (texts form told.now))) }
+{
+    match write_told(form, writer, told) {
+        Ok(()) => {
+            flush_closed(writer, told);
+            Ok(())
+        }
+        Err(fault) => {
+            flush_closed(writer, told);
+            Err(fault)
+        }
     }
 }

@@ -4,7 +4,7 @@ use Rattle.std.specs.Prelude.{codes, decimal}
 use Rattle.std.proofs.lemmas.Bool.{ne_eqb}
 use Rattle.std.proofs.lemmas.Result.{IfOk-weaker, IfErr-weaker}
 use Rattle.wh_points.specs.Points.{Site}
-use Rattle.wh_edge.specs.Site.{SiteRead}
+use Rattle.wh_edge.specs.Site.{SiteRuled}
 use Rattle.wh_edge.specs.declared.trouble.Trouble.{Trouble}
 use Rattle.wh_options.specs.declared.chosen.Fleet.{Fleet}
 use Rattle.wh_options.specs.declared.chosen.Tail.{Tail}
@@ -14,7 +14,7 @@ use Rattle.std.specs.List.{count_by}
 use Rattle.wh_lines.specs.Input.{Input}
 use Rattle.wh_grid.specs.Grids.{Floor}
 use Rattle.wh_judge.specs.Drafts.{Seen}
-use Rattle.wh_log.specs.Told.{Answered}
+use Rattle.wh_replay.specs.declared.asker.Asker.{Asker}
 use Rattle.wh_drive.specs.declared.vehicle.Vehicle.{Vehicle}
 use Rattle.wh_drive.specs.Drives as drives
 use Rattle.wh_vehicles.specs.Plans.{places}
@@ -23,21 +23,21 @@ use Rattle.wh_dispatch.specs.Lines.{Depot}
 use Rattle.wh_dispatch.specs.Scripts.{Dispatches, DispatchesFrom, Stops, StopsFrom}
 use Rattle.wh_dispatch.specs.declared.script.DispatchFault.{DispatchFault}
 use Rattle.wh_service.specs.Late.{setting_out, Drives, IsWhyUndriven, IsWhyUnservedLate, ServesLate, way_text}
-use Rattle.wh_service.proofs.Played.{Gives}
+use Rattle.wh_service.proofs.Playing.{Gives}
 
 -- served from the opening on
-pub record Driven {X : Type 0} (fits : X → Floor → Bool) (count : X → ℕ) (text : Answered → List ℕ) (bound ahead : ℕ) (before after : Input) (book : Seen) (spares : List X) (new : Seen) (next : Crew)
+pub record Driven {X : Type 0} (fits : X → Floor → Bool) (count : X → ℕ) (asker : Asker) (bound ahead : ℕ) (before after : Input) (book : Seen) (spares : List X) (new : Seen) (next : Crew)
     (had has : Option (List ℕ)) : Type 0 where
   pub final : Depot X
   pub book_is : final.book ≡ new
   pub count_is : count_by is_under_way next.order.vehicles ≡ count_by is_under_way final.drive.vehicles
-  pub dispatches : Dispatches fits count text bound before after (setting_out ahead book spares) final had has
+  pub dispatches : Dispatches fits count asker bound before after (setting_out ahead book spares) final had has
 
-module _ {X : Type 0} (fits : X → Floor → Bool) (count : X → ℕ) (text : Answered → List ℕ) (bound ahead n : ℕ) (before after : Input) (book : Seen) (spares : List X) (crew : Crew) (new : Seen) (rest : List X)
+module _ {X : Type 0} (fits : X → Floor → Bool) (count : X → ℕ) (asker : Asker) (bound ahead n : ℕ) (before after : Input) (book : Seen) (spares : List X) (crew : Crew) (new : Seen) (rest : List X)
     (had has : Option (List ℕ)) (same : n ≡ bound) (m : IsManned book crew (drives.opened book.site.layout.nofollow ahead (places book.state))) where
-  pub driven : (next : Crew) → DispatchesFrom fits count text n before after book spares crew new rest next had has → Driven fits count text bound ahead before after book spares new next had has
+  pub driven : (next : Crew) → DispatchesFrom fits count asker n before after book spares crew new rest next had has → Driven fits count asker bound ahead before after book spares new next had has
   driven next from =
-      let r = subst (λ k. DispatchesFrom fits count text k before after book spares crew new rest next had has) same from (drives.opened book.site.layout.nofollow ahead (places book.state)) m in
+      let r = subst (λ k. DispatchesFrom fits count asker k before after book spares crew new rest next had has) same from (drives.opened book.site.layout.nofollow ahead (places book.state)) m in
       record {
         final = record { book = new; spares = rest; drive = r.0 };
         book_is = refl;
@@ -45,27 +45,27 @@ module _ {X : Type 0} (fits : X → Floor → Bool) (count : X → ℕ) (text : 
         dispatches = r.2;
       }
 
-  pub stopped : (fault : DispatchFault) → StopsFrom fits count text n fault before after book spares crew new rest had has →
-      (final : Depot X) × Stops fits count text bound fault before after (setting_out ahead book spares) final had has
+  pub stopped : (fault : DispatchFault) → StopsFrom fits count asker n fault before after book spares crew new rest had has →
+      (final : Depot X) × Stops fits count asker bound fault before after (setting_out ahead book spares) final had has
   stopped fault from =
-      let r = subst (λ k. StopsFrom fits count text k fault before after book spares crew new rest had has) same from (drives.opened book.site.layout.nofollow ahead (places book.state)) m in
+      let r = subst (λ k. StopsFrom fits count asker k fault before after book spares crew new rest had has) same from (drives.opened book.site.layout.nofollow ahead (places book.state)) m in
       (record { book = new; spares = rest; drive = r.0 }, r.1)
 
-module _ {X : Type 0} (fits : X → Floor → Bool) (count : X → ℕ) (text used : Answered → List ℕ) (gives : Gives X) (fleet : Fleet) (site : Site) (planners spares : List X) (tail : Tail) (pace : VehicleOptions)
-    (old between new : Input) (had has : Option (List ℕ)) (answer : Result ℕ Trouble) (at : SiteRead old between site.grid site.layout) (rule : site.layout.nofollow ≡ true)
-    (e : IsEquipped gives fleet site.grid (length site.layout.agents) planners spares) (same : used ≡ text) where
-  pub answer_late : IfOk answer (λ left. Drives fits count used site planners spares tail pace between new had has left) → IfOk answer (λ left. ServesLate fits count text gives fleet tail pace old new had has left)
+module _ {X : Type 0} (fits : X → Floor → Bool) (count : X → ℕ) (asker used : Asker) (gives : Gives X) (fleet : Fleet) (site : Site) (planners spares : List X) (tail : Tail) (pace : VehicleOptions)
+    (old between new : Input) (had has : Option (List ℕ)) (answer : Result ℕ Trouble) (at : SiteRuled fleet.homes old between site) (rule : site.layout.nofollow ≡ true)
+    (e : IsEquipped gives fleet site.grid (length site.layout.agents) planners spares) (same : used ≡ asker) where
+  pub answer_late : IfOk answer (λ left. Drives fits count used site planners spares tail pace between new had has left) → IfOk answer (λ left. ServesLate fits count asker gives fleet tail pace old new had has left)
   answer_late drives =
-      IfOk-weaker answer (λ left. Drives fits count text site planners spares tail pace between new had has left) (λ left. ServesLate fits count text gives fleet tail pace old new had has left)
+      IfOk-weaker answer (λ left. Drives fits count asker site planners spares tail pace between new had has left) (λ left. ServesLate fits count asker gives fleet tail pace old new had has left)
       (λ left d. record { between = between; site = site; site_read = at; rule = rule; planners = planners; spares = spares; equipped = e; drives = d })
-      (subst (λ (u : Answered → List ℕ). IfOk answer (λ left. Drives fits count u site planners spares tail pace between new had has left)) same drives)
+      (subst (λ (u : Asker). IfOk answer (λ left. Drives fits count u site planners spares tail pace between new had has left)) same drives)
 
   pub answer_unserved_late : IfErr answer (λ told. IsWhyUndriven fits count used site planners spares tail pace told between new had has) →
-      IfErr answer (λ told. IsWhyUnservedLate fits count text gives fleet tail pace told old new had has)
+      IfErr answer (λ told. IsWhyUnservedLate fits count asker gives fleet tail pace told old new had has)
   answer_unserved_late why =
-      IfErr-weaker answer (λ told. IsWhyUndriven fits count text site planners spares tail pace told between new had has) (λ told. IsWhyUnservedLate fits count text gives fleet tail pace told old new had has)
+      IfErr-weaker answer (λ told. IsWhyUndriven fits count asker site planners spares tail pace told between new had has) (λ told. IsWhyUnservedLate fits count asker gives fleet tail pace told old new had has)
       (λ told w. inr (inr (inr record { between = between; site = site; site_read = at; rule = rule; planners = planners; spares = spares; equipped = e; why = w })))
-      (subst (λ (u : Answered → List ℕ). IfErr answer (λ told. IsWhyUndriven fits count u site planners spares tail pace told between new had has)) same why)
+      (subst (λ (u : Asker). IfErr answer (λ told. IsWhyUndriven fits count u site planners spares tail pace told between new had has)) same why)
 
 -- the line that tells how many vehicles are on their way
 pub way_is : (left : ℕ) → left ≢ 0 → (codes "vehicles on their way: " ++ decimal left) ++ 10 ∷ [] ≡ way_text left

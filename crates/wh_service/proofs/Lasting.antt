@@ -1,7 +1,7 @@
 -- A run over a log file.
-use Rattle.std.proofs.lemmas.Result.{on_ok_weaker, IfErr-weaker}
+use Rattle.std.proofs.lemmas.Result.{IfErr-weaker}
 use Rattle.std.proofs.Common.{◌≡◌, ◌<◌, ◌≤◌, ◌+◌, ℕ, Bool, List, [], ◌∷◌, ◌++◌, length, take, get_or, refl, sym, ◌∙◌, subst, inl, inr, Option, None, Some, Result}
-use Rattle.std.specs.Prelude.{MatchOption, OnOk, IfErr, IfSome, true, slice_index}
+use Rattle.std.specs.Prelude.{MatchOption, OnOk, IfOk, IfErr, IfSome, true, slice_index}
 use Rattle.std.proofs.KnownBytes.{Keeps-refl}
 use Rattle.std.specs.Io.KnownBytes.{Appends}
 use Rattle.std.specs.declared.alloc.AllocError.{AllocError}
@@ -9,22 +9,26 @@ use Rattle.std.proofs.lemmas.List.{take_more}
 use Rattle.std.proofs.lemmas.List.Elements.{Contains-get_or}
 use Rattle.std.proofs.lemmas.Slice.Zip.{all_zipped_more}
 use Rattle.wh_grid.specs.Grids.{Floor}
-use Rattle.wh_points.specs.Points.{Layout, Site}
+use Rattle.wh_points.specs.Points.{Site}
 use Rattle.wh_claims.specs.declared.bank.Bank.{Bank}
 use Rattle.wh_judge.specs.Drafts.{AllServed, Seen}
 use Rattle.wh_options.specs.declared.chosen.Fleet.{Fleet}
 use Rattle.wh_continue.specs.Starting.{Begins, GoesOnFrom, StartsIn}
 use Rattle.wh_continue.specs.declared.starting.Start.{Start}
 use Rattle.wh_continue.specs.Besides.{StandsBeside}
-use Rattle.wh_continue.specs.Running.{IsStartOf, LeavesFront, Opens, RunsOn, StopsRun}
+use Rattle.wh_continue.specs.Opening.{IsOpened, IsWhyNotBoth}
+use Rattle.wh_continue.specs.Running.{IsStartOf, Opens, RunsOn, StopsRun}
+use Rattle.wh_continue.specs.declared.running.KeepFault.{KeepFault}
 use Rattle.wh_continue.specs.declared.beside.Beside.{Beside}
 use Rattle.wh_edge.specs.Site.{SiteKept}
 use Rattle.wh_edge.specs.declared.trouble.Trouble.{Trouble}
 use Rattle.wh_edge.specs.declared.trouble.Trouble.TheVariants as trouble
 use Rattle.wh_service.specs.Fleets.{AreSeated, IsMember, IsWhyUnclaimed, IsWhyUnseated, with_slots}
-use Rattle.wh_service.specs.Kept.{IsSeated, IsSet, IsWhyUnkept, ServesKept, Siding, StartsFrom, StartsOver, first_slots, run_trouble}
-use Rattle.wh_service.specs.Tails.{IsWhyNoTail, tail_after}
-use Rattle.wh_log.specs.Told.{Answered}
+use Rattle.wh_service.specs.Kept.{HasLog, IsSeated, IsSet, IsWhyUnkept, ServesKept, Siding, StartsFrom, StartsOver, first_slots, keep_trouble, run_trouble}
+use Rattle.wh_deliver.proofs.Grown.{grows}
+use Rattle.wh_service.specs.Tails.{IsWhyNoTail, tail_after, told_open}
+use Rattle.wh_service.proofs.Undelivered.{ok_joined}
+use Rattle.wh_replay.specs.declared.asker.Asker.{Asker}
 use Rattle.wh_log.specs.declared.version.Version.{Version}
 use Rattle.wh_lines.specs.Input.{Input}
 use Rattle.wh_core.specs.Laws.{IsOpening}
@@ -63,64 +67,102 @@ start_site site slots text start starts = site_at site slots text start.book sta
 starts_of : (fleet : Fleet) (site : Site) (start : Start) (file : Option (List ℕ)) → StartsFrom fleet site file start → IsStartOf file start
 starts_of fleet site start None from = tt
 starts_of fleet site start (Some held) from =
-    (site, first_slots fleet site, subst (λ (text : List ℕ). StartsIn site (first_slots fleet site) text start) from.text_is from.starts)
+    inl (site, first_slots fleet site, subst (λ (text : List ℕ). StartsIn site (first_slots fleet site) text start) from.text_is from.starts)
 
 -- what the file was read as is what it holds
 pub start_of_file : (fleet : Fleet) (site : Site) (file held : Option (List ℕ)) (start : Start) → StartsFrom fleet site file start → held ≡ file → IsStartOf held start
 start_of_file fleet site file held start from same = subst (λ (h : Option (List ℕ)). IsStartOf h start) (sym same) (starts_of fleet site start file from)
 
--- a site that was read, where its grid lies elsewhere, and so does its text
-pub kept_at : {old new : Input} {layout : Layout} (floor at : Floor) (text bytes : List ℕ) → at ≡ floor → bytes ≡ text → SiteKept old new floor layout text → SiteKept old new at layout bytes
-kept_at {old} {new} {layout} floor at text bytes same equal kept =
-    subst (λ (t : List ℕ). SiteKept old new at layout t) (sym equal) (subst (λ (f : Floor). SiteKept old new f layout text) (sym same) kept)
+-- a site that was read, where its text lies elsewhere
+pub kept_at : {homes : Bool} (old new : Input) (site : Site) (text bytes : List ℕ) → bytes ≡ text → SiteKept homes old new site text → SiteKept homes old new site bytes
+kept_at {homes} old new site text bytes equal kept = subst (λ (t : List ℕ). SiteKept homes old new site t) (sym equal) kept
+
+-- planners on a grid that lies elsewhere
+pub seated_on : {X : Type 0} (gives : PlannerParts → Result X AllocError → Type 0) (fleet : Fleet) (grid at : Floor) (slots : List ℕ) (planners spares : List X) → grid ≡ at →
+    IsSeated gives fleet grid slots planners spares → IsSeated gives fleet at slots planners spares
+seated_on gives fleet grid at slots planners spares same seated = subst (λ (f : Floor). IsSeated gives fleet f slots planners spares) same seated
+
+-- a file tells its bytes once its log was begun, if it did before
+told_so : (b : Option ℕ) (P Q : Type 0) (file held : Option (List ℕ)) (lines : List ℕ) (X : Type 0) → MatchOption b (P × Opens file held lines) (λ _. Q × (held ≡ file)) → IfSome held (λ _. X) → IfSome file (λ _. X)
+told_so None P Q None held lines X is x = tt
+told_so None P Q (Some text) held lines X is x = subst (λ (h : Option (List ℕ)). IfSome h (λ _. X)) is.1 x
+told_so (Some n) P Q file held lines X is x = subst (λ (h : Option (List ℕ)). IfSome h (λ _. X)) is.1 x
+
+pub told_before : (start begun : Start) (file held : Option (List ℕ)) (X : Type 0) → IsOpened start begun file held → IfSome held (λ _. X) → IfSome file (λ _. X)
+told_before start begun file held X is x = told_so start.bytes _ _ file held _ X is x
+
+-- a run that went on once its log was begun went on from what stood before
+pub runs_before : {X : Type 0} (fits : X → Floor → Bool) (count : X → ℕ) (asker : Asker) (again : Option ℕ) (deliver : Bool) (before after : Input) (book : Seen) (spares : List X) (new : Seen) (rest : List X) (had has : Option (List ℕ))
+    (start begun : Start) (file held synced holds : Option (List ℕ)) → IsOpened start begun file held
+    → RunsOn fits count asker again deliver before after book spares new rest had has held synced holds → RunsOn fits count asker again deliver before after book spares new rest had has file synced holds
+runs_before fits count asker again deliver before after book spares new rest had has start begun file held synced holds is ran = record {
+  counted = ran.counted;
+  begun = ran.begun;
+  counts = record { counts = ran.counts.counts; begins = told_before start begun file held _ is ran.counts.begins };
+  safe = ran.safe;
+  kept = ran.kept;
+  served = ran.served;
+  answered = ran.answered;
+  replays = ran.replays;
+  sure = ran.sure;
+  full = ran.full;
+  delivers = ran.delivers;
+  ends = ran.ends;
+  synced_is = ran.synced_is;
+  whole = told_before start begun file held _ is ran.whole;
+}
 
 -- ---- what the whole call says
 
-module _ {X : Type 0} (fits : X → Floor → Bool) (count : X → ℕ) (text : Answered → List ℕ) (gives : PlannerParts → Result X AllocError → Type 0) (fleet : Fleet) (again : Option ℕ)
+module _ {X : Type 0} (fits : X → Floor → Bool) (count : X → ℕ) (asker : Asker) (gives : PlannerParts → Result X AllocError → Type 0) (fleet : Fleet) (deliver : Bool) (again : Option ℕ) (anew : Bool)
     (old between : Input) (file : Option (List ℕ)) (beside : Siding) (site : Site) (start : Start) (planners spares : List X)
-    (site_text : List ℕ) (site_read : SiteKept old between site.grid site.layout site_text)
+    (site_text : List ℕ) (site_read : SiteKept fleet.homes old between site site_text)
     (found : Beside) (stands : StandsBeside beside.before site_text found)
-    (from : StartsFrom fleet site file start) (within : IfSome again (λ (first : ℕ). first ≤ length start.book.history))
+    (from : StartsFrom fleet site file start) (has_log : HasLog anew found start) (within : IfSome again (λ (first : ℕ). first ≤ length start.book.history))
     (slots : List ℕ) (slots_are : slots ≡ start.book.state.slots) (seated : IsSeated gives fleet site.grid slots planners spares) where
-  abbrev starts : StartsOver gives fleet again old between file beside site start planners spares
+  abbrev starts : StartsOver gives fleet again anew old between file beside site start planners spares
   starts = record {
     text = site_text;
     site_read = site_read;
     found = found;
     stands = stands;
     starts = from;
+    has_log = has_log;
     within = within;
     seated = subst (λ (ns : List ℕ). IsSeated gives fleet site.grid ns planners spares) slots_are seated;
   }
 
-  -- what stands beside the log was not kept
-  pub stops_aside : (tail : Tail) (had holds : Option (List ℕ)) (failed : Bool) (synced aside : Option (List ℕ)) → holds ≡ file → aside ≡ beside.before
-      → LeavesFront aside beside.after site_text → beside.failed ≡ true
-      → IsWhyUnkept fits count text gives fleet tail again trouble.Unkept old between had had file failed synced holds beside
-  stops_aside tail had holds failed synced aside same still left failing = inr (inr (inl (
-    refl,
+  -- the log was not begun, or the site not kept beside it
+  pub stops_opening : (tail : Tail) (fault : KeepFault) (told : Trouble) (had holds : Option (List ℕ)) (failed : Bool) (synced now aside : Option (List ℕ)) → told ≡ keep_trouble fault → now ≡ file → aside ≡ beside.before
+      → IsWhyNotBoth fault start now holds failed aside beside.after beside.failed site_text
+      → IsWhyUnkept fits count asker gives fleet deliver tail again anew told old between had had file failed synced holds beside
+  stops_opening tail fault told had holds failed synced now aside is same still why = inr (inr (inl (
+    fault,
+    is,
     record {
       site = site;
       start = start;
       planners = planners;
       spares = spares;
       starts = starts;
-      left = subst (λ (b : Option (List ℕ)). LeavesFront b beside.after site_text) still left;
-      has_failed = failing;
+      why = subst (λ (b : Option (List ℕ)). IsWhyNotBoth fault start file holds failed b beside.after beside.failed site_text) still
+          (subst (λ (f : Option (List ℕ)). IsWhyNotBoth fault start f holds failed aside beside.after beside.failed site_text) same why);
     },
     Keeps-refl had,
-    same,
   )))
 
-  module _ (new : Input) (had has synced holds : Option (List ℕ)) (rest : List X) (told_as : Answered → List ℕ) (same : told_as ≡ text)
-      (held : Option (List ℕ)) (unchanged : held ≡ file) (aside : Option (List ℕ)) (still : aside ≡ beside.before) (opens : Opens aside beside.after site_text) (safe : beside.synced ≡ beside.after) where
+  module _ (new : Input) (had has synced holds : Option (List ℕ)) (rest : List X) (told_as : Asker) (same : told_as ≡ asker)
+      (begun : Start) (book_is : begun.book ≡ start.book) (held now : Option (List ℕ)) (same_file : now ≡ file) (opened : IsOpened start begun now held) (aside : Option (List ℕ)) (still : aside ≡ beside.before) (opens : Opens aside beside.after site_text) (safe : beside.synced ≡ beside.after) where
+    opens_file : IsOpened start begun file held
+    opens_file = subst (λ (f : Option (List ℕ)). IsOpened start begun f held) same_file opened
+
     set : IsSet beside site_text
     set = (subst (λ (b : Option (List ℕ)). Opens b beside.after site_text) still opens, safe)
 
     -- the run was not brought to its end
     pub stops_kept : (tail : Tail) (fault : RunFault) (told : Trouble) (failed : Bool) → told ≡ run_trouble fault
-        → StopsRun fits count told_as again fault between new start planners spares rest had has held failed synced holds
-        → IsWhyUnkept fits count text gives fleet tail again told old new had has file failed synced holds beside
+        → StopsRun fits count told_as again deliver fault between new begun planners spares rest had has held failed synced holds
+        → IsWhyUnkept fits count asker gives fleet deliver tail again anew told old new had has file failed synced holds beside
     stops_kept tail fault told failed is stops = inr (inr (inr (inl (
       fault,
       is,
@@ -132,25 +174,29 @@ module _ {X : Type 0} (fits : X → Floor → Bool) (count : X → ℕ) (text : 
         spares = spares;
         starts = starts;
         is_set = set;
+        begun = begun;
+        opened = held;
+        opens = opens_file;
         rest = rest;
-        stops = subst (λ (f : Option (List ℕ)). StopsRun fits count text again fault between new start planners spares rest had has f failed synced holds) unchanged
-            (subst (λ (t : Answered → List ℕ). StopsRun fits count t again fault between new start planners spares rest had has held failed synced holds) same stops);
+        stops = subst (λ (t : Asker). StopsRun fits count t again deliver fault between new begun planners spares rest had has held failed synced holds) same stops;
       },
     ))))
 
-    module _ (tail : Tail) (said : Result (Unit {0}) Trouble) (final : Seen) (replied : Option (List ℕ))
-        (ran : RunsOn fits count told_as again between new start.book spares final rest had replied held synced holds) where
-      runs : RunsOn fits count text again between new start.book spares final rest had replied file synced holds
-      runs = subst (λ (f : Option (List ℕ)). RunsOn fits count text again between new start.book spares final rest had replied f synced holds) unchanged
-          (subst (λ (t : Answered → List ℕ). RunsOn fits count t again between new start.book spares final rest had replied held synced holds) same ran)
+    module _ (tail : Tail) {T : Type 0} (report : T → List ℕ) (said : Result T Trouble) (final : Seen) (replied : Option (List ℕ))
+        (ran : RunsOn fits count told_as again deliver between new begun.book spares final rest had replied held synced holds) where
+      runs : RunsOn fits count asker again deliver between new start.book spares final rest had replied file synced holds
+      runs = runs_before fits count asker again deliver between new start.book spares final rest had replied start begun file held synced holds opens_file
+          (subst (λ (b : Seen). RunsOn fits count asker again deliver between new b spares final rest had replied held synced holds) book_is
+          (subst (λ (t : Asker). RunsOn fits count t again deliver between new begun.book spares final rest had replied held synced holds) same ran))
 
       -- it was, and what is to follow the replies does
       pub serves_kept : IsOpening final.site final.opening → Run final.site final.opening final.history final.state → (IsFormed final.site → AllServed final.history)
           → OnOk said (Appends replied has (tail_after tail final.opening final.history final.state))
-          → OnOk said (ServesKept fits count text gives fleet tail again old new had has file synced holds beside)
-      serves_kept opening run served follows =
-          let is : final.site ≡ site = runs.replays.serves.output.site ∙ start_site site (first_slots fleet site) from.text start from.starts in
-          on_ok_weaker said (λ after. record {
+          → IfOk said (λ t. report t ≡ told_open deliver final.state)
+          → IfOk said (λ t. ServesKept fits count asker gives fleet deliver tail again anew old new had has file synced holds beside (report t))
+      serves_kept opening run served follows tells =
+          let is : final.site ≡ site = (grows deliver asker 999999999 runs.served final runs.delivers.added runs.answered replied runs.delivers.delivers).1.site ∙ runs.replays.serves.output.site ∙ start_site site (first_slots fleet site) from.text start from.starts in
+          ok_joined said _ _ _ (λ t after open_is. record {
             site = site;
             between = between;
             start = start;
@@ -162,19 +208,20 @@ module _ {X : Type 0} (fits : X → Floor → Bool) (count : X → ℕ) (text : 
             final = final;
             replied = replied;
             runs = runs;
+            open_is = open_is;
             follows = after;
             site_is = is;
             is_opening = subst (λ (at : Site). IsOpening at final.opening) is opening;
             run = subst (λ (at : Site). Run at final.opening final.history final.state) is run;
             served = subst (λ (at : Site). IsFormed at → AllServed final.history) is served;
-          }) follows
+          }) follows tells
 
       -- or does not
       pub without_tail : (failed : Bool) → IfErr said (λ (told : Trouble). IsWhyNoTail told replied has (tail_after tail final.opening final.history final.state))
-          → IfErr said (λ (told : Trouble). IsWhyUnkept fits count text gives fleet tail again told old new had has file failed synced holds beside)
+          → IfErr said (λ (told : Trouble). IsWhyUnkept fits count asker gives fleet deliver tail again anew told old new had has file failed synced holds beside)
       without_tail failed why =
           IfErr-weaker said (λ (told : Trouble). IsWhyNoTail told replied has (tail_after tail final.opening final.history final.state))
-          (λ (told : Trouble). IsWhyUnkept fits count text gives fleet tail again told old new had has file failed synced holds beside)
+          (λ (told : Trouble). IsWhyUnkept fits count asker gives fleet deliver tail again anew told old new had has file failed synced holds beside)
           (λ (told : Trouble) w. inr (inr (inr (inr (record {
             site = site;
             between = between;

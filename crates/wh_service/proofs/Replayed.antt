@@ -10,7 +10,7 @@ use Rattle.wh_points.specs.Points.{Site}
 use Rattle.wh_event.specs.CommandLines.{command_of}
 use Rattle.wh_event.specs.declared.entry.Entry.{Entry}
 use Rattle.wh_event.specs.declared.event.Event.{Event}
-use Rattle.wh_log.specs.Told.{Answered}
+use Rattle.wh_replay.specs.declared.asker.Asker.{Asker}
 use Rattle.wh_event.specs.declared.event.Spare.{Spare}
 use Rattle.wh_event.specs.declared.event.Command.{Command}
 use Rattle.wh_event.specs.declared.fault.LineFault.{LineFault}
@@ -23,7 +23,7 @@ use Rattle.wh_log.specs.Ranges.{EventKeeps}
 use Rattle.wh_log.specs.declared.version.Version.TheVariants.{Two}
 use Rattle.wh_judge.specs.Written.{IsAskedInRange}
 use Rattle.wh_judge.proofs.Histories.{runs_are_logs}
-use Rattle.wh_edge.specs.Site.{SiteRead}
+use Rattle.wh_edge.specs.Site.{SiteRuled}
 use Rattle.wh_options.specs.declared.chosen.Fleet.{Fleet}
 use Rattle.wh_options.specs.declared.chosen.Tail.TheVariants.{Log}
 use Rattle.wh_replay.specs.Answers.{asked, commands_of}
@@ -75,18 +75,18 @@ entry_keeps grid s command event old new keep few asked takes =
       )
     ]
 
-ran_keeps : (site : Site) (commands : List Command) (outcomes : List (Option Entry)) (s : State) (spares : List ℕ) (new : State) (rest : List ℕ)
-    → AllByRecursion CommandKeeps commands → Few spares → RanFrom site s spares commands outcomes new rest → AllByRecursion IsAskedInRange (entries_of outcomes)
-ran_keeps site [] [] s spares new rest keep few ran = tt
-ran_keeps site [] (outcome ∷ outcomes) s spares new rest keep few ran = absurd ran
-ran_keeps site (command ∷ commands) [] s spares new rest keep few ran = absurd ran
-ran_keeps site (command ∷ commands) (None ∷ outcomes) s spares new rest keep few ran =
-    ran_keeps site commands outcomes ran.0 ran.1 new rest keep.1 (subst Few (sym ran.2.1) few) ran.3
-ran_keeps site (command ∷ commands) (Some entry ∷ outcomes) s spares new rest keep few ran =
+ran_keeps : (caller : ℕ) → caller < 64 → (site : Site) (commands : List Command) (outcomes : List (Option Entry)) (s : State) (spares : List ℕ) (new : State) (rest : List ℕ)
+    → AllByRecursion CommandKeeps commands → Few spares → RanFrom caller site s spares commands outcomes new rest → AllByRecursion IsAskedInRange (entries_of outcomes)
+ran_keeps caller low site [] [] s spares new rest keep few ran = tt
+ran_keeps caller low site [] (outcome ∷ outcomes) s spares new rest keep few ran = absurd ran
+ran_keeps caller low site (command ∷ commands) [] s spares new rest keep few ran = absurd ran
+ran_keeps caller low site (command ∷ commands) (None ∷ outcomes) s spares new rest keep few ran =
+    ran_keeps caller low site commands outcomes ran.0 ran.1 new rest keep.1 (subst Few (sym ran.2.1) few) ran.3
+ran_keeps caller low site (command ∷ commands) (Some entry ∷ outcomes) s spares new rest keep few ran =
     let one = entry_keeps site.grid s command entry.event spares ran.1 keep.0 few ran.2.2 ran.2.3 in
     let mine = ran.2.0 in (
       record { caller = omega arith; event = one.0 },
-      ran_keeps site commands outcomes ran.0 ran.1 new rest keep.1 one.1 ran.3,
+      ran_keeps caller low site commands outcomes ran.0 ran.1 new rest keep.1 one.1 ran.3,
     )
 
 few_of : (n slots : ℕ) → slots < 10 ^ 9 → Few (replicate n slots)
@@ -94,19 +94,19 @@ few_of zero slots few = tt
 few_of (suc n) slots few = (few, few_of n slots few)
 
 -- the log of a replay is of the format
-pub replay_logged : (text : Answered → List ℕ) (fleet : Fleet) (site : Site) (old between : Input) (lines replies : List (List ℕ)) → SiteRead old between site.grid site.layout → IsOfFleet fleet
-    → (done : Operates text fleet site lines replies) → length (entries_of done.outcomes) < 10 ^ 9
+pub replay_logged : (asker : Asker) (fleet : Fleet) (site : Site) (old between : Input) (lines replies : List (List ℕ)) → asker.caller < 64 → SiteRuled fleet.homes old between site → IsOfFleet fleet
+    → (done : Operates asker fleet site lines replies) → length (entries_of done.outcomes) < 10 ^ 9
     → IsLogText (record { clock = 0; slots = replicate (length site.layout.agents) fleet.slots; entries = entries_of done.outcomes })
     (tail_text Log (opening fleet site) (entries_of done.outcomes) done.final)
-replay_logged text fleet site old between lines replies read range done short =
+replay_logged asker fleet site old between lines replies low read range done short =
     let slots : List ℕ = replicate (length site.layout.agents) fleet.slots in
     let content : Content = record { clock = 0; slots = slots; entries = entries_of done.outcomes } in
     let most = range.1 in
-    let told = run_of old between site slots (entries_of done.outcomes) read (length-replicate (length site.layout.agents) fleet.slots) done.final done.run in
-    let asked = ran_keeps site (commands_of lines) done.outcomes (opening fleet site) (replicate fleet.spares fleet.slots) done.final done.rest (lines_keep lines) (few_of fleet.spares fleet.slots (omega arith)) done.ran in
+    let told = run_of old between site slots (entries_of done.outcomes) read.read (length-replicate (length site.layout.agents) fleet.slots) done.final done.run in
+    let asked = ran_keeps asker.caller low site (commands_of lines) done.outcomes (opening fleet site) (replicate fleet.spares fleet.slots) done.final done.rest (lines_keep lines) (few_of fleet.spares fleet.slots (omega arith)) done.ran in
     record {
       version = Two;
-      fits = runs_are_logs site content (in_range old between site read) told (slots_keep (length site.layout.agents) fleet.slots range.0 range.1)
+      fits = runs_are_logs site content (in_range old between site read.read) told (slots_keep (length site.layout.agents) fleet.slots range.0 range.1)
           (All-from_recursion IsAskedInRange (entries_of done.outcomes) asked) short;
       text_is = refl;
     }

@@ -85,20 +85,20 @@ all_left fits count grid s command event old new all t = elim (wants s command) 
 ]
 
 -- commands run in the same way where of each spare planner its slots alone are seen
-pub ran_from : {X : Type 0} (fits : X → Floor → Bool) (count : X → ℕ) (site : Site) (commands : List Command) (outcomes : List (Option Entry)) (s : State) (spares : List X) (new : State) (rest : List X)
-    → AllByRecursion (λ b. fits b site.grid ≡ true) spares → Ran fits count site 0 commands outcomes s spares new rest → RanFrom site s (map count spares) commands outcomes new (map count rest)
-ran_from fits count site [] [] s spares new rest all r = (r.0, ap (map count) r.1)
-ran_from fits count site [] (outcome ∷ outcomes) s spares new rest all r = absurd r
-ran_from fits count site (command ∷ commands) [] s spares new rest all r = absurd r
-ran_from fits count site (command ∷ commands) (None ∷ outcomes) s spares new rest all r = (
+pub ran_from : {X : Type 0} (fits : X → Floor → Bool) (count : X → ℕ) (site : Site) (caller : ℕ) (commands : List Command) (outcomes : List (Option Entry)) (s : State) (spares : List X) (new : State) (rest : List X)
+    → AllByRecursion (λ b. fits b site.grid ≡ true) spares → Ran fits count site caller commands outcomes s spares new rest → RanFrom caller site s (map count spares) commands outcomes new (map count rest)
+ran_from fits count site caller [] [] s spares new rest all r = (r.0, ap (map count) r.1)
+ran_from fits count site caller [] (outcome ∷ outcomes) s spares new rest all r = absurd r
+ran_from fits count site caller (command ∷ commands) [] s spares new rest all r = absurd r
+ran_from fits count site caller (command ∷ commands) (None ∷ outcomes) s spares new rest all r = (
   r.0,
   map count r.1,
   (r.2.0, ap (map count) r.2.1),
-  ran_from fits count site commands outcomes r.0 r.1 new rest (subst (AllByRecursion (λ b. fits b site.grid ≡ true)) (sym r.2.1) all) r.3,
+  ran_from fits count site caller commands outcomes r.0 r.1 new rest (subst (AllByRecursion (λ b. fits b site.grid ≡ true)) (sym r.2.1) all) r.3,
 )
-ran_from fits count site (command ∷ commands) (Some entry ∷ outcomes) s spares new rest all r = (
+ran_from fits count site caller (command ∷ commands) (Some entry ∷ outcomes) s spares new rest all r = (
   r.0,
   map count r.1,
   (r.2.0, r.2.1, r.2.2, takes fits count site.grid s command entry.event spares r.1 all r.2.3),
-  ran_from fits count site commands outcomes r.0 r.1 new rest (all_left fits count site.grid s command entry.event spares r.1 all r.2.3) r.3,
+  ran_from fits count site caller commands outcomes r.0 r.1 new rest (all_left fits count site.grid s command entry.event spares r.1 all r.2.3) r.3,
 )

@@ -1,10 +1,10 @@
 -- What a whole run of `check` does.
-use Rattle.std.specs.Prelude.{◌≡◌, ◌<◌, ℕ, List, [], ◌∷◌, ◌++◌, codes, decimal, length, Option}
+use Rattle.std.specs.Prelude.{◌≡◌, ◌<◌, ℕ, Bool, List, [], ◌∷◌, ◌++◌, codes, decimal, length, Option}
 use Rattle.std.specs.Io.KnownBytes.{Appends, Keeps}
 use Rattle.wh_lines.specs.Input.{Input}
 use Rattle.wh_lines.specs.Output.{WritesFront}
 use Rattle.wh_points.specs.Points.{Layout, Site, point_at}
-use Rattle.wh_edge.specs.Site.{SiteRead, SiteFault}
+use Rattle.wh_edge.specs.Site.{SiteFault, SiteRuled}
 use Rattle.wh_edge.specs.declared.trouble.Trouble.{Trouble}
 use Rattle.wh_edge.specs.declared.trouble.Trouble.TheVariants as trouble
 use Rattle.wh_edge.specs.declared.trouble.Status.{Status}
@@ -39,25 +39,25 @@ status_of Formed = status.Done
 status_of (FewParkings have need) = status.Refused
 status_of (Cut a b) = status.Refused
 
--- A site was read, and the line of its verdict stands behind what was written.
-pub record Judges (old new : Input) (had has : Option (List ℕ)) (ended : Status) : Type 0 where
+-- A site was read by the rule that was asked for, here and below, and the line of its verdict stands behind what was written.
+pub record Judges (homes : Bool) (old new : Input) (had has : Option (List ℕ)) (ended : Status) : Type 0 where
   pub site : Site
-  pub site_read : SiteRead old new site.grid site.layout
+  pub site_read : SiteRuled homes old new site
   pub verdict : Verdict
   pub verdict_is : IsVerdict site verdict
   pub appends : Appends had has (verdict_text site.layout verdict)
   pub ended_is : ended ≡ status_of verdict
 
 -- a site was read, and of the line of its verdict a front was written
-pub record JudgesUnwritten (old new : Input) (had has : Option (List ℕ)) : Type 0 where
+pub record JudgesUnwritten (homes : Bool) (old new : Input) (had has : Option (List ℕ)) : Type 0 where
   pub site : Site
-  pub site_read : SiteRead old new site.grid site.layout
+  pub site_read : SiteRuled homes old new site
   pub verdict : Verdict
   pub verdict_is : IsVerdict site verdict
   pub front : WritesFront had has (verdict_text site.layout verdict)
 
 -- Why no verdict was told: there is no site, or memory ran out, and nothing is written; or the line of the verdict was not
 -- written to its end.
-abbrev pub IsWhyUnjudged : Trouble → Input → Input → Option (List ℕ) → Option (List ℕ) → Type 0
-IsWhyUnjudged trouble.Unwritten old new had has = JudgesUnwritten old new had has
-IsWhyUnjudged told old new had has = SiteFault told old new × Keeps had has
+abbrev pub IsWhyUnjudged : (homes : Bool) → Trouble → Input → Input → Option (List ℕ) → Option (List ℕ) → Type 0
+IsWhyUnjudged homes trouble.Unwritten old new had has = JudgesUnwritten homes old new had has
+IsWhyUnjudged homes told old new had has = SiteFault homes told old new × Keeps had has

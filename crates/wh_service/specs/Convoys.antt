@@ -7,7 +7,7 @@ use Rattle.wh_lines.specs.Input.{Input}
 use Rattle.wh_grid.specs.Grids.{Floor}
 use Rattle.wh_points.specs.Points.{Site}
 use Rattle.wh_points.specs.Formed.{IsFormed}
-use Rattle.wh_log.specs.Told.{Answered}
+use Rattle.wh_replay.specs.declared.asker.Asker.{Asker}
 use Rattle.wh_core.specs.Laws.{IsOpening}
 use Rattle.wh_core.specs.Steps.{Run}
 use Rattle.wh_judge.specs.Drafts.{AllServed, Seen}
@@ -22,7 +22,8 @@ use Rattle.wh_options.specs.declared.chosen.Tail.{Tail}
 use Rattle.wh_options.specs.declared.chosen.VehicleOptions.{VehicleOptions}
 use Rattle.wh_drive.specs.Drives.{Drive}
 use Rattle.wh_dispatch.specs.Crews.{Crew, IsManned, is_under_way}
-use Rattle.wh_continue.specs.Running.{LeavesFront}
+use Rattle.wh_continue.specs.Opening.{IsOpened, IsWhyNotBoth}
+use Rattle.wh_continue.specs.declared.running.KeepFault.{KeepFault}
 use Rattle.wh_continue.specs.declared.starting.Start.{Start}
 use Rattle.wh_convoy.specs.Convoys.{Held}
 use Rattle.wh_convoy.specs.Riding.{RidesOn, StopsRide}
@@ -85,18 +86,18 @@ IsWhyNotOver book ahead file (Plain trouble.NoMemory) = Unit {0}
 IsWhyNotOver book ahead file (Plain _) = ⊥
 
 -- A run starts over the files, by whose site nobody follows, and its vehicles stand so.
-pub record StartsConvoy {X : Type 0} (gives : PlannerParts → Result X AllocError → Type 0) (fleet : Fleet) (again : Option ℕ) (ahead : ℕ) (old between : Input) (files : Held) (beside : Siding)
+pub record StartsConvoy {X : Type 0} (gives : PlannerParts → Result X AllocError → Type 0) (fleet : Fleet) (again : Option ℕ) (anew : Bool) (ahead : ℕ) (old between : Input) (files : Held) (beside : Siding)
     (site : Site) (start : Start) (stands : Stood) (planners spares : List X) : Type 0 where
-  pub starts : StartsOver gives fleet again old between files.log beside site start planners spares
+  pub starts : StartsOver gives fleet again anew old between files.log beside site start planners spares
   pub rule : site.layout.nofollow ≡ true
   pub over : StandsOver start.book ahead files.arrivals stands
 
 -- It was brought to its end from there: the vehicles set out, and the script that was left was served to its end over both files. The
 -- log is that of the whole run now.
-pub record GoesToEnd {X : Type 0} (fits : X → Floor → Bool) (count : X → ℕ) (text : Answered → List ℕ) (again : Option ℕ) (bound : ℕ) (before after : Input) (start : Start) (stands : Stood) (spares : List X)
+pub record GoesToEnd {X : Type 0} (fits : X → Floor → Bool) (count : X → ℕ) (asker : Asker) (again : Option ℕ) (bound : ℕ) (before after : Input) (start : Start) (stands : Stood) (spares : List X)
     (final : Seen) (crew : Crew) (had has : Option (List ℕ)) (files holds synced : Held) : Type 0 where
   pub rest : List X
-  pub runs : RidesOn fits count text again bound before after start.book stands spares final rest crew had has files holds synced
+  pub runs : RidesOn fits count asker again bound before after start.book stands spares final rest crew had has files holds synced
   -- the vehicles carry out the whole run, old and new entries: their plan's rows are the ticks of its history
   pub drive : Drive
   pub manned : IsManned final crew drive
@@ -108,34 +109,34 @@ pub record GoesToEnd {X : Type 0} (fits : X → Floor → Bool) (count : X → �
   pub served : IsFormed final.site → AllServed final.history
 
 -- And what must follow the replies follows them. This many vehicles are on their way then.
-pub record GoesOn {X : Type 0} (fits : X → Floor → Bool) (count : X → ℕ) (text : Answered → List ℕ) (tail : Tail) (again : Option ℕ) (bound : ℕ) (before after : Input) (start : Start) (stands : Stood) (spares : List X)
+pub record GoesOn {X : Type 0} (fits : X → Floor → Bool) (count : X → ℕ) (asker : Asker) (tail : Tail) (again : Option ℕ) (bound : ℕ) (before after : Input) (start : Start) (stands : Stood) (spares : List X)
     (had has : Option (List ℕ)) (files holds synced : Held) (left : ℕ) : Type 0 where
   pub final : Seen
   pub crew : Crew
   pub replied : Option (List ℕ)
-  pub goes : GoesToEnd fits count text again bound before after start stands spares final crew had replied files holds synced
+  pub goes : GoesToEnd fits count asker again bound before after start stands spares final crew had replied files holds synced
   pub follows : Appends replied has (tail_after tail final.opening final.history final.state)
   pub left_is : left ≡ count_by is_under_way crew.order.vehicles
 
 -- or it does not follow
-pub record GoesWithoutTail {X : Type 0} (fits : X → Floor → Bool) (count : X → ℕ) (text : Answered → List ℕ) (tail : Tail) (again : Option ℕ) (bound : ℕ) (told : Trouble) (before after : Input) (start : Start) (stands : Stood)
+pub record GoesWithoutTail {X : Type 0} (fits : X → Floor → Bool) (count : X → ℕ) (asker : Asker) (tail : Tail) (again : Option ℕ) (bound : ℕ) (told : Trouble) (before after : Input) (start : Start) (stands : Stood)
     (spares : List X) (had has : Option (List ℕ)) (files holds synced : Held) : Type 0 where
   pub final : Seen
   pub crew : Crew
   pub replied : Option (List ℕ)
-  pub goes : GoesToEnd fits count text again bound before after start stands spares final crew had replied files holds synced
+  pub goes : GoesToEnd fits count asker again bound before after start stands spares final crew had replied files holds synced
   pub why : IsWhyNoTail told replied has (tail_after tail final.opening final.history final.state)
 
 -- Why a run that starts was not brought to its end, or not all was told.
-abbrev pub IsWhyNotOn : {X : Type 0} → (X → Floor → Bool) → (X → ℕ) → (Answered → List ℕ) → Tail → (again : Option ℕ) → (bound : ℕ) → Trouble → (before after : Input) → Start → Stood → (planners spares : List X)
+abbrev pub IsWhyNotOn : {X : Type 0} → (X → Floor → Bool) → (X → ℕ) → Asker → Tail → (again : Option ℕ) → (bound : ℕ) → Trouble → (before after : Input) → Start → Stood → (planners spares : List X)
     → (had has : Option (List ℕ)) → (files holds synced : Held) → (log_failed arrivals_failed : Bool) → Type 0
-IsWhyNotOn {X} fits count text tail again bound told before after start stands planners spares had has files holds synced log_failed arrivals_failed =
-    ((fault : RideFault) × (rest : List X) × (told ≡ ride_trouble fault) × StopsRide fits count text again bound fault before after start stands planners spares rest had has files holds synced log_failed arrivals_failed)
-    ⊎ GoesWithoutTail fits count text tail again bound told before after start stands spares had has files holds synced
+IsWhyNotOn {X} fits count asker tail again bound told before after start stands planners spares had has files holds synced log_failed arrivals_failed =
+    ((fault : RideFault) × (rest : List X) × (told ≡ ride_trouble fault) × StopsRide fits count asker again bound fault before after start stands planners spares rest had has files holds synced log_failed arrivals_failed)
+    ⊎ GoesWithoutTail fits count asker tail again bound told before after start stands spares had has files holds synced
 
 -- A site was read, a run of it starts over the files, and its vehicles stand somewhere; the site stands beside the log; and the run went on
 -- from there to its end.
-pub record ServesConvoy {X : Type 0} (fits : X → Floor → Bool) (count : X → ℕ) (text : Answered → List ℕ) (gives : PlannerParts → Result X AllocError → Type 0) (fleet : Fleet) (tail : Tail) (again : Option ℕ)
+pub record ServesConvoy {X : Type 0} (fits : X → Floor → Bool) (count : X → ℕ) (asker : Asker) (gives : PlannerParts → Result X AllocError → Type 0) (fleet : Fleet) (tail : Tail) (again : Option ℕ) (anew : Bool)
     (pace : VehicleOptions) (old new : Input) (had has : Option (List ℕ)) (files holds synced : Held) (beside : Siding) (left : ℕ) : Type 0 where
   pub site : Site
   pub between : Input
@@ -143,45 +144,46 @@ pub record ServesConvoy {X : Type 0} (fits : X → Floor → Bool) (count : X �
   pub stands : Stood
   pub planners : List X
   pub spares : List X
-  pub starts : StartsConvoy gives fleet again pace.ahead old between files beside site start stands planners spares
+  pub starts : StartsConvoy gives fleet again anew pace.ahead old between files beside site start stands planners spares
   pub site_is : start.book.site ≡ site
   pub is_set : IsSet beside starts.starts.text
-  pub goes_on : GoesOn fits count text tail again pace.behind between new start stands spares had has files holds synced left
+  pub goes_on : GoesOn fits count asker tail again pace.behind between new start stands spares had has files holds synced left
 
 -- a site was read by whose rule agents may follow, so that vehicles might stand still for ever
-pub record LetsFollowKept (told : DriveTrouble) (old new : Input) : Type 0 where
+pub record LetsFollowKept (homes : Bool) (told : DriveTrouble) (old new : Input) : Type 0 where
   pub is : told ≡ Plain trouble.MayFollow
   pub site : Site
   pub text : List ℕ
-  pub site_read : SiteKept old new site.grid site.layout text
+  pub site_read : SiteKept homes old new site text
   pub rule : site.layout.nofollow ≡ false
 
 -- Why no run of the site starts over the files, with vehicles that stand somewhere, and planners for its agents.
-abbrev pub IsWhyNoConvoy : Fleet → (again : Option ℕ) → (ahead : ℕ) → Site → Held → (beside : Option (List ℕ)) (text : List ℕ) → DriveTrouble → Type 0
-IsWhyNoConvoy fleet again ahead site files beside text told =
-    ((fault : Trouble) × (told ≡ Plain fault) × (IsWhyNoRun fleet again site files.log beside text fault ⊎ IsUnequipped fleet site files.log fault))
+abbrev pub IsWhyNoConvoy : Fleet → (again : Option ℕ) → (anew : Bool) → (ahead : ℕ) → Site → Held → (beside : Option (List ℕ)) (text : List ℕ) → DriveTrouble → Type 0
+IsWhyNoConvoy fleet again anew ahead site files beside text told =
+    ((fault : Trouble) × (told ≡ Plain fault) × (IsWhyNoRun fleet again anew site files.log beside text fault ⊎ IsUnequipped fleet site files.log fault))
     ⊎ ((start : Start) × StartsFrom fleet site files.log start × IsWhyNotOver start.book ahead files.arrivals told)
 
 -- a site was read, and there it ended
-pub record EndsAtConvoy (fleet : Fleet) (again : Option ℕ) (ahead : ℕ) (told : DriveTrouble) (old new : Input) (files : Held) (beside : Option (List ℕ)) : Type 0 where
+pub record EndsAtConvoy (fleet : Fleet) (again : Option ℕ) (anew : Bool) (ahead : ℕ) (told : DriveTrouble) (old new : Input) (files : Held) (beside : Option (List ℕ)) : Type 0 where
   pub site : Site
   pub text : List ℕ
-  pub site_read : SiteKept old new site.grid site.layout text
-  pub why : IsWhyNoConvoy fleet again ahead site files beside text told
+  pub site_read : SiteKept fleet.homes old new site text
+  pub why : IsWhyNoConvoy fleet again anew ahead site files beside text told
 
--- the run starts, and the site could not be kept beside the log
-pub record StopsConvoyAside {X : Type 0} (gives : PlannerParts → Result X AllocError → Type 0) (fleet : Fleet) (again : Option ℕ) (ahead : ℕ) (old new : Input) (files : Held) (beside : Siding) : Type 0 where
+-- the run starts, and its log was not begun, or its site not kept beside it
+pub record StopsConvoyOpening {X : Type 0} (gives : PlannerParts → Result X AllocError → Type 0) (fleet : Fleet) (again : Option ℕ) (anew : Bool) (ahead : ℕ) (fault : KeepFault) (old new : Input) (files : Held) (failed : Bool)
+    (holds : Held) (beside : Siding) : Type 0 where
   pub site : Site
   pub start : Start
   pub stands : Stood
   pub planners : List X
   pub spares : List X
-  pub starts : StartsConvoy gives fleet again ahead old new files beside site start stands planners spares
-  pub left : LeavesFront beside.before beside.after starts.starts.text
-  pub has_failed : beside.failed ≡ true
+  pub starts : StartsConvoy gives fleet again anew ahead old new files beside site start stands planners spares
+  pub arrivals : holds.arrivals ≡ files.arrivals
+  pub why : IsWhyNotBoth fault start files.log holds.log failed beside.before beside.after beside.failed starts.starts.text
 
--- the run started, with the site beside its log, and was not brought to its end, or not all was told
-pub record StopsConvoy {X : Type 0} (fits : X → Floor → Bool) (count : X → ℕ) (text : Answered → List ℕ) (gives : PlannerParts → Result X AllocError → Type 0) (fleet : Fleet) (tail : Tail) (again : Option ℕ)
+-- the log was begun, the site stands beside it, and the run that started was not brought to its end, or not all was told
+pub record StopsConvoy {X : Type 0} (fits : X → Floor → Bool) (count : X → ℕ) (asker : Asker) (gives : PlannerParts → Result X AllocError → Type 0) (fleet : Fleet) (tail : Tail) (again : Option ℕ) (anew : Bool)
     (pace : VehicleOptions) (told : Trouble) (old new : Input) (had has : Option (List ℕ)) (files holds synced : Held) (log_failed arrivals_failed : Bool) (beside : Siding) : Type 0 where
   pub site : Site
   pub between : Input
@@ -189,21 +191,25 @@ pub record StopsConvoy {X : Type 0} (fits : X → Floor → Bool) (count : X →
   pub stands : Stood
   pub planners : List X
   pub spares : List X
-  pub starts : StartsConvoy gives fleet again pace.ahead old between files beside site start stands planners spares
+  pub starts : StartsConvoy gives fleet again anew pace.ahead old between files beside site start stands planners spares
   pub is_set : IsSet beside starts.starts.text
-  pub why : IsWhyNotOn fits count text tail again pace.behind told between new start stands planners spares had has files holds synced log_failed arrivals_failed
+  pub begun : Start
+  pub opened : Option (List ℕ)
+  pub opens : IsOpened start begun files.log opened
+  pub why : IsWhyNotOn fits count asker tail again pace.behind told between new begun stands planners spares had has (record { log = opened; arrivals = files.arrivals }) holds synced log_failed arrivals_failed
 
 -- nothing was told, and the files hold what they held
 abbrev pub IsStill : (had has : Option (List ℕ)) → (files holds : Held) → Siding → Type 0
 IsStill had has files holds beside = Keeps had has × (holds ≡ files) × IsUntouched beside
 
--- Why it ended otherwise, in this order: the site, its rule, the file beside the log, the log, the file of arrivals, the planners, the site's
--- file, the run, what is to follow the replies. Before the run starts nothing is told, and the log and the file of arrivals are as they were.
-abbrev pub IsWhyUnconvoyed : {X : Type 0} → (X → Floor → Bool) → (X → ℕ) → (Answered → List ℕ) → (PlannerParts → Result X AllocError → Type 0) → Fleet → Tail → (again : Option ℕ) → VehicleOptions → DriveTrouble
+-- Why it ended otherwise, in this order: the site, its rule, the file beside the log, the log, the file of arrivals, the planners, the log's first
+-- lines and the site's file, the run, what is to follow the replies. Before the run starts nothing is told, and the file of arrivals is as it was;
+-- before its planners are made, so are the others.
+abbrev pub IsWhyUnconvoyed : {X : Type 0} → (X → Floor → Bool) → (X → ℕ) → Asker → (PlannerParts → Result X AllocError → Type 0) → Fleet → Tail → (again : Option ℕ) → (anew : Bool) → VehicleOptions → DriveTrouble
     → (old new : Input) → (had has : Option (List ℕ)) → (files holds synced : Held) → (log_failed arrivals_failed : Bool) → Siding → Type 0
-IsWhyUnconvoyed fits count text gives fleet tail again pace told old new had has files holds synced log_failed arrivals_failed beside =
-    ((fault : Trouble) × (told ≡ Plain fault) × SiteFault fault old new × IsStill had has files holds beside)
-    ⊎ (LetsFollowKept told old new × IsStill had has files holds beside)
-    ⊎ (EndsAtConvoy fleet again pace.ahead told old new files beside.before × IsStill had has files holds beside)
-    ⊎ ((told ≡ Plain trouble.Unkept) × StopsConvoyAside gives fleet again pace.ahead old new files beside × Keeps had has × (holds ≡ files))
-    ⊎ ((fault : Trouble) × (told ≡ Plain fault) × StopsConvoy fits count text gives fleet tail again pace fault old new had has files holds synced log_failed arrivals_failed beside)
+IsWhyUnconvoyed fits count asker gives fleet tail again anew pace told old new had has files holds synced log_failed arrivals_failed beside =
+    ((fault : Trouble) × (told ≡ Plain fault) × SiteFault fleet.homes fault old new × IsStill had has files holds beside)
+    ⊎ (LetsFollowKept fleet.homes told old new × IsStill had has files holds beside)
+    ⊎ (EndsAtConvoy fleet again anew pace.ahead told old new files beside.before × IsStill had has files holds beside)
+    ⊎ ((fault : KeepFault) × (told ≡ Plain (keep_trouble fault)) × StopsConvoyOpening gives fleet again anew pace.ahead fault old new files log_failed holds beside × Keeps had has)
+    ⊎ ((fault : Trouble) × (told ≡ Plain fault) × StopsConvoy fits count asker gives fleet tail again anew pace fault old new had has files holds synced log_failed arrivals_failed beside)

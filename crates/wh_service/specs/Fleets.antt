@@ -36,6 +36,11 @@ pub record IsMember {X : Type 0} (gives : PlannerParts → Result X AllocError �
   pub slots_are : claim_amount parts.claim ≡ fleet.slots
   pub bank_is : claim_bank parts.claim ≡ bank
 
+-- the given number of planners, all of them members of the fleet
+pub record AreMembers {X : Type 0} (gives : PlannerParts → Result X AllocError → Type 0) (fleet : Fleet) (grid : Floor) (bank : Bank) (many : ℕ) (planners : List X) : Type 0 where
+  pub many_is : length planners ≡ many
+  pub members : All (IsMember gives fleet grid bank) planners
+
 -- the fleet, but that each planner has the given number of slots
 abbrev pub with_slots : Fleet → ℕ → Fleet
 with_slots fleet slots = record fleet { slots = slots }

@@ -1,5 +1,5 @@
 -- What a whole run of `replay` over a log file does.
-use Rattle.std.specs.Prelude.{◌≡◌, ◌⊎◌, ◌<◌, ◌≤◌, ◌+◌, ℕ, Bool, true, List, length, replicate, Option, Some, IfSome, Result, All}
+use Rattle.std.specs.Prelude.{◌≡◌, ◌⊎◌, ◌<◌, ◌≤◌, ◌+◌, ℕ, Bool, true, false, List, length, replicate, Option, None, Some, IfSome, Result, All, is_some}
 use Rattle.std.specs.declared.alloc.AllocError.{AllocError}
 use Rattle.std.specs.Io.KnownBytes.{Appends, Keeps}
 use Rattle.wh_lines.specs.Input.{Input}
@@ -8,14 +8,16 @@ use Rattle.wh_points.specs.Points.{Site}
 use Rattle.wh_points.specs.Formed.{IsFormed}
 use Rattle.wh_claims.specs.Bank.{bank_total}
 use Rattle.wh_claims.specs.declared.bank.Bank.{Bank}
-use Rattle.wh_log.specs.Told.{Answered}
+use Rattle.wh_replay.specs.declared.asker.Asker.{Asker}
 use Rattle.wh_core.specs.Laws.{IsOpening}
 use Rattle.wh_core.specs.Steps.{Run}
 use Rattle.wh_judge.specs.Drafts.{AllServed, Seen}
 use Rattle.wh_continue.specs.Starting.{IsWhyNoStart, StartsByFile}
 use Rattle.wh_continue.specs.Besides.{HoldsOther, StandsBeside}
-use Rattle.wh_continue.specs.Running.{LeavesFront, Opens, RunsOn, StopsRun}
+use Rattle.wh_continue.specs.Opening.{IsOpened, IsWhyNotBoth}
+use Rattle.wh_continue.specs.Running.{Opens, RunsOn, StopsRun}
 use Rattle.wh_continue.specs.declared.beside.Beside.{Beside}
+use Rattle.wh_continue.specs.declared.beside.Beside.TheVariants as aside
 use Rattle.wh_continue.specs.declared.continuing.ContinueFault.TheVariants as continued
 use Rattle.wh_continue.specs.declared.running.KeepFault.{KeepFault}
 use Rattle.wh_continue.specs.declared.running.KeepFault.TheVariants as kept
@@ -31,7 +33,8 @@ use Rattle.wh_edge.specs.declared.trouble.Trouble.TheVariants as trouble
 use Rattle.wh_options.specs.declared.chosen.Fleet.{Fleet}
 use Rattle.wh_options.specs.declared.chosen.Tail.{Tail}
 use Rattle.wh_service.specs.Fleets.{AreSeated, IsMember, IsWhyUnclaimed, IsWhyUnseated}
-use Rattle.wh_service.specs.Tails.{IsWhyNoTail, tail_after}
+use Rattle.wh_service.specs.Plays.{deliver_trouble}
+use Rattle.wh_service.specs.Tails.{IsWhyNoTail, tail_after, told_open}
 use Rattle.wh_service.specs.declared.parts.PlannerParts.{PlannerParts}
 
 -- One planner for each agent, with the slots that its state tells, and as many spare ones as the options name, with the
@@ -67,34 +70,41 @@ IsUntouched beside = beside.after ≡ beside.before
 abbrev pub IsSet : Siding → List ℕ → Type 0
 IsSet beside text = Opens beside.before beside.after text × (beside.synced ≡ beside.after)
 
+-- Where the site's text stands whole beside the log, that was begun, or a new run was asked for.
+abbrev pub HasLog : (anew : Bool) → Beside → Start → Type 0
+HasLog anew found start = found ≡ aside.Whole → anew ≡ false → is_some start.bytes ≡ true
+
 -- A site was read, and stands beside the log, or a beginning of its text does; then the log was read, and planners were made
 -- for what the run starts from. Entries are told again from one on that the run has, or from its next one. Again, here and
--- below, says from which, if any are.
-pub record StartsOver {X : Type 0} (gives : PlannerParts → Result X AllocError → Type 0) (fleet : Fleet) (again : Option ℕ) (old between : Input) (file : Option (List ℕ)) (beside : Siding)
+-- below, says from which, if any are, and anew whether a new run may begin where its log was lost.
+pub record StartsOver {X : Type 0} (gives : PlannerParts → Result X AllocError → Type 0) (fleet : Fleet) (again : Option ℕ) (anew : Bool) (old between : Input) (file : Option (List ℕ)) (beside : Siding)
     (site : Site) (start : Start) (planners spares : List X) : Type 0 where
   pub text : List ℕ
-  pub site_read : SiteKept old between site.grid site.layout text
+  pub site_read : SiteKept fleet.homes old between site text
   pub found : Beside
   pub stands : StandsBeside beside.before text found
   pub starts : StartsFrom fleet site file start
+  pub has_log : HasLog anew found start
   pub within : IfSome again (λ first. first ≤ length start.book.history)
   pub seated : IsSeated gives fleet site.grid start.book.state.slots planners spares
 
 -- The run went on from there: the site stands beside the log, the script behind the site was served to its end, with planners
--- for its agents, over the file, which is the log of the whole run now, and what must follow the replies follows them.
-pub record ServesKept {X : Type 0} (fits : X → Floor → Bool) (count : X → ℕ) (text : Answered → List ℕ) (gives : PlannerParts → Result X AllocError → Type 0) (fleet : Fleet) (tail : Tail) (again : Option ℕ)
-    (old new : Input) (had has file synced holds : Option (List ℕ)) (beside : Siding) : Type 0 where
+-- for its agents, over the file, all was delivered behind it, where deliver says so, the file is the log of the whole run now, and what must
+-- follow the replies follows them. This is to be told of orders that are open.
+pub record ServesKept {X : Type 0} (fits : X → Floor → Bool) (count : X → ℕ) (asker : Asker) (gives : PlannerParts → Result X AllocError → Type 0) (fleet : Fleet) (deliver : Bool) (tail : Tail) (again : Option ℕ) (anew : Bool)
+    (old new : Input) (had has file synced holds : Option (List ℕ)) (beside : Siding) (report : List ℕ) : Type 0 where
   pub site : Site
   pub between : Input
   pub start : Start
   pub planners : List X
   pub spares : List X
-  pub starts : StartsOver gives fleet again old between file beside site start planners spares
+  pub starts : StartsOver gives fleet again anew old between file beside site start planners spares
   pub is_set : IsSet beside starts.text
   pub rest : List X
   pub final : Seen
   pub replied : Option (List ℕ)
-  pub runs : RunsOn fits count text again between new start.book spares final rest had replied file synced holds
+  pub runs : RunsOn fits count asker again deliver between new start.book spares final rest had replied file synced holds
+  pub open_is : report ≡ told_open deliver final.state
   pub follows : Appends replied has (tail_after tail final.opening final.history final.state)
   -- the whole run, old and new entries, is one of the abstract warehouse, from an opening state of this site
   pub site_is : final.site ≡ site
@@ -121,6 +131,7 @@ run_trouble (ran.Begin fault) = keep_trouble fault
 run_trouble ran.Uncounted = trouble.Unwritten
 run_trouble (ran.Continue (continued.Replay fault)) = journal_trouble fault
 run_trouble (ran.Continue (continued.Resume fault)) = trouble.NoMemory
+run_trouble (ran.Deliver fault) = deliver_trouble fault
 run_trouble (ran.End fault) = keep_trouble fault
 
 -- Why the file beside the log does not allow a run: it holds the text of another site, or another text, which is told as line
@@ -149,9 +160,19 @@ pub record IsBeyond (fleet : Fleet) (again : Option ℕ) (site : Site) (file : O
   pub beyond : length start.book.history < first
   pub told_is : told ≡ trouble.Log (length start.book.history + 3)
 
+-- The site's text stands whole beside a log that was not begun, as it does only once a log was: that log was lost, and no new run is asked for.
+pub record IsLostLog (fleet : Fleet) (anew : Bool) (site : Site) (file beside : Option (List ℕ)) (text : List ℕ) (told : Trouble) : Type 0 where
+  pub told_is : told ≡ trouble.LostLog
+  pub unasked : anew ≡ false
+  pub stands : StandsBeside beside text aside.Whole
+  pub start : Start
+  pub starts : StartsFrom fleet site file start
+  pub unbegun : start.bytes ≡ None
+
 -- why no run starts over both files, the earlier first
-abbrev pub IsWhyNoRun : Fleet → (again : Option ℕ) → Site → (file beside : Option (List ℕ)) (text : List ℕ) → Trouble → Type 0
-IsWhyNoRun fleet again site file beside text told = IsWhyAside beside text told ⊎ IsWhyNotStarted fleet site file told ⊎ IsBeyond fleet again site file told
+abbrev pub IsWhyNoRun : Fleet → (again : Option ℕ) → (anew : Bool) → Site → (file beside : Option (List ℕ)) (text : List ℕ) → Trouble → Type 0
+IsWhyNoRun fleet again anew site file beside text told =
+    IsWhyAside beside text told ⊎ IsWhyNotStarted fleet site file told ⊎ IsLostLog fleet anew site file beside text told ⊎ IsBeyond fleet again site file told
 
 -- the run starts, and a planner got no slots, or memory ran out for one
 pub record IsUnequipped (fleet : Fleet) (site : Site) (file : Option (List ℕ)) (told : Trouble) : Type 0 where
@@ -160,59 +181,61 @@ pub record IsUnequipped (fleet : Fleet) (site : Site) (file : Option (List ℕ))
   pub why : IsWhyUnseated start.book.state.slots told ⊎ IsWhyUnclaimed fleet.slots told
 
 -- A site was read, and there it ended: no run starts over the files, or its planners were not made.
-pub record EndsAtStart (fleet : Fleet) (again : Option ℕ) (told : Trouble) (old new : Input) (file beside : Option (List ℕ)) : Type 0 where
+pub record EndsAtStart (fleet : Fleet) (again : Option ℕ) (anew : Bool) (told : Trouble) (old new : Input) (file beside : Option (List ℕ)) : Type 0 where
   pub site : Site
   pub text : List ℕ
-  pub site_read : SiteKept old new site.grid site.layout text
-  pub why : IsWhyNoRun fleet again site file beside text told ⊎ IsUnequipped fleet site file told
+  pub site_read : SiteKept fleet.homes old new site text
+  pub why : IsWhyNoRun fleet again anew site file beside text told ⊎ IsUnequipped fleet site file told
 
--- A run starts, with planners, and the site could not be kept beside the log: what stood there stands, or a front of the text.
-pub record StopsAside {X : Type 0} (gives : PlannerParts → Result X AllocError → Type 0) (fleet : Fleet) (again : Option ℕ) (old new : Input) (file : Option (List ℕ)) (beside : Siding) : Type 0 where
+-- A run starts, with planners, and its log was not begun, or its site not kept beside it.
+pub record StopsOpening {X : Type 0} (gives : PlannerParts → Result X AllocError → Type 0) (fleet : Fleet) (again : Option ℕ) (anew : Bool) (fault : KeepFault) (old new : Input) (file : Option (List ℕ)) (failed : Bool)
+    (holds : Option (List ℕ)) (beside : Siding) : Type 0 where
   pub site : Site
   pub start : Start
   pub planners : List X
   pub spares : List X
-  pub starts : StartsOver gives fleet again old new file beside site start planners spares
-  pub left : LeavesFront beside.before beside.after starts.text
-  pub has_failed : beside.failed ≡ true
+  pub starts : StartsOver gives fleet again anew old new file beside site start planners spares
+  pub why : IsWhyNotBoth fault start file holds failed beside.before beside.after beside.failed starts.text
 
--- The run started, with the site beside its log, and was not brought to its end.
-pub record StopsKept {X : Type 0} (fits : X → Floor → Bool) (count : X → ℕ) (text : Answered → List ℕ) (gives : PlannerParts → Result X AllocError → Type 0) (fleet : Fleet) (again : Option ℕ) (fault : RunFault)
+-- The log was begun, the site stands beside it, and the run that started was not brought to its end.
+pub record StopsKept {X : Type 0} (fits : X → Floor → Bool) (count : X → ℕ) (asker : Asker) (gives : PlannerParts → Result X AllocError → Type 0) (fleet : Fleet) (deliver : Bool) (again : Option ℕ) (anew : Bool) (fault : RunFault)
     (old new : Input) (had has file : Option (List ℕ)) (failed : Bool) (synced holds : Option (List ℕ)) (beside : Siding) : Type 0 where
   pub site : Site
   pub between : Input
   pub start : Start
   pub planners : List X
   pub spares : List X
-  pub starts : StartsOver gives fleet again old between file beside site start planners spares
+  pub starts : StartsOver gives fleet again anew old between file beside site start planners spares
   pub is_set : IsSet beside starts.text
+  pub begun : Start
+  pub opened : Option (List ℕ)
+  pub opens : IsOpened start begun file opened
   pub rest : List X
-  pub stops : StopsRun fits count text again fault between new start planners spares rest had has file failed synced holds
+  pub stops : StopsRun fits count asker again deliver fault between new begun planners spares rest had has opened failed synced holds
 
 -- The run was brought to its end, and what is to follow the replies does not.
-pub record KeptWithoutTail {X : Type 0} (fits : X → Floor → Bool) (count : X → ℕ) (text : Answered → List ℕ) (gives : PlannerParts → Result X AllocError → Type 0) (fleet : Fleet) (tail : Tail) (again : Option ℕ)
+pub record KeptWithoutTail {X : Type 0} (fits : X → Floor → Bool) (count : X → ℕ) (asker : Asker) (gives : PlannerParts → Result X AllocError → Type 0) (fleet : Fleet) (deliver : Bool) (tail : Tail) (again : Option ℕ) (anew : Bool)
     (told : Trouble) (old new : Input) (had has file synced holds : Option (List ℕ)) (beside : Siding) : Type 0 where
   pub site : Site
   pub between : Input
   pub start : Start
   pub planners : List X
   pub spares : List X
-  pub starts : StartsOver gives fleet again old between file beside site start planners spares
+  pub starts : StartsOver gives fleet again anew old between file beside site start planners spares
   pub is_set : IsSet beside starts.text
   pub rest : List X
   pub final : Seen
   pub replied : Option (List ℕ)
-  pub runs : RunsOn fits count text again between new start.book spares final rest had replied file synced holds
+  pub runs : RunsOn fits count asker again deliver between new start.book spares final rest had replied file synced holds
   pub why : IsWhyNoTail told replied has (tail_after tail final.opening final.history final.state)
 
--- Why it ended otherwise, in this order: the site, both files, the bank and the planners, the site's file, the run, what is to
--- follow the replies. Before the run starts nothing is written, and the log is as it was; before its planners are made, so is
--- the file beside it.
-abbrev pub IsWhyUnkept : {X : Type 0} → (X → Floor → Bool) → (X → ℕ) → (Answered → List ℕ) → (PlannerParts → Result X AllocError → Type 0) → Fleet → Tail → (again : Option ℕ) → Trouble
+-- Why it ended otherwise, in this order: the site, both files, the bank and the planners, the log's first lines and the site's file, the run,
+-- what is to follow the replies. Before the run starts nothing is told; before its planners are made, both files are as they were.
+abbrev pub IsWhyUnkept : {X : Type 0} → (X → Floor → Bool) → (X → ℕ) → Asker → (PlannerParts → Result X AllocError → Type 0) → Fleet → (deliver : Bool) → Tail → (again : Option ℕ) → (anew : Bool) → Trouble
     → (old new : Input) → (had has file : Option (List ℕ)) → Bool → (synced holds : Option (List ℕ)) → Siding → Type 0
-IsWhyUnkept fits count text gives fleet tail again told old new had has file failed synced holds beside =
-    (SiteFault told old new × Keeps had has × (holds ≡ file) × IsUntouched beside)
-    ⊎ (EndsAtStart fleet again told old new file beside.before × Keeps had has × (holds ≡ file) × IsUntouched beside)
-    ⊎ ((told ≡ trouble.Unkept) × StopsAside gives fleet again old new file beside × Keeps had has × (holds ≡ file))
-    ⊎ ((fault : RunFault) × (told ≡ run_trouble fault) × StopsKept fits count text gives fleet again fault old new had has file failed synced holds beside)
-    ⊎ KeptWithoutTail fits count text gives fleet tail again told old new had has file synced holds beside
+IsWhyUnkept fits count asker gives fleet deliver tail again anew told old new had has file failed synced holds beside =
+    (SiteFault fleet.homes told old new × Keeps had has × (holds ≡ file) × IsUntouched beside)
+    ⊎ (EndsAtStart fleet again anew told old new file beside.before × Keeps had has × (holds ≡ file) × IsUntouched beside)
+    ⊎ ((fault : KeepFault) × (told ≡ keep_trouble fault) × StopsOpening gives fleet again anew fault old new file failed holds beside × Keeps had has)
+    ⊎ ((fault : RunFault) × (told ≡ run_trouble fault) × StopsKept fits count asker gives fleet deliver again anew fault old new had has file failed synced holds beside)
+    ⊎ KeptWithoutTail fits count asker gives fleet deliver tail again anew told old new had has file synced holds beside

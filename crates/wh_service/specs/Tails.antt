@@ -1,5 +1,5 @@
 -- What follows the replies of a replay.
-use Rattle.std.specs.Prelude.{ℕ, List, [], ◌∷◌, ◌++◌, codes, Option}
+use Rattle.std.specs.Prelude.{ℕ, Bool, true, false, List, [], ◌∷◌, ◌++◌, codes, Option}
 use Rattle.std.specs.Io.KnownBytes.{Keeps}
 use Rattle.wh_words.specs.Lines.{text_of}
 use Rattle.wh_event.specs.declared.entry.Entry.{Entry}
@@ -11,6 +11,7 @@ use Rattle.wh_log.specs.declared.version.Version.TheVariants.{Two}
 use Rattle.wh_options.specs.declared.chosen.Tail.{Tail}
 use Rattle.wh_options.specs.declared.chosen.Tail.TheVariants.{Nothing, Log, Ledger}
 use Rattle.wh_replay.specs.Scripts.{WritesFront}
+use Rattle.wh_deliver.specs.OpenOrders.{open_text}
 use Rattle.wh_edge.specs.declared.trouble.Trouble.{Trouble}
 use Rattle.wh_edge.specs.declared.trouble.Trouble.TheVariants as trouble
 
@@ -29,6 +30,11 @@ tail_text Ledger opening entries final = ledger_text (rows_of final.tasks)
 -- what follows the replies
 abbrev pub tail_after : Tail → State → List Entry → State → List ℕ
 tail_after tail opening entries final = separator tail ++ tail_text tail opening entries final
+
+-- what is told of orders that are open at the end, where all was to be delivered
+abbrev pub told_open : Bool → State → List ℕ
+told_open false final = []
+told_open true final = open_text final
 
 -- why it did not follow: memory ran out, and nothing of it was written, or the writer failed, and a front of it was
 abbrev pub IsWhyNoTail : Trouble → Option (List ℕ) → Option (List ℕ) → List ℕ → Type 0

@@ -2,28 +2,28 @@
 
 ghost use Rattle.std.specs.Prelude.{◌≡◌, ◌≤◌, false, IfErr, IfOk, IfSome, length};
 ghost use Rattle.std.specs.Arc.{arc_value};
-ghost use Rattle.wh_points.specs.Points.{IsLayout};
-ghost use Rattle.wh_log.specs.Told.{told_text};
 ghost use Rattle.wh_dispatch.specs.SettingOut.{SomeInStep};
 ghost use Rattle.wh_continue.specs.Besides.{StandsBeside};
 ghost use Rattle.wh_continue.specs.Running.{IsStartOf};
 ghost use Rattle.wh_service.specs.Fleets.{IsOfFleet, MakesPlanners};
-ghost use Rattle.wh_service.specs.Kept.{IsSeated, StartsFrom};
+ghost use Rattle.wh_service.specs.Kept.{HasLog, IsSeated, StartsFrom};
 ghost use Rattle.wh_service.specs.Convoys.{GoesOn, IsWhyNoConvoy, IsWhyNotOn, IsWhyNotOver, IsWhyUnconvoyed, ServesConvoy, StandsOver, convoy_trouble, drive_status, drive_text, ride_trouble};
-ghost use Rattle.wh_service.specs.Plays.{text_by};
+ghost use Rattle.wh_service.specs.Plays.{form_of};
+ghost use Rattle.wh_journal.specs.Journals.{log_asker};
 
 use crate::kept::{equip_for, keep_trouble, start_aside};
 use crate::parts::PlannerParts;
 use crate::program::form_of;
+use crate::settings::{KeptSetting, read_kept_setting};
 use crate::tail::write_tail;
 use crate::vehicles::trouble_of;
 use arrayvec::ArrayVec;
 use std::alloc::{AllocError, Global};
 use std::io::{Read, Write};
 use std::sync::Arc;
-use wh_continue::{Beside, LogFile, LogFileFault, Start, keep_beside};
+use wh_continue::{Beside, LogFile, LogFileFault, Setting, Start, open_both};
 use wh_convoy::{ConvoyFault, RideFault, Stood, StoodFault, find_stand, ride_on};
-use wh_edge::{KeptSite, Site, Status, Trouble, read_kept_site};
+use wh_edge::{Status, Trouble};
 use wh_event::{put, put_number};
 use wh_grid::Grid;
 use wh_judge::Book;
@@ -31,7 +31,6 @@ use wh_lines::Lines;
 use wh_log::Form;
 use wh_options::{ReplayOptions, Tail, VehicleOptions};
 use wh_planner::Planner;
-use wh_points::Points;
 
 /// Why a replay with vehicles was not brought to its end.
 #[derive(Clone, Copy, Debug, PartialEq, Eq)]
@@ -138,30 +137,32 @@ fn start_convoy<L: LogFile, P: Planner, F: Fn(PlannerParts) -> Result<P, AllocEr
     arrivals: &mut L,
     text: &[u8],
     grid: &Arc<Grid>,
-    points: Points,
+    setting: Setting,
     options: &ReplayOptions<'_>,
     ahead: u64,
     make: &F,
 ) -> Result<(Start, Beside, Stood, (Vec<P>, Vec<P>)), DriveTrouble>
-    requires layout { IsLayout (arc_value grid.now) points }
-    requires some { 1 ≤ length points.agents }
+    requires some { 1 ≤ length setting.layout.agents }
+    requires grid { arc_value grid.now ≡ setting.grid }
     requires range { IsOfFleet options.now.fleet }
     requires ahead { 1 ≤ ahead }
     requires callable { F.IsAlwaysCallable make.now }
-    ensures ok { IfOk result (λ r. StartsFrom options.now.fleet (record { grid = arc_value grid.now; layout = points; homes = false }) (L.contents file.old) r.0) }
+    ensures ok { IfOk result (λ r. StartsFrom options.now.fleet setting (L.contents file.old) r.0) }
     ensures stands { IfOk result (λ r. StandsBeside (L.contents beside.old) text.now r.1) }
+    ensures has_log { IfOk result (λ r. HasLog options.now.anew r.1 r.0) }
     ensures within { IfOk result (λ r. IfSome options.now.told (λ first. first ≤ length r.0.book.history)) }
     ensures over { IfOk result (λ r. StandsOver r.0.book ahead (L.contents arrivals.old) r.2) }
     ensures in_step { IfOk result (λ r. SomeInStep r.0.book r.2.order) }
-    ensures seated { IfOk result (λ r. IsSeated (F.post make.now) options.now.fleet (arc_value grid.now) r.0.book.state.slots r.3.0.items r.3.1.items) }
-    ensures fault { IfErr result (IsWhyNoConvoy options.now.fleet options.now.told ahead (record { grid = arc_value grid.now; layout = points; homes = false }) (record { log = L.contents file.old; arrivals = L.contents arrivals.old }) (L.contents beside.old) text.now) }
+    ensures seated { IfOk result (λ r. IsSeated (F.post make.now) options.now.fleet setting.grid r.0.book.state.slots r.3.0.items r.3.1.items) }
+    ensures fault { IfErr result (IsWhyNoConvoy options.now.fleet options.now.told options.now.anew ahead setting (record { log = L.contents file.old; arrivals = L.contents arrivals.old }) (L.contents beside.old) text.now) }
     ensures same { L.contents file.new ≡ L.contents file.old }
     ensures same_beside { L.contents beside.new ≡ L.contents beside.old }
     ensures same_arrivals { L.contents arrivals.new ≡ L.contents arrivals.old }
 {
     let fleet = &options.fleet;
     let again = options.told;
-    let (start, found) = match start_aside(alloc, file, beside, text, grid, points, fleet, again) {
+    let anew = options.anew;
+    let (start, found) = match start_aside(alloc, file, beside, text, setting, fleet, again, anew) {
         Ok(started) => started,
         Err(trouble) => return Err(DriveTrouble::Plain(trouble)),
     };
@@ -200,9 +201,9 @@ fn go_on<R: Read, W: Write, L: LogFile, P: Planner>(
 ) -> Result<u32, Trouble>
     requires starts { IsStartOf (L.contents file.old) start }
     requires stand { SomeInStep start.book stood.order }
-    ensures ok { IfOk result (λ left. GoesOn P.fits_map P.slot_count (told_text form) tail again behind lines.old lines.new start stood spares.old.items (W.contents output.old) (W.contents output.new)
+    ensures ok { IfOk result (λ left. GoesOn P.fits_map P.slot_count (log_asker form) tail again behind lines.old lines.new start stood spares.old.items (W.contents output.old) (W.contents output.new)
         (record { log = L.contents file.old; arrivals = L.contents arrivals.old }) (record { log = L.contents file.new; arrivals = L.contents arrivals.new }) (record { log = L.synced file.new; arrivals = L.synced arrivals.new }) left) }
-    ensures fault { IfErr result (λ told. IsWhyNotOn P.fits_map P.slot_count (told_text form) tail again behind told lines.old lines.new start stood planners.items spares.old.items (W.contents output.old) (W.contents output.new)
+    ensures fault { IfErr result (λ told. IsWhyNotOn P.fits_map P.slot_count (log_asker form) tail again behind told lines.old lines.new start stood planners.items spares.old.items (W.contents output.old) (W.contents output.new)
         (record { log = L.contents file.old; arrivals = L.contents arrivals.old }) (record { log = L.contents file.new; arrivals = L.contents arrivals.new }) (record { log = L.synced file.new; arrivals = L.synced arrivals.new }) (L.failed file.new) (L.failed arrivals.new)) }
 {
     let ran = ride_on(
@@ -222,12 +223,12 @@ fn go_on<R: Read, W: Write, L: LogFile, P: Planner>(
 }
 
 /// Reads a site whose rule is that nobody follows, finds out from the log file and the file beside it what the run starts from, and from the
-/// file of arrivals where its vehicles stand, makes the planners, keeps the site's text beside the log, has the vehicles set out, serves
+/// file of arrivals where its vehicles stand, makes the planners, begins the log where it was not begun, keeps the site's text beside it, has the vehicles set out, serves
 /// the script after the site over both files, and writes what follows the replies. What is in the files survives a kill, and
 /// nothing is told before the entries and the reports that it rests on were synced. Returns how many vehicles are on their way at the end. Errors
-/// are reported in this order: the site, its rule, the file beside the log, the log, the file of arrivals, the bank and the planners, what is
-/// written beside the log, the run, what follows the replies. Before the run starts nothing is told, and the log and the file of arrivals are as
-/// they were.
+/// are reported in this order: the site, its rule, the file beside the log, the log, the file of arrivals, the bank and the planners, the log's
+/// first lines, what is written beside the log, the run, what follows the replies. Before the run starts nothing is told, and the file of
+/// arrivals is as it was.
 pub fn serve_convoy<
     R: Read,
     W: Write,
@@ -249,33 +250,32 @@ pub fn serve_convoy<
     requires ahead { 1 ≤ pace.ahead }
     requires callable { F.IsAlwaysCallable make }
     requires makes { MakesPlanners P.fits_map P.slot_count (F.post make) }
-    ensures ok { IfOk result (λ left. ServesConvoy P.fits_map P.slot_count (text_by options.now.replies) (F.post make) options.now.fleet options.now.tail options.now.told pace lines.old lines.new (W.contents output.old) (W.contents output.new)
+    ensures ok { IfOk result (λ left. ServesConvoy P.fits_map P.slot_count (log_asker (form_of options.now.replies)) (F.post make) options.now.fleet options.now.tail options.now.told options.now.anew pace lines.old lines.new (W.contents output.old) (W.contents output.new)
         (record { log = L.contents file.old; arrivals = L.contents arrivals.old }) (record { log = L.contents file.new; arrivals = L.contents arrivals.new }) (record { log = L.synced file.new; arrivals = L.synced arrivals.new })
         (record { before = L.contents beside.old; after = L.contents beside.new; synced = L.synced beside.new; failed = L.failed beside.new }) left) }
-    ensures fault { IfErr result (λ told. IsWhyUnconvoyed P.fits_map P.slot_count (text_by options.now.replies) (F.post make) options.now.fleet options.now.tail options.now.told pace told lines.old lines.new (W.contents output.old) (W.contents output.new)
+    ensures fault { IfErr result (λ told. IsWhyUnconvoyed P.fits_map P.slot_count (log_asker (form_of options.now.replies)) (F.post make) options.now.fleet options.now.tail options.now.told options.now.anew pace told lines.old lines.new (W.contents output.old) (W.contents output.new)
         (record { log = L.contents file.old; arrivals = L.contents arrivals.old }) (record { log = L.contents file.new; arrivals = L.contents arrivals.new }) (record { log = L.synced file.new; arrivals = L.synced arrivals.new }) (L.failed file.new) (L.failed arrivals.new)
         (record { before = L.contents beside.old; after = L.contents beside.new; synced = L.synced beside.new; failed = L.failed beside.new })) }
 {
-    let KeptSite { site, text } = match read_kept_site(lines, alloc) {
+    let homes = options.fleet.homes;
+    let KeptSetting { setting, text } = match read_kept_setting(lines, alloc, homes) {
         Ok(kept) => kept,
         Err(trouble) => return Err(DriveTrouble::Plain(trouble)),
     };
     let bytes = text.as_slice();
-    let Site { grid, points } = site;
-    if !points.nofollow() {
+    if !setting.nofollow() {
         drop(text);
-        drop(points);
-        drop(grid);
+        drop(setting);
         return Err(DriveTrouble::Plain(Trouble::MayFollow));
     }
-    let Ok(grid) = Arc::new(alloc, grid) else {
+    let Ok(grid) = Arc::try_clone(setting.shared_grid()) else {
         drop(text);
-        drop(points);
+        drop(setting);
         return Err(DriveTrouble::Plain(Trouble::NoMemory));
     };
     let ahead = u64::from(pace.ahead);
     let (start, found, stood, (planners, mut spares)) = match start_convoy(
-        alloc, file, beside, arrivals, bytes, &grid, points, options, ahead, &make,
+        alloc, file, beside, arrivals, bytes, &grid, setting, options, ahead, &make,
     ) {
         Ok(started) => started,
         Err(trouble) => {
@@ -284,18 +284,17 @@ pub fn serve_convoy<
             return Err(trouble);
         }
     };
-    match keep_beside(beside, bytes, found) {
-        Ok(()) => {}
-        Err(_) => {
+    let begun = match open_both(alloc, file, beside, bytes, found, start) {
+        Ok(begun) => begun,
+        Err(fault) => {
             drop(planners);
             drop(spares);
             drop(stood);
-            drop(start);
             drop(text);
             drop(grid);
-            return Err(DriveTrouble::Plain(Trouble::Unkept));
+            return Err(DriveTrouble::Plain(keep_trouble(fault)));
         }
-    }
+    };
     drop(text);
     drop(grid);
     let left = go_on(
@@ -307,7 +306,7 @@ pub fn serve_convoy<
         options.tail,
         file,
         arrivals,
-        start,
+        begun,
         stood,
         u64::from(pace.behind),
         planners,

@@ -1,32 +1,32 @@
 //! What `replay` does over a log file.
 
-ghost use Rattle.std.specs.Prelude.{◌≡◌, ◌<◌, ◌≤◌, ◌⊎◌, ◌+◌, ◌^◌, ℕ, false, Some, IfErr, IfNone, IfOk, IfSome, OnOk, length, All};
+ghost use Rattle.std.specs.Prelude.{◌≡◌, ◌<◌, ◌≤◌, ◌⊎◌, ◌+◌, ◌^◌, ℕ, false, true, Some, IfErr, IfNone, IfOk, IfSome, OnOk, length, All};
 ghost use Rattle.std.specs.Arc.{arc_value};
 ghost use Rattle.wh_log.specs.Logs.{IsSlots};
-ghost use Rattle.wh_points.specs.Points.{IsLayout};
 ghost use Rattle.wh_service.specs.Fleets.{IsOfFleet, IsWhyUnclaimed, IsWhyUnseated, MakesPlanners};
 ghost use Rattle.wh_continue.specs.Besides.{StandsBeside};
-ghost use Rattle.wh_service.specs.Kept.{IsSeated, IsWhyAside, IsWhyNoRun, IsWhyNotStarted, IsWhyUnkept, ServesKept, StartsFrom, journal_trouble, keep_trouble, run_trouble};
-ghost use Rattle.wh_service.specs.Plays.{text_by};
+ghost use Rattle.wh_service.specs.Kept.{HasLog, IsSeated, IsWhyAside, IsWhyNoRun, IsWhyNotStarted, IsWhyUnkept, ServesKept, StartsFrom, journal_trouble, keep_trouble, run_trouble};
+ghost use Rattle.wh_service.specs.Plays.{form_of};
+ghost use Rattle.wh_journal.specs.Journals.{log_asker};
 
 use crate::fleet::{members, seated};
 use crate::parts::PlannerParts;
-use crate::program::form_of;
-use crate::tail::write_tail;
+use crate::program::{deliver_trouble, form_of};
+use crate::settings::{KeptSetting, read_kept_setting};
+use crate::tail::finish;
 use std::alloc::{AllocError, Global};
 use std::io::{Read, Write};
 use std::sync::Arc;
 use wh_claims::Bank;
 use wh_continue::{
     Beside, BesideFault, ContinueFault, JournaledFault, KeepFault, LogFile, RunFault, Setting,
-    Start, StartFault, find_start, keep_beside, look_beside, run_on,
+    Start, StartFault, find_start, look_beside, open_both, run_on,
 };
-use wh_edge::{KeptSite, Site, Trouble, read_kept_site};
+use wh_edge::Trouble;
 use wh_grid::Grid;
 use wh_lines::Lines;
 use wh_options::{Fleet, ReplayOptions};
 use wh_planner::Planner;
-use wh_points::Points;
 
 /// The error of a log file that was not begun or not ended.
 pub fn keep_trouble(fault: KeepFault) -> Trouble
@@ -60,6 +60,7 @@ fn run_trouble(fault: RunFault) -> Trouble
         RunFault::Uncounted => Trouble::Unwritten,
         RunFault::Continue(ContinueFault::Replay(fault)) => journal_trouble(fault),
         RunFault::Continue(ContinueFault::Resume(_)) => Trouble::NoMemory,
+        RunFault::Deliver(fault) => deliver_trouble(fault),
         RunFault::End(fault) => keep_trouble(fault),
     }
 }
@@ -110,20 +111,17 @@ fn look_aside<L: LogFile>(alloc: Global, beside: &mut L, text: &[u8]) -> Result<
 fn start_over<L: LogFile>(
     alloc: Global,
     file: &mut L,
-    grid: &Arc<Grid>,
-    points: Points,
+    setting: Setting,
     fleet: &Fleet,
 ) -> Result<Start, Trouble>
-    requires layout { IsLayout (arc_value grid.now) points }
-    requires some { 1 ≤ length points.agents }
+    requires some { 1 ≤ length setting.layout.agents }
     requires range { IsOfFleet fleet.now }
-    ensures ok { IfOk result (StartsFrom fleet.now (record { grid = arc_value grid.now; layout = points; homes = false }) (L.contents file.old)) }
+    ensures ok { IfOk result (StartsFrom fleet.now setting (L.contents file.old)) }
     ensures slots { IfOk result (λ start. All IsSlots start.book.state.slots) }
-    ensures fault { IfErr result (IsWhyNotStarted fleet.now (record { grid = arc_value grid.now; layout = points; homes = false }) (L.contents file.old)) }
+    ensures fault { IfErr result (IsWhyNotStarted fleet.now setting (L.contents file.old)) }
     ensures same { L.contents file.new ≡ L.contents file.old }
 {
-    let each = vec![in alloc; fleet.slots; points.agents().len()]?;
-    let setting = Setting::new(Arc::try_clone(grid)?, points);
+    let each = vec![in alloc; fleet.slots; setting.agents()]?;
     match find_start(alloc, setting, each, file) {
         Ok(start) => Ok(start),
         Err(StartFault::Bad { line }) => Err(Trouble::Log { line }),
@@ -146,36 +144,44 @@ fn missing_line(again: Option<u32>, entries: u64) -> Option<u64>
 }
 
 /// What a run of the site starts from by both files, and how much of the site's text stands beside the log. The file beside
-/// it comes first. Where entries are to be told again from one on, the run has come to it.
+/// it comes first. Where the site's text stands whole beside a log that was not begun, that log was lost, and a run begins only where
+/// a new one is asked for. Where entries are to be told again from one on, the run has come to it.
 pub fn start_aside<L: LogFile, B: LogFile>(
     alloc: Global,
     file: &mut L,
     beside: &mut B,
     text: &[u8],
-    grid: &Arc<Grid>,
-    points: Points,
+    setting: Setting,
     fleet: &Fleet,
     again: Option<u32>,
+    anew: bool,
 ) -> Result<(Start, Beside), Trouble>
-    requires layout { IsLayout (arc_value grid.now) points }
-    requires some { 1 ≤ length points.agents }
+    requires some { 1 ≤ length setting.layout.agents }
     requires range { IsOfFleet fleet.now }
-    ensures ok { IfOk result (λ r. StartsFrom fleet.now (record { grid = arc_value grid.now; layout = points; homes = false }) (L.contents file.old) r.0) }
+    ensures ok { IfOk result (λ r. StartsFrom fleet.now setting (L.contents file.old) r.0) }
     ensures stands { IfOk result (λ r. StandsBeside (B.contents beside.old) text.now r.1) }
+    ensures has_log { IfOk result (λ r. HasLog anew r.1 r.0) }
     ensures within { IfOk result (λ r. IfSome again (λ first. first ≤ length r.0.book.history)) }
     ensures slots { IfOk result (λ r. All IsSlots r.0.book.state.slots) }
-    ensures fault { IfErr result (IsWhyNoRun fleet.now again (record { grid = arc_value grid.now; layout = points; homes = false }) (L.contents file.old) (B.contents beside.old) text.now) }
+    ensures fault { IfErr result (IsWhyNoRun fleet.now again anew setting (L.contents file.old) (B.contents beside.old) text.now) }
     ensures same { L.contents file.new ≡ L.contents file.old }
     ensures same_beside { B.contents beside.new ≡ B.contents beside.old }
 {
     let found = match look_aside(alloc, beside, text) {
         Ok(found) => found,
-        Err(trouble) => return Err(trouble),
+        Err(trouble) => {
+            drop(setting);
+            return Err(trouble);
+        }
     };
-    let start = match start_over(alloc, file, grid, points, fleet) {
+    let start = match start_over(alloc, file, setting, fleet) {
         Ok(start) => start,
         Err(trouble) => return Err(trouble),
     };
+    if found == Beside::Whole && !anew && start.bytes.is_none() {
+        drop(start);
+        return Err(Trouble::LostLog);
+    }
     match missing_line(again, start.book.history().len() as u64) {
         Some(line) => {
             drop(start);
@@ -186,12 +192,12 @@ pub fn start_aside<L: LogFile, B: LogFile>(
 }
 
 /// Reads a site, finds out from the log file and the file beside it what the run starts from, makes one planner for each
-/// agent, with the slots that its state tells, and then the spare ones, keeps the site's text beside the log, serves the
-/// script after the site over the log, and writes what follows the replies. The first line written is `entries N`, the number
+/// agent, with the slots that its state tells, and then the spare ones, begins the log where it was not begun, keeps the site's text
+/// beside it, serves the script after the site over the log, and writes what follows the replies. The first line written is `entries N`, the number
 /// of entries that the run has so far, followed by those that are to be told again. What is in the log survives a kill,
 /// and no reply is told before its entry was synced. `make` makes one planner of its parts, and fails only when out of
-/// memory. Errors are reported in this order: the site, the file beside the log, the log, the bank and the planners, what
-/// is written beside the log, the run, what follows the replies. Before the run starts nothing is told, and the log is as it was.
+/// memory. Errors are reported in this order: the site, the file beside the log, the log, the bank and the planners, the log's first lines,
+/// what is written beside the log, the run, what follows the replies. Before the run starts nothing is told.
 pub fn serve_kept<
     R: Read,
     W: Write,
@@ -206,26 +212,30 @@ pub fn serve_kept<
     file: &mut L,
     beside: &mut L,
     make: F,
-) -> Result<(), Trouble>
+) -> Result<Vec<u8>, Trouble>
     requires range { IsOfFleet options.now.fleet }
     requires callable { F.IsAlwaysCallable make }
     requires makes { MakesPlanners P.fits_map P.slot_count (F.post make) }
-    ensures ok { OnOk result (ServesKept P.fits_map P.slot_count (text_by options.now.replies) (F.post make) options.now.fleet options.now.tail options.now.told lines.old lines.new (W.contents output.old) (W.contents output.new) (L.contents file.old) (L.synced file.new) (L.contents file.new)
-        (record { before = L.contents beside.old; after = L.contents beside.new; synced = L.synced beside.new; failed = L.failed beside.new })) }
-    ensures fault { IfErr result (λ told. IsWhyUnkept P.fits_map P.slot_count (text_by options.now.replies) (F.post make) options.now.fleet options.now.tail options.now.told told lines.old lines.new (W.contents output.old) (W.contents output.new) (L.contents file.old) (L.failed file.new) (L.synced file.new) (L.contents file.new)
+    ensures ok { IfOk result (λ report. ServesKept P.fits_map P.slot_count (log_asker (form_of options.now.replies)) (F.post make) options.now.fleet options.now.deliver options.now.tail options.now.told options.now.anew lines.old lines.new (W.contents output.old) (W.contents output.new) (L.contents file.old) (L.synced file.new) (L.contents file.new)
+        (record { before = L.contents beside.old; after = L.contents beside.new; synced = L.synced beside.new; failed = L.failed beside.new }) report.items) }
+    ensures fault { IfErr result (λ told. IsWhyUnkept P.fits_map P.slot_count (log_asker (form_of options.now.replies)) (F.post make) options.now.fleet options.now.deliver options.now.tail options.now.told options.now.anew told lines.old lines.new (W.contents output.old) (W.contents output.new) (L.contents file.old) (L.failed file.new) (L.synced file.new) (L.contents file.new)
         (record { before = L.contents beside.old; after = L.contents beside.new; synced = L.synced beside.new; failed = L.failed beside.new })) }
 {
-    let KeptSite { site, text } = match read_kept_site(lines, alloc) {
+    let fleet = &options.fleet;
+    let KeptSetting { setting, text } = match read_kept_setting(lines, alloc, fleet.homes) {
         Ok(kept) => kept,
         Err(trouble) => return Err(trouble),
     };
     let bytes = text.as_slice();
-    let Site { grid, points } = site;
-    let grid = Arc::new(alloc, grid)?;
-    let fleet = &options.fleet;
+    let Ok(grid) = Arc::try_clone(setting.shared_grid()) else {
+        drop(text);
+        drop(setting);
+        return Err(Trouble::NoMemory);
+    };
     let again = options.told;
+    let anew = options.anew;
     let (start, found) = match start_aside(
-        alloc, file, beside, bytes, &grid, points, fleet, again,
+        alloc, file, beside, bytes, setting, fleet, again, anew,
     ) {
         Ok(started) => started,
         Err(trouble) => {
@@ -244,28 +254,29 @@ pub fn serve_kept<
             return Err(trouble);
         }
     };
-    match keep_beside(beside, bytes, found) {
-        Ok(()) => {}
-        Err(_) => {
+    let begun = match open_both(alloc, file, beside, bytes, found, start) {
+        Ok(begun) => begun,
+        Err(fault) => {
             drop(planners);
             drop(spares);
-            drop(start);
             drop(text);
             drop(grid);
-            return Err(Trouble::Unkept);
+            return Err(keep_trouble(fault));
         }
-    }
+    };
     drop(text);
     drop(grid);
     let form = form_of(options.replies);
+    let deliver = options.deliver;
     let ran = run_on(
         lines,
         alloc,
         form,
         again,
+        deliver,
         file,
         output,
-        start,
+        begun,
         planners,
         &mut spares,
     );
@@ -278,7 +289,7 @@ pub fn serve_kept<
     };
     drop(spares);
     let _history = warehouse.history();
-    let written = write_tail(alloc, output, &warehouse, options.tail);
+    let finished = finish(alloc, output, &warehouse, deliver, options.tail);
     drop(warehouse);
-    written
+    finished
 }

@@ -3,10 +3,11 @@
 ghost use Rattle.std.specs.Prelude.{◌≡◌, ◌++◌, IfErr, IfOk, OnErr, OnOk};
 ghost use Rattle.std.specs.Io.KnownBytes.{Appends};
 ghost use Rattle.wh_replay.specs.Scripts.{WritesFront};
-ghost use Rattle.wh_service.specs.Tails.{IsWhyNoTail, separator, tail_after, tail_text};
+ghost use Rattle.wh_service.specs.Tails.{IsWhyNoTail, separator, tail_after, tail_text, told_open};
 
 use std::alloc::Global;
 use std::io::Write;
+use wh_deliver::open_text;
 use wh_edge::Trouble;
 use wh_ledger::ledger_text;
 use wh_log::{NoMemory, log_text};
@@ -53,6 +54,48 @@ fn write_both<W: Write>(output: &mut W, line: &[u8], text: &[u8]) -> Result<(), 
     match write_all(output, line) {
         Ok(()) => write_all(output, text),
         Err(fault) => Err(fault),
+    }
+}
+
+/// What is told of orders that are open, where that is asked for. The error is want of memory.
+fn told_open<P: Planner>(
+    alloc: Global,
+    warehouse: &Warehouse<P>,
+    is_asked: bool,
+) -> Result<Vec<u8>, Trouble>
+    ensures ok { IfOk result (λ text. text.items ≡ told_open is_asked warehouse.now.book.state) }
+    ensures fault { IfErr result (λ told. told ≡ Trouble.NoMemory) }
+{
+    if is_asked {
+        Ok(open_text(alloc, warehouse)?)
+    } else {
+        Ok(Vec::new(alloc))
+    }
+}
+
+/// Writes what follows the replies, and returns what is to be told of orders that are open, where that is asked for. Lack of memory is
+/// told before any of it is written.
+pub(crate) fn finish<W: Write, P: Planner>(
+    alloc: Global,
+    output: &mut W,
+    warehouse: &Warehouse<P>,
+    deliver: bool,
+    tail: Tail,
+) -> Result<Vec<u8>, Trouble>
+    ensures ok { OnOk result (Appends (W.contents output.old) (W.contents output.new) (tail_after tail warehouse.now.book.opening warehouse.now.book.history warehouse.now.book.state)) }
+    ensures report { IfOk result (λ text. text.items ≡ told_open deliver warehouse.now.book.state) }
+    ensures fault { IfErr result (λ told. IsWhyNoTail told (W.contents output.old) (W.contents output.new) (tail_after tail warehouse.now.book.opening warehouse.now.book.history warehouse.now.book.state)) }
+{
+    let text = match told_open(alloc, warehouse, deliver) {
+        Ok(text) => text,
+        Err(trouble) => return Err(trouble),
+    };
+    match write_tail(alloc, output, warehouse, tail) {
+        Ok(()) => Ok(text),
+        Err(trouble) => {
+            drop(text);
+            Err(trouble)
+        }
     }
 }
 

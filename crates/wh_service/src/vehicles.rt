@@ -1,28 +1,26 @@
 //! What `replay` does with vehicles, each at its own pace.
 
 ghost use Rattle.std.specs.Prelude.{◌≡◌, ◌≤◌, false, IfErr, IfOk, length};
-ghost use Rattle.wh_points.specs.Points.{IsLayout};
-ghost use Rattle.wh_log.specs.Told.{told_text};
 ghost use Rattle.wh_replay.specs.Fleet.{AllFit};
 ghost use Rattle.wh_service.specs.Fleets.{IsOfFleet, MakesPlanners};
 ghost use Rattle.wh_service.specs.Late.{Drives, IsWhyUndriven, IsWhyUnservedLate, ServesLate, trouble_of};
-ghost use Rattle.wh_service.specs.Plays.{text_by};
+ghost use Rattle.wh_service.specs.Plays.{form_of};
+ghost use Rattle.wh_replay.specs.Scripts.{script_asker};
 
 use crate::fleet::equip;
 use crate::parts::PlannerParts;
 use crate::program::form_of;
+use crate::settings::read_setting;
 use crate::tail::write_tail;
 use std::alloc::{AllocError, Global};
 use std::io::{Read, Write};
-use std::sync::Arc;
+use wh_continue::Setting;
 use wh_dispatch::{DispatchFault, Vehicles, dispatch};
-use wh_edge::{Site, Trouble, read_site};
-use wh_grid::Grid;
+use wh_edge::Trouble;
 use wh_lines::Lines;
 use wh_log::Form;
 use wh_options::{ReplayOptions, Tail, VehicleOptions};
 use wh_planner::Planner;
-use wh_points::Points;
 use wh_replay::{OpenFault, Warehouse};
 
 /// What is told of a script that was not served to its end.
@@ -33,7 +31,7 @@ pub(crate) fn trouble_of(fault: DispatchFault) -> Trouble
         DispatchFault::Broken => Trouble::Broken,
         DispatchFault::Endless => Trouble::Endless,
         DispatchFault::Unwritten => Trouble::Unwritten,
-        DispatchFault::NoMemory => Trouble::NoMemory,
+        DispatchFault::NoMemory | DispatchFault::NoRoom => Trouble::NoMemory,
     }
 }
 
@@ -44,23 +42,21 @@ fn play_late<R: Read, W: Write, P: Planner>(
     lines: &mut Lines<R>,
     output: &mut W,
     form: Form,
-    grid: Arc<Grid>,
-    points: Points,
+    setting: Setting,
     planners: Vec<P>,
     mut spares: Vec<P>,
     tail: Tail,
     pace: VehicleOptions,
 ) -> Result<u32, Trouble>
-    requires layout { IsLayout grid.value points }
-    requires count { length planners.items ≡ length points.agents }
-    requires fit { AllFit P.fits_map grid.value planners.items }
+    requires count { length planners.items ≡ length setting.layout.agents }
+    requires fit { AllFit P.fits_map setting.grid planners.items }
     requires ahead { 1 ≤ pace.ahead }
-    ensures ok { IfOk result (λ left. Drives P.fits_map P.slot_count (told_text form) (record { grid = grid.value; layout = points; homes = false }) planners.items spares.items tail pace
+    ensures ok { IfOk result (λ left. Drives P.fits_map P.slot_count (script_asker form) setting planners.items spares.items tail pace
         lines.old lines.new (W.contents output.old) (W.contents output.new) left) }
-    ensures fault { IfErr result (λ told. IsWhyUndriven P.fits_map P.slot_count (told_text form) (record { grid = grid.value; layout = points; homes = false }) planners.items spares.items tail pace
+    ensures fault { IfErr result (λ told. IsWhyUndriven P.fits_map P.slot_count (script_asker form) setting planners.items spares.items tail pace
         told lines.old lines.new (W.contents output.old) (W.contents output.new)) }
 {
-    let mut warehouse = match Warehouse::open(alloc, grid, points, planners, 0) {
+    let mut warehouse = match Warehouse::open_over(alloc, setting, planners, 0) {
         Ok(warehouse) => warehouse,
         Err(OpenFault::NoMemory) => {
             drop(spares);
@@ -119,33 +115,29 @@ pub fn serve_late<R: Read, W: Write, P: Planner, F: Fn(PlannerParts) -> Result<P
     requires ahead { 1 ≤ pace.ahead }
     requires callable { F.IsAlwaysCallable make }
     requires makes { MakesPlanners P.fits_map P.slot_count (F.post make) }
-    ensures ok { IfOk result (λ left. ServesLate P.fits_map P.slot_count (text_by options.now.replies) (F.post make) options.now.fleet options.now.tail pace lines.old lines.new (W.contents output.old) (W.contents output.new) left) }
-    ensures fault { IfErr result (λ told. IsWhyUnservedLate P.fits_map P.slot_count (text_by options.now.replies) (F.post make) options.now.fleet options.now.tail pace told lines.old lines.new (W.contents output.old) (W.contents output.new)) }
+    ensures ok { IfOk result (λ left. ServesLate P.fits_map P.slot_count (script_asker (form_of options.now.replies)) (F.post make) options.now.fleet options.now.tail pace lines.old lines.new (W.contents output.old) (W.contents output.new) left) }
+    ensures fault { IfErr result (λ told. IsWhyUnservedLate P.fits_map P.slot_count (script_asker (form_of options.now.replies)) (F.post make) options.now.fleet options.now.tail pace told lines.old lines.new (W.contents output.old) (W.contents output.new)) }
 {
-    let Site { grid, points } = read_site(lines, alloc)?;
-    if !points.nofollow() {
-        drop(points);
-        drop(grid);
+    let fleet = &options.fleet;
+    let setting = match read_setting(lines, alloc, fleet.homes) {
+        Ok(setting) => setting,
+        Err(trouble) => return Err(trouble),
+    };
+    if !setting.nofollow() {
+        drop(setting);
         return Err(Trouble::MayFollow);
     }
-    let grid = Arc::new(alloc, grid)?;
-    let (planners, spares) = match equip(
-        alloc,
-        &options.fleet,
-        &grid,
-        points.agents().len(),
-        &make,
-    ) {
+    let agents = setting.agents();
+    let (planners, spares) = match equip(alloc, fleet, setting.shared_grid(), agents, &make) {
         Ok(equipped) => equipped,
         Err(trouble) => {
-            drop(points);
-            drop(grid);
+            drop(setting);
             return Err(trouble);
         }
     };
     let form = form_of(options.replies);
     let tail = options.tail;
     play_late(
-        alloc, lines, output, form, grid, points, planners, spares, tail, pace,
+        alloc, lines, output, form, setting, planners, spares, tail, pace,
     )
 }

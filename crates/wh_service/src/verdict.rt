@@ -12,6 +12,7 @@ use wh_edge::{Site, Status, Trouble, read_site};
 use wh_event::{put, put_number};
 use wh_formed::{NoMemory, Verdict};
 use wh_lines::Lines;
+use wh_options::CheckOptions;
 use wh_points::Points;
 
 /// The line that tells a verdict, with its line feed. The points of a cut are told by their names.
@@ -48,18 +49,20 @@ pub fn status(verdict: Verdict) -> Status
     }
 }
 
-/// Reads a site, and writes in one line whether it is well-formed. What follows the points is not looked at. What can go
+/// Reads a site, and writes in one line whether it is well-formed. Where paths are to end at homes, a site with an agent that starts
+/// at a station is refused before. What follows the points is not looked at. What can go
 /// wrong is told in this order: the site, want of memory for the check, the writer. Before the writer fails nothing is written.
 pub fn check<R: Read, W: Write>(
     rt: &(impl Threads + Sync),
     alloc: Global,
     lines: &mut Lines<R>,
     output: &mut W,
+    options: CheckOptions,
 ) -> Result<Status, Trouble>
-    ensures ok { IfOk result (λ status. Judges lines.old lines.new (W.contents output.old) (W.contents output.new) status) }
-    ensures fault { IfErr result (λ told. IsWhyUnjudged told lines.old lines.new (W.contents output.old) (W.contents output.new)) }
+    ensures ok { IfOk result (λ status. Judges options.homes lines.old lines.new (W.contents output.old) (W.contents output.new) status) }
+    ensures fault { IfErr result (λ told. IsWhyUnjudged options.homes told lines.old lines.new (W.contents output.old) (W.contents output.new)) }
 {
-    let Site { grid, points } = read_site(lines, alloc)?;
+    let Site { grid, points, .. } = read_site(lines, alloc, options.homes)?;
     let verdict = match wh_formed::check(rt, alloc, &grid, &points) {
         Ok(verdict) => verdict,
         Err(NoMemory) => return Err(Trouble::NoMemory),

@@ -10,9 +10,10 @@ use std::alloc::Global;
 use std::io::{Read, Write};
 use wh_edge::{Site, Status, Trouble, read_site};
 use wh_event::{put, put_number};
-use wh_judge::Verified;
+use wh_judge::{Instance, Verified, verify_over};
 use wh_lines::{Lines, SectionFault};
 use wh_log::NoMemory;
+use wh_options::VerifyOptions;
 
 /// The most bytes of a log.
 const LOG_LIMIT: usize = 268_435_456;
@@ -57,18 +58,23 @@ fn status(verified: Verified) -> Status
 }
 
 /// Reads a site and the section of a log, at most 268,435,456 bytes, and writes in one line `run N` where the log's N
-/// entries are a run over the site, and else `bad L` with the first line with which no such log begins. What follows the
+/// entries are a run over the site by the rule of the options, and else `bad L` with the first line with which no such log begins. What follows the
 /// log's section is ignored. Errors are reported in this order: the site, the section of the log, lack of
 /// memory, the writer. Before the writer fails nothing is written.
 pub fn verify<R: Read, W: Write>(
     alloc: Global,
     lines: &mut Lines<R>,
     output: &mut W,
+    options: VerifyOptions,
 ) -> Result<Status, Trouble>
-    ensures ok { IfOk result (λ status. Verifies lines.old lines.new (W.contents output.old) (W.contents output.new) status) }
-    ensures fault { IfErr result (λ told. IsWhyUnverified told lines.old lines.new (W.contents output.old) (W.contents output.new)) }
+    ensures ok { IfOk result (λ status. Verifies options.homes lines.old lines.new (W.contents output.old) (W.contents output.new) status) }
+    ensures fault { IfErr result (λ told. IsWhyUnverified options.homes told lines.old lines.new (W.contents output.old) (W.contents output.new)) }
 {
-    let Site { grid, points } = match read_site(lines, alloc) {
+    let Site {
+        grid,
+        points,
+        homes,
+    } = match read_site(lines, alloc, options.homes) {
         Ok(site) => site,
         Err(trouble) => return Err(trouble),
     };
@@ -76,7 +82,8 @@ pub fn verify<R: Read, W: Write>(
         Ok(log) => log,
         Err(trouble) => return Err(trouble),
     };
-    let verified = match wh_judge::verify(alloc, &grid, &points, log.as_slice()) {
+    let instance = Instance::with_homes(&grid, &points, homes);
+    let verified = match verify_over(alloc, instance, log.as_slice()) {
         Ok(verified) => verified,
         Err(NoMemory) => return Err(Trouble::NoMemory),
     };

@@ -11,13 +11,13 @@ use Rattle.wh_lines.proofs.Cuts.{whole_next}
 use Rattle.wh_lines.proofs.Parts.{none, none_before, before_plain}
 use Rattle.wh_session.specs.declared.machine.Halt.{Halt}
 use Rattle.wh_session.specs.declared.fault.Round.{Round}
-use Rattle.wh_session.specs.declared.fault.Round.TheVariants.{More, Served, Ended, Over}
+use Rattle.wh_session.specs.declared.fault.Round.TheVariants.{More, Served, Ended, Torn, Over}
 use Rattle.wh_session.specs.declared.fault.SessionFault.{SessionFault}
 use Rattle.wh_session.specs.declared.fault.SessionFault.TheVariants.{Broken, Endless, Unwritten, Unkept, NoMemory, Failed}
 use Rattle.wh_session.specs.Machines.{Records, nothing, joined, ServesAll, ServesOne, ClearFrom}
 use Rattle.wh_session.specs.Joined.{joined_nil, joined_assoc}
 use Rattle.wh_session.specs.Sessions.{IsWhole, Reads, HasCause}
-use Rattle.wh_session.specs.Steps.{TakesLine, TakesRest, TakesNone, Halts, StepsFrom, HaltsStepFrom}
+use Rattle.wh_session.specs.Steps.{TakesLine, TakesRest, TakesTorn, TakesNone, Same, Halts, StepsFrom, HaltsStepFrom}
 use Rattle.wh_session.specs.declared.stepping.Step.TheVariants as steps
 use Rattle.wh_session.specs.Parts.{GathersUntil, GathersFrom, GathersUntilFrom}
 
@@ -39,6 +39,8 @@ whole_any true More read p = p
 whole_any false More read p = p
 whole_any true Served read p = p
 whole_any false Served read p = p
+whole_any true Torn read p = p
+whole_any false Torn read p = p
 whole_any true Over read p = p
 whole_any false Over read p = p
 
@@ -132,25 +134,29 @@ module _ {S : Type 0} (serves : S → Option (List ℕ) → List ℕ → Records
           let one : length (lines_of (f.read ++ (t.raw ++ 10 ∷ []))) ≡ 1 = ap (λ (ls : List (List ℕ)). length ls) lines in
           omega arith
 
+      -- the same lines, where the same waits
+      still_all : Same mid new said says came comes → ServesAll serves (lines_of f.read) old says comes new
+      still_all same = subst (λ (x : S). ServesAll serves (lines_of f.read) old says comes x) (sym same.state)
+          (subst (λ (b : List ℕ). ServesAll serves (lines_of f.read) old b comes mid) (sym same.said_is)
+          (subst (λ (r : Records). ServesAll serves (lines_of f.read) old said r mid) (sym same.came_is) f.all))
+
       module _ (last_too : Bool) where
         reads_rest : TakesRest serves last_too j k mid new said says came comes → Reads serves last_too Ended i k old new says comes
         reads_rest t = elim t.one [
           | inl still ↦ record {
             read = f.read;
-            begun = t.raw;
-            takes = taken t.raw t.takes;
+            begun = [];
+            takes = taken [] (subst (λ l. Takes j k l) still.1 t.takes);
             whole = whole_any last_too Ended f.read f.whole;
-            ends = (t.plain, t.ended, still.1);
-            all = subst (λ (x : S). ServesAll serves (lines_of f.read) old says comes x) (sym still.0.state)
-                (subst (λ (b : List ℕ). ServesAll serves (lines_of f.read) old b comes mid) (sym still.0.said_is)
-                (subst (λ (r : Records). ServesAll serves (lines_of f.read) old said r mid) (sym still.0.came_is) f.all));
+            ends = (refl, t.ended);
+            all = still_all still.0;
           }
           | inr more ↦ record {
             read = f.read ++ t.raw;
             begun = [];
             takes = subst (λ l. Takes i k l) (sym (append-nil (f.read ++ t.raw))) (taken t.raw t.takes);
             whole = whole_end last_too (f.read ++ t.raw) more.0;
-            ends = (tt, t.ended, λ _. refl);
+            ends = (refl, t.ended);
             all = one_join f.read t.raw t.raw old mid new said says came comes f.whole (lines-last t.raw t.plain more.1) f.all more.2;
           }
         ]
@@ -171,16 +177,24 @@ module _ {S : Type 0} (serves : S → Option (List ℕ) → List ℕ → Records
           begun = t.bytes;
           takes = taken t.bytes t.takes;
           whole = whole_any last_too Over f.read f.whole;
-          ends = t.cut;
-          all = subst (λ (x : S). ServesAll serves (lines_of f.read) old says comes x) (sym t.same.state)
-              (subst (λ (b : List ℕ). ServesAll serves (lines_of f.read) old b comes mid) (sym t.same.said_is)
-              (subst (λ (r : Records). ServesAll serves (lines_of f.read) old said r mid) (sym t.same.came_is) f.all));
+          ends = t.line;
+          all = still_all t.same;
+        }
+
+        reads_torn : TakesTorn last_too j k mid new said says came comes → Reads serves last_too Torn i k old new says comes
+        reads_torn t = record {
+          read = f.read;
+          begun = t.raw;
+          takes = taken t.raw t.takes;
+          whole = whole_any last_too Torn f.read f.whole;
+          ends = (t.plain, t.some, t.ended, t.not_too);
+          all = still_all t.same;
         }
 
     -- no further line was served
-    until : (halts : S → Option (List ℕ) → Halt → S → Type 0) (single : Bool) (fault : SessionFault) (new : S) → (single ≡ true → f.read ≡ []) → i.reads ≤ j.reads → j.failed ≡ false → Halts halts fault j k mid new →
-        GathersUntil serves halts single fault i k old new
-    until halts single fault new none before fine h = record {
+    until : (halts : S → Option (List ℕ) → Halt → S → Type 0) (last_too single : Bool) (fault : SessionFault) (new : S) → (single ≡ true → f.read ≡ []) → i.reads ≤ j.reads → j.failed ≡ false → Halts halts last_too fault j k mid new →
+        GathersUntil serves halts last_too single fault i k old new
+    until halts last_too single fault new none before fine h = record {
       read = f.read;
       whole = f.whole;
       told = said;
@@ -247,6 +261,7 @@ module _ {X : Type 0} {S : Type 0} (stands : X → S → Type 0) (serves : S →
           record {
             lines = reads_more serves last_too i k s t.0 (says new t.0) (logs new t.0) (turns + 1) more (omega arith);
             few = λ _. first_line serves i j k s r.0 (says mid r.0) (logs mid r.0) turns r.2 t.0 (says new t.0) (logs new t.0) t.2 (r.3 e);
+            none = λ _ over. absurd (let clash : More ≡ Over = over in cc);
           },
         )
 
@@ -259,6 +274,21 @@ module _ {X : Type 0} {S : Type 0} (stands : X → S → Type 0) (serves : S →
           record {
             lines = reads_rest serves i j k s r.0 (says mid r.0) (logs mid r.0) turns r.2 t.0 (says new t.0) (logs new t.0) last_too t.2;
             few = λ e. few_rest serves i j k s r.0 (says mid r.0) (logs mid r.0) turns r.2 t.0 (says new t.0) (logs new t.0) last_too t.2 (r.3 e);
+            none = λ _ over. absurd (let clash : Ended ≡ Over = over in cc);
+          },
+        )
+
+    pub from_torn : StepsFrom stands serves says logs last_too steps.Torn j k mid new → GathersFrom stands serves says logs last_too single Torn i k old new
+    unfolding reads_torn
+    from_torn o s h =
+        let r = f s h in
+        let t = o r.0 r.1 in (
+          t.0,
+          t.1,
+          record {
+            lines = reads_torn serves i j k s r.0 (says mid r.0) (logs mid r.0) turns r.2 t.0 (says new t.0) (logs new t.0) last_too t.2;
+            few = λ e. let no : length (lines_of r.2.read) ≡ 0 = ap (λ b. length (lines_of b)) (r.3 e) in omega arith;
+            none = λ _ over. absurd (let clash : Torn ≡ Over = over in cc);
           },
         )
 
@@ -272,14 +302,15 @@ module _ {X : Type 0} {S : Type 0} (stands : X → S → Type 0) (serves : S →
           record {
             lines = reads_none serves i j k s r.0 (says mid r.0) (logs mid r.0) turns r.2 t.0 (says new t.0) (logs new t.0) last_too t.2;
             few = λ e. let no : length (lines_of r.2.read) ≡ 0 = ap (λ b. length (lines_of b)) (r.3 e) in omega arith;
+            none = λ e _. r.3 e;
           },
         )
 
-    pub from_halt : (fault : SessionFault) → i.reads ≤ j.reads → j.failed ≡ false → HaltsStepFrom stands halts fault j k mid new → GathersUntilFrom stands serves halts single fault i k old new
+    pub from_halt : (fault : SessionFault) → i.reads ≤ j.reads → j.failed ≡ false → HaltsStepFrom stands halts last_too fault j k mid new → GathersUntilFrom stands serves halts last_too single fault i k old new
     from_halt fault before fine o s h =
         let r = f s h in
         let t = o r.0 r.1 in
-        (t.0, t.1, until serves i j k s r.0 (says mid r.0) (logs mid r.0) turns r.2 halts single fault t.0 r.3 before fine t.2)
+        (t.0, t.1, until serves i j k s r.0 (says mid r.0) (logs mid r.0) turns r.2 halts last_too single fault t.0 r.3 before fine t.2)
 
   -- lines were served, and there are more, or none
   pub from_full : (i j : Input) (old new : X) (turns : ℕ) → FollowingFrom i j old new (turns + 1) → GathersFrom stands serves says logs last_too single More i j old new
@@ -291,6 +322,7 @@ module _ {X : Type 0} {S : Type 0} (stands : X → S → Type 0) (serves : S →
         record {
           lines = reads_more serves last_too i j s r.0 (says new r.0) (logs new r.0) (turns + 1) r.2 (omega arith);
           few = λ e. let no : length (lines_of r.2.read) ≡ 0 = ap (λ b. length (lines_of b)) (r.3 e) in omega arith;
+          none = λ e _. r.3 e;
         },
       )
 
@@ -303,11 +335,12 @@ module _ {X : Type 0} {S : Type 0} (stands : X → S → Type 0) (serves : S →
         record {
           lines = reads_served serves last_too i j s r.0 (says new r.0) (logs new r.0) (turns + 1) r.2 (omega arith) plain;
           few = λ e. let no : length (lines_of r.2.read) ≡ 0 = ap (λ b. length (lines_of b)) (r.3 e) in omega arith;
+          none = λ e _. r.3 e;
         },
       )
 
   -- more lines were served than can be counted
-  pub from_endless : (i j : Input) (old new : X) (turns : ℕ) → FollowingFrom i j old new turns → 18446744073709551615 ≤ turns → GathersUntilFrom stands serves halts single Endless i j old new
+  pub from_endless : (i j : Input) (old new : X) (turns : ℕ) → FollowingFrom i j old new turns → 18446744073709551615 ≤ turns → GathersUntilFrom stands serves halts last_too single Endless i j old new
   from_endless i j old new turns f all s h =
       let r = f s h in
       let many = r.2.many in (

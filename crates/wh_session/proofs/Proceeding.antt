@@ -11,11 +11,11 @@ use Rattle.wh_lines.proofs.Written.{front_after}
 use Rattle.std.specs.Io.KnownBytes.{IsAtEnd}
 use Rattle.wh_session.specs.declared.machine.Halt.{Halt}
 use Rattle.wh_session.specs.declared.fault.Round.{Round}
-use Rattle.wh_session.specs.declared.fault.Round.TheVariants.{More, Served, Ended, Over}
+use Rattle.wh_session.specs.declared.fault.Round.TheVariants.{More, Served, Ended, Torn, Over}
 use Rattle.wh_session.specs.declared.fault.SessionFault.{SessionFault}
 use Rattle.wh_session.specs.declared.fault.SessionFault.TheVariants.{Broken, Endless, Unwritten, Unkept, NoMemory, Failed}
 use Rattle.wh_session.specs.Machines.{Records, nothing, joined, ServesAll, SomeStands}
-use Rattle.wh_session.specs.Sessions.{IsWhole, IsCut, EndsBy, Serves, Stops, HasCause, ServesFrom, StopsFrom}
+use Rattle.wh_session.specs.Sessions.{IsWhole, IsWholeLine, EndsBy, LeavesOff, Serves, Stops, HasCause, ServesFrom, StopsFrom}
 use Rattle.wh_session.specs.Parts.{Gathers, GathersUntil, GathersFrom, GathersUntilFrom}
 use Rattle.wh_session.specs.Settling.{Unsettles, SettlesFrom, UnsettlesFrom}
 use Rattle.wh_session.proofs.Following.{ends_both, lines_both, cause_on, texts_join}
@@ -36,6 +36,8 @@ whole_join true More a b p q = ends_both a b p q
 whole_join false More a b p q = ends_both a b p q
 whole_join true Served a b p q = ends_both a b p q
 whole_join false Served a b p q = ends_both a b p q
+whole_join true Torn a b p q = ends_both a b p q
+whole_join false Torn a b p q = ends_both a b p q
 whole_join true Over a b p q = ends_both a b p q
 whole_join false Over a b p q = ends_both a b p q
 
@@ -44,6 +46,7 @@ ends_join : (last_too : Bool) (r : Round) (after : Input) (a b begun : List ℕ)
 ends_join last_too More after a b begun p e = (e.0, let both = lines_both a b p in let some = e.1 in omega arith)
 ends_join last_too Served after a b begun p e = (e.0, (let both = lines_both a b p in let some = e.1 in omega arith), e.2)
 ends_join last_too Ended after a b begun p e = e
+ends_join last_too Torn after a b begun p e = e
 ends_join last_too Over after a b begun p e = e
 
 -- whole lines, or the last one too
@@ -54,19 +57,24 @@ last_whole true More after read begun w e = inl w
 last_whole false More after read begun w e = inl w
 last_whole true Served after read begun w e = inl w
 last_whole false Served after read begun w e = inl w
+last_whole true Torn after read begun w e = inl w
+last_whole false Torn after read begun w e = inl w
 last_whole true Over after read begun w e = inl w
 last_whole false Over after read begun w e = inl w
 
 -- what was taken and not served
-cut_of : (last_too may_end : Bool) (r : Round) (after : Input) (read begun : List ℕ) → (r ≡ Over → may_end ≡ true) → EndsBy last_too r after read begun → IsLine begun ⊎ ((may_end ≡ true) × IsCut begun)
-cut_of last_too may_end More after read begun o e = inl (subst IsLine (sym e.0) tt)
-cut_of last_too may_end Served after read begun o e = inl (subst IsLine (sym e.0) tt)
-cut_of last_too may_end Ended after read begun o e = inl e.0
-cut_of last_too may_end Over after read begun o e = inr (o refl, e)
+cut_of : (last_too single may_end : Bool) (r : Round) (after : Input) (read begun : List ℕ) → (r ≡ Over → may_end ≡ true) → (r ≡ Over → single ≡ false) → EndsBy last_too r after read begun →
+    IsLine begun ⊎ ((may_end ≡ true) × (single ≡ false) × IsWholeLine begun)
+cut_of last_too single may_end More after read begun o n e = inl (subst IsLine (sym e.0) tt)
+cut_of last_too single may_end Served after read begun o n e = inl (subst IsLine (sym e.0) tt)
+cut_of last_too single may_end Ended after read begun o n e = inl (subst IsLine (sym e.0) tt)
+cut_of last_too single may_end Torn after read begun o n e = inl e.0
+cut_of last_too single may_end Over after read begun o n e = inr (o refl, n refl, e)
 
-unsettled_off : {S : Type 0} (may_end : Bool) (begun : List ℕ) (new : S) → IsLine begun ⊎ ((may_end ≡ true) × IsCut begun) → (IsLine begun × (new ≡ new)) ⊎ ((may_end ≡ true) × IsCut begun × (new ≡ new))
-unsettled_off may_end begun new (inl plain) = inl (plain, refl)
-unsettled_off may_end begun new (inr cut) = inr (cut.0, cut.1, refl)
+unsettled_off : {S : Type 0} (single may_end : Bool) (begun : List ℕ) (new : S) → IsLine begun ⊎ ((may_end ≡ true) × (single ≡ false) × IsWholeLine begun) →
+    (IsLine begun × (new ≡ new)) ⊎ ((may_end ≡ true) × (single ≡ false) × IsWholeLine begun × (new ≡ new))
+unsettled_off single may_end begun new (inl plain) = inl (plain, refl)
+unsettled_off single may_end begun new (inr line) = inr (line.0, line.1, line.2, refl)
 
 -- a cause with more lines
 cause_more : (fault : SessionFault) (i j : Input) (few many : ℕ) → few ≤ many → HasCause fault i j few → HasCause fault i j many
@@ -119,8 +127,15 @@ module _ {S : Type 0} (serves : S → Option (List ℕ) → List ℕ → Records
     few = g.few;
   }
 
+  -- a round without lines
+  empty : (i j : Input) (old new : S) (had mid : Option (List ℕ)) (stood : H) (r : Round) (said : List ℕ) (came : Records) (g : Gathers serves last_too single r i j old new said came) → Keeps had mid → is_safe stood → g.lines.read ≡ [] →
+      Serves serves keeps last_too single 1 r i j old new had mid stood stood
+  empty i j old new had mid stood r said came g flushed safe none =
+      let all : ServesAll serves [] old said came new = subst (λ (b : List ℕ). ServesAll serves (lines_of b) old said came new) none g.lines.all in
+      part i j old new had mid mid stood stood r said came g flushed (subst (λ (k : Records). keeps stood k stood) (sym all.2) (keeps_none stood safe)) (subst (λ (b : List ℕ). Appends mid mid b) (sym all.1) (Appends-nil mid))
+
   -- the lines were not all gathered
-  ungathered : (fault : SessionFault) (i j : Input) (old new : S) (had has : Option (List ℕ)) (stood : H) → GathersUntil serves halts single fault i j old new → Keeps had has → is_safe stood → fault ≢ Unkept →
+  ungathered : (fault : SessionFault) (i j : Input) (old new : S) (had has : Option (List ℕ)) (stood : H) → GathersUntil serves halts last_too single fault i j old new → Keeps had has → is_safe stood → fault ≢ Unkept →
       Stops serves halts keeps leaves last_too single may_end fault i j old new had has stood stood
   ungathered fault i j old new had has stood g flushed safe other = record {
     read = [];
@@ -148,9 +163,9 @@ module _ {S : Type 0} (serves : S → Option (List ℕ) → List ℕ → Records
     cause = cause_more fault i j (length (lines_of g.read)) (length (lines_of []) + length (lines_of g.read)) (omega arith) g.cause;
   }
 
-  unsettled_by : (fault : SessionFault) (i j : Input) (old new : S) (had mid has : Option (List ℕ)) (stood stands : H) (r : Round) (said : List ℕ) (came : Records) → Gathers serves last_too single r i j old new said came → (r ≡ Over → may_end ≡ true) → Keeps had mid →
+  unsettled_by : (fault : SessionFault) (i j : Input) (old new : S) (had mid has : Option (List ℕ)) (stood stands : H) (r : Round) (said : List ℕ) (came : Records) → Gathers serves last_too single r i j old new said came → (r ≡ Over → may_end ≡ true) → (r ≡ Over → single ≡ false) → Keeps had mid →
       is_safe stood → Unsettles keeps leaves fault said came mid has stood stands → Stops serves halts keeps leaves last_too single may_end fault i j old new had has stood stands
-  unsettled_by Unkept i j old new had mid has stood stands r said came g over flushed safe u = record {
+  unsettled_by Unkept i j old new had mid has stood stands r said came g over several flushed safe u = record {
     read = [];
     whole = λ more. refl;
     told = [];
@@ -172,10 +187,10 @@ module _ {S : Type 0} (serves : S → Option (List ℕ) → List ℕ → Records
     left_so = inr (inl (record { is = refl; untold = Keeps-trans had mid has flushed u.untold; front = u.front }));
     begun = g.lines.begun;
     takes = g.lines.takes;
-    left_off = unsettled_off may_end g.lines.begun new (cut_of last_too may_end r j g.lines.read g.lines.begun over g.lines.ends);
+    left_off = unsettled_off single may_end g.lines.begun new (cut_of last_too single may_end r j g.lines.read g.lines.begun over several g.lines.ends);
     cause = tt;
   }
-  unsettled_by Unwritten i j old new had mid has stood stands r said came g over flushed safe u = record {
+  unsettled_by Unwritten i j old new had mid has stood stands r said came g over several flushed safe u = record {
     read = [];
     whole = λ more. refl;
     told = [];
@@ -197,13 +212,13 @@ module _ {S : Type 0} (serves : S → Option (List ℕ) → List ℕ → Records
     left_so = inr (inr (record { is = refl; all_kept = u.all_kept; front = front_late had mid has said flushed u.front }));
     begun = g.lines.begun;
     takes = g.lines.takes;
-    left_off = unsettled_off may_end g.lines.begun new (cut_of last_too may_end r j g.lines.read g.lines.begun over g.lines.ends);
+    left_off = unsettled_off single may_end g.lines.begun new (cut_of last_too single may_end r j g.lines.read g.lines.begun over several g.lines.ends);
     cause = tt;
   }
-  unsettled_by Broken i j old new had mid has stood stands r said came g over flushed safe u = absurd u
-  unsettled_by Endless i j old new had mid has stood stands r said came g over flushed safe u = absurd u
-  unsettled_by NoMemory i j old new had mid has stood stands r said came g over flushed safe u = absurd u
-  unsettled_by Failed i j old new had mid has stood stands r said came g over flushed safe u = absurd u
+  unsettled_by Broken i j old new had mid has stood stands r said came g over several flushed safe u = absurd u
+  unsettled_by Endless i j old new had mid has stood stands r said came g over several flushed safe u = absurd u
+  unsettled_by NoMemory i j old new had mid has stood stands r said came g over several flushed safe u = absurd u
+  unsettled_by Failed i j old new had mid has stood stands r said came g over several flushed safe u = absurd u
 
   -- ---- rounds one after another
 
@@ -322,6 +337,19 @@ module _ {S : Type 0} (serves : S → Option (List ℕ) → List ℕ → Records
     }
 
   -- the reader is told to have failed
+  left_failed : (fault : SessionFault) (j : Input) (begun : List ℕ) (old new : S) → LeavesOff halts last_too fault j begun old new → LeavesOff halts last_too fault (with_failed j true) begun old new
+  left_failed NoMemory j begun old new h = record { raw = h.raw; plain = h.plain; begun_is = h.begun_is; halted = h.halted }
+  left_failed Failed j begun old new h = record { raw = h.raw; plain = h.plain; begun_is = h.begun_is; halted = h.halted }
+  left_failed Broken j begun old new h = h
+  left_failed Endless j begun old new h = h
+  left_failed Unwritten j begun old new h = h
+  left_failed Unkept j begun old new h = h
+
+  left_off_failed : (fault : SessionFault) (j : Input) (begun : List ℕ) (old new : S) → LeavesOff halts last_too fault j begun old new ⊎ ((may_end ≡ true) × (single ≡ false) × IsWholeLine begun × (new ≡ old)) →
+      LeavesOff halts last_too fault (with_failed j true) begun old new ⊎ ((may_end ≡ true) × (single ≡ false) × IsWholeLine begun × (new ≡ old))
+  left_off_failed fault j begun old new (inl h) = inl (left_failed fault j begun old new h)
+  left_off_failed fault j begun old new (inr cut) = inr cut
+
   failed : (fault : SessionFault) (i j k : Input) (old new : S) (had has : Option (List ℕ)) (stood stands : H) → k ≡ with_failed j true → Stops serves halts keeps leaves last_too single may_end fault i j old new had has stood stands →
       Stops serves halts keeps leaves last_too single may_end fault i k old new had has stood stands
   failed fault i j k old new had has stood stands is s = subst (λ (x : Input). Stops serves halts keeps leaves last_too single may_end fault i x old new had has stood stands) (sym is) (record {
@@ -346,7 +374,7 @@ module _ {S : Type 0} (serves : S → Option (List ℕ) → List ℕ → Records
     left_so = s.left_so;
     begun = s.begun;
     takes = s.takes;
-    left_off = s.left_off;
+    left_off = left_off_failed fault j s.begun s.reached new s.left_off;
     cause = cause_failed fault i j (length (lines_of s.read) + length (lines_of s.last)) s.cause;
   })
 
@@ -395,17 +423,23 @@ module _ {S : Type 0} (serves : S → Option (List ℕ) → List ℕ → Records
         let both = settles t.0 t.1 in
         kept_safe stood (logs new t.0) holds both.0
 
-    pub ungathered_from : (fault : SessionFault) (i j : Input) (old new : X) (had has : Option (List ℕ)) (stood : H) → GathersUntilFrom stands serves halts single fault i j old new → Keeps had has → is_safe stood → fault ≢ Unkept →
+    pub ungathered_from : (fault : SessionFault) (i j : Input) (old new : X) (had has : Option (List ℕ)) (stood : H) → GathersUntilFrom stands serves halts last_too single fault i j old new → Keeps had has → is_safe stood → fault ≢ Unkept →
         StopsFrom stands serves halts keeps leaves last_too single may_end fault i j old new had has stood stood
     ungathered_from fault i j old new had has stood g flushed safe other s h =
         let t = g s h in
         (t.0, t.1, ungathered fault i j s t.0 had has stood t.2 flushed safe other)
 
-    pub unsettled_from : (fault : SessionFault) (i j : Input) (old new : X) (had mid has : Option (List ℕ)) (stood holds : H) (r : Round) → GathersFrom stands serves says logs last_too single r i j old new → (r ≡ Over → may_end ≡ true) → Keeps had mid → is_safe stood →
-        UnsettlesFrom stands says logs keeps leaves fault new mid has stood holds → StopsFrom stands serves halts keeps leaves last_too single may_end fault i j old new had has stood holds
-    unsettled_from fault i j old new had mid has stood holds r g over flushed safe u s h =
+    pub over_from : (i j : Input) (old new : X) (had mid : Option (List ℕ)) (stood : H) (r : Round) → GathersFrom stands serves says logs last_too single r i j old new → Keeps had mid → is_safe stood → single ≡ true → r ≡ Over →
+        ServesFrom stands serves keeps last_too single 1 r i j old new had mid stood stood
+    over_from i j old new had mid stood r g flushed safe one over s h =
         let t = g s h in
-        (t.0, t.1, unsettled_by fault i j s t.0 had mid has stood holds r (says new t.0) (logs new t.0) t.2 over flushed safe (u t.0 t.1))
+        (t.0, t.1, empty i j s t.0 had mid stood r (says new t.0) (logs new t.0) t.2 flushed safe (t.2.none one over))
+
+    pub unsettled_from : (fault : SessionFault) (i j : Input) (old new : X) (had mid has : Option (List ℕ)) (stood holds : H) (r : Round) → GathersFrom stands serves says logs last_too single r i j old new → (r ≡ Over → may_end ≡ true) → (r ≡ Over → single ≡ false) → Keeps had mid → is_safe stood →
+        UnsettlesFrom stands says logs keeps leaves fault new mid has stood holds → StopsFrom stands serves halts keeps leaves last_too single may_end fault i j old new had has stood holds
+    unsettled_from fault i j old new had mid has stood holds r g over several flushed safe u s h =
+        let t = g s h in
+        (t.0, t.1, unsettled_by fault i j s t.0 had mid has stood holds r (says new t.0) (logs new t.0) t.2 over several flushed safe (u t.0 t.1))
 
     pub start_from : (i : Input) (old : X) (had : Option (List ℕ)) (stood : H) → is_safe stood → ProceedingFrom serves keeps single stands i i old old had had stood stood 0
     start_from i old had stood safe s h = (s, h, start i s had stood safe)

@@ -1,9 +1,10 @@
 -- one line that is taken and served
-use Rattle.std.proofs.Common.{◌≡◌, ◌∙◌, ℕ, List, [], ◌∷◌, ◌++◌, Bool, true, false, Option, Result, Ok, Err, take, drop, inl, inr, sym, subst, refl, ap}
+use Rattle.std.proofs.Common.{◌≡◌, ◌∙◌, ℕ, ◌<◌, List, [], ◌∷◌, ◌++◌, length, Bool, true, false, Option, Result, Ok, Err, take, drop, inr, sym, subst, refl, ap}
 use Rattle.std.specs.Prelude.{◌⊎◌, IfOk}
+use Rattle.std.specs.Io.KnownBytes.{IsAtEnd}
 use Rattle.wh_text.specs.Lines.{IsLine}
 use Rattle.wh_lines.specs.Text.{short_line}
-use Rattle.wh_lines.specs.Input.{Input, Takes, Gathered, with_waiting}
+use Rattle.wh_lines.specs.Input.{Input, left, Takes, Gathered, with_waiting}
 use Rattle.wh_lines.specs.declared.lines.Next.TheVariants.{Whole, Last}
 use Rattle.wh_lines.proofs.Parts.{line_taken, says_front}
 use Rattle.wh_session.specs.declared.machine.Halt.{Halt}
@@ -12,7 +13,7 @@ use Rattle.wh_session.specs.declared.fault.SessionFault.{SessionFault}
 use Rattle.wh_session.specs.declared.stepping.Step.{Step}
 use Rattle.wh_session.specs.Machines.{Records, IsFront, ServesOne, SameFrom}
 use Rattle.wh_session.specs.Sessions.{halt_fault}
-use Rattle.wh_session.specs.Steps.{TakesLine, TakesRest, Halts, Steps, StepsFrom}
+use Rattle.wh_session.specs.Steps.{TakesLine, TakesRest, TakesTorn, Halts, Steps, StepsFrom}
 
 module _ {S : Type 0} (serves : S → Option (List ℕ) → List ℕ → Records → S → Type 0) (i j : Input) (s e : S) (said says : List ℕ) (came comes : Records) where
   pub takes_line : (line : List ℕ) → Gathered Whole i j line → ServesOne serves (short_line line) s e said says came comes → TakesLine serves i j s e said says came comes
@@ -34,26 +35,27 @@ module _ {S : Type 0} (serves : S → Option (List ℕ) → List ℕ → Records
       (subst (λ (l : Option (List ℕ)). ServesOne serves l s e said says came comes) (sym (says_front raw)) one)
 
 -- what follows the last line feed is not served
-pub takes_unserved : {S : Type 0} (serves : S → Option (List ℕ) → List ℕ → Records → S → Type 0) (i j : Input) (s : S) (said : List ℕ) (came : Records) (line : List ℕ) (last_too : Bool) → last_too ≡ false → Gathered Last i j line →
-    TakesRest serves last_too i j s s said said came came
-takes_unserved serves i j s said came line last_too not_too g = record {
+pub takes_unserved : {S : Type 0} (i j : Input) (s : S) (said : List ℕ) (came : Records) (line : List ℕ) (last_too : Bool) → last_too ≡ false → Gathered Last i j line → TakesTorn last_too i j s s said said came came
+takes_unserved i j s said came line last_too not_too g = record {
   raw = g.raw;
   plain = g.plain;
+  some = g.ends.1;
   takes = g.ends.0;
   ended = g.ends.2;
-  one = inl (record { state = refl; said_is = refl; came_is = refl }, λ too. let clash : false ≡ true = sym not_too ∙ too in cc);
+  not_too = not_too;
+  same = record { state = refl; said_is = refl; came_is = refl };
 }
 
 -- the machine failed at a line
-pub halts_line : {S : Type 0} (halts : S → Option (List ℕ) → Halt → S → Type 0) (halt : Halt) (i j : Input) (s e : S) (line raw bytes : List ℕ) → IsLine raw → (bytes ≡ raw) ⊎ (bytes ≡ raw ++ 10 ∷ []) → short_line line ≡ short_line raw →
-    Takes i j bytes → halts s (short_line line) halt e → Halts halts (halt_fault halt) i j s e
-halts_line halts kinds.NoMemory i j s e line raw bytes plain is says takes h = record {
+pub halts_line : {S : Type 0} (halts : S → Option (List ℕ) → Halt → S → Type 0) (last_too : Bool) (halt : Halt) (i j : Input) (s e : S) (line raw bytes : List ℕ) → IsLine raw → ((last_too ≡ true) × (bytes ≡ raw) × (0 < length raw) × IsAtEnd (left j)) ⊎ (bytes ≡ raw ++ 10 ∷ []) → short_line line ≡ short_line raw →
+    Takes i j bytes → halts s (short_line line) halt e → Halts halts last_too (halt_fault halt) i j s e
+halts_line halts last_too kinds.NoMemory i j s e line raw bytes plain is says takes h = record {
   bytes = bytes;
   takes = takes;
   left_off = record { raw = raw; plain = plain; begun_is = is; halted = subst (λ (l : Option (List ℕ)). halts s l kinds.NoMemory e) says h };
   cause = tt;
 }
-halts_line halts kinds.Failed i j s e line raw bytes plain is says takes h = record {
+halts_line halts last_too kinds.Failed i j s e line raw bytes plain is says takes h = record {
   bytes = bytes;
   takes = takes;
   left_off = record { raw = raw; plain = plain; begun_is = is; halted = subst (λ (l : Option (List ℕ)). halts s l kinds.Failed e) says h };

@@ -13,7 +13,7 @@ use Rattle.wh_session.specs.declared.machine.Halt.TheVariants as kinds
 use Rattle.wh_session.specs.declared.fault.End.{End}
 use Rattle.wh_session.specs.declared.fault.End.TheVariants as ends
 use Rattle.wh_session.specs.declared.fault.Round.{Round}
-use Rattle.wh_session.specs.declared.fault.Round.TheVariants.{More, Served, Ended, Over}
+use Rattle.wh_session.specs.declared.fault.Round.TheVariants.{More, Served, Ended, Torn, Over}
 use Rattle.wh_session.specs.declared.fault.SessionFault.{SessionFault}
 use Rattle.wh_session.specs.declared.fault.SessionFault.TheVariants.{Broken, Endless, Unwritten, Unkept, NoMemory, Failed}
 use Rattle.wh_session.specs.Machines.{Records, ServesAll}
@@ -31,6 +31,7 @@ halt_fault kinds.Failed = Failed
 
 abbrev pub round_of : End → Round
 round_of ends.Input = Ended
+round_of ends.Torn = Torn
 round_of ends.Over = Over
 
 -- That reading failed is told only where the reader was asked, or a fault had come before; that it was asked too often, only where
@@ -49,21 +50,22 @@ IsWhole true Ended read = Unit {0}
 IsWhole false Ended read = EndsLine read
 IsWhole last_too More read = EndsLine read
 IsWhole last_too Served read = EndsLine read
+IsWhole last_too Torn read = EndsLine read
 IsWhole last_too Over read = EndsLine read
 
--- one line or a part of one
-pub record IsCut (bytes : List ℕ) : Type 0 where
-  pub raw : List ℕ
-  pub plain : IsLine raw
-  pub bytes_are : (bytes ≡ raw) ⊎ (bytes ≡ raw ++ 10 ∷ [])
+-- a line with the line feed behind it
+abbrev pub IsWholeLine : List ℕ → Type 0
+IsWholeLine bytes = (line : List ℕ) × IsLine line × (bytes ≡ line ++ 10 ∷ [])
 
 -- What ended a round, and what was taken and not served. Lines were served, and more may wait; or no whole line waits. Or all was
--- read: what follows the last line feed is no line, or is served too. Or the service is over: a line that had come is not served.
+-- read: nothing follows the last line feed, or it is served too; or it is no line. Or the service is over: a line that had come is
+-- not served.
 abbrev pub EndsBy : Bool → Round → Input → List ℕ → List ℕ → Type 0
 EndsBy last_too More after read begun = (begun ≡ []) × (1 ≤ length (lines_of read))
 EndsBy last_too Served after read begun = (begun ≡ []) × (1 ≤ length (lines_of read)) × IsLine after.waiting
-EndsBy last_too Ended after read begun = IsLine begun × IsAtEnd (left after) × (last_too ≡ true → begun ≡ [])
-EndsBy last_too Over after read begun = IsCut begun
+EndsBy last_too Ended after read begun = (begun ≡ []) × IsAtEnd (left after)
+EndsBy last_too Torn after read begun = IsLine begun × (0 < length begun) × IsAtEnd (left after) × (last_too ≡ false)
+EndsBy last_too Over after read begun = IsWholeLine begun
 
 -- Lines were read and served, and what ended that.
 pub record Reads {S : Type 0} (serves : S → Option (List ℕ) → List ℕ → Records → S → Type 0) (last_too : Bool) (round : Round) (before after : Input) (old new : S)
@@ -86,20 +88,22 @@ pub record Serves {S : Type 0} (serves : S → Option (List ℕ) → List ℕ �
   pub wrote : Appends had has told
   pub few : single ≡ true → length (lines_of lines.read) ≤ most
 
--- The line that was taken behind those that were served: it was begun and the machine failed, or it is part of one and was not begun.
-pub record HaltsAt {S : Type 0} (halts : S → Option (List ℕ) → Halt → S → Type 0) (halt : Halt) (begun : List ℕ) (old new : S) : Type 0 where
+-- The line that was taken behind those that were served was begun, and the machine failed. It is a whole one or, where that is
+-- served too, what follows the last line feed of the input.
+pub record HaltsAt {S : Type 0} (halts : S → Option (List ℕ) → Halt → S → Type 0) (last_too : Bool) (halt : Halt) (after : Input) (begun : List ℕ) (old new : S) : Type 0 where
   pub raw : List ℕ
   pub plain : IsLine raw
-  pub begun_is : (begun ≡ raw) ⊎ (begun ≡ raw ++ 10 ∷ [])
+  pub begun_is : ((last_too ≡ true) × (begun ≡ raw) × (0 < length raw) × IsAtEnd (left after)) ⊎ (begun ≡ raw ++ 10 ∷ [])
   pub halted : halts old (short_line raw) halt new
 
-abbrev pub LeavesOff : {S : Type 0} → (S → Option (List ℕ) → Halt → S → Type 0) → SessionFault → List ℕ → S → S → Type 0
-LeavesOff halts NoMemory begun old new = HaltsAt halts kinds.NoMemory begun old new
-LeavesOff halts Failed begun old new = HaltsAt halts kinds.Failed begun old new
-LeavesOff halts Broken begun old new = IsLine begun × (new ≡ old)
-LeavesOff halts Endless begun old new = IsLine begun × (new ≡ old)
-LeavesOff halts Unwritten begun old new = IsLine begun × (new ≡ old)
-LeavesOff halts Unkept begun old new = IsLine begun × (new ≡ old)
+-- what was taken behind the lines that were served: a line that was begun, or part of one, which was not
+abbrev pub LeavesOff : {S : Type 0} → (S → Option (List ℕ) → Halt → S → Type 0) → (last_too : Bool) → SessionFault → Input → List ℕ → S → S → Type 0
+LeavesOff halts last_too NoMemory after begun old new = HaltsAt halts last_too kinds.NoMemory after begun old new
+LeavesOff halts last_too Failed after begun old new = HaltsAt halts last_too kinds.Failed after begun old new
+LeavesOff halts last_too Broken after begun old new = IsLine begun × (new ≡ old)
+LeavesOff halts last_too Endless after begun old new = IsLine begun × (new ≡ old)
+LeavesOff halts last_too Unwritten after begun old new = IsLine begun × (new ≡ old)
+LeavesOff halts last_too Unkept after begun old new = IsLine begun × (new ≡ old)
 
 -- nothing of the last round was kept or told
 pub record NothingKept {H : Type 0} (fault : SessionFault) (between has : Option (List ℕ)) (settled stands : H) : Type 0 where
@@ -121,8 +125,9 @@ pub record NotAllTold {H : Type 0} (keeps : H → Records → H → Type 0) (fau
 
 -- THE THEOREM, where a fault came. Rounds were served, kept and told whole. Then the lines of one more round were served, of which
 -- nothing was kept or told; or not all was kept, and nothing was told; or all is kept, and a front was told. What was taken behind it
--- is part of one line, or a line at which the machine failed, or one that came when the service was over. Where each line is a round, the last one is at most one line, and none
--- where reading or the machine failed. The cause is a true one.
+-- is part of one line, or a line at which the machine failed, or, where a round may be several lines, one that came when the service
+-- was over. Where each line is a round, the last one is at most one line, and none where reading or the machine failed. The cause is a
+-- true one.
 pub record Stops {S : Type 0} (serves : S → Option (List ℕ) → List ℕ → Records → S → Type 0) (halts : S → Option (List ℕ) → Halt → S → Type 0) {H : Type 0} (keeps leaves : H → Records → H → Type 0)
     (last_too single may_end : Bool) (fault : SessionFault) (before after : Input) (old new : S) (had has : Option (List ℕ)) (stood stands : H) : Type 0 where
   pub read : List ℕ
@@ -146,7 +151,7 @@ pub record Stops {S : Type 0} (serves : S → Option (List ℕ) → List ℕ →
   pub left_so : NothingKept fault between has settled stands ⊎ NotAllKept leaves fault last_kept between has settled stands ⊎ NotAllTold keeps fault last_told last_kept between has settled stands
   pub begun : List ℕ
   pub takes : Takes before after (read ++ (last ++ begun))
-  pub left_off : LeavesOff halts fault begun reached new ⊎ ((may_end ≡ true) × IsCut begun × (new ≡ reached))
+  pub left_off : LeavesOff halts last_too fault after begun reached new ⊎ ((may_end ≡ true) × (single ≡ false) × IsWholeLine begun × (new ≡ reached))
   pub cause : HasCause fault before after (length (lines_of read) + length (lines_of last))
 
 -- From each state that the machine represented, to one that it represents.

@@ -15,7 +15,9 @@ pub enum Round {
     Served,
     /// The reader is at its end.
     Ended,
-    /// The service is over.
+    /// The reader is at its end, and what follows the last line feed was not served.
+    Torn,
+    /// The service is over: a line that had come then was not served.
     Over,
 }
 
@@ -24,6 +26,8 @@ pub enum Round {
 pub enum End {
     /// The reader is at its end.
     Input,
+    /// The reader is at its end, and what follows the last line feed was not served.
+    Torn,
     /// The service is over: a line that had come then was not served.
     Over,
 }

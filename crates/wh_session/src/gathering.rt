@@ -36,7 +36,7 @@ pub(crate) fn gather<R: Read, W: Write, M: Machine>(
     requires open { lines.old.failed ≡ false }
     requires stands { SomeStands M.stands machine.old }
     ensures ok { IfOk result (λ round. GathersFrom M.stands M.serves M.says M.logs M.serves_last single round lines.old lines.new machine.old machine.new) }
-    ensures err { IfErr result (λ fault. GathersUntilFrom M.stands M.serves M.halts single fault lines.old lines.new machine.old machine.new) }
+    ensures err { IfErr result (λ fault. GathersUntilFrom M.stands M.serves M.halts M.serves_last single fault lines.old lines.new machine.old machine.new) }
     ensures kept { IfErr result (λ fault. fault ≢ SessionFault.Unkept) }
     ensures reads { OnOk result (lines.old.reads ≤ lines.new.reads) }
     ensures open { OnOk result (lines.new.failed ≡ false) }
@@ -49,6 +49,7 @@ pub(crate) fn gather<R: Read, W: Write, M: Machine>(
         match take_step(lines, writer, line, machine) {
             Ok(Step::Line) => {}
             Ok(Step::Ended) => return Ok(Round::Ended),
+            Ok(Step::Torn) => return Ok(Round::Torn),
             Ok(Step::Over) => return Ok(Round::Over),
             Err(fault) => return Err(fault),
         }

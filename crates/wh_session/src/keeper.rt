@@ -1,6 +1,6 @@
 //! What keeps the records of a round before anything is told of it.
 
-ghost use Rattle.std.specs.Prelude.{◌≡◌, ℕ, List, [], ◌++◌, Bool, true, OnOk, OnErr};
+ghost use Rattle.std.specs.Prelude.{◌≡◌, ℕ, List, [], ◌++◌, Bool, true, false, OnOk, OnErr};
 ghost use Rattle.wh_session.specs.Machines.{Records, nothing, joined};
 
 /// What was to be kept was not.
@@ -26,15 +26,22 @@ pub trait Keeper {
     fn is_single(&self) -> bool
         ensures { result ≡ single };
 
-    /// Adds a piece to the log. Where that fails, it does so while more was to be added.
+    /// Whether it is to be handed records. One that says no keeps whatever they are, and is not called.
+    fn takes_records(&self) -> bool
+        ensures { result ≡ false → (a : Held) (r : Records) → is_safe a → keeps a r a }
+    {
+        true
+    }
+
+    /// Adds a piece to the log, before anything that rests on it. Where that fails, it does so while more was to be added.
     fn add(&mut self, log: &[u8]) -> Result<(), KeepFault>
         ensures ok { OnOk result (adds (holds self.old) (record { log = log.now; more = [] }) (holds self.new)) }
-        ensures err { OnErr result ((a : Held) (r rest : Records) → is_safe a → adds a r (holds self.old) → leaves a (joined (joined r (record { log = log.now; more = [] })) rest) (holds self.new)) };
+        ensures err { OnErr result ((a : Held) (r rest : Records) → is_safe a → adds a r (holds self.old) → r.more ≡ [] → leaves a (joined (joined r (record { log = log.now; more = [] })) rest) (holds self.new)) };
 
-    /// Adds what rests on the log, which survives a kill before that.
+    /// Adds what rests on the log, behind all pieces of that. The log survives a kill before this is added.
     fn add_more(&mut self, more: &[u8]) -> Result<(), KeepFault>
         ensures ok { OnOk result (adds (holds self.old) (record { log = []; more = more.now }) (holds self.new)) }
-        ensures err { OnErr result ((a : Held) (r rest : Records) → is_safe a → adds a r (holds self.old) → leaves a (joined (joined r (record { log = []; more = more.now })) rest) (holds self.new)) };
+        ensures err { OnErr result ((a : Held) (r rest : Records) → is_safe a → adds a r (holds self.old) → rest.log ≡ [] → leaves a (joined (joined r (record { log = []; more = more.now })) rest) (holds self.new)) };
 
     /// From now on all that was added survives a kill.
     fn sync(&mut self) -> Result<(), KeepFault>

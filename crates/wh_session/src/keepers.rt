@@ -31,6 +31,11 @@ impl Keeper for NoKeeper {
         true
     }
 
+    #[inline(always)]
+    fn takes_records(&self) -> bool {
+        false
+    }
+
     fn add(&mut self, _log: &[u8]) -> Result<(), KeepFault> {
         Ok(())
     }

@@ -1,7 +1,7 @@
 //! One loop that serves lines, generic in the machine that serves a line and in what keeps its records before a reply is written.
 //!
 //! Proved: whole lines are served, what is to be kept of them is kept and synced, then their replies are written; after an
-//! error, which rounds were written whole, what became of the last one, and a true cause (`serve`, `serve_round`). No program calls it yet.
+//! error, which rounds were written whole, what became of the last one, and a true cause (`serve`, `serve_round`). Plain `replay` is served by it.
 #![tactic(auto)]
 
 mod fault;

@@ -57,6 +57,17 @@ fn settle<W: Write, M: Machine, K: Keeper>(
     }
 }
 
+/// Whether nothing waits of a round since the service was over before a line of it came.
+fn is_empty(single: bool, round: Round) -> bool
+    ensures over { result ≡ true → (single ≡ true) × (round ≡ Round.Over) }
+    ensures several { result ≡ false → round ≡ Round.Over → single ≡ false }
+{
+    match round {
+        Round::Over => single,
+        _ => false,
+    }
+}
+
 /// One round: lines are served, then kept, then told.
 fn serve_part<R: Read, W: Write, M: Machine, K: Keeper>(
     lines: &mut Lines<R>,
@@ -81,6 +92,9 @@ fn serve_part<R: Read, W: Write, M: Machine, K: Keeper>(
         Ok(round) => round,
         Err(fault) => return Err(fault),
     };
+    if is_empty(single, round) {
+        return Ok(round);
+    }
     match settle(writer, machine, keeper, round) {
         Ok(()) => Ok(round),
         Err(fault) => Err(fault),
@@ -116,6 +130,7 @@ fn serve_all<R: Read, W: Write, M: Machine, K: Keeper>(
                 }
             }
             Ok(Round::Ended) => return Ok(Round::Ended),
+            Ok(Round::Torn) => return Ok(Round::Torn),
             Ok(Round::Over) => return Ok(Round::Over),
             Err(fault) => return Err(fault),
         }
@@ -178,10 +193,10 @@ pub fn serve_round<R: Read, W: Write, M: Machine, K: Keeper>(
     serve_until(lines, writer, machine, keeper, false)
 }
 
-/// Serves the lines that are left in the reader, to its end, or until the service is over. In rounds: lines are served, then what is
-/// to be kept of them is kept and survives a kill, and then what they are told is written. A round is one line, or where the keeper
-/// takes more, all whole lines that wait and for which there is room. The writer is flushed before each read, which may wait, and at
-/// the end. A line takes no memory of its own.
+/// Serves the lines that are left in the reader, to its end, or until the service is over: that is asked before each line is served,
+/// and a line that had come then is not. In rounds: lines are served, then what is to be kept of them is kept and survives a kill, and
+/// then what they are told is written. A round is one line, or where the keeper takes more, all whole lines that wait and for which
+/// there is room. The writer is flushed before each read, which may wait, and at the reader's end. A line takes no memory of its own.
 pub fn serve<R: Read, W: Write, M: Machine, K: Keeper>(
     lines: &mut Lines<R>,
     writer: &mut W,
@@ -202,6 +217,7 @@ pub fn serve<R: Read, W: Write, M: Machine, K: Keeper>(
 {
     match serve_until(lines, writer, machine, keeper, true) {
         Ok(Round::Over) => Ok(End::Over),
+        Ok(Round::Torn) => Ok(End::Torn),
         Ok(_) => Ok(End::Input),
         Err(fault) => Err(fault),
     }

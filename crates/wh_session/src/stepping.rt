@@ -17,11 +17,13 @@ pub(crate) enum Step {
     Line,
     /// There is none.
     Ended,
-    /// The service is over.
+    /// What follows the last line feed is no line.
+    Torn,
+    /// The service is over: a line that had come was not served.
     Over,
 }
 
-/// Serves the next line where it stands in place, in a form that the machine reads there: whether it did.
+/// Serves the next line where it stands in place, in a form that the machine reads there, and the service is not over: whether it did.
 #[inline(always)]
 fn take_front<R: Read, M: Machine>(lines: &mut Lines<R>, machine: &mut M) -> bool
     requires stands { SomeStands M.stands machine.old }
@@ -32,6 +34,9 @@ fn take_front<R: Read, M: Machine>(lines: &mut Lines<R>, machine: &mut M) -> boo
     ensures reads { lines.new.reads ≡ lines.old.reads }
     ensures failed { lines.new.failed ≡ lines.old.failed }
 {
+    if machine.is_over() {
+        return false;
+    }
     match machine.serve_front(lines.waiting()) {
         Some(count) => {
             lines.take(count);
@@ -52,7 +57,7 @@ fn take_next<R: Read, W: Write, M: Machine>(
     requires stands { SomeStands M.stands machine.old }
     requires room { M.has_room machine.old }
     ensures ok { IfOk result (λ step. StepsFrom M.stands M.serves M.says M.logs M.serves_last step lines.old lines.new machine.old machine.new) }
-    ensures err { IfErr result (λ fault. HaltsStepFrom M.stands M.halts fault lines.old lines.new machine.old machine.new) }
+    ensures err { IfErr result (λ fault. HaltsStepFrom M.stands M.halts M.serves_last fault lines.old lines.new machine.old machine.new) }
     ensures kept { IfErr result (λ fault. fault ≢ SessionFault.Unkept) }
     ensures reads { OnOk result (lines.old.reads ≤ lines.new.reads) }
     ensures open { OnOk result (lines.new.failed ≡ false) }
@@ -75,7 +80,7 @@ fn take_next<R: Read, W: Write, M: Machine>(
             if machine.serves_last() {
                 Step::Ended
             } else {
-                return Ok(Step::Ended);
+                return Ok(Step::Torn);
             }
         }
         Next::End => return Ok(Step::Ended),
@@ -98,7 +103,7 @@ pub(crate) fn take_step<R: Read, W: Write, M: Machine>(
     requires stands { SomeStands M.stands machine.old }
     requires room { M.has_room machine.old }
     ensures ok { IfOk result (λ step. StepsFrom M.stands M.serves M.says M.logs M.serves_last step lines.old lines.new machine.old machine.new) }
-    ensures err { IfErr result (λ fault. HaltsStepFrom M.stands M.halts fault lines.old lines.new machine.old machine.new) }
+    ensures err { IfErr result (λ fault. HaltsStepFrom M.stands M.halts M.serves_last fault lines.old lines.new machine.old machine.new) }
     ensures kept { IfErr result (λ fault. fault ≢ SessionFault.Unkept) }
     ensures reads { OnOk result (lines.old.reads ≤ lines.new.reads) }
     ensures open { OnOk result (lines.new.failed ≡ false) }
@@ -106,9 +111,6 @@ pub(crate) fn take_step<R: Read, W: Write, M: Machine>(
     ensures starved { IfErr result (λ fault. fault ≡ SessionFault.NoMemory → M.may_starve ≡ true) }
     ensures over { IfOk result (λ step. step ≡ Step.Over → M.may_end ≡ true) }
 {
-    if machine.is_over() {
-        return Ok(Step::Over);
-    }
     if take_front(lines, machine) {
         return Ok(Step::Line);
     }

@@ -7,7 +7,7 @@ ghost use Rattle.wh_tasks.specs.declared.task.Load.{Load as Burden};
 ghost use Rattle.wh_tasks.specs.declared.task.Task.{Task as Job};
 ghost use Rattle.wh_tasks.specs.Tasks.{IsTask, IsOpen};
 ghost use Rattle.wh_core.specs.States.{State, arrived, picked, dropped, submitted, adopted, assigned, moved, reseated, shut};
-ghost use Rattle.wh_state.specs.Standings.{Standing, standing_at};
+ghost use Rattle.wh_state.specs.Standings.{AreTied, Standing, standing_at};
 
 use crate::arrivals::{Arrivals, arrive_all, foretell_all};
 use crate::coming::note_due;
@@ -118,10 +118,11 @@ impl FleetState {
         &self.paths
     }
 
-    /// The loads of all agents.
+    /// The loads of all agents, which agree with the tasks.
     pub fn loads(&self) -> &[Load]
         ensures value { result.now ≡ self.now.state.loads }
         ensures each { length result.now ≡ length self.now.state.paths }
+        ensures tied { AreTied self.now.state.loads self.now.state.tasks }
     {
         self.loads.as_slice()
     }

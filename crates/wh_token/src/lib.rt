@@ -5,7 +5,11 @@
 //! (`Warehouse`).
 #![tactic(auto)]
 
+mod asking;
 mod command;
+mod opening;
+mod planning;
+mod reading;
 mod ready;
 mod roster;
 mod warehouse;

@@ -1,60 +1,51 @@
-//! The warehouse.
+//! The warehouse: events are prepared and committed, or run at once.
 #![tactic(auto)]
 
-ghost use Rattle.std.specs.Prelude.{◌≡◌, ◌≢◌, ℕ, ◌+◌, ◌-◌, ◌<◌, ◌≤◌, ◌↔◌, List, [], ◌∷◌, ◌++◌, Option, Some, true, false, length, map, slice_get, All, Contains, IfOk, IfErr, IfNone, IfSome, IsTrue, MatchBool, MatchResult};
-ghost use Rattle.wh_grid.specs.declared.cell.Cell.{Cell as Place};
+ghost use Rattle.std.specs.Prelude.{◌≡◌, ◌≢◌, ◌+◌, ◌-◌, ◌<◌, ◌≤◌, ◌↔◌, List, [], ◌∷◌, ◌++◌, Option, Some, true, false, length, IfOk, IfErr, IsTrue, MatchBool, MatchResult};
 ghost use Rattle.wh_points.specs.Formed.{IsFormed};
-ghost use Rattle.wh_points.specs.Points.{IsLayout};
-ghost use Rattle.wh_path.specs.Paths.{place_of, steps_left};
-ghost use Rattle.wh_tasks.specs.declared.task.Task.{Task as Job};
-ghost use Rattle.wh_tasks.specs.Tasks.{IsTask};
 ghost use Rattle.wh_event.specs.declared.event.Event.{Event as Asked};
 ghost use Rattle.wh_event.specs.declared.reply.Reply.{Reply as Answer};
 ghost use Rattle.wh_event.specs.declared.reply.Refusal.{Refusal as Reason};
 ghost use Rattle.wh_event.specs.declared.entry.Entry.{Entry as Line};
 ghost use Rattle.wh_event.specs.declared.event.Spare.{Spare as Told};
 ghost use Rattle.wh_event.specs.declared.event.Command.{Command as Asks};
-ghost use Rattle.wh_ledger.specs.Ledgers.{rows_of};
-ghost use Rattle.wh_planner.specs.Duties.{IsLawful, HasNoClearWay, Delivers, ParksAt};
-ghost use Rattle.wh_core.specs.States.{opened, arrived, moved};
-ghost use Rattle.wh_core.specs.Laws.{IsOpening};
-ghost use Rattle.wh_core.specs.Steps.{Step, Run, IsDeliveryCell, last_clock};
-ghost use Rattle.wh_core.specs.Ordinary.{Answers, IsDue, IsNext, NoneIsNext, IsAllowed, MakesWay};
+ghost use Rattle.wh_core.specs.States.{arrived, moved};
+ghost use Rattle.wh_core.specs.Steps.{Step, Run, IsDue, last_clock};
+ghost use Rattle.wh_book.specs.OnTheirWays.{Answers};
 ghost use Rattle.wh_shared.specs.Shares.{stored_grid};
 ghost use Rattle.wh_book.specs.Drafts.{IsSame, IsReady, StaysReady, Drafts, AllServed, ticked};
 ghost use Rattle.wh_token.specs.Commands.{event_of};
-ghost use Rattle.wh_token.specs.Fleet.{IsTied, AllFit, RefusesToOpen, RefusesToResume, TellsSpare, TellsFor, Swaps, IsSeated, OthersStay, StaySeated, replaced_agent};
+ghost use Rattle.wh_token.specs.Fleet.{TellsFor, Swaps, IsSeated, StaySeated, replaced_agent};
 ghost use Rattle.wh_token.specs.Houses.{StaysAt};
 ghost use Rattle.wh_token.specs.Runs.{RunsOne, Ran as RanBy, WantsSpare, entries_of};
 
 use crate::command::{event_of, replaced};
 use crate::ready::{Committed, NoMemory, Ran, Ready};
-use crate::roster::{OpenFault, ResumeFault, fields_over, first_foreign, outfit, slots_of};
 use std::alloc::{AllocError, Global};
 use std::marker::Model;
 use std::mem;
-use std::sync::Arc;
-use wh_book::{Book, Draft, Setting};
+use wh_book::{Book, Draft};
 use wh_core::LAST_CLOCK;
 use wh_event::{Command, Entry, Event, Refusal, Reply, Spare};
 use wh_field::LazyField;
-use wh_grid::{Cell, Grid};
-use wh_ledger::DeliveryLedger;
-use wh_path::TimedPath;
-use wh_planner::{Duty, PlanFault, Planner, Plans, Scene};
-use wh_points::Points;
+use wh_planner::{Planner, Plans};
 use wh_shared::SharedFields;
-use wh_tasks::{Load, Task};
 
 /// The book and the agents' planners: one for each agent, which plans on the book's grid and has the slots that the state
 /// tells.
+///
+/// By its setting a path ends at the last stop of its order, or goes on home. Where paths go on home each agent has a home:
+/// the parking where it starts. The path of an order goes through its stops and on home. As soon as the last stop is visited
+/// the agent may be given the next order, wherever it is; the new path begins where it is and replaces the rest. With no order
+/// it goes home and stays there. So no station is held longer than the visit takes. (Liu, Ma, Li, Koenig, *Task and Path
+/// Planning for Multi-Agent Pickup and Delivery*, AAMAS 2019: "reserving paths to a parking".)
 #[derive(Drop)]
 pub struct Warehouse<P: Plans = Box<dyn Planner>> {
-    book: Book,
-    planners: Vec<P>,
-    near: LazyField,
+    pub(crate) book: Book,
+    pub(crate) planners: Vec<P>,
+    pub(crate) near: LazyField,
     /// The distance fields that are lent to the planners.
-    fields: SharedFields,
+    pub(crate) fields: SharedFields,
 }
 
 impl<P: Plans> Model for Warehouse<P> {
@@ -70,415 +61,6 @@ impl<P: Plans> Model for Warehouse<P> {
 }
 
 impl<P: Plans> Warehouse<P> {
-    /// The warehouse in its opening state, at a clock of at most 1,000,000,000, with one planner for each agent, in the
-    /// agents' order. It refuses a wrong count of planners, then the first planner of another map, then it is out of memory;
-    /// on a refusal what was handed in is dropped.
-    pub fn open(
-        alloc: Global,
-        grid: Arc<Grid>,
-        points: Points,
-        planners: Vec<P>,
-        start: u32,
-    ) -> Result<Warehouse<P>, OpenFault>
-        requires layout { IsLayout grid.value points }
-        requires start { start ≤ last_clock }
-        ensures site { IfOk result (λ w. w.book.site ≡ record { grid = grid.value; layout = points; homes = false }) }
-        ensures opening { IfOk result (λ w. ((slots : List ℕ) × (w.book.opening ≡ opened points start slots) × (w.book.state ≡ w.book.opening))) }
-        ensures history { IfOk result (λ w. w.book.history ≡ []) }
-        ensures planners { IfOk result (λ w. w.planners ≡ planners.items) }
-        ensures tied { IfOk result (λ w. IsTied P.fits_map P.slot_count grid.value w.planners w.book.state.slots) }
-        ensures refused { IfErr result (RefusesToOpen P.fits_map grid.value planners.items (length points.agents)) }
-    {
-        if planners.len() != points.agents().len() {
-            drop(planners);
-            drop(points);
-            drop(grid);
-            return Err(OpenFault::WrongCount);
-        }
-        if let Some(agent) = first_foreign(planners.as_slice(), &grid) {
-            drop(planners);
-            drop(points);
-            drop(grid);
-            return Err(OpenFault::Foreign { agent });
-        }
-        match Warehouse::furnish(alloc, grid, points, planners, start) {
-            Ok(warehouse) => Ok(warehouse),
-            Err(AllocError) => Err(OpenFault::NoMemory),
-        }
-    }
-
-    /// The warehouse of planners that all plan on the grid, one for each agent.
-    fn furnish(
-        alloc: Global,
-        grid: Arc<Grid>,
-        points: Points,
-        planners: Vec<P>,
-        start: u32,
-    ) -> Result<Warehouse<P>, AllocError>
-        requires layout { IsLayout grid.value points }
-        requires start { start ≤ last_clock }
-        requires seats { length planners.items ≡ length points.agents }
-        requires fit { AllFit P.fits_map grid.value planners.items }
-        ensures site { IfOk result (λ w. w.book.site ≡ record { grid = grid.value; layout = points; homes = false }) }
-        ensures opening { IfOk result (λ w. ((slots : List ℕ) × (w.book.opening ≡ opened points start slots) × (w.book.state ≡ w.book.opening))) }
-        ensures history { IfOk result (λ w. w.book.history ≡ []) }
-        ensures planners { IfOk result (λ w. w.planners ≡ planners.items) }
-        ensures tied { IfOk result (λ w. IsTied P.fits_map P.slot_count grid.value w.planners w.book.state.slots) }
-    {
-        let slots = match slots_of(alloc, planners.as_slice(), &grid) {
-            Ok(slots) => slots,
-            Err(error) => {
-                drop(planners);
-                drop(points);
-                drop(grid);
-                return Err(error);
-            }
-        };
-        let near = match LazyField::from(alloc, &grid, Cell { x: 0, y: 0 }) {
-            Ok(near) => near,
-            Err(error) => {
-                drop(slots);
-                drop(planners);
-                drop(points);
-                drop(grid);
-                return Err(error);
-            }
-        };
-        let fields = match fields_over(alloc, &grid, &slots) {
-            Ok(fields) => fields,
-            Err(error) => {
-                drop(near);
-                drop(slots);
-                drop(planners);
-                drop(points);
-                drop(grid);
-                return Err(error);
-            }
-        };
-        let book = match Book::open(alloc, Setting::new(grid, points), start, slots) {
-            Ok(book) => book,
-            Err(error) => {
-                drop(fields);
-                drop(near);
-                drop(planners);
-                return Err(error);
-            }
-        };
-        Ok(Warehouse {
-            book,
-            planners,
-            near,
-            fields,
-        })
-    }
-
-    /// The warehouse that goes on from the book's state, with one planner for each agent, in the agents' order, each with
-    /// the slots that the state tells. It refuses a wrong count of planners, then the first planner of another map, then
-    /// the first with other slots, then it is out of memory; on a refusal what was handed in is dropped.
-    pub fn resume(alloc: Global, book: Book, planners: Vec<P>) -> Result<Warehouse<P>, ResumeFault>
-        ensures book { IfOk result (λ w. w.book ≡ book) }
-        ensures planners { IfOk result (λ w. w.planners ≡ planners.items) }
-        ensures refused { IfErr result (RefusesToResume P.fits_map P.slot_count book.site.grid planners.items book.state.slots) }
-    {
-        let (near, fields) = outfit(alloc, &book, planners.as_slice())?;
-        Ok(Warehouse {
-            book,
-            planners,
-            near,
-            fields,
-        })
-    }
-
-    /// The state, and the history that led to it.
-    pub fn book(&self) -> &Book
-        ensures { result.now ≡ self.now.book }
-    {
-        &self.book
-    }
-
-    /// How many agents there are, at most 256.
-    pub fn agents(&self) -> u32
-        ensures value { result ≡ length self.now.book.state.paths }
-        ensures few { result ≤ 256 }
-    {
-        self.book.paths().len() as u32
-    }
-
-    /// The clock, in ticks, at most 1,000,000,000.
-    pub fn clock(&self) -> u32
-        ensures value { result ≡ self.now.book.state.clock }
-        ensures fits { result ≤ last_clock }
-    {
-        self.book.clock()
-    }
-
-    /// Whether it is closed: every later event is refused.
-    pub fn closed(&self) -> bool
-        ensures { result ≡ self.now.book.state.closed }
-    {
-        self.book.closed()
-    }
-
-    /// Where the agent is now.
-    pub fn cell(&self, agent: u32) -> Cell
-        requires { agent < length self.now.book.state.paths }
-        ensures { result ≡ place_of self.now.book.state.paths agent }
-    {
-        self.book.paths()[agent as usize].start()
-    }
-
-    /// How many steps the agent has left.
-    pub fn remaining(&self, agent: u32) -> u64
-        requires { agent < length self.now.book.state.paths }
-        ensures { result ≡ steps_left self.now.book.state.paths agent }
-    {
-        self.book.paths()[agent as usize].remaining()
-    }
-
-    /// What the agent has to do.
-    pub fn load(&self, agent: u32) -> Load
-        requires { agent < length self.now.book.state.paths }
-        ensures { slice_get self.now.book.state.loads agent ≡ Some result }
-    {
-        self.book.loads()[agent as usize]
-    }
-
-    /// How many distance fields the agent's planner may keep.
-    pub fn slots(&self, agent: u32) -> u32
-        requires { agent < length self.now.book.state.paths }
-        ensures { slice_get self.now.book.state.slots agent ≡ Some result }
-    {
-        self.book.slots()[agent as usize]
-    }
-
-    /// The task of a number, from 0.
-    pub fn task(&self, n: u32) -> &Task
-        requires { n < length self.now.book.state.tasks }
-        ensures { IsTask self.now.book.state.tasks n result.now }
-    {
-        self.book.tasks().task(n)
-    }
-
-    /// What the tasks of each client have come to, in one pass over the tasks. Fails when out of memory.
-    pub fn ledger(&self, alloc: Global) -> Result<DeliveryLedger, AllocError>
-        ensures { IfOk result (λ ledger. ledger ≡ rows_of self.now.book.state.tasks) }
-    {
-        DeliveryLedger::of(alloc, self.book.tasks())
-    }
-
-    /// All entries so far: a run from the opening state to the state. On a well-formed instance none of them is a refusal
-    /// for lack of a path.
-    pub fn history(&self) -> &[Entry]
-        ensures value { result.now ≡ self.now.book.history }
-        ensures opening { IsOpening self.now.book.site self.now.book.opening }
-        ensures run { Run self.now.book.site self.now.book.opening self.now.book.history self.now.book.state }
-        ensures served { IsFormed self.now.book.site → AllServed self.now.book.history }
-    {
-        self.book.history()
-    }
-
-    /// The slots of the agents' planners in the opening state.
-    pub fn first_slots(&self) -> &[u32]
-        ensures { result.now ≡ self.now.book.opening.slots }
-    {
-        self.book.first_slots()
-    }
-
-    /// The clock of the opening state.
-    pub fn start(&self) -> u32
-        ensures { result ≡ self.now.book.opening.clock }
-    {
-        self.book.first_clock()
-    }
-
-    /// The agents' planners, in the agents' order. Each plans on the grid, and has the slots that the state tells.
-    pub fn planners(&self) -> &[P]
-        ensures value { result.now ≡ self.now.planners }
-        ensures tied { IsTied P.fits_map P.slot_count self.now.book.site.grid self.now.planners self.now.book.state.slots }
-    {
-        self.planners.as_slice()
-    }
-
-    /// What is told of a spare.
-    fn tell(&self, spare: &Option<P>) -> Spare
-        ensures { TellsSpare P.fits_map P.slot_count self.now.book.site.grid spare.now result }
-    {
-        match spare {
-            None => Spare::None,
-            Some(planner) => {
-                if planner.fits(self.book.setting().grid()) {
-                    Spare::Fits {
-                        slots: planner.slots(),
-                    }
-                } else {
-                    Spare::Foreign
-                }
-            }
-        }
-    }
-
-    /// A path for the agent, which stands, to deliver the task.
-    fn plan_delivery(
-        &mut self,
-        alloc: Global,
-        agent: u32,
-        task: u32,
-    ) -> Result<TimedPath, PlanFault>
-        requires due { IsDue self.old.book.state agent }
-        requires task { task < length self.old.book.state.tasks }
-        ensures book { self.new.book ≡ self.old.book }
-        ensures others { OthersStay agent self.old.planners self.new.planners }
-        ensures lawful { IfOk result (λ path. (job : Job) × IsTask self.old.book.state.tasks task job
-            × IsLawful self.old.book.site.grid self.old.book.site.layout.nofollow self.old.book.state.paths agent (length job.stops) (Delivers job.stops) path) }
-        ensures no_path { IfErr result (λ fault. fault ≡ PlanFault.NoPath → ((job : Job) × IsTask self.old.book.state.tasks task job
-            × HasNoClearWay self.old.book.site.grid self.old.book.state.paths agent (Delivers job.stops))) }
-    {
-        let scene = Scene {
-            grid: self.book.setting().grid(),
-            nofollow: self.book.setting().nofollow(),
-            paths: self.book.timetable(),
-            agent: agent as usize,
-        };
-        let duty = Duty::Deliver {
-            stops: self.book.tasks().task(task).stops.as_slice(),
-        };
-        self.planners[agent as usize].plan(alloc, &mut self.fields, &scene, duty)
-    }
-
-    /// A path for the agent, which stands, to one of these cells.
-    fn plan_parking(
-        &mut self,
-        alloc: Global,
-        agent: u32,
-        allowed: &[Cell],
-    ) -> Result<TimedPath, PlanFault>
-        requires due { IsDue self.old.book.state agent }
-        ensures book { self.new.book ≡ self.old.book }
-        ensures others { OthersStay agent self.old.planners self.new.planners }
-        ensures lawful { IfOk result (IsLawful self.old.book.site.grid self.old.book.site.layout.nofollow self.old.book.state.paths agent 2 (ParksAt (Contains allowed.now))) }
-        ensures no_path { IfErr result (λ fault. fault ≡ PlanFault.NoPath → HasNoClearWay self.old.book.site.grid self.old.book.state.paths agent (ParksAt (Contains allowed.now))) }
-    {
-        let scene = Scene {
-            grid: self.book.setting().grid(),
-            nofollow: self.book.setting().nofollow(),
-            paths: self.book.timetable(),
-            agent: agent as usize,
-        };
-        self.planners[agent as usize].plan(alloc, &mut self.fields, &scene, Duty::Park { allowed })
-    }
-
-    /// The draft of a request by a due agent, for which this task is next.
-    fn draft_delivery(
-        &mut self,
-        alloc: Global,
-        caller: u32,
-        agent: u32,
-        task: u32,
-    ) -> Result<Draft, AllocError>
-        requires due { IsDue self.old.book.state agent }
-        requires next { (job : Job) × IsNext self.old.book.site self.old.book.state agent task job }
-        requires room { 1 ≤ self.old.book.entry_room }
-        ensures book { self.new.book ≡ self.old.book }
-        ensures others { OthersStay agent self.old.planners self.new.planners }
-        ensures drafts { IfOk result (Drafts self.old.book caller (Asked.Request agent)) }
-    {
-        match self.plan_delivery(alloc, agent, task) {
-            Ok(path) => self.book.draft_took(alloc, caller, agent, task, path),
-            Err(PlanFault::NoPath) => {
-                let event = Event::Request { agent };
-                Ok(self.book.refuse(caller, event, Refusal::NoPath))
-            }
-            Err(PlanFault::NoMemory) => Err(AllocError),
-        }
-    }
-
-    /// The draft of a request by a due agent that stands in the way, and may park at these cells.
-    fn draft_parking(
-        &mut self,
-        alloc: Global,
-        caller: u32,
-        agent: u32,
-        allowed: &[Cell],
-    ) -> Result<Draft, AllocError>
-        requires due { IsDue self.old.book.state agent }
-        requires makes_way { MakesWay self.old.book.state agent }
-        requires allowed { (cell : Place) → Contains allowed.now cell ↔ IsAllowed self.old.book.site self.old.book.state agent cell }
-        requires room { 1 ≤ self.old.book.entry_room }
-        ensures book { self.new.book ≡ self.old.book }
-        ensures others { OthersStay agent self.old.planners self.new.planners }
-        ensures drafts { IfOk result (Drafts self.old.book caller (Asked.Request agent)) }
-    {
-        match self.plan_parking(alloc, agent, allowed) {
-            Ok(path) => self.book.draft_parked(alloc, caller, agent, path),
-            Err(PlanFault::NoPath) => {
-                let event = Event::Request { agent };
-                Ok(self.book.refuse(caller, event, Refusal::NoPath))
-            }
-            Err(PlanFault::NoMemory) => Err(AllocError),
-        }
-    }
-
-    /// The reply to a request, where it is known at once and changes nothing. With none the agent is due, while tasks are
-    /// open.
-    #[inline(always)]
-    fn answer_at_once(&self, agent: u32) -> Option<Reply>
-        ensures answers { IfSome result (λ reply. Answers self.now.book.site self.now.book.state reply (Asked.Request agent) self.now.book.state) }
-        ensures due { IfNone result (IsDue self.now.book.state agent) }
-    {
-        if self.closed() {
-            return Some(Reply::Refused(Refusal::Closed));
-        }
-        let Some(path) = self.book.paths().get(agent as usize) else {
-            return Some(Reply::Refused(Refusal::UnknownAgent(agent)));
-        };
-        let left = path.remaining();
-        if left != 0 {
-            return Some(Reply::Refused(Refusal::Moving(left)));
-        }
-        if self.book.rests_at_once(agent) {
-            return Some(Reply::Rested);
-        }
-        None
-    }
-
-    /// The draft of a request by a due agent.
-    #[tactic(auto, using(crate::proofs::Seats::others_same))]
-    fn draft_choice(&mut self, alloc: Global, caller: u32, agent: u32) -> Result<Draft, AllocError>
-        requires due { IsDue self.old.book.state agent }
-        requires room { 1 ≤ self.old.book.entry_room }
-        ensures book { self.new.book ≡ self.old.book }
-        ensures others { OthersStay agent self.old.planners self.new.planners }
-        ensures drafts { IfOk result (Drafts self.old.book caller (Asked.Request agent)) }
-    {
-        if let Some(task) = self.book.next(agent, &mut self.near) {
-            return self.draft_delivery(alloc, caller, agent, task);
-        }
-        let here = self.book.paths()[agent as usize].start();
-        if !self.book.tasks().delivers_at(here) {
-            let event = Event::Request { agent };
-            return Ok(self.book.draft_answer(caller, event, Reply::Rested));
-        }
-        let allowed = self.book.allowed(alloc, agent)?;
-        self.draft_parking(alloc, caller, agent, allowed.as_slice())
-    }
-
-    /// The draft of a request. Where no task is open the agent rests, wherever it is.
-    #[tactic(auto, using(crate::proofs::Seats::others_same))]
-    fn draft_request(&mut self, alloc: Global, caller: u32, agent: u32) -> Result<Draft, AllocError>
-        requires room { 1 ≤ self.old.book.entry_room }
-        ensures book { self.new.book ≡ self.old.book }
-        ensures others { OthersStay agent self.old.planners self.new.planners }
-        ensures drafts { IfOk result (Drafts self.old.book caller (Asked.Request agent)) }
-    {
-        match self.answer_at_once(agent) {
-            Some(reply) => {
-                let event = Event::Request { agent };
-                Ok(self.book.draft_answer(caller, event, reply))
-            }
-            None => self.draft_choice(alloc, caller, agent),
-        }
-    }
-
     /// The draft of a command. It makes every growth that the commit needs.
     #[tactic(auto, using(crate::proofs::Seats::seated_same, crate::proofs::Seats::seated_token))]
     fn draft(
@@ -670,7 +252,7 @@ impl<P: Plans> Warehouse<P> {
     /// Answers a request by a due agent, which may have a task or may have to make way: whether there was memory for it.
     #[inline(never)]
     fn add_choice(&mut self, alloc: Global, caller: u32, agent: u32) -> bool
-        requires due { IsDue self.old.book.state agent }
+        requires due { IsDue self.old.book.site self.old.book.state agent }
         ensures runs { (spares : List P) → RunsOne P.fits_map P.slot_count caller (Asks.Token agent) result self.old.book spares self.new.book spares }
     {
         if self.book.reserve_entry().is_err() {

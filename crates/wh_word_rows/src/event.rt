@@ -106,21 +106,39 @@ const FRONTS: [(&[u8], Option<(usize, u32)>); 9] = [
     (b"replace 1\ntoken 13\n", None),
 ];
 
+fn is_front(text: &[u8], front: Option<(usize, u32)>) -> bool {
+    front_of(text) == front
+}
+
+fn are_fronts() -> bool {
+    for (text, front) in FRONTS.iter() {
+        if !is_front(text, *front) {
+            return false;
+        }
+    }
+    true
+}
+
 #[test]
 fn requests_in_front(rt: HostRuntime) {
-    for (text, front) in FRONTS {
-        assert!(rt; front_of(text) == front);
-    }
+    assert!(rt; are_fronts());
 }
 
 /// Lines that are no command, and no fault.
 const SKIPPED: [&[u8]; 4] = [b"", b" \t ", b"# note", b"  #submit x A B"];
 
+fn are_skipped() -> bool {
+    for line in SKIPPED.iter() {
+        if !is_skipped(line) {
+            return false;
+        }
+    }
+    true
+}
+
 #[test]
 fn skipped_lines(rt: HostRuntime) {
-    for line in SKIPPED {
-        assert!(rt; is_skipped(line));
-    }
+    assert!(rt; are_skipped());
 }
 
 /// Lines that have the form of no command.
@@ -138,21 +156,37 @@ const NO_COMMANDS: [&[u8]; 11] = [
     b"Close",
 ];
 
+fn has_fault(line: &[u8], fault: LineFault) -> bool {
+    fault_of(line) == Some(fault)
+}
+
+fn are_refused() -> bool {
+    for line in NO_COMMANDS.iter() {
+        if !has_fault(line, LineFault::Form) {
+            return false;
+        }
+    }
+    true
+}
+
 #[test]
 fn refused_lines(rt: HostRuntime) {
-    for line in NO_COMMANDS {
-        assert!(rt; fault_of(line) == Some(LineFault::Form));
-    }
+    assert!(rt; are_refused());
+}
+
+/// Whether a task is read from 256 bytes, and neither it nor a comment from 257.
+fn long_lines_are_told() -> bool {
+    let mut line = [b' '; 257];
+    line[..12].copy_from_slice(b"submit x A B");
+    let is_read = submits(&line[..256], b"x", &[b"A", b"B"]);
+    let is_refused = has_fault(&line, LineFault::TooLong);
+    line[0] = b'#';
+    is_read && is_refused && has_fault(&line, LineFault::TooLong)
 }
 
 #[test]
 fn long_lines(rt: HostRuntime) {
-    let mut line = [b' '; 257];
-    line[..12].copy_from_slice(b"submit x A B");
-    assert!(rt; submits(&line[..256], b"x", &[b"A", b"B"]));
-    assert!(rt; fault_of(&line) == Some(LineFault::TooLong));
-    line[0] = b'#';
-    assert!(rt; fault_of(&line) == Some(LineFault::TooLong));
+    assert!(rt; long_lines_are_told());
 }
 
 fn name(word: &[u8]) -> Name {
@@ -172,17 +206,34 @@ fn is_told(reply: &Reply, text: &[u8]) -> bool {
     write_reply(reply).as_slice() == text
 }
 
+/// Replies with no path, with their texts.
+const REPLIES: [(Reply, &[u8]); 5] = [
+    (
+        Reply::Clock {
+            now: 1_000_000_000,
+            picked: 2,
+            dropped: 1_000_000,
+        },
+        b"clock 1000000000 picked 2 dropped 1000000",
+    ),
+    (Reply::Accepted { task: 999_999 }, b"accepted 999999"),
+    (Reply::Replaced { slots: 64 }, b"replaced 64"),
+    (Reply::Rested, b"rested"),
+    (Reply::Closed, b"closed"),
+];
+
+fn are_told() -> bool {
+    for (reply, text) in REPLIES.iter() {
+        if !is_told(reply, text) {
+            return false;
+        }
+    }
+    true
+}
+
 #[test]
 fn replies(rt: HostRuntime) {
-    let clock = Reply::Clock {
-        now: 1_000_000_000,
-        picked: 2,
-        dropped: 1_000_000,
-    };
-    assert!(rt; is_told(&clock, b"clock 1000000000 picked 2 dropped 1000000"));
-    assert!(rt; is_told(&Reply::Accepted { task: 999_999 }, b"accepted 999999"));
-    assert!(rt; is_told(&Reply::Replaced { slots: 64 }, b"replaced 64"));
-    assert!(rt; is_told(&Reply::Rested, b"rested") && is_told(&Reply::Closed, b"closed"));
+    assert!(rt; are_told());
 }
 
 /// Whether the copy of a reply that a task was taken is told so.
@@ -239,11 +290,18 @@ const REFUSALS: [(Refusal, &[u8]); 9] = [
     (Refusal::NoSpare, b"refused E10"),
 ];
 
+fn are_refusals() -> bool {
+    for (refusal, text) in REFUSALS.iter() {
+        if !is_refused(refusal, text) {
+            return false;
+        }
+    }
+    true
+}
+
 #[test]
 fn refusals_that_name_no_point(rt: HostRuntime) {
-    for (refusal, text) in REFUSALS.iter() {
-        assert!(rt; is_refused(refusal, text));
-    }
+    assert!(rt; are_refusals());
 }
 
 /// Whether the entry, of this caller, hands in this task as number 5.
@@ -277,9 +335,23 @@ fn entry(alloc: Global) -> Result<Entry, AllocError> {
     })
 }
 
+/// Whether the copy of the entry is the same.
+fn is_copied(alloc: Global) -> Result<bool, AllocError> {
+    let first = entry(alloc)?;
+    let copied = first.copy(alloc);
+    drop(first);
+    match copied {
+        Ok(copy) => {
+            let is_same = hands_in(&copy, 63, b"x", &[b"A", b"B"]);
+            drop(copy);
+            Ok(is_same)
+        }
+        Err(fault) => Err(fault),
+    }
+}
+
 #[test]
 fn entries(rt: HostRuntime) -> Result<(), Fail> {
-    let copy = entry(rt.alloc())?.copy(rt.alloc())?;
-    assert!(rt; hands_in(&copy, 63, b"x", &[b"A", b"B"]));
+    assert!(rt; is_copied(rt.alloc())?);
     Ok(())
 }

@@ -63,38 +63,51 @@ impl Write for Flushes {
     }
 }
 
-/// The sections up to the end, each with a bar behind it. Empty: one was not read.
-fn barred_sections<R: Read>(alloc: Global, lines: &mut Lines<R>) -> Result<Vec<u8>, AllocError> {
-    let mut all = Vec::new(alloc);
+/// The next section, with a bar behind it, comes to a text. Whether it is read.
+fn add_section<R: Read>(alloc: Global, lines: &mut Lines<R>, all: &mut Vec<u8>) -> bool {
+    match lines.section(alloc, 100) {
+        Ok(section) => {
+            let is_added = all.extend_from_slice(&section).is_ok() && all.push(b'|').is_ok();
+            drop(section);
+            is_added
+        }
+        Err(_) => false,
+    }
+}
+
+/// The sections up to the end, each with a bar behind it, come to a text. Whether all are read.
+fn add_sections<R: Read>(alloc: Global, lines: &mut Lines<R>, all: &mut Vec<u8>) -> bool {
     for _ in 0..10 {
-        let Ok(section) = lines.section(alloc, 100) else {
-            return Ok(Vec::new(alloc));
-        };
-        all.extend_from_slice(&section)?;
-        all.push(b'|')?;
+        if !add_section(alloc, lines, all) {
+            return false;
+        }
         if lines.ended() {
-            break;
+            return true;
         }
     }
-    Ok(all)
+    true
 }
 
 /// Whether the sections up to the end are these, each with a bar behind it.
 fn has_sections<R: Read>(alloc: Global, lines: &mut Lines<R>, barred: &[u8]) -> bool {
-    match barred_sections(alloc, lines) {
-        Ok(found) => found.as_slice() == barred,
-        Err(_) => false,
-    }
+    let mut all = Vec::new(alloc);
+    let are_these = add_sections(alloc, lines, &mut all) && all.as_slice() == barred;
+    drop(all);
+    are_these
 }
 
 const SECTIONS: &[u8] = b"a\r\n%% \nb%%\n%%\r\n\n%%\n%%%\nc";
 
 const BARRED: &[u8] = b"a\r\n%% \nb%%\n|\n|%%%\nc|";
 
+fn are_in_one_piece(alloc: Global) -> bool {
+    let mut lines = Lines::new(SECTIONS);
+    !lines.ended() && has_sections(alloc, &mut lines, BARRED)
+}
+
 #[test]
 fn sections_in_one_piece(rt: HostRuntime) {
-    let mut lines = Lines::new(SECTIONS);
-    assert!(rt; !lines.ended() && has_sections(rt.alloc(), &mut lines, BARRED));
+    assert!(rt; are_in_one_piece(rt.alloc()));
 }
 
 /// Whether the sections are the same byte by byte, and one that is missing is empty.
@@ -127,11 +140,22 @@ const LIMITS: [(&[u8], usize, Result<usize, SectionFault>); 7] = [
     (b"", 0, Ok(0)),
 ];
 
+fn is_first(alloc: Global, text: &[u8], limit: usize, wanted: Result<usize, SectionFault>) -> bool {
+    first_section(alloc, text, limit) == wanted
+}
+
+fn are_limited(alloc: Global) -> bool {
+    for (text, limit, wanted) in LIMITS.iter() {
+        if !is_first(alloc, text, *limit, *wanted) {
+            return false;
+        }
+    }
+    true
+}
+
 #[test]
 fn a_section_has_no_more_bytes_than_the_limit(rt: HostRuntime) {
-    for (text, limit, wanted) in LIMITS {
-        assert!(rt; first_section(rt.alloc(), text, limit) == wanted);
-    }
+    assert!(rt; are_limited(rt.alloc()));
 }
 
 /// The fault of the next section of at most this many bytes, if it has one.
@@ -179,59 +203,91 @@ fn line_fails(alloc: Global, given: usize) -> bool {
         && is_broken(alloc, &mut lines)
 }
 
-#[test]
-fn each_read_fails_in_turn(rt: HostRuntime) {
-    for given in 0..6 {
-        assert!(rt; section_fails(rt.alloc(), given));
+/// Whether each read of the section fails, and each of the line behind it.
+fn all_fail(alloc: Global) -> bool {
+    for given in 0..8 {
+        let fails = if given < 6 {
+            section_fails(alloc, given)
+        } else {
+            line_fails(alloc, given)
+        };
+        if !fails {
+            return false;
+        }
     }
-    for given in 6..8 {
-        assert!(rt; line_fails(rt.alloc(), given));
-    }
+    true
 }
 
-/// The lines up to the end, with a bar behind each whole one and a dollar behind the last. Empty: one was not read.
-fn barred_lines<R: Read>(alloc: Global, lines: &mut Lines<R>) -> Result<Vec<u8>, AllocError> {
-    let mut all = Vec::new(alloc);
+#[test]
+fn each_read_fails_in_turn(rt: HostRuntime) {
+    assert!(rt; all_fail(rt.alloc()));
+}
+
+/// A line, with a bar behind it where it is a whole one, and else a dollar, comes to a text. Whether it does.
+fn add_text(line: &CommandLine, end: u8, all: &mut Vec<u8>) -> bool {
+    all.extend_from_slice(line.text().unwrap_or(b"too long"))
+        .is_ok()
+        && all.push(end).is_ok()
+}
+
+/// The next line comes to a text so. None: it is not read, or there is no memory.
+fn add_line<R: Read>(
+    lines: &mut Lines<R>,
+    sink: &mut Vec<u8>,
+    line: &mut CommandLine,
+    all: &mut Vec<u8>,
+) -> Option<Next> {
+    let next = lines.next_line(sink, line).ok()?;
+    let is_added = match next {
+        Next::Whole => add_text(line, b'|', all),
+        Next::End => true,
+        _ => add_text(line, b'$', all),
+    };
+    if is_added { Some(next) } else { None }
+}
+
+/// The lines up to the end come to a text so. Whether all are read.
+fn add_lines<R: Read>(lines: &mut Lines<R>, sink: &mut Vec<u8>, all: &mut Vec<u8>) -> bool {
     let mut line = CommandLine::new();
-    let mut sink = Vec::new(alloc);
     for _ in 0..10 {
-        let Ok(next) = lines.next_line(&mut sink, &mut line) else {
-            return Ok(Vec::new(alloc));
-        };
-        if next == Next::End {
-            break;
+        match add_line(lines, sink, &mut line, all) {
+            Some(Next::End) => return true,
+            Some(_) => {}
+            None => return false,
         }
-        all.extend_from_slice(line.text().unwrap_or(b"too long"))?;
-        all.push(if next == Next::Whole { b'|' } else { b'$' })?;
     }
-    Ok(all)
+    true
 }
 
 /// Whether the lines are read as they are to be.
-fn has_lines<R: Read + Drop>(alloc: Global, mut lines: Lines<R>) -> bool {
-    match barred_lines(alloc, &mut lines) {
-        Ok(found) => found.as_slice() == b"one||t\rw|end\r$".as_slice(),
-        Err(_) => false,
-    }
+fn has_lines<R: Read>(alloc: Global, lines: &mut Lines<R>) -> bool {
+    let mut all = Vec::new(alloc);
+    let mut sink = Vec::new(alloc);
+    let are_these = add_lines(lines, &mut sink, &mut all)
+        && all.as_slice() == b"one||t\rw|end\r$".as_slice();
+    drop(sink);
+    drop(all);
+    are_these
+}
+
+/// Whether the lines are the same in one piece and byte by byte.
+fn lines_are_the_same(alloc: Global) -> bool {
+    let text = b"one\r\n\nt\rw\r\nend\r\r".as_slice();
+    has_lines(alloc, &mut Lines::new(text))
+        && has_lines(alloc, &mut Lines::new(Drip::new(text, 1000)))
 }
 
 #[test]
 fn lines_are_the_same_in_one_piece_and_byte_by_byte(rt: HostRuntime) {
-    let text = b"one\r\n\nt\rw\r\nend\r\r".as_slice();
-    let drops = Lines::new(Drip::new(text, 1000));
-    assert!(rt; has_lines(rt.alloc(), Lines::new(text)) && has_lines(rt.alloc(), drops));
+    assert!(rt; lines_are_the_same(rt.alloc()));
 }
 
-/// Of each part its byte, the given number of times, and its end.
-fn parts_of(alloc: Global, parts: &[(u8, usize, &[u8])]) -> Result<Vec<u8>, AllocError> {
-    let mut text = Vec::new(alloc);
-    for (byte, count, end) in parts {
-        for _ in 0..*count {
-            text.push(*byte)?;
-        }
-        text.extend_from_slice(end)?;
+/// A byte, the given number of times, and an end come to a text.
+fn add_part(text: &mut Vec<u8>, byte: u8, count: usize, end: &[u8]) -> Result<(), AllocError> {
+    for _ in 0..count {
+        text.push(byte)?;
     }
-    Ok(text)
+    text.extend_from_slice(end)
 }
 
 /// Whether the text is this byte, the given number of times.
@@ -261,19 +317,6 @@ fn goes_on(lines: &mut Lines<&[u8]>, wanted: Option<(u8, usize)>, waiting: &[u8]
     is_whole && is_wanted && lines.waiting().ends_with(waiting)
 }
 
-#[test]
-fn a_line_may_have_any_length(rt: HostRuntime) -> Result<(), Fail> {
-    let parts: [(u8, usize, &[u8]); 4] = [
-        (b'a', 256, b"\r\n"),
-        (b'b', 257, b"\n"),
-        (b'c', 1_000_000, b"\n"),
-        (b'd', 4, b"\n"),
-    ];
-    let text = parts_of(rt.alloc(), parts.as_slice())?;
-    assert!(rt; goes_through(&text));
-    Ok(())
-}
-
 /// Whether a line of 256 bytes is read, the two longer ones are told as such, and the last one is read.
 fn goes_through(text: &[u8]) -> bool {
     let mut lines = Lines::new(text);
@@ -285,18 +328,45 @@ fn goes_through(text: &[u8]) -> bool {
         && lines.waiting().is_empty()
 }
 
-/// What comes of the next line, for which the writer may be flushed.
-fn next_of(lines: &mut Lines<&[u8]>, writer: &mut Flushes) -> Result<Next, LineFault> {
-    lines.next_line(writer, &mut CommandLine::new())
+/// Bytes, how many of each there are, and what ends them.
+const PARTS: [(u8, usize, &[u8]); 4] = [
+    (b'a', 256, b"\r\n"),
+    (b'b', 257, b"\n"),
+    (b'c', 1_000_000, b"\n"),
+    (b'd', 4, b"\n"),
+];
+
+fn add_parts(text: &mut Vec<u8>) -> Result<(), AllocError> {
+    for (byte, count, end) in PARTS.iter() {
+        add_part(text, *byte, *count, end)?;
+    }
+    Ok(())
+}
+
+fn parts_go_through(alloc: Global) -> bool {
+    let mut text = Vec::new(alloc);
+    let go_through = add_parts(&mut text).is_ok() && goes_through(&text);
+    drop(text);
+    go_through
+}
+
+#[test]
+fn a_line_may_have_any_length(rt: HostRuntime) {
+    assert!(rt; parts_go_through(rt.alloc()));
+}
+
+/// Whether that comes of the next line, for which the writer may be flushed.
+fn is_next(lines: &mut Lines<&[u8]>, writer: &mut Flushes, next: Result<Next, LineFault>) -> bool {
+    lines.next_line(writer, &mut CommandLine::new()) == next
 }
 
 /// Whether a writer is flushed once before the first read, and the second flush is told where it fails.
 fn is_flushed(lines: &mut Lines<&[u8]>, writer: &mut Flushes) -> bool {
-    next_of(lines, writer) == Ok(Next::Whole)
-        && next_of(lines, writer) == Ok(Next::Whole)
+    is_next(lines, writer, Ok(Next::Whole))
+        && is_next(lines, writer, Ok(Next::Whole))
         && writer.count == 1
-        && next_of(lines, writer) == Err(LineFault::Flush)
-        && next_of(lines, writer) == Err(LineFault::Read(ReadFault::Broken))
+        && is_next(lines, writer, Err(LineFault::Flush))
+        && is_next(lines, writer, Err(LineFault::Read(ReadFault::Broken)))
 }
 
 #[test]
@@ -305,10 +375,14 @@ fn the_writer_is_flushed_before_each_read(rt: HostRuntime) {
     assert!(rt; is_flushed(&mut Lines::new(b"a\nb\nc".as_slice()), &mut writer));
 }
 
-#[test]
-fn a_reader_that_is_given_up_is_not_asked_again(rt: HostRuntime) {
+/// Whether a reader that is given up has a fault, and nothing of it waits.
+fn is_not_asked(alloc: Global) -> bool {
     let mut lines = Lines::new(b"a\n".as_slice());
     lines.fail();
-    let is_broken = fault_of(rt.alloc(), &mut lines, 100) == Some(SectionFault::Broken);
-    assert!(rt; is_broken && lines.waiting().is_empty());
+    fault_of(alloc, &mut lines, 100) == Some(SectionFault::Broken) && lines.waiting().is_empty()
+}
+
+#[test]
+fn a_reader_that_is_given_up_is_not_asked_again(rt: HostRuntime) {
+    assert!(rt; is_not_asked(rt.alloc()));
 }

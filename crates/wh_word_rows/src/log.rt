@@ -2,7 +2,7 @@
 ghost use Rattle.std.specs.Prelude.{◌≡◌, ◌+◌, ◌<◌};
 ghost use Rattle.std.proofs.Common.{sym, ◌∙◌};
 
-use std::alloc::Global;
+use std::alloc::{AllocError, Global};
 use std::test::Fail;
 use wh_event::Entry;
 use wh_log::{
@@ -50,11 +50,18 @@ const LOGS: [(&[u8], u64); 19] = [
     (b"wlog 2\nstart 0 slots 2\nend 0\n\n", 4),
 ];
 
+fn have_faults(alloc: Global, rows: &[(&[u8], u64)]) -> bool {
+    for (text, line) in rows {
+        if fault(alloc, text) != *line {
+            return false;
+        }
+    }
+    true
+}
+
 #[test]
 fn the_log_and_its_changes(rt: HostRuntime) {
-    for (text, line) in LOGS {
-        assert!(rt; fault(rt.alloc(), text) == line);
-    }
+    assert!(rt; have_faults(rt.alloc(), &LOGS));
 }
 
 /// Logs of one entry, each with the line of its fault, or 0.
@@ -119,9 +126,7 @@ const ENTRIES: [(&[u8], u64); 17] = [
 
 #[test]
 fn one_entry_changed(rt: HostRuntime) {
-    for (text, line) in ENTRIES {
-        assert!(rt; fault(rt.alloc(), text) == line);
-    }
+    assert!(rt; have_faults(rt.alloc(), &ENTRIES));
 }
 
 /// Whether a log of this clock, these slots and this number of entries is read from a text, and written as another.
@@ -134,13 +139,17 @@ fn is_read(
 ) -> bool {
     match read_log(alloc, text) {
         Ok(log) => {
-            log.clock() == head.0
-                && log.slots() == head.1
-                && log.entries().len() == entries
-                && is_written(alloc, &log, written)
+            let is_read = has_head(&log, head, entries) && is_written(alloc, &log, written);
+            drop(log);
+            is_read
         }
         Err(_) => false,
     }
+}
+
+/// Whether a log has this clock, these slots and this number of entries.
+fn has_head(log: &Log, head: (u32, &[u32]), entries: usize) -> bool {
+    log.clock() == head.0 && log.slots() == head.1 && log.entries().len() == entries
 }
 
 /// Whether the text of a log is this.
@@ -151,26 +160,30 @@ fn is_written(alloc: Global, log: &Log, written: &[u8]) -> bool {
     }
 }
 
-#[test]
-fn written_as_it_was_read(rt: HostRuntime) {
+fn are_written(alloc: Global) -> bool {
     let begun = (0, [4, 4].as_slice());
     let last = (1_000_000_000, [2, 64].as_slice());
-    assert!(rt;
-        is_read(rt.alloc(), LOG, begun, 3, LOG_IN_TWO) && is_read(rt.alloc(), ALL, last, 16, ALL)
-    );
+    is_read(alloc, LOG, begun, 3, LOG_IN_TWO) && is_read(alloc, ALL, last, 16, ALL)
 }
 
-/// The replies of a log in this form, a line for each, as if the greatest clock stood before each. None: it could not be told.
-fn replies(alloc: Global, form: Form, text: &[u8]) -> Option<Vec<u8>> {
-    let log = read_log(alloc, text).ok()?;
-    let mut told = Vec::new(alloc);
+#[test]
+fn written_as_it_was_read(rt: HostRuntime) {
+    assert!(rt; are_written(rt.alloc()));
+}
+
+/// A reply in this form, and a line feed, come to others, as if the greatest clock stood before it. Whether it could be told.
+fn add_reply(form: Form, told: &mut Vec<u8>, place: u64, entry: &Entry) -> bool {
+    tell(form, told, place, 1_000_000_000, &entry.reply).is_ok() && told.push(b'\n').is_ok()
+}
+
+/// The replies of a log in this form, a line for each, come to a text. Whether all could be told.
+fn add_replies(form: Form, told: &mut Vec<u8>, log: &Log) -> bool {
     for (place, entry) in log.entries().iter().enumerate() {
-        if tell(form, &mut told, place as u64, 1_000_000_000, &entry.reply).is_err() {
-            return None;
+        if !add_reply(form, told, place as u64, entry) {
+            return false;
         }
-        told.push(b'\n').ok()?;
     }
-    Some(told)
+    true
 }
 
 /// Forms and logs, each with the replies that are told.
@@ -198,18 +211,37 @@ const TOLD: [(Form, &[u8], &[u8]); 4] = [
 ];
 
 /// Whether the replies of a log are told so.
+fn are_replies(alloc: Global, form: Form, log: &Log, wanted: &[u8]) -> bool {
+    let mut told = Vec::new(alloc);
+    let are_told = add_replies(form, &mut told, log) && told.as_slice() == wanted;
+    drop(told);
+    are_told
+}
+
+/// Whether a text is a log whose replies are told so.
 fn are_told(alloc: Global, form: Form, text: &[u8], wanted: &[u8]) -> bool {
-    match replies(alloc, form, text) {
-        Some(told) => told.as_slice() == wanted,
-        None => false,
+    match read_log(alloc, text) {
+        Ok(log) => {
+            let are_told = are_replies(alloc, form, &log, wanted);
+            drop(log);
+            are_told
+        }
+        Err(_) => false,
     }
+}
+
+fn are_all_told(alloc: Global) -> bool {
+    for (form, text, wanted) in TOLD.iter() {
+        if !are_told(alloc, *form, text, wanted) {
+            return false;
+        }
+    }
+    true
 }
 
 #[test]
 fn told_in_few_words_and_in_all(rt: HostRuntime) {
-    for (form, text, wanted) in TOLD {
-        assert!(rt; are_told(rt.alloc(), form, text, wanted));
-    }
+    assert!(rt; are_all_told(rt.alloc()));
 }
 
 /// Takes two entries, and refuses a third.
@@ -241,28 +273,49 @@ impl Judge for Two {
     ghost one_step = { λ old entry a b p q. p.1 ∙ sym q.1 };
 }
 
+const SHORT: &[u8] = b"wlog 2\nstart 0 slots 4\n0 tick = rested\n0 close = closed\nend 2\n";
+
+fn is_followed(
+    alloc: Global,
+    judge: &mut Two,
+    text: &[u8],
+    wanted: Followed,
+) -> Result<bool, NoMemory> {
+    Ok(follow(alloc, judge, text)? == wanted)
+}
+
+/// Whether a log is bad where its third entry is refused, and a shorter one, which the judge begins anew, is whole.
+fn are_followed(alloc: Global) -> Result<bool, NoMemory> {
+    let mut judge = Two { taken: 7 };
+    let is_refused = is_followed(alloc, &mut judge, LOG, Followed::Bad { line: 5 })?;
+    let is_whole = is_followed(alloc, &mut judge, SHORT, Followed::Whole { entries: 2 })?;
+    Ok(is_refused && is_whole && judge.taken == 2)
+}
+
 #[test]
 fn told_to_a_judge(rt: HostRuntime) -> Result<(), Fail> {
-    let alloc = rt.alloc();
-    let mut judge = Two { taken: 7 };
-    assert_eq!(rt; follow(alloc, &mut judge, LOG)?, Followed::Bad { line: 5 });
-    let short = b"wlog 2\nstart 0 slots 4\n0 tick = rested\n0 close = closed\nend 2\n";
-    assert_eq!(rt;
-        follow(alloc, &mut judge, short)?,
-        Followed::Whole { entries: 2 }
-    );
-    assert_eq!(rt; judge.taken, 2);
+    assert!(rt; are_followed(rt.alloc())?);
     Ok(())
+}
+
+/// Whether a log of clock 7 and slots 4 and 64, with no entry, is the same once it is written and read.
+fn is_read_again(alloc: Global) -> Result<bool, AllocError> {
+    let slots = vec![in alloc; 4, 64]?;
+    let log = Log::new(7, slots, Vec::new(alloc));
+    let written = written_again(alloc, &log);
+    drop(log);
+    match written {
+        Ok(again) => {
+            let is_same = has_head(&again, (7, [4, 64].as_slice()), 0);
+            drop(again);
+            Ok(is_same)
+        }
+        Err(_) => Ok(false),
+    }
 }
 
 #[test]
 fn read_again(rt: HostRuntime) -> Result<(), Fail> {
-    let alloc = rt.alloc();
-    let slots = vec![in alloc; 4, 64]?;
-    let log = Log::new(7, slots, Vec::new(alloc));
-    let again = written_again(alloc, &log)?;
-    assert_eq!(rt; again.clock(), 7);
-    assert_eq!(rt; again.slots(), [4, 64].as_slice());
-    assert!(rt; again.entries().is_empty());
+    assert!(rt; is_read_again(rt.alloc())?);
     Ok(())
 }

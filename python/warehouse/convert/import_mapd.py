@@ -20,9 +20,9 @@ status is 2. --agents N takes the first N agents in reading order; the other `r`
 
 Task endpoint I becomes `station SI`, agent I's endpoint `parking PI`. Each task is a `submit` with a comment line
 `# @T` before it, its release time, in the order of these times. The script has no `token` and no `tick`: that is the
-client's part, done by `due-script`, which reads the release times:
+client's part, done by `drive`:
 
-    import-mapd MAP TASK > tasks && due-script tasks > INSTANCE && ./warehouse replay < INSTANCE
+    import-mapd MAP TASK > INSTANCE && drive INSTANCE
 
 Whether the instance is well-formed, `./warehouse check` says.
 """

@@ -18,7 +18,7 @@ What this can mean, and what it cannot:
 
 The map is passed on as it is, with a last LF where it has none. A map of another shape, a scenario of another shape, of
 another map's sides, or with a cell that is outside or blocked is refused with its line, more than 256 agents with the
-count, and the status is 2. The script has no `token` and no `tick`: `due-script` adds what a client asks.
+count, and the status is 2. The script has no `token` and no `tick`: `replay --deliver` makes them.
 """
 from __future__ import annotations
 

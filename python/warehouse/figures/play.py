@@ -43,8 +43,8 @@ import subprocess
 import sys
 from typing import Any
 
-from ..session import program
-from ..texts import Execution, Fault, Instance, Run, log_text, read_file, read_instance, read_log, read_transcript, standing
+from ..session import ends_words, program
+from ..texts import Execution, Fault, Run, log_text, read_file, read_instance, read_log, read_transcript, standing
 from .. import web
 from ..web.data import data_of, differences
 from . import picture
@@ -83,10 +83,10 @@ def check(run: Run, clocks: list[int], vehicles: Execution | None) -> int:
     return 1 if wrong or (vehicles and vehicles.meetings) else 0
 
 
-def verdict(program: str, instance: Instance, log: bytes) -> str:
-    """What the program's `verify` says of the log."""
+def verdict(program: str, run: Run, log: bytes) -> str:
+    """What the program's `verify` says of the log of a run, under that run's rule of where paths end."""
     try:
-        done = subprocess.run([program, 'verify'], input=instance.text + log, capture_output=True)
+        done = subprocess.run([program, 'verify', *ends_words('homes' if run.homes else 'stops')], input=run.instance.text + log, capture_output=True)
     except OSError as error:
         raise Fault(f'{program}: {error.strerror}') from None
     answer = done.stdout.decode('latin-1').strip()
@@ -125,8 +125,9 @@ def beside(options: argparse.Namespace) -> list[dict[str, Any]]:
     name, log = options.beside
     instance = read_instance(name, read_file(name))
     data = read_file(log)
-    verified = verdict(options.verify, instance, log_text(log, data)[1]) if options.verify else None
-    return [data_of(read_log(instance, log, data), title(name, log), verified, None)]
+    found = read_log(instance, log, data)
+    verified = verdict(options.verify, found, log_text(log, data)[1]) if options.verify else None
+    return [data_of(found, title(name, log), verified, None)]
 
 
 def run(options: argparse.Namespace) -> int:
@@ -140,7 +141,7 @@ def run(options: argparse.Namespace) -> int:
         raise Fault('--beside: it wants LOG, and a page without --vehicles')
     verified = None
     if options.verify and data is not None:
-        verified = verdict(options.verify, instance, log_text(options.log, data)[1])
+        verified = verdict(options.verify, found, log_text(options.log, data)[1])
     if options.check is not None:
         return check(found, options.check, vehicles)
     for meeting in vehicles.meetings[:1] if vehicles else []:

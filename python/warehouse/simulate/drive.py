@@ -3,9 +3,10 @@
     drive INSTANCE                            the orders are those of INSTANCE's third section
     drive INSTANCE SCRIPT --log run.log       the orders are those of SCRIPT; the program keeps the run in run.log
     drive INSTANCE --cells cells              where each agent is at each clock
+    drive INSTANCE --ends homes               paths go on home from the last stop
     drive INSTANCE --program 'ssh host warehouse/warehouse replay'
 
-At each clock it hands in the orders that are due, asks the token for the agents that have no steps left, and ticks: a
+At each clock it hands in the orders that are due, asks the token for the agents that are due, and ticks: a
 tick says that every agent has made its step. It ends when each accepted order is delivered and nobody moves, or where
 no later reply can differ from those before it, or at --ticks. With --shift N it gives nobody anything to do from clock
 N on, and ends when nobody moves: `next-shift` takes such a log with the orders that are open then.
@@ -15,14 +16,15 @@ stands (the number of `tick` lines before it). The other lines of the script are
 
 Who is asked first is --ask's: `nearest`, the one that is nearest to the first stop of the order that it would take, until
 nobody is left who would not rest; `number`, all who may ask in the order of their numbers; `hold`, as nearest, but an order
-waits while an agent under way could be at its first stop sooner.
+waits while an agent that is busy could be at its first stop sooner.
 
 Where no later reply can differ, as where two agents at rest bar an order to each other, it ends; with --helpers it hands in
 `submit helper S S` instead, which sends one of them to another station, once for each order and agent.
 
 `took N path X,Y X,Y ..` and `parked P path X,Y ..` tell the agent's cell at each clock from now on: cell k of the path at
-clock T + k. With the last index K it has no steps left when the clock is K higher; with K = 0 at once. So it asks when it
-is due, and only where an order is open. After `rested` it asks again when an order has come in or
+clock T + k. With the last index K it has no steps left when the clock is K higher; with K = 0 at once. Then it is due; and
+with --ends homes, where paths go on to where the agent started, at its last stop: what it takes up there replaces the
+rest. So it asks when it is due, and only where an order is open. After `rested` it asks again when an order has come in or
 another agent has taken up a path; before, the answer would be the same. `refused E6` (no path now) is asked again after
 the next tick, and then likewise. After `refused E1`, `E2` or `E3` the order is left out, and told. Any other refusal, a
 wrong reply and a program that ends end the run, with the line that was sent.
@@ -45,8 +47,8 @@ for a program that knows no --log: it writes there, at the end, the log that fol
 
 With --replies short `took N end K` and `parked P end K` tell K and no cell: for a program that knows no `--replies`.
 
-To --program's words are added `--log FILE`, or without it `--tail log`, and, but with --replies short, `--replies full`, unless
-they name these options. The figures of deliveries are worked out at the end, from the log, as `stats` does; its paths
+To --program's words are added `--log FILE`, or without it `--tail log`, with --ends homes that option, and, but with --replies
+short, `--replies full`, unless they name these options. The figures of deliveries are worked out at the end, from the log, as `stats` does; its paths
 must be those that the replies told.
 
 It prints a name and a number a line:
@@ -77,7 +79,7 @@ from typing import TextIO
 from ..fleet import POLICIES, Fleet, Stop, stop_at
 from ..process import ENDING, NoProgram, Process, SessionError
 from ..replies import Closed
-from ..session import Session, program
+from ..session import ENDS, Session, program
 from ..texts import Fault, Instance, Order, Run, read_file, read_instance, read_log, read_orders
 from .judge import Whereabouts
 from .late import Plan, add_late_options, drive_late, late_figures
@@ -94,6 +96,7 @@ def add_options(parser: argparse.ArgumentParser) -> None:
     add('--program', metavar="'WORDS'", default=shlex.join([program(), 'replay']), help='the program and its words (%(default)s)')
     add('--ask', choices=sorted(POLICIES), default='nearest', help='who is asked first (%(default)s)')
     add('--replies', choices=('full', 'short'), default='full', help='whether replies tell cells (%(default)s)')
+    add('--ends', choices=ENDS, default='stops', help='where paths end: at the last stop, or where the agent started (%(default)s)')
     add('--cells', metavar='FILE', help="write each agent's cell at each clock there; - is the standard output")
     add('--batch', type=int, default=1, metavar='N', help=f'commands sent at once, 1 to {MOST_IN_BATCH} (1)')
     add('--ticks', type=int, default=1_000_000, metavar='N', help='end at this clock (%(default)s)')
@@ -111,6 +114,8 @@ def judge_options(options: argparse.Namespace) -> None:
     wrong = [
         (not 1 <= options.batch <= MOST_IN_BATCH, f'--batch {options.batch}: 1 to {MOST_IN_BATCH} commands can be sent at once'),
         (options.cells is not None and options.replies == 'short', '--cells: short replies tell no cells'),
+        (options.ends == 'homes' and options.replies == 'short', '--ends homes: short replies do not tell when an agent is due'),
+        (any(word.split('=')[0] == '--ends' for word in options.program.split()), '--program: --ends stands there; say it by --ends here'),
         (options.log is not None and options.save is not None, '--save: with --log the log stands there'),
         (options.helpers and options.late is not None, '--helpers: not with --late'),
         (options.transcript is not None and options.late is None, '--transcript: it is for --late'),
@@ -135,6 +140,7 @@ def program_words(options: argparse.Namespace) -> list[str]:
     if '--log' in named:
         raise Fault('--program: --log stands there; name the file by --log FILE')
     added = [('--tail', 'log')] if options.log is None else []
+    added += [('--ends', options.ends)] if options.ends != 'stops' else []
     added += [('--replies', 'full')] if options.replies == 'full' else []
     return words + [word for pair in added if pair[0] not in named for word in pair]
 
@@ -272,7 +278,7 @@ def run(options: argparse.Namespace) -> int:
 def run_late(options: argparse.Namespace, instance: Instance, orders: list[Order]) -> int:
     """Vehicles that are late, in a simulation."""
     plan = Plan(seed=options.late, spread=options.spread, stop=options.stop, behind=options.behind, ahead=options.ahead,
-                kills=options.kills, ask=options.ask)
+                kills=options.kills, ask=options.ask, ends=options.ends)
     words = shlex.split(options.program) + (['--tail', 'log'] if options.save else [])
     try:
         with open(options.transcript or os.devnull, 'w') as transcript:

@@ -2,7 +2,7 @@
 
 A command with its full reply is an entry of the log, so it is read as a log is, and judged so: a path begins
 where the agent stands, each next cell is a neighbour or the same, all are passable, the stops of a task are visited in
-turn, and one that parks ends at its point. Each tick's counts must be those of the cells, and no step may bring two agents
+turn, and it ends at the last, or in all paths of tasks on at home; one that parks ends at its point. Each tick's counts must be those of the cells, and no step may bring two agents
 to one cell, exchange two, or break `rule nofollow`. What is none of that is a `Fault`.
 """
 from __future__ import annotations
@@ -37,6 +37,9 @@ class Whereabouts(Reader):
         super().adopt(caller, agent, reply, cells)
         path = self.run.paths[agent][-1]
         if path.task is not None:
+            last = self.run.instance.points[self.run.tasks[path.task].stops[-1]]
+            if path.served is None and cells[-1] != last.cell:
+                raise self.fault(f'the path of agent {agent} ends neither at {last.name}, the last stop of its task {path.task}, nor where it started')
             # a visit made as the path is taken stands in no tick's counts, and no tick comes to that clock
             visits = self.run.tasks[path.task].visits
             self.picked[visits[0]] += 1

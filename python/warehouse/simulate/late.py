@@ -10,7 +10,7 @@ A line `rule nofollow` is added where INSTANCE has none. The time is the simulat
 the vehicle's own pace and a chance factor (both from SEED, as far from 1 as --spread says), and half a second more where the
 vehicle stood before it. A vehicle sets out as soon as `go` tells it to, if it stands; it reports each step by `at`, one report in
 twenty comes up to three seconds late, and one in twenty is sent twice, the second time later. The controller hands in the orders
-that are due by the plan's clock, asks for agents with no steps left, and ticks once a second, or as soon as the vehicle that
+that are due by the plan's clock, asks for agents that are due, and ticks once a second, or as soon as the vehicle that
 `refused V1` named has reported.
 
 It judges on its own what is told: `go` names the next step of a vehicle, to a neighbour of the cell where it goes before, passable,
@@ -43,7 +43,7 @@ from ..fleet import POLICIES, Fleet, Stop
 from ..pipe import FENCE
 from ..process import Process, SessionError
 from ..replies import Accepted, Arrived, Go, Reply, Visited
-from ..session import Session, Vehicles
+from ..session import Session, Vehicles, ends_words
 from ..texts import Cell, Instance, Order
 
 STANDING = 0.5              # seconds that a vehicle needs more where it stood
@@ -60,6 +60,7 @@ class Plan:
     ahead: int = 1
     kills: int = 0
     ask: str = 'number'
+    ends: str = 'stops'
 
 
 def add_late_options(parser: argparse.ArgumentParser) -> None:
@@ -67,7 +68,7 @@ def add_late_options(parser: argparse.ArgumentParser) -> None:
     add('--late', type=int, metavar='SEED', help='move vehicles that are late, in a simulation, under `rule nofollow`, which is added where '
                                                       'INSTANCE has none: warehouse/simulate/late.py tells all of it')
     add('--behind', type=int, default=8, metavar='N', help='with --late: the clock waits for a vehicle so far behind (%(default)s)')
-    add('--ahead', type=int, default=1, metavar='N', help='with --late: cells ahead that a vehicle is told (%(default)s)')
+    add('--ahead', type=int, default=1, metavar='N', help='with --late: steps ahead that a vehicle is told (%(default)s)')
     add('--spread', type=float, default=0.3, metavar='X', help='with --late: how far speeds differ, 0 to 0.9 (%(default)s)')
     add('--kills', type=int, default=0, metavar='N', help='with --late and --log: end the program so often by signal 9, and go on')
     add('--stop', type=float, default=0.0, metavar='SECONDS', help='with --late: so long vehicle 0 stands once, from second 100 on')
@@ -286,9 +287,11 @@ def drive_late(words: Sequence[str], instance: Instance, orders: Sequence[Order]
                log: str | None = None) -> Late:
     """Drives all orders to their ends by a program of these words; raises Stop where that is not so, or vehicles would meet."""
     vehicles = Vehicles(plan.behind, plan.ahead)
-    process = Killed([*words, *vehicles.words], plan.kills, plan.seed)
+    # where paths go on home, their cells tell when an agent is due
+    form = 'short' if plan.ends == 'stops' else 'full'
+    process = Killed([*words, *([] if form == 'short' else ['--replies', form]), *ends_words(plan.ends), *vehicles.words], plan.kills, plan.seed)
     try:
-        with Session(instance.with_nofollow(), log=log, vehicles=vehicles, replies='short', process=process) as core:
+        with Session(instance.with_nofollow(), log=log, vehicles=vehicles, replies=form, process=process) as core:
             late = Late(core, orders, plan, transcript)
             late.run()
             status = core.end()

@@ -1,14 +1,18 @@
 """Makes a warehouse instance, the same for the same seed: a map of shelves, points, and a script.
 
     make-instance --columns 60 --rows 40 --agents 20 --tasks 200 --seed 7 > instance
+    make-instance --layout kiva --columns 42 --rows 30 --stations 3 --agents 30 --nofollow > instance
 
 The sections map, points and script stand on standard output, separated by lines `%%`. Shelves are blocks of
 blocked cells with aisles around; stations stand beside shelves, parkings along the walls, so that any
 two points are joined by a walk that meets no third one, and there is a parking for each agent: the instance is
 well-formed. `./warehouse check` says so too.
 
+With `--layout kiva` stations stand on both sides of each shelf, and `--stations` packing stations, C0, C1 and so on, along
+the lower wall. Each order goes from stations at shelves, drawn from the seed, to a packing station.
+
 In the script every agent asks for the token at each tick, due or not: much to do for a benchmark, and no model of a
-client (`due-script` writes a script that asks only where an agent is due).
+client (`drive` asks only where an agent is due).
 
 What the program would refuse is not made: the message says why, nothing is written, and the status is 2.
 """
@@ -43,6 +47,21 @@ def beside_shelves(cells: list[list[str]], columns: int, rows: int) -> list[Cell
     return found
 
 
+def around_shelves(cells: list[list[str]], columns: int, rows: int, shelf: int) -> list[Cell]:
+    """Passable cells on both sides of each shelf, each fourth one; those of two sides of an aisle do not face each other."""
+    found = []
+    for y in range(3, rows - 4, 4):
+        for x in range(6, columns - 6 - shelf + 1, shelf + 2):
+            found += [(x + dx, y - 1) for dx in range(1, shelf, 4)] + [(x + dx, y + 2) for dx in range(3, shelf, 4)]
+    return found
+
+
+def along_lower_wall(columns: int, rows: int, count: int) -> list[Cell]:
+    """So many cells of the lower wall, evenly apart, and none beside another."""
+    width = columns - 12
+    return [(6 + (2 * i + 1) * width // (2 * count), rows - 1) for i in range(count)]
+
+
 def along_walls(columns: int, rows: int) -> list[Cell]:
     """Cells for parkings: each second row of each second column at both sides, then each second cell of the upper wall."""
     cells = [(x, y) for y in range(0, rows, 2) for x in (0, columns - 1, 2, columns - 3)]
@@ -56,6 +75,8 @@ def add_options(parser: argparse.ArgumentParser) -> None:
     parser.add_argument('--rows', type=int, default=40)
     parser.add_argument('--shelf', type=int, default=8, help='how many cells a shelf is long')
     parser.add_argument('--open', action='store_true', help='a map without shelves')
+    parser.add_argument('--layout', choices=('rows', 'kiva'), default='rows', help='where stations stand')
+    parser.add_argument('--stations', type=int, default=6, help='with --layout kiva: packing stations along the lower wall')
     parser.add_argument('--agents', type=int, default=20)
     parser.add_argument('--tasks', type=int, default=200)
     parser.add_argument('--ticks', type=int, default=1000)
@@ -69,21 +90,52 @@ def judge_options(options: argparse.Namespace) -> None:
     """Refuses what the program would refuse."""
     least = 13 if options.open else 12 + max(options.shelf, 1)
     height = 5 if options.open else 8
+    if options.open and options.layout == 'kiva':
+        options.refuse('--open has no shelves, and --layout kiva needs them')
     for name, low, high in (('agents', 1, MOST_AGENTS), ('tasks', 0, MOST_TASKS), ('ticks', 0, 10 ** 9), ('every', 1, 10 ** 9),
-                            ('stops', 2, 8), ('shelf', 1, MOST_SIDE), ('columns', least, MOST_SIDE), ('rows', height, MOST_SIDE)):
+                            ('stops', 2, 8), ('shelf', 1, MOST_SIDE), ('columns', least, MOST_SIDE), ('rows', height, MOST_SIDE),
+                            ('stations', 1, (options.columns - 12) // 2 if options.layout == 'kiva' else MOST_POINTS)):
         value = getattr(options, name)
         if not low <= value <= high:
             room = ' (room for one shelf, and parkings around)' if name in ('columns', 'rows') and value < low else ''
             options.refuse(f'--{name} {value}: {low} to {high} can be had{room}')
 
 
-def script(options: argparse.Namespace, stations: int, chance: random.Random) -> None:
+class Places:
+    """The points of a floor, by their names."""
+
+    def __init__(self, options: argparse.Namespace, cells: list[list[str]], chance: random.Random):
+        columns, rows = options.columns, options.rows
+        self.packing = along_lower_wall(columns, rows, options.stations) if options.layout == 'kiva' else []
+        if options.open:
+            stations = [(x, y) for y in range(2, rows - 2, 4) for x in range(6, columns - 6, 4)]
+        elif options.layout == 'kiva':
+            stations = around_shelves(cells, columns, rows, options.shelf)
+        else:
+            stations = beside_shelves(cells, columns, rows)
+        chance.shuffle(stations)
+        self.stations = stations[:MOST_POINTS - options.agents - len(self.packing)]
+        parkings = along_walls(columns, rows)
+        if len(parkings) < options.agents:
+            raise Fault(f'--agents {options.agents}: a floor of {columns} x {rows} has {len(parkings)} parkings')
+        self.parkings = parkings[:options.agents]
+
+    def lines(self) -> list[str]:
+        named = (('parking P', self.parkings), ('station S', self.stations), ('station C', self.packing))
+        return [f'{word}{i} {x} {y}' for word, cells in named for i, (x, y) in enumerate(cells)]
+
+    def stops(self, count: int, chance: random.Random) -> list[str]:
+        """The stops of an order, drawn; the last of them is a packing station, where there are any."""
+        drawn = [f'S{chance.randrange(len(self.stations))}' for _ in range(count - bool(self.packing))]
+        return drawn + [f'C{chance.randrange(len(self.packing))}'] if self.packing else drawn
+
+
+def script(options: argparse.Namespace, places: Places, chance: random.Random) -> None:
     submitted = 0
     for tick in range(options.ticks):
         if tick % options.every == 0 and submitted < options.tasks:
             count = chance.randint(2, options.stops) if options.stops > 2 else 2
-            stops = [f'S{chance.randrange(stations)}' for _ in range(count)]
-            print(f'submit c{submitted % 5}', *stops)
+            print(f'submit c{submitted % 5}', *places.stops(count, chance))
             submitted += 1
         for agent in range(options.agents):
             print(f'token {agent}')
@@ -93,30 +145,18 @@ def script(options: argparse.Namespace, stations: int, chance: random.Random) ->
 def run(options: argparse.Namespace) -> int:
     judge_options(options)
     chance = random.Random(options.seed)
-    columns, rows = options.columns, options.rows
-    cells = floor(columns, rows, options.shelf, options.open)
-    stations = beside_shelves(cells, columns, rows)
-    if options.open:
-        stations = [(x, y) for y in range(2, rows - 2, 4) for x in range(6, columns - 6, 4)]
-    chance.shuffle(stations)
-    stations = stations[:MOST_POINTS - options.agents]
-    parkings = along_walls(columns, rows)
-    if len(parkings) < options.agents:
-        raise Fault(f'--agents {options.agents}: a floor of {columns} x {rows} has {len(parkings)} parkings')
-    parkings = parkings[:options.agents]
-
-    print(f'type octile\nheight {rows}\nwidth {columns}\nmap')
+    cells = floor(options.columns, options.rows, options.shelf, options.open)
+    places = Places(options, cells, chance)
+    print(f'type octile\nheight {options.rows}\nwidth {options.columns}\nmap')
     for row in cells:
         print(''.join(row))
     print('%%')
     if options.nofollow:
         print('rule nofollow')
-    for i, (x, y) in enumerate(parkings):
-        print(f'parking P{i} {x} {y}')
-    for i, (x, y) in enumerate(stations):
-        print(f'station S{i} {x} {y}')
+    for line in places.lines():
+        print(line)
     for i in range(options.agents):
         print(f'agent P{i}')
     print('%%')
-    script(options, len(stations), chance)
+    script(options, places, chance)
     return 0

@@ -1,7 +1,8 @@
 """Logs: what a run was, by its log alone. One reader, which also takes entries as they are told.
 
 A log tells the path that each agent takes, and not when a stop is visited: arrivals are redone here from paths and
-stops. An agent asks only when it has no steps left, so each path is gone to its end, unless the log ends before.
+stops. An agent takes another path when it has gone to the end of its own; or, in a run with `--ends homes`, on its way
+home, where the new path takes the place of the rest. The paths themselves tell which of the two a run is.
 Whatever cannot be read, or does not fit the instance, is a `Fault` with the file and its line.
 """
 from __future__ import annotations
@@ -51,16 +52,23 @@ class Task:
 
 @dataclass
 class Path:
-    """A path that an agent took up at a clock, to serve a task or to park at a point: it is at cell k at clock + k."""
+    """A path that an agent took up at a clock, to serve a task or to park at a point: it is at cell k at clock + k, until it takes up
+    another. With `served` it goes on home behind that step, in which its task is delivered."""
     clock: int
     cells: list[Cell]
     task: int | None = None
     point: int | None = None
+    served: int | None = None
 
     @property
     def end(self) -> int:
         """The clock from which the agent has no steps left."""
         return self.clock + len(self.cells) - 1
+
+    @property
+    def free(self) -> int:
+        """The clock from which the agent may take up another."""
+        return self.end if self.served is None else self.clock + self.served
 
     def at(self, clock: int) -> Cell:
         """The cell at a clock of the path or behind it."""
@@ -80,6 +88,7 @@ class Run:
     answers: collections.Counter[str] = field(default_factory=collections.Counter)    # requests for the token by answer
     entries: int = 0
     cut: bool = False
+    homes: bool | None = None    # whether paths go on home; None where no path of a task tells
 
     def path_at(self, agent: int, clock: int) -> Path:
         paths = self.paths[agent]
@@ -109,8 +118,8 @@ def standing(instance: Instance) -> Run:
 def steps_made(run: Run) -> Iterator[tuple[Cell, Cell]]:
     """Each step that the paths tell and the log's clock has reached, as the cells before and after."""
     for paths in run.paths:
-        for path in paths:
-            made = path.cells[:run.clock - path.clock + 1]
+        for path, until in zip(paths, [*(path.clock for path in paths[1:]), run.clock]):
+            made = path.cells[:until - path.clock + 1]
             yield from zip(made, made[1:])
 
 
@@ -224,13 +233,13 @@ class Reader:
         if agent >= len(run.paths):
             raise self.fault(f'there is no agent {agent}; {OTHER_PAIR}')
         path = run.paths[agent][-1]
-        if path.end > run.clock:
-            raise self.fault(f'agent {agent} is answered {reply[0]} with {path.end - run.clock} steps left')
+        if path.free > run.clock:
+            raise self.fault(f'agent {agent} is answered {reply[0]}, and due in {path.free - run.clock} ticks')
         if reply[0] == 'rested':
             return len(reply) == 1
         if len(reply) < 4 or reply[2] != 'path':
             return False
-        self.adopt(caller, agent, reply, self.cells(agent, reply[3:], path.cells[-1]))
+        self.adopt(caller, agent, reply, self.cells(agent, reply[3:], path.at(run.clock)))
         return True
 
     def cells(self, agent: int, words: list[str], stands: Cell) -> list[Cell]:
@@ -277,11 +286,21 @@ class Reader:
         task = run.tasks[number]
         self.visit(agent, number, cells)
         task.agent, task.taken = agent, clock
-        run.paths[agent].append(Path(clock, cells, task=number))
+        served = task.visits[-1] - clock if self.goes_home(agent, number, cells) else None
+        run.paths[agent].append(Path(clock, cells, task=number, served=served))
         self.note(caller, 'took', agent, number, len(cells) - 1)
         # visits made at once stand right behind; the others are noted when the log's last clock is known
         self.events += [self.events[-1][:2] + (len(self.events) + i, clock, caller, 'visit', number, i)
                         for i, visit in enumerate(task.visits) if visit == clock]
+
+    def goes_home(self, agent: int, number: int, cells: list[Cell]) -> bool:
+        """Whether the path of a task goes on to where the agent started, and does not end at the last stop: as all others of the run."""
+        run, end, points = self.run, cells[-1], self.run.instance.points
+        homes = end == points[run.instance.starts[agent]].cell != points[run.tasks[number].stops[-1]].cell
+        if run.homes not in (None, homes):
+            raise self.fault(f'the path of agent {agent} {"goes on home" if homes else "ends at the last stop"}, and those before do not')
+        run.homes = homes
+        return homes
 
     def visit(self, agent: int, number: int, cells: list[Cell]) -> None:
         """When the path comes to each stop of the task, in turn."""

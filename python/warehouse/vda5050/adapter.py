@@ -33,7 +33,7 @@ import time
 
 from ..fleet import Stop
 from ..process import CoreDied, SessionError, was_killed
-from ..session import Vehicles
+from ..session import ENDS, Vehicles
 from ..texts import Fault, Instance, read_file, read_instance
 from .book import Book
 from .broker import Address, Mqtt, add_broker_options, address_of
@@ -57,10 +57,11 @@ def add_options(parser: argparse.ArgumentParser) -> None:
     add('--deviation', type=float, metavar='METRES', help='how far a vehicle may be off a node (a twentieth of a cell)')
     add('--step', type=float, default=1.0, metavar='SECONDS', help='between two ticks (%(default)s); 0: as far ahead as --behind lets it')
     add('--behind', type=int, default=8, metavar='STEPS', help='how far a vehicle may be behind before the clock waits (%(default)s)')
-    add('--ahead', type=int, default=4, metavar='CELLS', help='how many cells ahead a vehicle is told (%(default)s)')
+    add('--ahead', type=int, default=4, metavar='STEPS', help='how many steps ahead a vehicle is told (%(default)s)')
     add('--horizon', type=int, default=12, metavar='NODES', help='nodes beyond the base that an order tells (%(default)s)')
     add('--silent', type=float, default=SILENT, metavar='SECONDS', help='a vehicle of which no state comes for so long is lost (%(default)s)')
     add('--out-after', type=float, default=0.0, metavar='SECONDS', help='plan around a vehicle that is lost for so long (never)')
+    add('--ends', choices=ENDS, default='stops', help='where paths end: at the last stop, or on where the vehicle started (%(default)s)')
     add('--helpers', action='store_true', help='at a standstill, send vehicles out of the way by orders of the client `helper`')
 
 
@@ -70,6 +71,8 @@ def judge_options(options: argparse.Namespace) -> None:
                             ('silent', 1, 86400), ('out_after', 0, 86400)):
         if not low <= getattr(options, name) <= high:
             raise Fault(f'--{name.replace("_", "-")} {getattr(options, name):g}: {low:g} to {high:g} can be had')
+    if options.ends == 'homes' and options.out_after:
+        raise Fault('--out-after: with --ends homes no run can begin where vehicles stand')
     if options.deviation is not None and not 0 <= options.deviation < options.cell / 2:
         raise Fault(f'--deviation {options.deviation:g}: 0 to less than half a cell can be had')
 
@@ -96,7 +99,7 @@ def read_fleet(name: str | None, agents: int) -> list[Vehicle]:
 def settings_of(options: argparse.Namespace, instance: Instance) -> Settings:
     deviation = options.cell / 20 if options.deviation is None else options.deviation
     return Settings(options.log, options.program, Vehicles(options.behind, options.ahead), Layout(instance.height, options.cell, deviation),
-                    options.prefix, options.step, options.horizon, options.silent, options.out_after, options.helpers, options.prog)
+                    options.prefix, options.step, options.horizon, options.silent, options.out_after, options.helpers, options.prog, options.ends)
 
 
 def connect(options: argparse.Namespace) -> Mqtt:

@@ -52,6 +52,7 @@ class Settings:
     out_after: float = 0.0
     helpers: bool = False
     said: str = 'vda5050'
+    ends: str = 'stops'
 
 
 class Adapter:
@@ -96,7 +97,7 @@ class Adapter:
         opening, settings = self.book.opening, self.settings
         instance = instance_of(self.base, opening)
         log = settings.log + (f'.{opening.number}' if opening.number > 1 else '')
-        self.core = Session(instance, settings.program, log=log, vehicles=settings.late, wait=LONGEST_WAIT)
+        self.core = Session(instance, settings.program, log=log, vehicles=settings.late, ends=settings.ends, wait=LONGEST_WAIT)
         try:
             self.fleet = Dispatch(self.core, opening, self.book, self.hear)
             judge_log(self.book, self.fleet, log)

@@ -27,13 +27,14 @@ class Writer:
         leg, named, node = vehicle.leg, vehicle.named, vehicle.node
         if leg is None or node is None:
             return None
-        if sends is Sends.UPDATE and named is not None:
-            name, first = named, vehicle.base
+        if sends is Sends.UPDATE and named is not None and vehicle.state is not None:
+            name, first = named, named.begin + int(vehicle.state['orderUpdateId'])
         else:
             again = named.again + 1 if named is not None and sends is Sends.AGAIN and (named.leg, named.begin) == (leg.number, node) else 0
             name, first = Name(vehicle.run, vehicle.agent, leg.number, node, again), node
-        update = leg.told - name.begin
-        if sends is Sends.UPDATE and first >= leg.told:
+        told = leg.told + (leg.is_cut and leg.told == leg.last)    # of a path that was cut one update more takes the horizon back
+        update = told - name.begin
+        if sends is Sends.UPDATE and first >= told:
             return None
         if vehicle.sent is not None and vehicle.sent[0] == name:
             waits = RETRY if vehicle.failed else RESEND
@@ -41,7 +42,7 @@ class Writer:
                 if vehicle.sent[1] >= update or vehicle.sent[1] + name.begin < first:
                     return None
                 first = name.begin + vehicle.sent[1]    # the one before is still on its way
-        return name, update, self.body(vehicle, leg, name, first)
+        return name, update, self.body(vehicle, leg, name, min(first, leg.last))
 
     def body(self, vehicle: Vehicle, leg: Leg, name: Name, first: int) -> Json:
         """Nodes from `first`, which the vehicle has or where it stands, to the end of the horizon, and the edges between."""

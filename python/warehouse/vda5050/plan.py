@@ -1,7 +1,8 @@
 """What the core's replies say of each vehicle, as a vehicle needs it: its legs.
 
 A *leg* is a path that the core has adopted for an agent, without the stays of the plan: its *nodes* are the cells where the vehicle
-comes, one after another. Each has the step by which the core knows it; the stops of the leg's task lie at nodes.
+comes, one after another. Each has the step by which the core knows it; the stops of the leg's task lie at nodes. Where paths go on home
+the next path may begin before a leg's end: it is cut there, and none of what is cut off was ever released.
 """
 from __future__ import annotations
 
@@ -24,6 +25,13 @@ class Leg:
     visits: list[int] = field(default_factory=list)    # of each stop of the task the node where it is made
     told: int = 0
     came: int = 0
+    is_cut: bool = False
+
+    def cut(self, clock: int) -> None:
+        """Another path begins at that clock: what is left of this one is never gone."""
+        kept = bisect.bisect_right(self.steps, clock)
+        self.is_cut = kept < len(self.steps)
+        del self.steps[kept:], self.cells[kept:]
 
     @property
     def last(self) -> int:
@@ -67,6 +75,7 @@ class Plan:
                 self.adopt(int(command.split(' ')[1]), clock, cells, None, [])
 
     def adopt(self, agent: int, clock: int, cells: tuple[Cell, ...], task: int | None, stops: list[Cell]) -> Leg:
+        self.legs[agent][-1].cut(clock)
         leg = leg_of(self.legs[agent][-1].number + 1, clock, cells, task, stops)
         self.legs[agent].append(leg)
         return leg

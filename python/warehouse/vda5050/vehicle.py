@@ -129,7 +129,16 @@ class Vehicle:
     def base(self) -> int:
         """The last node of its path that it was released to, by what it says."""
         named = self.named
-        return named.begin + int(self.state['orderUpdateId']) if named and self.state else 0
+        base = named.begin + int(self.state['orderUpdateId']) if named and self.state else 0
+        return min(base, self.leg.last) if self.leg is not None and self.leg.is_cut and self.has_leg else base
+
+    @property
+    def waits_on(self) -> bool:
+        """Whether it is at the end of what it was released to, with a horizon beyond that it is never to go."""
+        state, named = self.state, self.named
+        return (state is not None and named is not None and self.leg is not None and self.has_our_order and named.leg < self.leg.number
+                and bool(state['nodeStates']) and not state['driving'] and not any(node['released'] for node in state['nodeStates'])
+                and all(action['actionStatus'] in ('FINISHED', 'FAILED', 'WAITING') for action in state['actionStates']))
 
     @property
     def has_heard(self) -> bool:
@@ -181,6 +190,7 @@ TABLE = (
     Row('called back', lambda v: v.has_leg and v.is_idle and v.node is not None and (v.node < v.base or bool(v.failed)),
         sends=Sends.AGAIN),
     Row('under way', lambda v: v.has_leg, sends=Sends.UPDATE),
+    Row('at a cut', lambda v: v.waits_on, sends=Sends.CANCEL),
     Row('ending', lambda v: not v.is_idle),
     Row('at rest', lambda v: True, sends=Sends.ORDER),
 )

@@ -194,7 +194,7 @@ def add_options(parser: argparse.ArgumentParser) -> None:
     add('log', metavar='LOG')
     add('--host', default='127.0.0.1', metavar='ADDRESS', help='where it listens (%(default)s)')
     add('--port', type=int, default=8080, metavar='N', help='0: any that is free (%(default)s)')
-    add('--ahead', type=int, default=1, metavar='N', help='cells ahead that the service grants (%(default)s)')
+    add('--ahead', type=int, default=1, metavar='N', help='steps ahead that the service grants (%(default)s)')
     add('--behind', type=int, default=8, metavar='N', help='steps behind at which its clock waits (%(default)s)')
     add('--patience', type=float, default=3.0, metavar='S', help='seconds after which a clock that waits is an alarm (%(default)s)')
     add('--minutes', type=int, default=5, metavar='N', help='what figures are of (%(default)s)')

@@ -104,12 +104,17 @@ function player(root) {
   // ---- waits: how often the plan has had an agent stay in a cell, up to a clock; a pixel a cell
   const LEVELS = 7, level = n => Math.min(LEVELS, 32 - Math.clz32(n));    // 1, 2 to 3, 4 to 7 .. 64 and more: the same in all runs
   let stays = [], stood = null, heatAt = 0;
-  function note([clock, x, y, , , s]) {
+  function eachStay([clock, x, y, , , s], from, call) {
     for (let i = 0; i < s.length; i++) {
       const c = s[i], at = clock - R.start + i + 1;
       if (c == 'R') x++; else if (c == 'L') x--; else if (c == 'D') y++; else if (c == 'U') y--;
-      else if (at > 0) (stays[at] ??= []).push(y * R.width + x);
+      else if (at > from) call(at, y * R.width + x);
     }
+  }
+  // A way replaces what is left of the one before.
+  function note(w, k, list) {
+    if (k) eachStay(list[k - 1], w[0] - R.start, (at, cell) => { const i = stays[at]?.indexOf(cell) ?? -1; if (i >= 0) stays[at].splice(i, 1); });
+    eachStay(w, 0, (at, cell) => (stays[at] ??= []).push(cell));
   }
   function heatTo(clock) {
     const g = heat.getContext('2d'); stood ??= new Uint32Array(R.width * R.height); g.fillStyle = C.wait;
@@ -249,11 +254,12 @@ function player(root) {
     $('behind').textContent = late ? `${late} of ${N}` : 'none'; $('most').textContent = late ? `${most} (vehicle ${who})` : '0';
     $('held').textContent = held ? `waits for vehicle ${held[2]}` : 'runs';
   }
+  function goesHome(w) { const x = byNumber.get(w.task), p = x && R.points[x.stops[x.stops.length - 1]]; return p && (p[2] != w.xs[w.last] || p[3] != w.ys[w.last]); }
   function about(a, t) {
     const c = clockAt(t), w = way(a, c), v = V && vehicle(a, t), [x, y] = V ? v.cells[0] : place(a, t), left = Math.max(0, w.clock + w.last - c), load = loadOf(a, t);
     let did = 0; if (V) did = own[a].filter(x => x.done <= t).length; else for (let i = 0, n = upTo(R.ways[a], t, v => v[0] - R.start); i < n; i++) { const x = byNumber.get(R.ways[a][i][3]); if (x && x.done <= t) did++; }
     const doing = load ? (phase(load, t) == 1 ? `goes to fetch task ${load.i} at ${name(load.stops[0])}` : `carries task ${load.i} to ${name(load.stops[made(load, t)])}`)
-      : left || v && v.behind ? (w.task < 0 ? `goes to park at ${name(w.point)}` : `ends the way of task ${w.task}, which is done`) : 'rests';
+      : left || v && v.behind ? (w.task < 0 ? `goes to park at ${name(w.point)}` : goesHome(w) ? `goes home, task ${w.task} is done` : `ends the way of task ${w.task}, which is done`) : 'rests';
     const late = !V ? '' : (v.cells.length > 1 ? `, granted ${v.cells.slice(1).map(k => k.join(',')).join(' ')}` : '')
       + (v.behind ? `\n${v.behind} steps behind its plan, which is at ${cell(a, v.clock).join(',')}` : '');
     return `${a} at ${x},${y}: ${doing}${late}\n${left} steps left${V ? ' in its plan' : ''}, tasks done: ${did}`;
@@ -331,7 +337,7 @@ function player(root) {
     Object.assign(R, {clock, entries, answers}); R.tasks.push(...tasks);
     const at = new Map(R.tasks.map((row, k) => [row[6] ?? k, k]));
     for (const [number, agent, taken, planned] of changed) Object.assign(R.tasks[at.get(number)], {3: agent, 4: taken, 5: planned});
-    for (const [a, w] of ways) { R.ways[a].push(w); note(w); }
+    for (const [a, w] of ways) { const list = R.ways[a]; note(w, list.push(w) - 1, list); }
     if (V) {
       const {end, ticks, go, came, visits, held, most} = vehicles;
       Object.assign(V, {end, most}); V.held = V.held.filter(h => !held.some(k => k[0] == h[0])).concat(held); V.ticks.push(...ticks);

@@ -1,25 +1,37 @@
-use Rattle.std.proofs.Common.{false, inl, inr, refl}
-use Rattle.std.specs.Arc.{arc_value}
+use Rattle.std.proofs.Common.{◌∙◌, inl, inr, refl}
 use Rattle.wh_points.specs.Points.{Site}
 use Rattle.wh_service.proofs.Lasting.{kept_at}
-use Rattle.wh_attend.proofs.Attended.{stands_as}
+use Rattle.wh_attend.proofs.Attended.{staffed_on, stands_as}
 use Rattle.wh_attend.proofs.Callers.{callers_few}
 use Rattle.wh_attend.proofs.ready.prepare.Goals as goal
 
 pub make_staff-requires-clause-callers : goal.make_staff-requires-clause-callers
 make_staff-requires-clause-callers g c κs within =
-    let site : Site = record { grid = arc_value c.in_ok-grid.grid; layout = c.in-Ok.kept.site.points; homes = false } in
+    let site : Site = c.in-Ok.kept.setting in
     callers_few c.args.options.now.fleet site _ c.in-Ok-start_aside.started.0 c.in-Ok-start_aside.ensures.ok
+
+pub returns-in-Err-start_aside-clause-fault : goal.returns-in-Err-start_aside-clause-fault
+returns-in-Err-start_aside-clause-fault g c =
+    let site : Site = c.in-Ok.kept.setting in
+    inr (inr (inl (
+      c.in-Ok.ensures.alone,
+      record {
+        site = site;
+        text = c.as_slice-bytes.result.now;
+        site_read = kept_at _ _ site _ _ c.as_slice-bytes.ensures.value c.in-Ok.ensures.ok;
+        why = inl c.in-Err-start_aside.ensures.fault;
+      },
+    )))
 
 pub returns-in-Err-make_staff-clause-fault : goal.returns-in-Err-make_staff-clause-fault
 returns-in-Err-make_staff-clause-fault g c =
-    let site : Site = record { grid = arc_value c.in_ok-grid.grid; layout = c.in-Ok.kept.site.points; homes = false } in
+    let site : Site = c.in-Ok.kept.setting in
     inr (inr (inl (
       c.in-Ok.ensures.alone,
       record {
         site = site;
         text = c.in-Ok.kept.text.items;
-        site_read = kept_at _ _ _ _ c.in_ok-grid.ensures.ok refl c.in-Ok.ensures.ok;
+        site_read = c.in-Ok.ensures.ok;
         why = inr (record {
           start = c.in-Ok-start_aside.started.0;
           starts = c.in-Ok-start_aside.ensures.ok;
@@ -30,7 +42,7 @@ returns-in-Err-make_staff-clause-fault g c =
 
 pub returns-in-Some-clause-fault : goal.returns-in-Some-clause-fault
 returns-in-Some-clause-fault g c =
-    let site : Site = record { grid = arc_value c.in_ok-grid.grid; layout = c.in-Ok.kept.site.points; homes = false } in
+    let site : Site = c.in-Ok.kept.setting in
     inr (inr (inr (
       c.in-Some.client,
       refl,
@@ -44,11 +56,25 @@ returns-in-Some-clause-fault g c =
           clients = c.in-Ok-make_staff.staff.clients;
         };
         ready = record {
-          site_read = kept_at _ _ _ _ c.in_ok-grid.ensures.ok refl c.in-Ok.ensures.ok;
+          site_read = c.in-Ok.ensures.ok;
           alone = c.in-Ok.ensures.alone;
           stands = stands_as _ _ _ _ c.as_slice-bytes.ensures.value c.in-Ok-start_aside.ensures.stands;
           starts = c.in-Ok-start_aside.ensures.ok;
-          staffed = c.in-Ok-make_staff.ensures.ok;
+          has_log = c.in-Ok-start_aside.ensures.has_log;
+          staffed = staffed_on _ _ _ _ _ _ _ _ (c.in-Ok-try_clone.ensures ∙ c.shared_grid.ensures) c.in-Ok-make_staff.ensures.ok;
         };
       },
     )))
+
+pub returns-in-None-clause-ok : goal.returns-in-None-clause-ok
+returns-in-None-clause-ok g c = (
+  c.in-Ok.kept.setting,
+  record {
+    site_read = c.in-Ok.ensures.ok;
+    alone = c.in-Ok.ensures.alone;
+    stands = stands_as _ _ _ _ c.as_slice-bytes.ensures.value c.in-Ok-start_aside.ensures.stands;
+    starts = c.in-Ok-start_aside.ensures.ok;
+    has_log = c.in-Ok-start_aside.ensures.has_log;
+    staffed = staffed_on _ _ _ _ _ _ _ _ (c.in-Ok-try_clone.ensures ∙ c.shared_grid.ensures) c.in-Ok-make_staff.ensures.ok;
+  },
+)

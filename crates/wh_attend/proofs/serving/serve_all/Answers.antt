@@ -3,9 +3,8 @@ use Rattle.std.proofs.Crossing.{crosses}
 use Rattle.std.proofs.Common.{List, subst}
 use Rattle.std.specs.Prelude.{option_map}
 use Rattle.wh_event.specs.declared.entry.Entry.{Entry}
-use Rattle.wh_service.proofs.Hosted.{told_by}
 use Rattle.wh_attend.specs.Shares.{IsPacingOf}
-use Rattle.wh_attend.proofs.ByOptions.{boards_by, callers_few_by, serves_clients, unserved_by}
+use Rattle.wh_attend.proofs.ByOptions.{boards_by, callers_few_by, serves_clients, told_by, unserved_by}
 use Rattle.wh_attend.proofs.serving.serve_all.Goals as goal
 
 pub returns-clause-ok : goal.returns-clause-ok

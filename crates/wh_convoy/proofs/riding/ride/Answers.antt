@@ -1,23 +1,23 @@
 use Rattle.std.proofs.Common.{List, length, subst}
 use Rattle.std.specs.Io.KnownBytes.{Appends}
 use Rattle.wh_event.specs.declared.entry.Entry.{Entry}
-use Rattle.wh_log.specs.Told.{told_text}
 use Rattle.wh_continue.specs.Running.{EndsShort, last_line}
 use Rattle.wh_convoy.specs.Convoys.{Held}
 use Rattle.wh_convoy.proofs.Standing.{both_synced}
 use Rattle.wh_convoy.proofs.Ridden.{manned_out, until_from, to_end, unended, unset}
 use Rattle.wh_convoy.proofs.riding.ride.Goals as goal
+use Rattle.wh_journal.specs.Journals.{log_asker}
 
 pub returns-in-Err-clause-fault : goal.returns-in-Err-clause-fault
 returns-in-Err-clause-fault g c =
     let begun : Held = record { log = g.L.Journal.contents c.args.log.now; arrivals = g.L.Journal.contents c.args.arrivals.now } in
     let synced : Held = record { log = g.L.Journal.synced c.args.log.now; arrivals = g.L.Journal.synced c.args.arrivals.now } in
-    unset g.P.Plans.fits_map g.P.Plans.slot_count (told_text c.args.form) c.args.vehicles.now.bound c.in-Err.fault c.args.lines.now c.args.warehouse.now.book c.args.spares.now.items c.args.vehicles.now
+    unset g.P.Plans.fits_map g.P.Plans.slot_count (log_asker c.args.form) c.args.vehicles.now.bound c.in-Err.fault c.args.lines.now c.args.warehouse.now.book c.args.spares.now.items c.args.vehicles.now
     (g.W.Write.contents c.args.writer.now) (g.W.Write.contents c.set_out.new.writer) begun synced (g.L.Journal.failed c.args.log.now) (g.L.Journal.failed c.args.arrivals.now)
     (both_synced _ _ _ _ c.requires.log c.requires.arrivals) c.requires.untold c.in-Err.ensures.err
 
 pub convoy-requires-clause-manned : goal.convoy-requires-clause-manned
-convoy-requires-clause-manned g c κs within = manned_out g.P.Plans.fits_map g.P.Plans.slot_count (told_text c.args.form) c.args.vehicles.now.bound c.args.warehouse.now.book c.args.vehicles.now c.set_out.new.vehicles _ _ c.in-Ok.ensures.ok c.requires.stand
+convoy-requires-clause-manned g c = manned_out g.P.Plans.fits_map g.P.Plans.slot_count (log_asker c.args.form) c.args.vehicles.now.bound c.args.warehouse.now.book c.args.vehicles.now c.set_out.new.vehicles _ _ c.in-Ok.ensures.ok c.requires.stand
 
 pub returns-in-Err-convoy-clause-fault : goal.returns-in-Err-convoy-clause-fault
 returns-in-Err-convoy-clause-fault g c d m =

@@ -1,15 +1,15 @@
 use Rattle.std.proofs.Common.{inr}
-use Rattle.wh_log.specs.Told.{told_text}
 use Rattle.wh_convoy.specs.Convoys.{Held}
 use Rattle.wh_convoy.specs.Riding.{RidesFrom}
 use Rattle.wh_convoy.proofs.Ridden.{rides_over, stops_over, whole_of}
 use Rattle.wh_convoy.proofs.riding.ride_on.Goals as goal
+use Rattle.wh_journal.specs.Journals.{log_asker}
 
 pub returns-in-Ok-ride-clause-runs : goal.returns-in-Ok-ride-clause-runs
 returns-in-Ok-ride-clause-runs g c =
     let fits = g.P.Plans.fits_map in
     let count = g.P.Plans.slot_count in
-    let text = told_text c.args.form in
+    let text = log_asker c.args.form in
     let before = c.args.lines.now in
     let after = c.ride.new.lines in
     let book = c.args.start.book in
@@ -45,7 +45,7 @@ returns-in-Err-ride-clause-fault g c =
       g.W.Write.contents c.begin_all.new.writer,
       begun,
       c.in-Ok.ensures.begins,
-      stops_over g.P.Plans.fits_map g.P.Plans.slot_count (told_text c.args.form) c.in-Ok-man.manned.1.bound c.args.behind manned.bound c.in-Ok-man.manned.0.book c.args.start.book manned.book
+      stops_over g.P.Plans.fits_map g.P.Plans.slot_count (log_asker c.args.form) c.in-Ok-man.manned.1.bound c.args.behind manned.bound c.in-Ok-man.manned.0.book c.args.start.book manned.book
           c.in-Ok-man.manned.1.order c.args.stood.order manned.order c.args.lines.now c.ride.new.lines c.args.spares.now.items c.ride.new.spares.items
           (g.W.Write.contents c.begin_all.new.writer) (g.W.Write.contents c.ride.new.writer) begun holds synced c.in-Err-ride.fault (g.L.Journal.failed c.ride.new.log) (g.L.Journal.failed c.ride.new.arrivals)
           c.in-Err-ride.ensures.fault,

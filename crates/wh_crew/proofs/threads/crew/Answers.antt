@@ -7,8 +7,8 @@ use Rattle.wh_crew.specs.Work.{AllWorked, MissedWithCause}
 use Rattle.wh_crew.proofs.Crews.{ended_order, all_worked, with_cause}
 use Rattle.wh_crew.proofs.threads.crew.Goals as goal
 
-pub finish-requires-after_bounds : goal.finish-requires-after_bounds
-finish-requires-after_bounds g c κs within =
+pub finish-requires : goal.finish-requires
+finish-requires g c =
     subst (λ (l : List Received). InOrder g.N.DeskName.callers l) (sym c.take_apart-ended.ensures.passes)
     (ended_order g.P.Plans.fits_map g.P.Plans.slot_count g.N.DeskName.origin.site.grid (length g.N.DeskName.cells) (λ r. r.pass) (λ r. r.missed) c.args.works.items c.args.passes.items c.in-Ok-run_all.reports.items g.N.DeskName.callers c.requires.passes c.requires.works c.in-Ok-run_all.ensures.count c.in-Ok-run_all.ensures.reported)
 

@@ -1,35 +1,67 @@
-use Rattle.std.proofs.Common.{◌+◌, ◌<◌, [], ◌∷◌, ◌++◌, length, sym, subst, arith}
-use Rattle.wh_delivery.specs.Deliveries.{HaveAsked}
-use Rattle.wh_delivery.proofs.Going.{goes-none, goes-trans, asked-none, one-more, have-rested, have-moved, not-both}
-use Rattle.wh_delivery.proofs.deliver.ask_all.Goals.{then-not-branch, else-not-branch}
+use Rattle.std.proofs.Common.{◌≡◌, [], ◌∷◌, ◌++◌, rules, sym, subst}
+use Rattle.wh_book.specs.Drafts.{Seen}
+use Rattle.wh_token.specs.Asking.{MayBeAsked, AllWouldRest, IsNextToAsk}
+use Rattle.wh_delivery.specs.Deliveries.{GoesOn, HaveAsked}
+use Rattle.wh_delivery.proofs.Going.{goes-none, goes-trans, asked-none, one-more, have-more, fewer-left, next-may}
 use Rattle.wh_delivery.proofs.deliver.ask_all.Goals as goal
+
+pub returns-in_err-asked : goal.returns-in_err-asked
+returns-in_err-asked g c = record { asked = ([], goes-none c.args.caller c.args.warehouse.now.book, search rules) }
 
 pub loop-agent-init : goal.loop-agent-init
 loop-agent-init g c =
     let book = c.args.warehouse.now.book in
-    record { asked = ([], goes-none c.args.caller book, asked-none book.site book.state); agents = c.agents-agents.ensures.value }
+    record { asked = ([], goes-none c.args.caller book, asked-none book.site book.state c.in_ok-asked.asked.items c.agents.result c.in_ok-asked.ensures c.agents.ensures.value) }
+
+pub loop-agent-smaller : goal.loop-agent-smaller
+loop-agent-smaller g c =
+    let now = c.loop-agent.warehouse.book in
+    let asked = c.loop-agent.asked.items in
+    let may : MayBeAsked asked c.in-Some.agent = subst (λ l. MayBeAsked l c.in-Some.agent) c.as_slice.ensures.value (next-may now.site now.state c.as_slice.result.now c.in-Some.agent c.in-Some.ensures.next) in
+    fewer-left asked c.in-Some.agent may
 
 pub loop-agent-preserved : goal.loop-agent-preserved
 loop-agent-preserved g c =
     let book = c.args.warehouse.now.book in
-    let mid = c.loop-agent.warehouse.book in
+    let now = c.loop-agent.warehouse.book in
     let new = c.ask.new.warehouse.book in
-    let agent = c.loop-agent.agent in
+    let agent = c.in-Some.agent in
+    let asked = c.loop-agent.asked.items in
     let h = c.loop-agent.invariant.asked in
+    let same = c.in-Some.ensures.book in
     let s = c.in_ok-ask.ensures.asked in
-    let goes = goes-trans c.args.caller book mid new h.0 (s.0 ∷ []) h.1 s.1 in
-    let step = one-more c.args.caller book mid new h.0 agent s.0 h.1 s.1 s.2 in
-    let known : agent < length book.state.paths = (let e = c.loop-agent.invariant.agents in let l = c.loop-agent-test.true in omega arith) in
+    let goes : GoesOn c.args.caller now (s.0 ∷ []) new = subst (λ b. GoesOn c.args.caller b (s.0 ∷ []) new) same s.1 in
+    let next : IsNextToAsk book.site now.state (MayBeAsked asked) agent =
+    subst (λ site. IsNextToAsk site now.state (MayBeAsked asked) agent) h.1.stays.site
+    (subst (λ l. IsNextToAsk now.site now.state (MayBeAsked l) agent) c.as_slice.ensures.value c.in-Some.ensures.next) in
     record {
       asked = (
         h.0 ++ s.0 ∷ [],
-        goes,
-        elim c.if-not-branch.branch [
-          | then-not-branch w ↦ subst (λ r. HaveAsked book.site book.state (agent + 1) r (h.0 ++ s.0 ∷ []) new.state) (sym w.rested-is)
-              (have-moved book.site book.state mid.state new.state h.0 s.0 agent c.loop-agent.rested h.2 known s.2 (λ e. not-both c.in_ok-ask.field-0 w.if-not-branch.true (s.3.1 e)) step)
-          | else-not-branch w ↦ subst (λ r. HaveAsked book.site book.state (agent + 1) r (h.0 ++ s.0 ∷ []) new.state) (sym w.rested-is)
-              (have-rested book.site book.state mid.state new.state h.0 s.0 agent c.loop-agent.rested h.2 s.2 (s.3.0 w.if-not-branch.false) step)
-        ],
+        goes-trans c.args.caller book now new h.0 (s.0 ∷ []) h.1 goes,
+        have-more book.site book.state now.state new.state asked c.loop-agent.some h.0 s.0 agent h.2 next s.2
+            (one-more c.args.caller book now new h.0 agent s.0 h.1 goes s.2),
       );
-      agents = c.loop-agent.invariant.agents;
+    }
+
+pub returns : goal.returns
+returns g c =
+    let book = c.args.warehouse.now.book in
+    let now = c.loop-agent.warehouse.book in
+    let new = c.next_to_ask.new.self.book in
+    let asked = c.loop-agent.asked.items in
+    let h = c.loop-agent.invariant.asked in
+    let same = c.in_default.ensures.book in
+    let rest : AllWouldRest book.site now.state (MayBeAsked asked) =
+    subst (λ site. AllWouldRest site now.state (MayBeAsked asked)) h.1.stays.site
+    (subst (λ l. AllWouldRest now.site now.state (MayBeAsked l)) c.as_slice.ensures.value c.in_default.ensures.none) in
+    record {
+      asked = (
+        h.0,
+        subst (λ b. GoesOn c.args.caller book h.0 b) (sym same) h.1,
+        (
+          asked,
+          subst (λ (b : Seen). HaveAsked book.site book.state asked c.loop-agent.some h.0 b.state) (sym same) h.2,
+          subst (λ (b : Seen). AllWouldRest book.site b.state (MayBeAsked asked)) (sym same) rest,
+        ),
+      );
     }

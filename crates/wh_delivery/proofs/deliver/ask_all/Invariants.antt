@@ -1,10 +1,14 @@
-use Rattle.std.specs.Prelude.{◌≡◌, List, length}
+use Rattle.std.specs.Prelude.{List, not, count_by}
 use Rattle.wh_event.specs.declared.entry.Entry.{Entry}
 use Rattle.wh_delivery.specs.Deliveries.{GoesOn, HaveAsked}
 use Rattle.wh_delivery.proofs.deliver.ask_all.Given as goal
 
 abbrev pub invariant-loop-agent : goal.invariant-loop-agent
 invariant-loop-agent g l = record {
-  asked : (added : List Entry) × GoesOn l.fn.caller l.fn.warehouse.book added l.warehouse.book × HaveAsked l.fn.warehouse.book.site l.fn.warehouse.book.state l.agent l.rested added l.warehouse.book.state;
-  agents : l.agents ≡ length l.fn.warehouse.book.state.paths;
+  asked : (added : List Entry) × GoesOn l.fn.caller l.fn.warehouse.book added l.warehouse.book
+      × HaveAsked l.fn.warehouse.book.site l.fn.warehouse.book.state l.asked.items l.some added l.warehouse.book.state;
 }
+
+-- those that have not asked
+abbrev pub decreases-loop-agent : goal.decreases-loop-agent
+decreases-loop-agent g l = count_by not l.asked.items

@@ -1,6 +1,5 @@
-use Rattle.wh_log.specs.Told.{told_text}
 use Rattle.wh_dispatch.proofs.Together as together
 use Rattle.wh_dispatch.proofs.laws.each_visit_is_told.Goals as goal
 
 pub returns : goal.returns
-returns g c = together.each_visit_is_told g.P.Plans.fits_map g.P.Plans.slot_count (told_text c.args.form)
+returns g c = together.each_visit_is_told g.P.Plans.fits_map g.P.Plans.slot_count c.args.asker

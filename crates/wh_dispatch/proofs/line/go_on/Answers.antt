@@ -5,7 +5,8 @@ use Rattle.wh_dispatch.specs.declared.visits.Pending.{Pending}
 use Rattle.wh_dispatch.specs.Crews.{Crew}
 use Rattle.wh_dispatch.specs.Scripts.{TellsAll, TellsSome}
 use Rattle.wh_dispatch.proofs.Texts.{on_ok, on_fault, both}
-use Rattle.wh_dispatch.proofs.Serving.{tells_all, tells_some, tells_none, stand_settled}
+use Rattle.wh_dispatch.proofs.Serving.{tells_all, tells_some, tells_none}
+use Rattle.wh_dispatch.proofs.Stands.{stand_settled}
 use Rattle.wh_dispatch.proofs.line.go_on.Goals as goal
 
 pub tell_gone-requires : goal.tell_gone-requires

@@ -2,7 +2,7 @@ use Rattle.std.proofs.Common.{List, inl, inr, refl, ap, subst}
 use Rattle.wh_dispatch.specs.declared.visits.Pending.{Pending}
 use Rattle.wh_dispatch.specs.Crews.{Crew}
 use Rattle.wh_dispatch.specs.Scripts.{TellsAll, TellsSome}
-use Rattle.wh_dispatch.proofs.Serving.{stand_heard}
+use Rattle.wh_dispatch.proofs.Stands.{stand_heard}
 use Rattle.wh_dispatch.proofs.Texts.{on_ok, if_err}
 use Rattle.wh_dispatch.proofs.line.hear.Goals as goal
 

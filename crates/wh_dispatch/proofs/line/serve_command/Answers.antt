@@ -1,5 +1,4 @@
 use Rattle.std.proofs.Common.{rules, ◌≡◌, None, Some, Ok, Err, refl, ap, subst}
-use Rattle.wh_log.specs.Told.{told_text}
 use Rattle.wh_dispatch.specs.Lines.{Asked}
 use Rattle.std.specs.Prelude.{codes}
 use Rattle.std.specs.Io.KnownBytes.{Appends}
@@ -44,4 +43,4 @@ returns-in-Err-TooLong-clause-err g c =
 pub returns-in-Ok-true-clause-ok : goal.returns-in-Ok-true-clause-ok
 returns-in-Ok-true-clause-ok g c =
     let e : said (short_line c.args.line.now) ≡ Ok (Some c.read_kept.new.command) = search rules in
-    on_ok c.run.result (λ s. served_as g.P.Plans.fits_map g.P.Plans.slot_count (told_text c.args.form) c.args.vehicles.now.bound _ _ _ _ _ _ _ _ _ _ (ap Asked e) s) c.run.ensures.ok
+    on_ok c.run.result (λ s. served_as g.P.Plans.fits_map g.P.Plans.slot_count c.args.asker c.args.vehicles.now.bound _ _ _ _ _ _ _ _ _ _ (ap Asked e) s) c.run.ensures.ok

@@ -1,57 +1,90 @@
-use Rattle.std.proofs.Common.{refl, subst, ap, ◌∙◌, arith, Result, Err}
-use Rattle.wh_lines.specs.Input.{Gathered}
-use Rattle.wh_lines.specs.declared.lines.Next.{Next}
-use Rattle.wh_lines.specs.declared.next.LineFault.{LineFault}
-use Rattle.wh_replay.proofs.Until.{cause_endless}
-use Rattle.wh_dispatch.proofs.Following.{manned_on, from_start, from_end, from_between, from_served, from_begun, from_last, from_flush, from_now, endless_not_starved}
-use Rattle.wh_dispatch.specs.declared.script.DispatchFault.TheVariants.{Endless}
+use Rattle.std.proofs.Common.{arith, ◌≡◌, ℕ, List, ap, subst, true, false}
+use Rattle.wh_dispatch.specs.Manning.{Names, EndsSo}
+use Rattle.wh_dispatch.proofs.Manning.{begun_by, begun_stands}
+use Rattle.wh_dispatch.proofs.Dispatched.{dispatches_from, served_names, stops_from, stopped_names}
 use Rattle.wh_dispatch.proofs.script.serve_all.Goals as goal
 
-pub loop-init : goal.loop-init
-loop-init g c = record { follows = from_start _ _ _ _ c.args.lines.now c.args.warehouse.now.book c.args.spares.now.items c.args.vehicles.now _; bound = refl; reads = omega arith; open_still = c.requires.unfailed }
+pub serve-requires-clause-stands : goal.serve-requires-clause-stands
+serve-requires-clause-stands g c =
+    let m = c.args.manned.now in (
+      begun_by m.warehouse.now.book m.spares.now.items m.vehicles.now m.asker (record { warehouse = m.warehouse.ghost_name; spares = m.spares.ghost_name; vehicles = m.vehicles.ghost_name }) c.requires.manned.0,
+      begun_stands m.warehouse.now.book m.spares.now.items m.vehicles.now m.asker (record { warehouse = m.warehouse.ghost_name; spares = m.spares.ghost_name; vehicles = m.vehicles.ghost_name }) m.halted m.first m.begun m.said.now.items c.requires.going c.requires.first c.requires.begun c.requires.manned.0 c.requires.manned.1,
+    )
 
-pub serve-requires : goal.serve-requires
-serve-requires g c = record { manned = manned_on _ _ _ _ _ _ _ _ _ _ _ _ _ _ _ c.loop.invariant.follows c.requires.manned }
+pub left-requires : goal.left-requires
+left-requires g c =
+    let m = c.args.manned.now in (
+      omega arith,
+      (c.in-Err.ensures.fault (begun_by m.warehouse.now.book m.spares.now.items m.vehicles.now m.asker (record { warehouse = m.warehouse.ghost_name; spares = m.spares.ghost_name; vehicles = m.vehicles.ghost_name }) c.requires.manned.0) (begun_stands m.warehouse.now.book m.spares.now.items m.vehicles.now m.asker (record { warehouse = m.warehouse.ghost_name; spares = m.spares.ghost_name; vehicles = m.vehicles.ghost_name }) m.halted m.first m.begun m.said.now.items c.requires.going c.requires.first c.requires.begun c.requires.manned.0 c.requires.manned.1)).1.begun_within,
+    )
+
+pub returns-in-Ok-clause-ok : goal.returns-in-Ok-clause-ok
+returns-in-Ok-clause-ok g c =
+    let m = c.args.manned.now in
+    let n = c.serve.new.machine in
+    dispatches_from g.P.Plans.fits_map g.P.Plans.slot_count m.warehouse.now.book m.spares.now.items m.vehicles.now m.asker (record { warehouse = m.warehouse.ghost_name; spares = m.spares.ghost_name; vehicles = m.vehicles.ghost_name }) m.halted m.first m.begun m.said.now.items c.requires.going c.requires.first c.requires.begun
+    n.warehouse.now.book n.spares.now.items n.vehicles.now n.asker (record { warehouse = n.warehouse.ghost_name; spares = n.spares.ghost_name; vehicles = n.vehicles.ghost_name }) n.halted n.first n.begun n.said.now.items _ _ (λ a r b x. x) c.args.lines.now c.serve.new.lines (g.W.Write.contents c.args.writer.now) (g.W.Write.contents c.serve.new.writer) tt tt
+    _ c.in-Ok.field-0 (λ e. let clash : false ≡ true = c.in-Ok.ensures.over e in cc) c.in-Ok.ensures.ok
+
+pub returns-in-Ok-clause-warehouse : goal.returns-in-Ok-clause-warehouse
+returns-in-Ok-clause-warehouse g c =
+    let m = c.args.manned.now in
+    let n = c.serve.new.machine in
+    ap (λ (names : Names). names.warehouse)
+    (served_names g.P.Plans.fits_map g.P.Plans.slot_count m.warehouse.now.book m.spares.now.items m.vehicles.now m.asker (record { warehouse = m.warehouse.ghost_name; spares = m.spares.ghost_name; vehicles = m.vehicles.ghost_name }) m.halted m.first m.begun m.said.now.items c.requires.going c.requires.first c.requires.begun
+    n.warehouse.now.book n.spares.now.items n.vehicles.now n.asker (record { warehouse = n.warehouse.ghost_name; spares = n.spares.ghost_name; vehicles = n.vehicles.ghost_name }) n.halted n.first n.begun n.said.now.items _ _ (λ a r b x. x) c.args.lines.now c.serve.new.lines (g.W.Write.contents c.args.writer.now) (g.W.Write.contents c.serve.new.writer) tt tt
+    _ c.in-Ok.field-0 (λ e. let clash : false ≡ true = c.in-Ok.ensures.over e in cc) c.in-Ok.ensures.ok c.requires.manned.0 c.requires.manned.1)
+
+pub returns-in-Ok-clause-spares : goal.returns-in-Ok-clause-spares
+returns-in-Ok-clause-spares g c =
+    let m = c.args.manned.now in
+    let n = c.serve.new.machine in
+    ap (λ (names : Names). names.spares)
+    (served_names g.P.Plans.fits_map g.P.Plans.slot_count m.warehouse.now.book m.spares.now.items m.vehicles.now m.asker (record { warehouse = m.warehouse.ghost_name; spares = m.spares.ghost_name; vehicles = m.vehicles.ghost_name }) m.halted m.first m.begun m.said.now.items c.requires.going c.requires.first c.requires.begun
+    n.warehouse.now.book n.spares.now.items n.vehicles.now n.asker (record { warehouse = n.warehouse.ghost_name; spares = n.spares.ghost_name; vehicles = n.vehicles.ghost_name }) n.halted n.first n.begun n.said.now.items _ _ (λ a r b x. x) c.args.lines.now c.serve.new.lines (g.W.Write.contents c.args.writer.now) (g.W.Write.contents c.serve.new.writer) tt tt
+    _ c.in-Ok.field-0 (λ e. let clash : false ≡ true = c.in-Ok.ensures.over e in cc) c.in-Ok.ensures.ok c.requires.manned.0 c.requires.manned.1)
+
+pub returns-in-Ok-clause-vehicles : goal.returns-in-Ok-clause-vehicles
+returns-in-Ok-clause-vehicles g c =
+    let m = c.args.manned.now in
+    let n = c.serve.new.machine in
+    ap (λ (names : Names). names.vehicles)
+    (served_names g.P.Plans.fits_map g.P.Plans.slot_count m.warehouse.now.book m.spares.now.items m.vehicles.now m.asker (record { warehouse = m.warehouse.ghost_name; spares = m.spares.ghost_name; vehicles = m.vehicles.ghost_name }) m.halted m.first m.begun m.said.now.items c.requires.going c.requires.first c.requires.begun
+    n.warehouse.now.book n.spares.now.items n.vehicles.now n.asker (record { warehouse = n.warehouse.ghost_name; spares = n.spares.ghost_name; vehicles = n.vehicles.ghost_name }) n.halted n.first n.begun n.said.now.items _ _ (λ a r b x. x) c.args.lines.now c.serve.new.lines (g.W.Write.contents c.args.writer.now) (g.W.Write.contents c.serve.new.writer) tt tt
+    _ c.in-Ok.field-0 (λ e. let clash : false ≡ true = c.in-Ok.ensures.over e in cc) c.in-Ok.ensures.ok c.requires.manned.0 c.requires.manned.1)
 
 pub returns-in-Err-clause-fault : goal.returns-in-Err-clause-fault
 returns-in-Err-clause-fault g c =
-    let err : LineFault → Result Next LineFault = λ x. Err x in
-    rw c.fault_of.ensures
-    (from_between _ _ _ _ _ c.args.lines.now c.loop.lines c.next_line.new.self _ _ _ _ _ _ _ _ _ c.loop.invariant.follows c.next_line.ensures.writer c.in-Err.fault c.in-Err.ensures.err
-    c.loop.invariant.reads c.loop.invariant.open_still (λ e. c.in-Err.ensures.broken (ap err e)) (λ e. c.in-Err.ensures.endless (ap err e)))
+    let m = c.args.manned.now in
+    let n = c.serve.new.machine in
+    stops_from g.P.Plans.fits_map g.P.Plans.slot_count m.warehouse.now.book m.spares.now.items m.vehicles.now m.asker (record { warehouse = m.warehouse.ghost_name; spares = m.spares.ghost_name; vehicles = m.vehicles.ghost_name }) m.halted m.first m.begun m.said.now.items c.requires.going c.requires.first c.requires.begun
+    n.warehouse.now.book n.spares.now.items n.vehicles.now n.asker (record { warehouse = n.warehouse.ghost_name; spares = n.spares.ghost_name; vehicles = n.vehicles.ghost_name }) n.halted n.first n.begun n.said.now.items _ _ (λ a r b x. x) c.args.lines.now c.serve.new.lines (g.W.Write.contents c.args.writer.now) (g.W.Write.contents c.serve.new.writer) tt tt
+    c.in-Err.fault c.in-Err.ensures.fault c.ended.result (g.W.Write.contents c.ended.new.writer)
+    (subst (λ (said : List ℕ). EndsSo c.in-Err.fault c.ended.result (g.W.Write.contents c.serve.new.writer) (g.W.Write.contents c.ended.new.writer) said) c.left.ensures c.ended.ensures)
 
-pub returns-in-Err-serve-clause-fault : goal.returns-in-Err-serve-clause-fault
-returns-in-Err-serve-clause-fault g c =
-    from_begun _ _ _ _ _ c.args.lines.now c.loop.lines c.next_line.new.self _ _ _ _ _ _ _ _ _ c.loop.invariant.follows c.next_line.ensures.writer
-    _ _ c.serve.new.vehicles _ c.next_line.new.line _ c.loop.invariant.bound c.in-Err-serve.fault c.in-Ok.next c.in_default.not-End c.in-Ok.ensures.ok c.in-Err-serve.ensures.err
+pub returns-in-Err-clause-warehouse : goal.returns-in-Err-clause-warehouse
+returns-in-Err-clause-warehouse g c =
+    let m = c.args.manned.now in
+    let n = c.serve.new.machine in
+    ap (λ (names : Names). names.warehouse)
+    (stopped_names g.P.Plans.fits_map g.P.Plans.slot_count m.warehouse.now.book m.spares.now.items m.vehicles.now m.asker (record { warehouse = m.warehouse.ghost_name; spares = m.spares.ghost_name; vehicles = m.vehicles.ghost_name }) m.halted m.first m.begun m.said.now.items c.requires.going c.requires.first c.requires.begun
+    n.warehouse.now.book n.spares.now.items n.vehicles.now n.asker (record { warehouse = n.warehouse.ghost_name; spares = n.spares.ghost_name; vehicles = n.vehicles.ghost_name }) n.halted n.first n.begun n.said.now.items _ _ (λ a r b x. x) c.args.lines.now c.serve.new.lines (g.W.Write.contents c.args.writer.now) (g.W.Write.contents c.serve.new.writer) tt tt
+    c.in-Err.fault c.in-Err.ensures.fault c.requires.manned.0 c.requires.manned.1)
 
-pub returns-then-is_err-clause-fault : goal.returns-then-is_err-clause-fault
-returns-then-is_err-clause-fault g c =
-    let gathered = subst (λ (next : Next). Gathered next c.loop.lines c.next_line.new.self c.next_line.new.line) c.in-Last.is c.in-Ok.ensures.ok in
-    from_flush _ _ _ _ _ c.args.lines.now c.loop.lines c.next_line.new.self _ _ _ _ _ _ _ _ _ c.loop.invariant.follows c.next_line.ensures.writer
-    _ _ _ _ c.next_line.new.line _ c.loop.invariant.bound (g.W.Write.contents c.flush.new.self) gathered c.in-Ok-serve.ensures.ok c.flush.ensures.bytes
+pub returns-in-Err-clause-spares : goal.returns-in-Err-clause-spares
+returns-in-Err-clause-spares g c =
+    let m = c.args.manned.now in
+    let n = c.serve.new.machine in
+    ap (λ (names : Names). names.spares)
+    (stopped_names g.P.Plans.fits_map g.P.Plans.slot_count m.warehouse.now.book m.spares.now.items m.vehicles.now m.asker (record { warehouse = m.warehouse.ghost_name; spares = m.spares.ghost_name; vehicles = m.vehicles.ghost_name }) m.halted m.first m.begun m.said.now.items c.requires.going c.requires.first c.requires.begun
+    n.warehouse.now.book n.spares.now.items n.vehicles.now n.asker (record { warehouse = n.warehouse.ghost_name; spares = n.spares.ghost_name; vehicles = n.vehicles.ghost_name }) n.halted n.first n.begun n.said.now.items _ _ (λ a r b x. x) c.args.lines.now c.serve.new.lines (g.W.Write.contents c.args.writer.now) (g.W.Write.contents c.serve.new.writer) tt tt
+    c.in-Err.fault c.in-Err.ensures.fault c.requires.manned.0 c.requires.manned.1)
 
-pub returns-in-Last-clause-ok : goal.returns-in-Last-clause-ok
-returns-in-Last-clause-ok g c =
-    let gathered = subst (λ (next : Next). Gathered next c.loop.lines c.next_line.new.self c.next_line.new.line) c.in-Last.is c.in-Ok.ensures.ok in
-    from_last _ _ _ _ _ c.args.lines.now c.loop.lines c.next_line.new.self _ _ _ _ _ _ _ _ _ c.loop.invariant.follows c.next_line.ensures.writer
-    _ _ _ _ c.next_line.new.line _ c.loop.invariant.bound (g.W.Write.contents c.flush.new.self) gathered c.in-Ok-serve.ensures.ok c.flush.ensures.bytes
-
-pub loop-preserved : goal.loop-preserved
-loop-preserved g c = record {
-  follows = from_served _ _ _ _ _ c.args.lines.now c.loop.lines c.next_line.new.self _ _ _ _ _ _ _ _ _ c.loop.invariant.follows c.next_line.ensures.writer
-      _ _ _ _ c.next_line.new.line _ c.loop.invariant.bound c.in-Ok.next c.in_default.not-End c.in_default-next.not-Last c.in-Ok.ensures.ok c.in-Ok-serve.ensures.ok;
-  bound = c.serve.ensures.bound ∙ c.loop.invariant.bound;
-  reads = omega (arith, c.loop.invariant.reads, c.in-Ok.ensures.reads);
-  open_still = c.in-Ok.ensures.open.1;
-}
-
-pub returns-in-End-clause-ok : goal.returns-in-End-clause-ok
-returns-in-End-clause-ok g c =
-    let gathered = subst (λ (next : Next). Gathered next c.loop.lines c.next_line.new.self c.next_line.new.line) c.in-End.is c.in-Ok.ensures.ok in
-    from_end _ _ _ _ _ c.args.lines.now c.loop.lines c.next_line.new.self _ _ _ _ _ _ _ _ _ c.loop.invariant.follows c.next_line.ensures.writer c.next_line.new.line gathered
-
-pub returns-clause-fault : goal.returns-clause-fault
-returns-clause-fault g c =
-    from_now _ _ _ _ c.loop.counter c.args.lines.now c.loop.lines _ _ _ _ _ _ _ _ Endless endless_not_starved c.loop.invariant.follows
-    (λ lines many. cause_endless c.args.lines.now c.loop.lines c.loop.counter lines c.loop-test.false many)
+pub returns-in-Err-clause-vehicles : goal.returns-in-Err-clause-vehicles
+returns-in-Err-clause-vehicles g c =
+    let m = c.args.manned.now in
+    let n = c.serve.new.machine in
+    ap (λ (names : Names). names.vehicles)
+    (stopped_names g.P.Plans.fits_map g.P.Plans.slot_count m.warehouse.now.book m.spares.now.items m.vehicles.now m.asker (record { warehouse = m.warehouse.ghost_name; spares = m.spares.ghost_name; vehicles = m.vehicles.ghost_name }) m.halted m.first m.begun m.said.now.items c.requires.going c.requires.first c.requires.begun
+    n.warehouse.now.book n.spares.now.items n.vehicles.now n.asker (record { warehouse = n.warehouse.ghost_name; spares = n.spares.ghost_name; vehicles = n.vehicles.ghost_name }) n.halted n.first n.begun n.said.now.items _ _ (λ a r b x. x) c.args.lines.now c.serve.new.lines (g.W.Write.contents c.args.writer.now) (g.W.Write.contents c.serve.new.writer) tt tt
+    c.in-Err.fault c.in-Err.ensures.fault c.requires.manned.0 c.requires.manned.1)

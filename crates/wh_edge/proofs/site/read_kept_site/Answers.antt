@@ -4,7 +4,7 @@ use Rattle.wh_edge.proofs.site.read_kept_site.Goals as goal
 
 pub returns-in-Ok-site_text-clause-ok : goal.returns-in-Ok-site_text-clause-ok
 returns-in-Ok-site_text-clause-ok g c = record {
-  read = c.in-Ok.ensures.ok.read;
+  ruled = c.in-Ok.ensures.ok.ruled;
   text_is = c.in-Ok-site_text.ensures
-      ∙ ap₂ (λ (map points : List ℕ). site_text map points) (c.as_slice.ensures.value ∙ c.in-Ok.ensures.ok.map_is) (c.as_slice-2.ensures.value ∙ c.in-Ok.ensures.ok.points_is);
+      ∙ ap₂ (λ (map points : List ℕ). site_text c.args.homes map points) (c.as_slice.ensures.value ∙ c.in-Ok.ensures.ok.map_is) (c.as_slice-2.ensures.value ∙ c.in-Ok.ensures.ok.points_is);
 }

@@ -6,8 +6,8 @@ use Rattle.wh_serve.proofs.Rows.{attended_caller}
 use Rattle.wh_host.proofs.Hosts.{all_served, ended_order}
 use Rattle.wh_host.proofs.hosting.host_alone.Goals as goal
 
-pub finish-requires-after_bounds : goal.finish-requires-after_bounds
-finish-requires-after_bounds g c κs within =
+pub finish-requires : goal.finish-requires
+finish-requires g c =
     let s = c.in_ok-ended.ensures in
     ended_order (λ (history : List Entry) d had has n. Attended (length g.N.DeskName.cells) g.P.Plans.fits_map g.P.Plans.slot_count g.N.DeskName.origin.site.grid (receipt_text c.args.form g.N.DeskName.origin history) (λ x. g.R.Read.remaining x) (λ x. g.W.Write.contents x) d had has n)
     (λ history. attended_caller (length g.N.DeskName.cells) g.P.Plans.fits_map g.P.Plans.slot_count g.N.DeskName.origin.site.grid (receipt_text c.args.form g.N.DeskName.origin history) (λ x. g.R.Read.remaining x) (λ x. g.W.Write.contents x))

@@ -14,8 +14,8 @@ use Rattle.wh_host.proofs.Hosts.{all_served, get_before, paced_order}
 use Rattle.wh_host.proofs.Turning.{paced_in, paces_caller}
 use Rattle.wh_host.proofs.hosting.host_paced.Goals as goal
 
-pub finish-requires-after_bounds : goal.finish-requires-after_bounds
-finish-requires-after_bounds g c κs within =
+pub finish-requires : goal.finish-requires
+finish-requires g c =
     let s = c.in-Ok-serve_beside.ensures in
     let left = c.in-Ok-serve_beside.shift in
     let parts : c.args.passes.items ≡ c.pop.new.self.items ++ c.in-Some.own ∷ [] = c.in-Some.ensures.items in

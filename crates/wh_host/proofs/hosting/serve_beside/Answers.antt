@@ -2,7 +2,7 @@ use Rattle.std.proofs.Crossing.{crosses}
 use denote.Param.Send.{sendable, given_send}
 use Rattle.wh_desk.proofs.Sharing.{desk_sync, pass_send}
 use Rattle.wh_scribe.proofs.Sharing.{scribe_sync}
-use Rattle.wh_live.proofs.Viewing.{viewer_send}
+use Rattle.wh_host.proofs.Viewing.{viewer_send}
 use Rattle.wh_host.proofs.Sending.{bell_sync}
 use Rattle.wh_host.proofs.hosting.serve_beside.Goals as goal
 

@@ -1,4 +1,4 @@
-use Rattle.std.proofs.Common.{◌≡◌, false}
+use Rattle.std.proofs.Common.{◌≡◌}
 use Rattle.wh_board.specs.Pasts.{Extends}
 use Rattle.wh_crew.proofs.Turning.{Taking}
 use Rattle.wh_host.proofs.Turning.{KeepsShare}
@@ -7,7 +7,7 @@ use Rattle.wh_host.proofs.pacing.take_turns.Given as goal
 -- this many turns were taken
 abbrev pub invariant-loop : goal.invariant-loop
 invariant-loop g l = record {
-  taking : Taking false l.viewer.past l.fn.pass l.pass l.counter;
+  taking : Taking l.viewer.past l.fn.pass l.pass l.counter;
   share : KeepsShare l.fn.pace.entries l.fn.pass l.pass;
   later : Extends l.fn.viewer.past l.viewer.past;
   book : l.viewer.book ≡ l.fn.viewer.book;

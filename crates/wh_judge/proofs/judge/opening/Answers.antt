@@ -12,4 +12,4 @@ returns-clause-reached c =
     let slots = c.args.slots.items in
     let is : c.in_ok-floor.floor.state ≡ opened site.layout c.args.clock slots =
     c.in_ok-floor.ensures ∙ ap (λ (cells : List Cell). standing_at cells c.args.clock slots) (c.deref.ensures.value ∙ c.in_ok-starts.ensures) in
-    subst (λ s. IsReachable site s) (sym is) (reached-opening site c.args.clock slots c.grid.ensures.ends_at_stops c.grid.ensures.layout c.requires.clock c.requires.seats)
+    subst (λ s. IsReachable site s) (sym is) (reached-opening site c.args.clock slots c.grid.ensures.layout c.requires.clock c.requires.seats)

@@ -14,4 +14,4 @@ returns c =
     c.deref.ensures.value ∙ c.in_ok-avoid.ensures ∙ ap (λ (ps : List (List Cell)). ends (others ps agent)) c.paths.ensures.value in
     can-park site s agent c.in_ok-allowed.allowed.items c.in_ok-leads.leads
     (λ cell. rw c.points.ensures.value at (c.in_ok-allowed.ensures cell))
-    (rw (c.grid.ensures.value, avoid, c.place.ensures, c.deref-2.ensures.value) at c.in_ok-leads.ensures)
+    (rw (c.grid.ensures.value, avoid, c.path_end.ensures, c.deref-2.ensures.value) at c.in_ok-leads.ensures)

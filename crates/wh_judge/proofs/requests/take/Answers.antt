@@ -4,14 +4,19 @@ use Rattle.wh_tasks.specs.declared.task.Task.{Task}
 use Rattle.wh_tasks.specs.declared.task.Load.{Load}
 use Rattle.wh_tasks.specs.Tasks.{IsTask, IsOpen}
 use Rattle.wh_core.specs.States.{State, arrived, adopted, assigned}
-use Rattle.wh_judge.proofs.Reachable.{idle-at-rest}
+use Rattle.wh_judge.proofs.Reachable.{due-unloaded, has-start}
 use Rattle.wh_judge.proofs.requests.take.Goals as goal
+
+pub may_take-requires-clause-home : goal.may_take-requires-clause-home
+may_take-requires-clause-home c =
+    let due = c.is_due.ensures.0 c.if-not-is_due.false in
+    has-start c.args.instance.now c.args.floor.now.state c.args.agent c.requires.reached due.known.known
 
 pub take-requires-clause-idle : goal.take-requires-clause-idle
 take-requires-clause-idle c =
     let due = c.is_due.ensures.0 c.if-not-is_due.false in
     subst (λ (s : State). slice_get s.loads c.args.agent ≡ Some Load.None) (sym (λ i. (c.reserve_path.ensures.same i).state))
-    (idle-at-rest c.args.instance.now c.args.floor.now.state c.args.agent c.requires.reached due)
+    (due-unloaded c.args.instance.now c.args.floor.now.state c.args.agent c.requires.reached due)
 
 pub take-requires-clause-is_open : goal.take-requires-clause-is_open
 take-requires-clause-is_open c =

@@ -4,9 +4,11 @@ use Rattle.std.proofs.lemmas.Result.{IfOk-weaker}
 use Rattle.wh_options.proofs.command.fleet_command.Goals as goal
 
 pub returns : goal.returns
-returns c = IfOk-weaker c.with_number-3.result _ _ (λ made added. record {
+returns c = IfOk-weaker c.with_ends.result _ _ (λ made added. record {
   planners = c.as_slice.result;
+  ends = c.as_slice-2.result;
   words = search rules;
+  ends_texts = search rules;
   is = added;
 })
-    (c.with_number-3.ensures _ (c.in_ok-command-3.ensures _ (c.in_ok-command-2.ensures _ (c.in_ok-command.ensures _ c.plain_command-command.ensures))))
+    (c.with_ends.ensures _ (c.in_ok-command-4.ensures _ (c.in_ok-command-3.ensures _ (c.in_ok-command-2.ensures _ (c.in_ok-command.ensures _ c.plain_command-command.ensures)))))

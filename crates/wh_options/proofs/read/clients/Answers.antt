@@ -15,7 +15,7 @@ texts_or (Some b) d v none is = ap (λ w. unwrap_or w []) is
 
 pub returns : goal.returns
 returns c =
-    let found = c.get_strs.ensures ∙ raw_values-rows (found_of c.args.live.now) (codes "client") in
-    let texts : map (λ t. t.now) c.unwrap_or.result.now ≡ clients_in (rows_of (found_of c.args.live.now)) =
+    let found = c.get_strs.ensures ∙ raw_values-rows (found_of c.args.serve.now) (codes "client") in
+    let texts : map (λ t. t.now) c.unwrap_or.result.now ≡ clients_in (rows_of (found_of c.args.serve.now)) =
     ap (λ (b : Bor (List (Bor Text))). map (λ t. t.now) b.now) c.unwrap_or.ensures ∙ texts_or c.get_strs.result _ _ refl found in
     subst (λ ts. IfOk c.clients_of.result (λ found. MatchOption found ((cs : List ClientOptions) → GiveClients ts cs → ⊥) (λ clients. GiveClients ts clients.items))) texts c.clients_of.ensures

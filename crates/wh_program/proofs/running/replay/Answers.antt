@@ -1,5 +1,9 @@
 use Rattle.std.proofs.Common.{refl}
+use Rattle.wh_program.proofs.Starved.{whichever}
 use Rattle.wh_program.proofs.running.replay.Goals as goal
+
+pub returns-in-Err : goal.returns-in-Err
+returns-in-Err g c = rw c.in-None.is (whichever c.args.options.now.deliver _ _ c.in-Err.ensures.unserved c.in-Err.ensures.fault)
 
 pub returns-in-Ok-serve_kept : goal.returns-in-Ok-serve_kept
 returns-in-Ok-serve_kept g c = rw c.in-Some.is (

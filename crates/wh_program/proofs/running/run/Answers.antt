@@ -1,6 +1,9 @@
-use Rattle.std.proofs.Common.{inl, inr, map, subst}
+use Rattle.std.proofs.Common.{inl, inr, map, refl, subst}
+use Rattle.std.proofs.KnownBytes.{Keeps-refl}
 use Rattle.wh_options.specs.Options.{WordsGive}
 use Rattle.wh_options.specs.declared.chosen.Options.{Options}
+use Rattle.wh_program.specs.Barring.{Begins}
+use Rattle.wh_program.specs.Programs.{pace_of}
 use Rattle.wh_program.proofs.Whole.{declines, in_range}
 use Rattle.wh_program.proofs.running.run.Goals as goal
 
@@ -12,6 +15,7 @@ returns-in-Some g c =
       given = subst (λ (o : Options). WordsGive (map g.A.AsStr.text c.args.words.now) o) c.in-Some.ensures.0 c.in-Ok.ensures.ok;
       pace = c.in-Some.pace;
       late = c.in-Some.ensures.1;
+      begins = subst (λ (o : Options). Begins o (pace_of o)) c.in-Some.ensures.0 c.in-Ok-let_begin.ensures.ok;
       files = c.drive_by_name-came.ensures.0;
       named = c.drive_by_name-came.ensures.1;
       came = c.drive_by_name-came.result;
@@ -19,10 +23,23 @@ returns-in-Some g c =
       ends = c.end_drive.ensures;
     }))
 
+-- one that is not begun
+pub returns-in-Ok : goal.returns-in-Ok
+returns-in-Ok g c =
+    inr (inr (inr (record {
+      options = c.in-Ok.options;
+      given = c.in-Ok.ensures.ok;
+      why = c.in-Err-let_begin.bar.trouble;
+      bars = c.in-Err-let_begin.ensures.fault;
+      unread = refl;
+      untold = Keeps-refl _;
+      ends = c.bar_out.ensures;
+    })))
+
 pub returns : goal.returns
 returns g c =
-    inr (inr (declines _ _ _ _ _ _ c.decline-came.result _ _ _ _ c.decline-came.ensures.0 c.refusal_of.ensures.asked c.refusal_of.ensures.memory c.decline-came.ensures.1 c.end-in-Err.ensures
-    c.in-Err.ensures.refused c.in-Err.ensures.help c.in-Err.ensures.version))
+    inr (inr (inl (declines _ _ _ _ _ _ c.decline-came.result _ _ _ _ c.decline-came.ensures.told.0 c.refusal_of.ensures.asked c.refusal_of.ensures.memory c.decline-came.ensures.told.1 c.end.ensures _ _ c.decline-came.ensures.output
+    c.in-Err.ensures.refused c.in-Err.ensures.help c.in-Err.ensures.version)))
 
 pub obey_by_name-came-requires-clause-range : goal.obey_by_name-came-requires-clause-range
 obey_by_name-came-requires-clause-range g c κs within = in_range (map g.A.AsStr.text c.args.words.now) _ c.in-Ok.ensures.ok

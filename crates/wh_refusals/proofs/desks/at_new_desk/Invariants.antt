@@ -1,4 +1,4 @@
-use Rattle.wh_service.specs.Pasts.{origin_of}
+use Rattle.wh_live.specs.Pasts.{origin_of}
 use Rattle.wh_refusals.proofs.desks.at_new_desk.Given as goal
 
 -- the cells, the publisher and the warehouse that were just made

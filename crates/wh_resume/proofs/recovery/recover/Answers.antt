@@ -11,7 +11,7 @@ pub follow_front-requires : goal.follow_front-requires
 follow_front-requires g c =
     let setting = c.args.setting in
     let first = c.in-Ok.keeper in
-    let is : first.judge.site ≡ setting = c.in-Ok.ensures.site ∙ c.new.ensures ∙ site_of setting c.grid.result.now c.points.result.now c.grid.ensures c.points.ensures c.agents-agents.ensures.ends_at_stops in
+    let is : first.judge.site ≡ setting = c.in-Ok.ensures.site ∙ c.with_homes-instance.ensures ∙ site_of setting c.grid.result.now c.points.result.now c.homes.result c.grid.ensures c.points.ensures c.homes.ensures in
     let few : length setting.layout.agents ≤ 256 = rw (← c.agents-agents.ensures.value) c.agents-agents.ensures.few in
     can_open setting first is c.requires.some few
 
@@ -20,7 +20,7 @@ returns-in-Bad-clause-told g c =
     let setting = c.args.setting in
     let first = c.in-Ok.keeper in
     let held = g.S.Source.held c.args.source.now in
-    let is : first.judge.site ≡ setting = c.in-Ok.ensures.site ∙ c.new.ensures ∙ site_of setting c.grid.result.now c.points.result.now c.grid.ensures c.points.ensures c.agents-agents.ensures.ends_at_stops in
+    let is : first.judge.site ≡ setting = c.in-Ok.ensures.site ∙ c.with_homes-instance.ensures ∙ site_of setting c.grid.result.now c.points.result.now c.homes.result c.grid.ensures c.points.ensures c.homes.ensures in
     let said = subst (λ (f : Front). RecoversFrom Opens Steps held first c.follow_front.new.judge f) c.in-Bad.is c.in-Ok-follow_front.ensures.front in
     let told = tells_bad setting first said.0 c.in-Bad.line c.agents-agents.ensures.layout is c.in-Ok.ensures.empty (said.2.0, said.2.1) in
     (said.0, said.1, (said.2.2, inl (record { bad = told.0; never = told.1 })))
@@ -30,7 +30,7 @@ resume-book-requires-clause-opening g c =
     let setting = c.args.setting in
     let first = c.in-Ok.keeper in
     let held = g.S.Source.held c.args.source.now in
-    let is : first.judge.site ≡ setting = c.in-Ok.ensures.site ∙ c.new.ensures ∙ site_of setting c.grid.result.now c.points.result.now c.grid.ensures c.points.ensures c.agents-agents.ensures.ends_at_stops in
+    let is : first.judge.site ≡ setting = c.in-Ok.ensures.site ∙ c.with_homes-instance.ensures ∙ site_of setting c.grid.result.now c.points.result.now c.homes.result c.grid.ensures c.points.ensures c.homes.ensures in
     let said = subst (λ (f : Front). RecoversFrom Opens Steps held first c.follow_front.new.judge f) c.in-Whole.is c.in-Ok-follow_front.ensures.front in
     let led = leads_led setting first said.2.0 c.follow_front.new.judge c.agents-agents.ensures.layout is c.in-Ok.ensures.empty said.2.2 in
     let told = c.into_parts-first_clock in
@@ -43,7 +43,7 @@ resume-book-requires-clause-run g c =
     let setting = c.args.setting in
     let first = c.in-Ok.keeper in
     let held = g.S.Source.held c.args.source.now in
-    let is : first.judge.site ≡ setting = c.in-Ok.ensures.site ∙ c.new.ensures ∙ site_of setting c.grid.result.now c.points.result.now c.grid.ensures c.points.ensures c.agents-agents.ensures.ends_at_stops in
+    let is : first.judge.site ≡ setting = c.in-Ok.ensures.site ∙ c.with_homes-instance.ensures ∙ site_of setting c.grid.result.now c.points.result.now c.homes.result c.grid.ensures c.points.ensures c.homes.ensures in
     let said = subst (λ (f : Front). RecoversFrom Opens Steps held first c.follow_front.new.judge f) c.in-Whole.is c.in-Ok-follow_front.ensures.front in
     let led = leads_led setting first said.2.0 c.follow_front.new.judge c.agents-agents.ensures.layout is c.in-Ok.ensures.empty said.2.2 in
     let told = c.into_parts-first_clock in
@@ -56,7 +56,7 @@ returns-in-Whole-clause-told g c =
     let setting = c.args.setting in
     let first = c.in-Ok.keeper in
     let held = g.S.Source.held c.args.source.now in
-    let is : first.judge.site ≡ setting = c.in-Ok.ensures.site ∙ c.new.ensures ∙ site_of setting c.grid.result.now c.points.result.now c.grid.ensures c.points.ensures c.agents-agents.ensures.ends_at_stops in
+    let is : first.judge.site ≡ setting = c.in-Ok.ensures.site ∙ c.with_homes-instance.ensures ∙ site_of setting c.grid.result.now c.points.result.now c.homes.result c.grid.ensures c.points.ensures c.homes.ensures in
     let said = subst (λ (f : Front). RecoversFrom Opens Steps held first c.follow_front.new.judge f) c.in-Whole.is c.in-Ok-follow_front.ensures.front in
     let led = leads_led setting first said.2.0 c.follow_front.new.judge c.agents-agents.ensures.layout is c.in-Ok.ensures.empty said.2.2 in
     let told = c.into_parts-first_clock in

@@ -1,6 +1,7 @@
 use Rattle.std.proofs.Common.{◌⊎◌, ℕ, List, inl, inr, refl, subst}
 use Rattle.wh_service.specs.Fleets.{IsWhyUnclaimed, IsWhyUnseated}
 use Rattle.wh_service.proofs.Convoyed.{seated_at}
+use Rattle.wh_service.proofs.Lasting.{seated_on}
 use Rattle.wh_service.proofs.convoys.start_convoy.Goals as goal
 
 pub returns-in-Err-clause-fault : goal.returns-in-Err-clause-fault
@@ -23,4 +24,4 @@ returns-in-Err-equip_for-clause-fault g c =
     )
 
 pub returns-in-Ok-equip_for-clause-seated : goal.returns-in-Ok-equip_for-clause-seated
-returns-in-Ok-equip_for-clause-seated g c = seated_at _ _ _ _ _ _ _ c.slots.ensures.value c.in-Ok-equip_for.ensures.ok
+returns-in-Ok-equip_for-clause-seated g c = seated_on _ _ _ _ _ _ _ c.requires.grid (seated_at _ _ _ _ _ _ _ c.slots.ensures.value c.in-Ok-equip_for.ensures.ok)

@@ -1,5 +1,5 @@
 use Rattle.std.proofs.Common.{arith}
-use Rattle.wh_service.proofs.Played.{member_added}
+use Rattle.wh_service.proofs.Playing.{member_added}
 use Rattle.wh_service.proofs.fleet.members.Goals as goal
 
 pub loop-k-preserved : goal.loop-k-preserved

@@ -5,13 +5,13 @@ use Rattle.wh_points.specs.Formed.{IsFormed}
 use Rattle.wh_core.specs.Laws.{IsOpening}
 use Rattle.wh_core.specs.Steps.{Run}
 use Rattle.wh_judge.specs.Drafts.{AllServed, Seen}
-use Rattle.wh_log.specs.Told.{told_text}
+use Rattle.wh_replay.specs.Scripts.{script_asker}
 use Rattle.wh_drive.specs.Drives as drives
 use Rattle.wh_vehicles.specs.Plans.{places}
 use Rattle.wh_dispatch.specs.Crews.{Crew, IsManned}
 use Rattle.wh_service.specs.Tails.{IsWhyNoTail, tail_after}
 use Rattle.wh_service.proofs.Drove.{driven, stopped}
-use Rattle.wh_service.proofs.Played.{opened_with}
+use Rattle.wh_service.proofs.Playing.{opened_with}
 use Rattle.wh_service.proofs.vehicles.play_late.Goals as goal
 
 pub returns-in-Err-clause-fault : goal.returns-in-Err-clause-fault
@@ -22,7 +22,7 @@ returns-in-Err-dispatch-clause-fault g c =
     let book : Seen = c.in-Ok.warehouse.book in
     let crew : Crew = c.in-Ok-open.vehicles in
     let m = subst (λ n. IsManned book crew (drives.opened book.site.layout.nofollow n (places book.state))) c.from-ahead.ensures c.in-Ok-open.ensures.manned in
-    let s = stopped g.P.Plans.fits_map g.P.Plans.slot_count (told_text c.args.form) c.args.pace.behind c.args.pace.ahead crew.bound c.args.lines.now c.dispatch.new.lines book c.args.spares.items crew
+    let s = stopped g.P.Plans.fits_map g.P.Plans.slot_count (script_asker c.args.form) c.args.pace.behind c.args.pace.ahead crew.bound c.args.lines.now c.dispatch.new.lines book c.args.spares.items crew
     c.dispatch.new.warehouse.book c.dispatch.new.spares.items (g.W.Write.contents c.args.output.now) (g.W.Write.contents c.dispatch.new.writer)
     (c.in-Ok-open.ensures.bound ∙ c.from-behind.ensures) m c.in-Err-dispatch.fault c.in-Err-dispatch.ensures.fault in
     inr (inl (
@@ -41,7 +41,7 @@ returns-in-Ok-written-clause-ok g c =
     let book : Seen = c.in-Ok.warehouse.book in
     let crew : Crew = c.in-Ok-open.vehicles in
     let m = subst (λ n. IsManned book crew (drives.opened book.site.layout.nofollow n (places book.state))) c.from-ahead.ensures c.in-Ok-open.ensures.manned in
-    let r = driven g.P.Plans.fits_map g.P.Plans.slot_count (told_text c.args.form) c.args.pace.behind c.args.pace.ahead crew.bound c.args.lines.now c.dispatch.new.lines book c.args.spares.items crew
+    let r = driven g.P.Plans.fits_map g.P.Plans.slot_count (script_asker c.args.form) c.args.pace.behind c.args.pace.ahead crew.bound c.args.lines.now c.dispatch.new.lines book c.args.spares.items crew
     c.dispatch.new.warehouse.book c.dispatch.new.spares.items (g.W.Write.contents c.args.output.now) (g.W.Write.contents c.dispatch.new.writer)
     (c.in-Ok-open.ensures.bound ∙ c.from-behind.ensures) m c.dispatch.new.vehicles c.in-Ok-dispatch.ensures.ok in
     record {
@@ -65,7 +65,7 @@ returns-clause-fault g c =
     let book : Seen = c.in-Ok.warehouse.book in
     let crew : Crew = c.in-Ok-open.vehicles in
     let m = subst (λ n. IsManned book crew (drives.opened book.site.layout.nofollow n (places book.state))) c.from-ahead.ensures c.in-Ok-open.ensures.manned in
-    let r = driven g.P.Plans.fits_map g.P.Plans.slot_count (told_text c.args.form) c.args.pace.behind c.args.pace.ahead crew.bound c.args.lines.now c.dispatch.new.lines book c.args.spares.items crew
+    let r = driven g.P.Plans.fits_map g.P.Plans.slot_count (script_asker c.args.form) c.args.pace.behind c.args.pace.ahead crew.bound c.args.lines.now c.dispatch.new.lines book c.args.spares.items crew
     c.dispatch.new.warehouse.book c.dispatch.new.spares.items (g.W.Write.contents c.args.output.now) (g.W.Write.contents c.dispatch.new.writer)
     (c.in-Ok-open.ensures.bound ∙ c.from-behind.ensures) m c.dispatch.new.vehicles c.in-Ok-dispatch.ensures.ok in
     inr (inr record {

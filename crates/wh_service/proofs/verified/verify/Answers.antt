@@ -1,4 +1,4 @@
-use Rattle.std.proofs.Common.{false, subst, sym, ◌∙◌, ℕ, List}
+use Rattle.std.proofs.Common.{subst, sym, ◌∙◌, ℕ, List}
 use Rattle.std.specs.Io.KnownBytes.{Appends}
 use Rattle.wh_points.specs.Points.{Site}
 use Rattle.wh_edge.specs.declared.trouble.Trouble.{Trouble}
@@ -9,8 +9,8 @@ use Rattle.wh_service.proofs.Unverified.{no_log}
 use Rattle.wh_service.proofs.verified.verify.Goals as goal
 
 pub returns-in-Err-log_section-clause-fault : goal.returns-in-Err-log_section-clause-fault
-returns-in-Err-log_section-clause-fault g c = no_log _ _ _ _ (record {
-  site = record { grid = c.in-Ok.site.grid; layout = c.in-Ok.site.points; homes = false };
+returns-in-Err-log_section-clause-fault g c = no_log _ _ _ _ _ (record {
+  site = record { grid = c.in-Ok.site.grid; layout = c.in-Ok.site.points; homes = c.in-Ok.site.homes };
   between = c.read_site.new.lines;
   site_read = c.in-Ok.ensures.ok;
   why = c.in-Err-log_section.ensures.fault;
@@ -18,8 +18,8 @@ returns-in-Err-log_section-clause-fault g c = no_log _ _ _ _ (record {
 
 pub returns-in-Ok-write_text-clause-ok : goal.returns-in-Ok-write_text-clause-ok
 returns-in-Ok-write_text-clause-ok g c =
-    let site : Site = record { grid = c.in-Ok.site.grid; layout = c.in-Ok.site.points; homes = false } in
-    let told = c.in-Ok-verify.verified in
+    let site : Site = record { grid = c.in-Ok.site.grid; layout = c.in-Ok.site.points; homes = c.in-Ok.site.homes } in
+    let told = c.in-Ok-verify_over.verified in
     let had = g.W.Write.contents c.args.output.now in
     let has = g.W.Write.contents c.write_text.new.output in
     record {
@@ -32,18 +32,18 @@ returns-in-Ok-write_text-clause-ok g c =
         within = c.in-Ok-log_section.ensures.within;
       };
       verified = told;
-      says = subst (λ (l : List ℕ). Says site l told) c.as_slice.ensures.value c.in-Ok-verify.ensures.says;
+      says = subst (λ (l : List ℕ). Says site l told) c.as_slice.ensures.value (subst (λ (x : Site). Says x c.as_slice.result.now told) c.with_homes-instance.ensures c.in-Ok-verify_over.ensures.says);
       appends = subst (λ (l : List ℕ). Appends had has l) (c.as_slice-2.ensures.value ∙ c.text-line.ensures) c.in-Ok-write_text.ensures.ok;
       ended_is = c.status.ensures;
     }
 
 pub returns-clause-fault : goal.returns-clause-fault
 returns-clause-fault g c =
-    let site : Site = record { grid = c.in-Ok.site.grid; layout = c.in-Ok.site.points; homes = false } in
-    let told = c.in-Ok-verify.verified in
+    let site : Site = record { grid = c.in-Ok.site.grid; layout = c.in-Ok.site.points; homes = c.in-Ok.site.homes } in
+    let told = c.in-Ok-verify_over.verified in
     let had = g.W.Write.contents c.args.output.now in
     let has = g.W.Write.contents c.write_text.new.output in
-    subst (λ (told : Trouble). IsWhyUnverified told c.args.lines.now c.log_section.new.lines had has) (sym c.in-Err-write_text.ensures.fault)
+    subst (λ (told : Trouble). IsWhyUnverified c.args.options.homes told c.args.lines.now c.log_section.new.lines had has) (sym c.in-Err-write_text.ensures.fault)
     (record {
       site = site;
       log = c.in-Ok-log_section.log.items;
@@ -54,6 +54,6 @@ returns-clause-fault g c =
         within = c.in-Ok-log_section.ensures.within;
       };
       verified = told;
-      says = subst (λ (l : List ℕ). Says site l told) c.as_slice.ensures.value c.in-Ok-verify.ensures.says;
+      says = subst (λ (l : List ℕ). Says site l told) c.as_slice.ensures.value (subst (λ (x : Site). Says x c.as_slice.result.now told) c.with_homes-instance.ensures c.in-Ok-verify_over.ensures.says);
       front = subst (WritesFront had has) (c.as_slice-2.ensures.value ∙ c.text-line.ensures) c.in-Err-write_text.ensures.front;
     })

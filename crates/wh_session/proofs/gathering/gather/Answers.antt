@@ -1,7 +1,7 @@
 use Rattle.std.proofs.Common.{◌≡◌, ◌∙◌, true, false, sym, subst, arith}
 use Rattle.std.proofs.KnownBytes.{Keeps-refl, Keeps-trans}
 use Rattle.wh_text.specs.Lines.{IsLine}
-use Rattle.wh_session.proofs.Following.{from_start, from_more, from_single, from_rest, from_none, from_halt, from_full, from_served, from_endless}
+use Rattle.wh_session.proofs.Following.{from_start, from_more, from_single, from_rest, from_torn, from_none, from_halt, from_full, from_served, from_endless}
 use Rattle.wh_session.proofs.gathering.gather.Goals as goal
 
 pub loop-init : goal.loop-init
@@ -17,6 +17,10 @@ loop-init g c = record {
 pub returns-in-Ok-Ended-clause-ok : goal.returns-in-Ok-Ended-clause-ok
 returns-in-Ok-Ended-clause-ok g c =
     from_rest g.M.Machine.stands g.M.Machine.serves g.M.Machine.halts g.M.Machine.says g.M.Machine.logs g.M.Machine.serves_last c.args.single c.args.lines.now c.loop.lines c.take_step.new.lines c.args.machine.now c.loop.machine c.take_step.new.machine c.loop.counter c.loop.invariant.follows (rw c.in-Ok-Ended.field-0-is at c.in-Ok-Ended.ensures.ok)
+
+pub returns-in-Ok-Torn-clause-ok : goal.returns-in-Ok-Torn-clause-ok
+returns-in-Ok-Torn-clause-ok g c =
+    from_torn g.M.Machine.stands g.M.Machine.serves g.M.Machine.halts g.M.Machine.says g.M.Machine.logs g.M.Machine.serves_last c.args.single c.args.lines.now c.loop.lines c.take_step.new.lines c.args.machine.now c.loop.machine c.take_step.new.machine c.loop.counter c.loop.invariant.follows (rw c.in-Ok-Torn.field-0-is at c.in-Ok-Torn.ensures.ok)
 
 pub returns-in-Ok-Over-clause-ok : goal.returns-in-Ok-Over-clause-ok
 returns-in-Ok-Over-clause-ok g c =

@@ -1,5 +1,5 @@
 use Rattle.std.proofs.Common.{arith}
-use Rattle.wh_session.specs.declared.fault.Round.TheVariants.{More, Served, Ended, Over}
+use Rattle.wh_session.specs.declared.fault.Round.TheVariants.{More, Served, Ended, Torn, Over}
 use Rattle.wh_session.proofs.Proceeding.{start_from, proceed_from, finish_from, stop_from, endless_from, opens_more, opens_served, whole_more, whole_served}
 use Rattle.wh_session.proofs.session.serve_all.Goals as goal
 
@@ -19,6 +19,10 @@ returns-then-not-to_end-clause-ok g c =
 pub returns-in-Ok-Ended-clause-ok : goal.returns-in-Ok-Ended-clause-ok
 returns-in-Ok-Ended-clause-ok g c =
     finish_from g.M.Machine.serves g.M.Machine.halts g.K.Keeper.is_safe g.K.Keeper.keeps g.K.Keeper.leaves g.met.K.Keeper.kept_safe g.met.K.Keeper.keeps_none g.met.K.Keeper.keeps_both g.M.Machine.serves_last g.K.Keeper.single g.M.Machine.may_end g.M.Machine.stands g.M.Machine.says g.M.Machine.logs c.args.lines.now c.loop.lines c.args.machine.now c.loop.machine (g.W.Write.contents c.args.writer.now) (g.W.Write.contents c.loop.writer) (g.K.Keeper.holds c.args.keeper.now) (g.K.Keeper.holds c.loop.keeper) c.loop.counter c.loop.invariant.follows c.serve_part.new.lines c.serve_part.new.machine (g.W.Write.contents c.serve_part.new.writer) (g.K.Keeper.holds c.serve_part.new.keeper) Ended 18446744073709551615 (omega (arith, c.loop-test.true)) (rw c.in-Ok-Ended.field-0-is at c.in-Ok-Ended.ensures.ok)
+
+pub returns-in-Ok-Torn-clause-ok : goal.returns-in-Ok-Torn-clause-ok
+returns-in-Ok-Torn-clause-ok g c =
+    finish_from g.M.Machine.serves g.M.Machine.halts g.K.Keeper.is_safe g.K.Keeper.keeps g.K.Keeper.leaves g.met.K.Keeper.kept_safe g.met.K.Keeper.keeps_none g.met.K.Keeper.keeps_both g.M.Machine.serves_last g.K.Keeper.single g.M.Machine.may_end g.M.Machine.stands g.M.Machine.says g.M.Machine.logs c.args.lines.now c.loop.lines c.args.machine.now c.loop.machine (g.W.Write.contents c.args.writer.now) (g.W.Write.contents c.loop.writer) (g.K.Keeper.holds c.args.keeper.now) (g.K.Keeper.holds c.loop.keeper) c.loop.counter c.loop.invariant.follows c.serve_part.new.lines c.serve_part.new.machine (g.W.Write.contents c.serve_part.new.writer) (g.K.Keeper.holds c.serve_part.new.keeper) Torn 18446744073709551615 (omega (arith, c.loop-test.true)) (rw c.in-Ok-Torn.field-0-is at c.in-Ok-Torn.ensures.ok)
 
 pub returns-in-Ok-Over-clause-ok : goal.returns-in-Ok-Over-clause-ok
 returns-in-Ok-Over-clause-ok g c =

@@ -13,7 +13,7 @@ returns-else-serves_last-clause-ok g c s h =
     let gathered = subst (λ (next : Next). Gathered next c.args.lines.now c.next_line.new.self c.next_line.new.line) c.in-Last.is c.in-Ok.ensures.ok in (
       s,
       h,
-      takes_unserved g.M.Machine.serves c.args.lines.now c.next_line.new.self s (g.M.Machine.says c.args.machine.now s) (g.M.Machine.logs c.args.machine.now s) c.next_line.new.line g.M.Machine.serves_last
+      takes_unserved c.args.lines.now c.next_line.new.self s (g.M.Machine.says c.args.machine.now s) (g.M.Machine.logs c.args.machine.now s) c.next_line.new.line g.M.Machine.serves_last
           (sym c.serves_last.ensures ∙ c.if-serves_last.false) gathered,
     )
 
@@ -46,12 +46,12 @@ returns-in-Err-serve-clause-err g c s h =
     let line = c.next_line.new.line in (
       t.0,
       t.1,
-      subst (λ (f : SessionFault). Halts g.M.Machine.halts f i j s t.0) (sym c.halted.ensures) (elim c.match-next.branch [
+      subst (λ (f : SessionFault). Halts g.M.Machine.halts g.M.Machine.serves_last f i j s t.0) (sym c.halted.ensures) (elim c.match-next.branch [
         | in-Whole+else-is_over w ↦
             let gathered = subst (λ (next : Next). Gathered next i j line) w.in-Whole.is c.in-Ok.ensures.ok in
-            halts_line g.M.Machine.halts c.in-Err-serve.halt i j s t.0 line gathered.raw (gathered.raw ++ 10 ∷ []) gathered.plain (inr refl) gathered.says gathered.ends t.2
+            halts_line g.M.Machine.halts g.M.Machine.serves_last c.in-Err-serve.halt i j s t.0 line gathered.raw (gathered.raw ++ 10 ∷ []) gathered.plain (inr refl) gathered.says gathered.ends t.2
         | in-Last+then-serves_last w ↦
             let gathered = subst (λ (next : Next). Gathered next i j line) w.in-Last.is c.in-Ok.ensures.ok in
-            halts_line g.M.Machine.halts c.in-Err-serve.halt i j s t.0 line gathered.raw gathered.raw gathered.plain (inl refl) gathered.says gathered.ends.0 t.2
+            halts_line g.M.Machine.halts g.M.Machine.serves_last c.in-Err-serve.halt i j s t.0 line gathered.raw gathered.raw gathered.plain (inl (sym w.serves_last.ensures ∙ w.if-serves_last.true, refl, gathered.ends.1, gathered.ends.2)) gathered.says gathered.ends.0 t.2
       ]),
     )

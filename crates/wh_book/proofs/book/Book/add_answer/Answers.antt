@@ -1,5 +1,5 @@
 use Rattle.std.proofs.Common.{subst, sym}
-use Rattle.wh_core.specs.Ordinary.{Answers}
+use Rattle.wh_book.specs.OnTheirWays.{Answers}
 use Rattle.wh_book.specs.Drafts.{Seen, IsKept}
 use Rattle.wh_book.proofs.Kept.{kept-more, answer-step}
 use Rattle.wh_book.proofs.book.Book.add_answer.Goals as goal

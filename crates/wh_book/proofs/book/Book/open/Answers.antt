@@ -5,4 +5,4 @@ use Rattle.wh_book.proofs.book.Book.open.Goals as goal
 pub invariant_of-result : goal.invariant_of-result
 invariant_of-result c =
     kept-opened c.args.setting c.args.clock c.args.slots.items c.in_ok-first_slots.first_slots.items c.new.result.items c.in_ok-floor.floor.state
-    c.agents-agents.ensures.ends_at_stops c.agents-agents.ensures.layout c.requires.clock c.requires.seats (search rules) c.new.ensures.items (search rules)
+    c.agents-agents.ensures.layout c.requires.clock c.requires.seats (search rules) c.new.ensures.items (search rules)

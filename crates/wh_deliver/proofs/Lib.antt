@@ -1,0 +1,4 @@
+mod Settled
+pub mod Grown
+mod Barring
+mod Joined

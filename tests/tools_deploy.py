@@ -1,0 +1,226 @@
+#!/usr/bin/env python3
+"""Tests of deploy/: the Debian package is made and has all that it should, its completion, manuals and Python command work, the unit is one that
+systemd takes, and the wrapper of the service serves three clients over pipes and ends with them.
+
+The program is that of WAREHOUSE, else the one that the gate built. A service under a running systemd is not tried, nor the container file.
+The last line is `N passed, M failed`, and `, K skipped` where a test needs what is not here; status 1 where one failed.
+"""
+import functools
+import os
+import shutil
+import subprocess
+import tempfile
+import time
+
+import counting
+
+ROOT = os.path.dirname(os.path.dirname(os.path.abspath(__file__)))
+DEPLOY = f'{ROOT}/deploy'
+PROGRAM = os.path.abspath(os.environ.get('WAREHOUSE') or f'{ROOT}/crates/warehouse/out/warehouse')
+SCRATCH = tempfile.TemporaryDirectory()
+SECONDS = 30    # for one command
+MAP = 'type octile\nheight 3\nwidth 6\nmap\n......\n......\n......\n'
+POINTS = 'station a 1 0\nstation b 4 0\nparking P 0 2\nparking Q 5 2\nagent P\nagent Q\n'
+
+
+def run(*words, **given):
+    return subprocess.run(words, stdin=subprocess.DEVNULL, capture_output=True, text=True, check=False, timeout=SECONDS, **given)
+
+
+def needs(name, package):
+    found = shutil.which(name)
+    if found is None:
+        raise counting.Skipped(f'no {name} (apt-get install {package})')
+    return found
+
+
+def build(name):
+    """A package of the program: its path."""
+    needs('dpkg-deb', 'dpkg')
+    done = run(f'{DEPLOY}/build_deb', PROGRAM, f'{SCRATCH.name}/{name}', __file__, env={**os.environ, 'SOURCE_DATE_EPOCH': '1700000000'})
+    assert (done.returncode, done.stderr) == (0, ''), done
+    return done.stdout.strip()
+
+
+@functools.lru_cache(None)
+def package():
+    """The package, and what it holds in a folder."""
+    made, top = build('one'), f'{SCRATCH.name}/installed'
+    subprocess.run(['dpkg-deb', '-x', made, top], check=True)
+    return made, top
+
+
+def read(path, mode='r'):
+    with open(path, mode) as it:
+        return it.read()
+
+
+def test_same_bytes():
+    assert read(package()[0], 'rb') == read(build('two'), 'rb')
+
+
+def test_what_it_holds():
+    _, top = package()
+    assert read(f'{top}/usr/bin/warehouse', 'rb') == read(PROGRAM, 'rb')
+    assert read(f'{top}/usr/share/doc/warehouse/VERDICT') == read(__file__)
+    assert 'licence' in read(f'{top}/usr/share/doc/warehouse/copyright')
+    for path in ('lib/systemd/system/warehouse@.service', 'usr/share/doc/warehouse/examples/tmpfiles.conf',
+                 'usr/share/doc/warehouse/examples/options', 'usr/share/doc/warehouse/examples/mosquitto-acl'):
+        assert read(f'{top}/{path}') == read(f'{DEPLOY}/{os.path.basename(path)}'), path
+    package_of = f'{top}/usr/lib/python3/dist-packages/warehouse'
+    for folder, folders, names in os.walk(f'{ROOT}/python/warehouse'):
+        folders[:] = [it for it in folders if it != '__pycache__']
+        for name in names:
+            path = os.path.relpath(f'{folder}/{name}', f'{ROOT}/python/warehouse')
+            assert read(f'{package_of}/{path}', 'rb') == read(f'{folder}/{name}', 'rb'), path
+
+
+def test_lintian():
+    needs('lintian', 'lintian')
+    done = run('lintian', '--allow-root', '--fail-on', 'error', '--display-level', '>=warning', package()[0])
+    assert (done.returncode, done.stdout) == (0, ''), done
+
+
+def test_manuals():
+    needs('man', 'man-db')
+    _, top = package()
+    for name, wanted in (('warehouse', 'replay'), ('warehouse-py', 'dashboard')):
+        done = run('man', '--warnings', '-l', f'{top}/usr/share/man/man1/{name}.1.gz', env={**os.environ, 'MANPAGER': 'cat', 'MANWIDTH': '80', 'LC_ALL': 'C'})
+        assert (done.returncode, done.stderr) == (0, ''), done
+        assert wanted in done.stdout, done.stdout
+
+
+def completed(*words):
+    """What the completion offers behind these words, the last of them begun."""
+    _, top = package()
+    script = 'source "$1"; shift; COMP_WORDS=("$@"); COMP_CWORD=$(($# - 1)); _warehouse; printf "%s\\n" "${COMPREPLY[@]}"'
+    done = run('bash', '-c', script, 'bash', f'{top}/usr/share/bash-completion/completions/warehouse', *words, cwd=SCRATCH.name)
+    assert (done.returncode, done.stderr) == (0, ''), done
+    return done.stdout.split()
+
+
+def test_completion():
+    assert completed('warehouse', '') == ['check', 'replay', 'verify', 'live', 'serve', 'help', '--help', '--version']
+    assert completed('warehouse', 'replay', '--repl') == ['--replies']
+    assert sorted(completed('warehouse', 'replay', '--replies', '')) == ['full', 'placed', 'short']
+    assert completed('warehouse', 'serve', '--cli') == ['--client']
+    assert completed('warehouse', 'live', '--cli') == []
+    with open(f'{SCRATCH.name}/run.log', 'w'):
+        assert completed('warehouse', 'serve', '--log', 'run') == ['run.log']
+
+
+def test_python_command():
+    if run('/usr/bin/python3', '-c', 'import sys; sys.exit(sys.version_info < (3, 10))').returncode:
+        raise counting.Skipped('no /usr/bin/python3 of 3.10 or later')
+    _, top = package()
+    env = {'PYTHONPATH': f'{top}/usr/lib/python3/dist-packages', 'PYTHONDONTWRITEBYTECODE': '1', 'PATH': '/usr/bin:/bin'}
+    done = run(f'{top}/usr/bin/warehouse-py', 'make-instance', '--columns', '20', '--rows', '12', '--agents', '2', '--tasks', '3', env=env)
+    assert done.returncode == 0 and done.stdout.startswith('type octile\n'), done
+    assert run(f'{top}/usr/bin/warehouse-py', 'no-such', env=env).returncode == 2
+
+
+def test_unit():
+    needs('systemd-analyze', 'systemd')
+    _, top = package()
+    units = f'{SCRATCH.name}/units'
+    os.makedirs(units)
+    text = read(f'{top}/lib/systemd/system/warehouse@.service')
+    with open(f'{units}/warehouse@.service', 'w') as unit:
+        unit.write(text.replace('=/usr/lib/', f'={top}/usr/lib/').replace('Documentation=', '#'))
+    done = run('systemd-analyze', 'verify', '--recursive-errors=no', f'{units}/warehouse@.service')
+    assert (done.returncode, done.stderr) == (0, ''), done
+    done = run('systemd-analyze', 'security', '--offline=true', '--threshold=10', f'{units}/warehouse@.service')
+    assert done.returncode == 0, done
+
+
+# ------------------------------------------------------------------------------------------- the service
+
+class Client:
+    """One of the service's clients, over the pipes of its folder. Nothing here waits for longer than a bound."""
+
+    def __init__(self, folder):
+        self.until = time.monotonic() + SECONDS
+        self.replies = os.open(f'{folder}/out', os.O_RDONLY | os.O_NONBLOCK)
+        self.begun = b''
+        self.greeting = self.line()
+        self.commands = os.open(f'{folder}/in', os.O_WRONLY | os.O_NONBLOCK)
+
+    def line(self):
+        while b'\n' not in self.begun:
+            assert time.monotonic() < self.until, f'no reply: {self.begun!r}'
+            try:
+                came = os.read(self.replies, 65536)
+            except BlockingIOError:
+                came = b''
+            self.begun += came
+            if not came:
+                time.sleep(0.01)
+        line, _, self.begun = self.begun.partition(b'\n')
+        return line.decode()
+
+    def ask(self, line):
+        os.write(self.commands, f'{line}\n'.encode())
+        return self.line()
+
+
+def floor(name):
+    """The folders of a floor, as systemd would make them, with what deploy/options and deploy/tmpfiles.conf name: the environment of a start."""
+    folders = {part: f'{SCRATCH.name}/{name}/{part.lower()}' for part in ('CONFIGURATION_DIRECTORY', 'STATE_DIRECTORY', 'RUNTIME_DIRECTORY')}
+    for folder in folders.values():
+        os.makedirs(folder, 0o700)
+    for path, text in (('map', MAP), ('points', POINTS), ('options', read(f'{DEPLOY}/options'))):
+        with open(f'{folders["CONFIGURATION_DIRECTORY"]}/{path}', 'w') as it:
+            it.write(text)
+    for line in read(f'{DEPLOY}/tmpfiles.conf').splitlines():
+        kind, path, mode = (line.split() + ['', '', ''])[:3]
+        if path.startswith('/run/warehouse/main/'):
+            place = folders['RUNTIME_DIRECTORY'] + path.removeprefix('/run/warehouse/main')
+            os.mkdir(place, int(mode, 8)) if kind == 'd' else os.mkfifo(place, int(mode, 8))
+    return folders
+
+
+def start(folders):
+    return subprocess.Popen([f'{DEPLOY}/warehouse-serve'], env={**os.environ, **folders, 'WAREHOUSE': PROGRAM}, stdin=subprocess.DEVNULL,
+                            stdout=subprocess.PIPE, stderr=subprocess.PIPE, text=True)
+
+
+def test_service():
+    folders = floor('one')
+    pipes = folders['RUNTIME_DIRECTORY']
+    service = start(folders)
+    try:
+        fleet, desk, end = (Client(f'{pipes}/{it}') for it in ('floor', 'desk', 'end'))
+        assert [it.greeting for it in (fleet, desk, end)] == ['entries 0'] * 3
+        assert desk.ask('submit order1 a b') == 'accepted 0'
+        assert desk.ask('tick') == 'refused C3'
+        assert fleet.ask('token 0').startswith('took 0 path 0,2 ')
+        assert fleet.ask('close') == 'refused C3'
+        service.kill()
+        service.wait(SECONDS)
+        # the same start goes on behind what was acknowledged
+        service = start(folders)
+        fleet, desk, end = (Client(f'{pipes}/{it}') for it in ('floor', 'desk', 'end'))
+        assert [it.greeting for it in (fleet, desk, end)] == ['entries 1', 'entries 1', 'entries 0']
+        for _ in range(20):
+            assert fleet.ask('tick').startswith('clock ')
+        assert end.ask('close') == 'closed'
+        out, said = service.communicate(timeout=SECONDS)
+        assert service.returncode == 0, said
+        log = read(f'{folders["STATE_DIRECTORY"]}/run.log')
+        assert log.splitlines()[-1] == 'end 23', log
+        assert read(f'{folders["STATE_DIRECTORY"]}/board').startswith('wboard 1\n')
+    finally:
+        service.kill()
+
+
+def test_service_refused():
+    folders = floor('two')
+    with open(f'{folders["CONFIGURATION_DIRECTORY"]}/points', 'a') as points:
+        points.write('station c 9 9\n')
+    service = start(folders)
+    out, said = service.communicate(timeout=SECONDS)
+    assert (service.returncode, out) == (1, '') and said.startswith('refused P'), (service.returncode, out, said)
+
+
+if __name__ == '__main__':
+    counting.main(globals(), [it for it in globals() if it.startswith('test_')], SCRATCH)
