@@ -17,7 +17,7 @@ use Rattle.wh_replay.specs.Answers.{clock_after, text_of}
 use Rattle.wh_replay.specs.Appending.{lines_for, logged}
 use Rattle.wh_progress.specs.Progress.{span, open_tasks, left_to_do, HaveAtMost, AreOfTwoPlaces, StandsStill, IsHeld, AllDone}
 use Rattle.wh_progress.specs.Laws.{NoneCanStand}
-use Rattle.wh_delivery.specs.Deliveries.{GoesOn}
+use Rattle.wh_delivery.specs.Deliveries.{GoesOn, IsStuck}
 use Rattle.wh_deliver.specs.declared.delivering.DeliverFault.{DeliverFault}
 use Rattle.wh_deliver.specs.declared.delivering.DeliverFault.TheVariants.{NoMemory, TooMany, Unkept, Unwritten}
 
@@ -52,9 +52,14 @@ pub record IsLate (old new : Seen) : Type 0 where
   pub late : old.site.homes ≡ false → (stops : ℕ) → IsFormed old.site → HaveAtMost stops old.state
       → last_clock ≤ old.state.clock + 2 * span old.site stops * (length old.site.layout.agents + open_tasks old.state)
 
--- all stands still, or it is closed, or out of time
+-- All stand, and what is left to do finds no path: so on no well-formed instance.
+pub record EndsStuck (old new : Seen) : Type 0 where
+  pub stuck : IsStuck new.site new.state
+  pub unformed : ¬ IsFormed old.site
+
+-- all stands still, or it is closed, or out of time, or stuck
 abbrev pub ComesToRest : (old new : Seen) → Type 0
-ComesToRest old new = IsDelivered old new ⊎ (new.state.closed ≡ true) ⊎ IsLate old new
+ComesToRest old new = IsDelivered old new ⊎ (new.state.closed ≡ true) ⊎ IsLate old new ⊎ EndsStuck old new
 
 -- What entries are told as, one after another, where the first of them has this place in the history, from 0, and finds the clock so. Text, here and
 -- below, says what a reply is told as.

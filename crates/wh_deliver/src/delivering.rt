@@ -77,7 +77,7 @@ fn keep<K: Keeper>(keeper: &mut K, entries: &[Entry]) -> Result<(), DeliverFault
     }
 }
 
-/// Agents ask and the clock ticks until all stands still. Where the warehouse is closed, or its clock at its last, nothing is done.
+/// Agents ask and the clock ticks until all stands still, or is stuck. Where the warehouse is closed, or its clock at its last, nothing is done.
 fn go_on<P: Plans>(
     alloc: Global,
     warehouse: &mut Warehouse<P>,
@@ -91,7 +91,7 @@ fn go_on<P: Plans>(
         return Ok(());
     }
     match deliver_all(alloc, warehouse, caller) {
-        Ok(_) | Err(BrokenOff::Closed | BrokenOff::ClockFull) => Ok(()),
+        Ok(_) | Err(BrokenOff::Closed | BrokenOff::ClockFull | BrokenOff::Stuck) => Ok(()),
         Err(BrokenOff::NoMemory) => Err(DeliverFault::NoMemory),
     }
 }
@@ -120,7 +120,7 @@ fn settle<W: Write, K: Keeper>(
     }
 }
 
-/// Has all delivered that can be: agents ask and the clock ticks until all stands still (`deliver_all`); then the keeper keeps the lines of
+/// Has all delivered that can be: agents ask and the clock ticks until all stands still, or is stuck (`deliver_all`); then the keeper keeps the lines of
 /// these entries, and then their replies are written, in this form, and the writer is flushed. Where the warehouse is closed, or its clock at its
 /// last, nothing is done. The history may have so many entries at most.
 ///

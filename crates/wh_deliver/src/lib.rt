@@ -1,7 +1,7 @@
 //! Delivers what is left behind a script, and reports what stays open.
 //!
 //! Proved: the entries are requests and ticks of the caller, and kept before a reply is written, each in its order; then all stands
-//! still, within the bound of `wh_progress`, or the warehouse is closed, or the clock is at its last (`deliver`); the report is exact (`open_text`).
+//! still, within the bound of `wh_progress`, or is stuck, or the warehouse is closed, or the clock is at its last (`deliver`); the report is exact (`open_text`).
 #![tactic(auto)]
 
 mod delivering;

@@ -1,12 +1,12 @@
 -- a book that goes on: one stretch after another, and agents that ask
-use Rattle.std.proofs.Common.{◌≡◌, ◌≢◌, ℕ, ◌+◌, ◌<◌, List, [], ◌∷◌, ◌++◌, Bool, true, false, not, length, map, get_or, replicate, refl, sym, ap, subst, arith, ◌∙◌, ◌⊎◌, inl, inr, append_assoc, append-nil}
+use Rattle.std.proofs.Common.{◌≡◌, ◌≢◌, ℕ, ◌<◌, List, [], ◌∷◌, ◌++◌, Bool, true, false, ◌&&◌, not, length, map, get_or, replicate, refl, sym, ap, subst, arith, ◌∙◌, ◌⊎◌, inl, inr, append_assoc, append-nil}
 use Prim.Native.Nat.{zero, suc}
-use Rattle.std.specs.Prelude.{Contains, Option, None, Some, IsTrue, ◌↔◌, count_by, slice_get}
+use Rattle.std.specs.Prelude.{All, Contains, Option, None, Some, IsTrue, ◌↔◌, count_by, slice_get}
 use Rattle.std.proofs.Math.ListN.{set}
 use Rattle.std.proofs.lemmas.Bool.{false≢true, cases_eq, cases_Bool}
 use Rattle.std.proofs.lemmas.Option.{none-some, same_Some, slice_get_within, slice_get-get_or, get_or_from_slice_get}
 use Rattle.std.proofs.lemmas.List.{length-set, length-replicate}
-use Rattle.std.proofs.lemmas.List.Elements.{All-nil, All-append}
+use Rattle.std.proofs.lemmas.List.Elements.{All-nil, All-cons, All-head, All-append}
 use Rattle.wh_points.specs.Points.{Site}
 use Rattle.wh_points.specs.Formed.{IsFormed}
 use Rattle.wh_field.proofs.Tables.{Contains-none, Contains-cases, Contains-first, Contains-later}
@@ -24,10 +24,10 @@ use Rattle.wh_book.specs.Drafts.{Seen, IsKept}
 use Rattle.wh_token.specs.Asking.{MayBeAsked, AllWouldRest, IsNextToAsk}
 use Rattle.wh_core.proofs.Lists.{slice_get-set_other}
 use Rattle.wh_token.proofs.Takers.{next-none}
-use Rattle.wh_progress.specs.Progress.{HasAsked, MayRest, StandsStill}
+use Rattle.wh_progress.specs.Progress.{FindPaths, HasAsked, MayRest, StandsStill}
 use Rattle.wh_progress.proofs.Having.{asked}
 use Rattle.wh_progress.proofs.Counting.{bit, count-set}
-use Rattle.wh_delivery.specs.Deliveries.{IsOf, GoesOn, IsOnTime, HaveAsked, AllHaveAsked, Begins}
+use Rattle.wh_delivery.specs.Deliveries.{IsOf, GoesOn, IsOnTime, HaveAsked, AllHaveAsked, AreInVain, IsStuck, Begins, no_path}
 
 pub goes-none : (caller : ℕ) (book : Seen) → GoesOn caller book [] book
 goes-none caller book = record {
@@ -64,6 +64,21 @@ pub asked-last : (xs : List Entry) (entry : Entry) (agent : ℕ) → entry.event
 asked-last [] entry agent e = subst (λ v. Contains (v ∷ []) (Event.Request agent)) (sym e) (Contains-first (Event.Request agent) [])
 asked-last (x ∷ xs) entry agent e = Contains-later (Event.Request agent) x.event (map (λ (e : Entry). e.event) (xs ++ entry ∷ [])) (asked-last xs entry agent e)
 
+-- who has asked, by then or at last
+asked-before : (xs : List Entry) (entry : Entry) (agent : ℕ) → HasAsked (xs ++ entry ∷ []) agent → HasAsked xs agent ⊎ (entry.event ≡ Event.Request agent)
+asked-before [] entry agent has = elim (Contains-cases (Event.Request agent) entry.event [] has) [
+  | inl e ↦ inr e
+  | inr none ↦ absurd (Contains-none (Event.Request agent) none)
+]
+asked-before (x ∷ xs) entry agent has = elim (Contains-cases (Event.Request agent) x.event (map (λ (e : Entry). e.event) (xs ++ entry ∷ [])) has) [
+  | inl e ↦ inl (subst (λ v. Contains (v ∷ map (λ (e : Entry). e.event) xs) (Event.Request agent)) (sym e)
+      (Contains-first (Event.Request agent) (map (λ (e : Entry). e.event) xs)))
+  | inr more ↦ elim (asked-before xs entry agent more) [
+    | inl earlier ↦ inl (Contains-later (Event.Request agent) x.event (map (λ (e : Entry). e.event) xs) earlier)
+    | inr is ↦ inr is
+  ]
+]
+
 -- nobody has asked yet
 none-asked : (n agent : ℕ) → slice_get (replicate n false) agent ≡ Some true → ⊥
 none-asked zero agent is = none-some true is
@@ -77,6 +92,7 @@ asked-none site s asked n fresh all = record {
   on_time = record { closed = refl; clock = refl; tasks = refl };
   none = λ e. (refl, refl);
   one = λ e. absurd (false≢true e);
+  who = λ e. absurd (false≢true e);
 }
 
 -- one agent more has asked
@@ -130,6 +146,7 @@ have-more site old mid new asked some xs entry agent have next e step = record {
     | inl before ↦ have.one before stands
     | inr first ↦ next-moves site old (MayBeAsked asked) agent (subst (λ s. IsNextToAsk site s (MayBeAsked asked) agent) (have.none first).1 next) stands
   ];
+  who = λ _. (agent, asked-last xs entry agent e);
 }
 
 -- one fewer is left to ask
@@ -169,12 +186,74 @@ begins-asked site old new some added one all = record {
   moves = λ _. all.1.one one;
 }
 
-rests-of : (site : Site) (s new : State) (agent : ℕ) → Answers site s Reply.Rested (Event.Request agent) new → MayRest site s agent
-rests-of site s new agent step = record { none = step.1; stays = step.2 }
-
 -- all are at rest
 abbrev pub AllStand : State → Type 0
 AllStand s = (agent : ℕ) → agent < length s.paths → steps_left s.paths agent ≡ 0
+
+pub both : (a b : Bool) → (a && b) ≡ true → (a ≡ true) × (b ≡ true)
+both true b e = (refl, e)
+both false b e = absurd (false≢true e)
+
+-- nobody has asked in vain yet
+pub vain-none : (site : Site) (s : State) → AreInVain site s [] s
+vain-none site s = record {
+  all = All-nil (λ entry. entry.reply ≡ no_path);
+  same = refl;
+  refused = λ agent has. absurd (Contains-none (Event.Request agent) has);
+}
+
+-- one agent more has asked in vain
+pub vain-more : (site : Site) (old mid new : State) (xs : List Entry) (entry : Entry) (agent : ℕ) → AreInVain site old xs mid → entry.event ≡ Event.Request agent →
+    entry.reply ≡ no_path → Answers site mid entry.reply (Event.Request agent) new → AreInVain site old (xs ++ entry ∷ []) new
+vain-more site old mid new xs entry agent vain e lacks step =
+    let refused : Answers site mid no_path (Event.Request agent) new = subst (λ v. Answers site mid v (Event.Request agent) new) lacks step in
+    let there : Answers site mid no_path (Event.Request agent) mid = subst (λ s. Answers site mid no_path (Event.Request agent) s) refused.1 refused in
+    let here : Answers site old no_path (Event.Request agent) old = subst (λ s. Answers site s no_path (Event.Request agent) s) vain.same there in
+    record {
+      all = All-append (λ entry. entry.reply ≡ no_path) xs (entry ∷ []) vain.all
+          (All-cons (λ entry. entry.reply ≡ no_path) entry [] lacks (All-nil (λ entry. entry.reply ≡ no_path)));
+      same = refused.1 ∙ vain.same;
+      refused = λ other has. elim (asked-before xs entry other has) [
+        | inl before ↦ vain.refused other before
+        | inr is ↦ subst (λ v. Answers site old no_path v old) (sym e ∙ is) here
+      ];
+    }
+
+-- all stand, and ask in vain
+begins-stuck : (site : Site) (old new : State) (some : Bool) (added : List Entry) → some ≡ true → AllHaveAsked site old some added new → AreInVain site old added new →
+    AllStand new → IsStuck site new
+begins-stuck site old new some added one all vain stand =
+    let who = all.1.who one in
+    let lacks : (agent : ℕ) → HasAsked added agent → Answers site new no_path (Event.Request agent) new =
+    λ agent has. subst (λ s. Answers site s no_path (Event.Request agent) s) (sym vain.same) (vain.refused agent has) in
+    record {
+      resting = stand;
+      told = λ agent due. elim (left-asked site old new some added agent all due) [
+        | inl has ↦ inr (lacks agent has)
+        | inr rests ↦ inl rests
+      ];
+      one = (who.0, lacks who.0 who.1);
+    }
+
+-- and so on the site to which the book went on
+pub stuck-there : (caller : ℕ) (old new : Seen) (some : Bool) (added : List Entry) → GoesOn caller old added new → some ≡ true →
+    AllHaveAsked old.site old.state some added new.state → AreInVain old.site old.state added new.state → AllStand new.state → IsStuck new.site new.state
+stuck-there caller old new some added goes one all vain stand =
+    subst (λ s. IsStuck s new.state) (sym goes.stays.site) (begins-stuck old.site old.state new.state some added one all vain stand)
+
+-- on a well-formed instance nobody asks in vain
+found : (agent : ℕ) (added : List Entry) → HasAsked added agent → All (λ entry. entry.reply ≡ no_path) added → FindPaths added → ⊥
+found agent [] has all finds = Contains-none (Event.Request agent) has
+found agent (x ∷ xs) has all finds = All-head (λ entry. entry.reply ≢ no_path) x xs finds (All-head (λ entry. entry.reply ≡ no_path) x xs all)
+
+pub vain-unformed : (caller : ℕ) (old new : Seen) (some : Bool) (added : List Entry) → some ≡ true → AllHaveAsked old.site old.state some added new.state →
+    AreInVain old.site old.state added new.state → GoesOn caller old added new → ¬ IsFormed old.site
+vain-unformed caller old new some added one all vain goes formed =
+    let who = all.1.who one in
+    found who.0 added who.1 vain.all (goes.served formed)
+
+rests-of : (site : Site) (s new : State) (agent : ℕ) → Answers site s Reply.Rested (Event.Request agent) new → MayRest site s agent
+rests-of site s new agent step = record { none = step.1; stays = step.2 }
 
 -- nobody asked: all stands still where all are at rest
 pub begins-unasked : (site : Site) (old new : State) (some rest : Bool) (added : List Entry) → old.closed ≡ false → some ≡ false → (IsTrue rest ↔ AllStand new) →

@@ -1,11 +1,13 @@
 -- how far a book has gone on while agents ask and the clock ticks
 use Rattle.std.specs.Prelude.{◌≡◌, ℕ, ◌+◌, ◌<◌, ◌≤◌, ◌⊎◌, List, [], ◌++◌, Bool, true, false, Some, length, slice_get, All}
 use Rattle.wh_points.specs.Points.{Site}
+use Rattle.wh_path.specs.Paths.{steps_left}
 use Rattle.wh_points.specs.Formed.{IsFormed}
 use Rattle.wh_core.specs.States.{State}
 use Rattle.wh_core.specs.Steps.{Answers, Run, IsDue, last_clock}
 use Rattle.wh_event.specs.declared.event.Event.{Event}
 use Rattle.wh_event.specs.declared.reply.Reply.{Reply}
+use Rattle.wh_event.specs.declared.reply.Refusal.{Refusal}
 use Rattle.wh_event.specs.declared.entry.Entry.{Entry}
 use Rattle.wh_book.specs.Drafts.{Seen}
 use Rattle.wh_token.specs.Houses.{StaysAt}
@@ -53,10 +55,27 @@ pub record HaveAsked (site : Site) (old : State) (asked : List Bool) (some : Boo
   pub on_time : IsOnTime old new
   pub none : some ≡ false → (added ≡ []) × (new ≡ old)
   pub one : some ≡ true → ¬ StandsStill site old
+  pub who : some ≡ true → (agent : ℕ) × HasAsked added agent
 
 -- and each other that is due would be told to rest
 abbrev pub AllHaveAsked : Site → State → Bool → List Entry → State → Type 0
 AllHaveAsked site old some added new = (asked : List Bool) × HaveAsked site old asked some added new × AllWouldRest site new (MayBeAsked asked)
+
+-- for lack of a path
+abbrev pub no_path : Reply
+no_path = Reply.Refused Refusal.NoPath
+
+-- These requests were all refused for lack of a path, so nothing has changed.
+pub record AreInVain (site : Site) (old : State) (added : List Entry) (new : State) : Type 0 where
+  pub all : All (λ entry. entry.reply ≡ no_path) added
+  pub same : new ≡ old
+  pub refused : (agent : ℕ) → HasAsked added agent → Answers site old no_path (Event.Request agent) old
+
+-- It is stuck: all stand, and each agent that is due would be told to rest or is refused for lack of a path, as one is.
+pub record IsStuck (site : Site) (s : State) : Type 0 where
+  pub resting : (agent : ℕ) → agent < length s.paths → steps_left s.paths agent ≡ 0
+  pub told : (agent : ℕ) → IsDue site s agent → Answers site s Reply.Rested (Event.Request agent) s ⊎ Answers site s no_path (Event.Request agent) s
+  pub one : (agent : ℕ) × Answers site s no_path (Event.Request agent) s
 
 -- A round has begun: each agent that is due has asked, or would be told to rest; and whether all stood still.
 pub record Begins (site : Site) (old : State) (still : Bool) (added : List Entry) (new : State) : Type 0 where
@@ -75,7 +94,8 @@ pub record IsDelivering (caller : ℕ) (old : Seen) (ticks : ℕ) (now : Seen) :
       ticks + left_to_do old.site stops now.state ≤ left_to_do old.site stops old.state
 
 -- why it was broken off
-abbrev pub IsWhy : BrokenOff → State → Type 0
-IsWhy BrokenOff.NoMemory s = Unit {0}
-IsWhy BrokenOff.Closed s = s.closed ≡ true
-IsWhy BrokenOff.ClockFull s = s.clock ≡ last_clock
+abbrev pub IsWhy : Site → BrokenOff → State → Type 0
+IsWhy site BrokenOff.NoMemory s = Unit {0}
+IsWhy site BrokenOff.Closed s = s.closed ≡ true
+IsWhy site BrokenOff.ClockFull s = s.clock ≡ last_clock
+IsWhy site BrokenOff.Stuck s = IsStuck site s

@@ -9,4 +9,6 @@ pub enum BrokenOff {
     Closed,
     /// The clock is at its last.
     ClockFull,
+    /// All stand, and each agent that asked was refused for lack of a path.
+    Stuck,
 }

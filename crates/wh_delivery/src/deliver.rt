@@ -1,6 +1,6 @@
 //! Agents ask, the nearest order first, and the clock ticks until all stands still.
 
-ghost use Rattle.std.specs.Prelude.{◌≡◌, ℕ, ◌+◌, ◌*◌, ◌<◌, ◌≤◌, ◌⊎◌, ◌↔◌, List, [], ◌∷◌, false, length, replicate, IfOk, IfErr, IsTrue};
+ghost use Rattle.std.specs.Prelude.{◌≡◌, ◌≢◌, ℕ, ◌+◌, ◌*◌, ◌<◌, ◌≤◌, ◌⊎◌, ◌↔◌, List, [], ◌∷◌, false, length, replicate, IfOk, IfErr, IsTrue};
 ghost use Rattle.wh_path.specs.Paths.{steps_left};
 ghost use Rattle.wh_points.specs.Formed.{IsFormed};
 ghost use Rattle.wh_tasks.specs.declared.task.Task.{Task as Job};
@@ -11,27 +11,36 @@ ghost use Rattle.wh_event.specs.declared.event.Event.{Event as Asked};
 ghost use Rattle.wh_event.specs.declared.entry.Entry.{Entry as Line};
 ghost use Rattle.wh_progress.specs.Progress.{span, open_tasks, left_to_do, HaveAtMost, AreOfTwoPlaces, StandsStill, IsHeld, AllDone};
 ghost use Rattle.wh_progress.specs.Laws.{NoneCanStand};
-ghost use Rattle.wh_delivery.specs.Deliveries.{GoesOn, AllHaveAsked, Begins, IsOneLater, IsWhy};
+ghost use Rattle.wh_event.specs.declared.reply.Reply.{Reply as Answer};
+ghost use Rattle.wh_delivery.specs.Deliveries.{AllHaveAsked, AreInVain, Begins, GoesOn, IsOneLater, IsWhy, no_path};
 
 use crate::broken_off::BrokenOff;
 use std::alloc::{AllocError, Global};
 use wh_core::LAST_CLOCK;
-use wh_event::Command;
+use wh_event::{Command, Refusal, Reply};
 use wh_planner::Plans;
 use wh_token::Warehouse;
 
-/// The agent asks.
+/// Whether it is a refusal for lack of a path.
+fn lacks_path(reply: &Reply) -> bool
+    ensures { IsTrue result → reply.now ≡ no_path }
+{
+    matches!(reply, Reply::Refused(Refusal::NoPath))
+}
+
+/// The agent asks: whether it was refused for lack of a path.
 fn ask<P: Plans>(
     alloc: Global,
     warehouse: &mut Warehouse<P>,
     caller: u32,
     agent: u32,
-) -> Result<(), AllocError>
-    ensures asked { IfOk result (λ _. (entry : Line) × GoesOn caller warehouse.old.book (entry ∷ []) warehouse.new.book × (entry.event ≡ Asked.Request agent)) }
+) -> Result<bool, AllocError>
+    ensures asked { IfOk result (λ lacks. (entry : Line) × GoesOn caller warehouse.old.book (entry ∷ []) warehouse.new.book × (entry.event ≡ Asked.Request agent)
+        × (IsTrue lacks → entry.reply ≡ no_path)) }
     ensures starved { IfErr result (λ _. GoesOn caller warehouse.old.book [] warehouse.new.book) }
 {
     match warehouse.step(alloc, caller, Command::Token { agent }, None) {
-        Ok(_) => Ok(()),
+        Ok(done) => Ok(lacks_path(&done.entry.reply)),
         Err(_) => Err(AllocError),
     }
 }
@@ -43,23 +52,35 @@ fn nobody(alloc: Global, agents: u32) -> Result<Vec<bool>, AllocError>
     vec![in alloc; false; agents as usize]
 }
 
-/// Agents ask, one after another as `next_to_ask` names them, each at most once, until none is left to ask: whether any did.
+/// What came of the requests of a round.
+#[derive(Clone, Copy)]
+pub(crate) struct Requests {
+    /// Whether any agent asked.
+    pub(crate) some: bool,
+    /// Whether all that asked were refused for lack of a path.
+    pub(crate) in_vain: bool,
+}
+
+/// Agents ask, one after another as `next_to_ask` names them, each at most once, until none is left to ask.
 fn ask_all<P: Plans>(
     alloc: Global,
     warehouse: &mut Warehouse<P>,
     caller: u32,
-) -> Result<bool, AllocError>
+) -> Result<Requests, AllocError>
     ensures asked { (added : List Line) × GoesOn caller warehouse.old.book added warehouse.new.book
-        × IfOk result (λ some. AllHaveAsked warehouse.old.book.site warehouse.old.book.state some added warehouse.new.book.state) }
+        × IfOk result (λ came. AllHaveAsked warehouse.old.book.site warehouse.old.book.state came.some added warehouse.new.book.state
+        × (IsTrue came.in_vain → AreInVain warehouse.old.book.site warehouse.old.book.state added warehouse.new.book.state)) }
 {
     let mut asked = nobody(alloc, warehouse.agents())?;
     let mut some = false;
+    let mut in_vain = true;
     while let Some(agent) = warehouse.next_to_ask(asked.as_slice()) {
-        ask(alloc, warehouse, caller, agent)?;
+        let lacks = ask(alloc, warehouse, caller, agent)?;
         asked[agent as usize] = true;
         some = true;
+        in_vain &= lacks;
     }
-    Ok(some)
+    Ok(Requests { some, in_vain })
 }
 
 /// Whether all agents stand.
@@ -74,21 +95,31 @@ fn all_stand<P: Plans>(warehouse: &Warehouse<P>) -> bool
     true
 }
 
-/// A round begins, in which all ask that are to be asked: whether all stands still.
+/// A round begins, in which all ask that are to be asked: whether all stands still. It is broken off where all stand and ask in vain.
 fn begin<P: Plans>(
     alloc: Global,
     warehouse: &mut Warehouse<P>,
     caller: u32,
-) -> Result<bool, AllocError>
+) -> Result<bool, BrokenOff>
     requires not_closed { warehouse.old.book.state.closed ≡ false }
     ensures asked { (added : List Line) × GoesOn caller warehouse.old.book added warehouse.new.book
         × IfOk result (λ still. Begins warehouse.old.book.site warehouse.old.book.state still added warehouse.new.book.state) }
+    ensures fault { IfErr result (λ fault. (fault ≡ BrokenOff.NoMemory) ⊎ (fault ≡ BrokenOff.Stuck)) }
+    ensures why { IfErr result (λ fault. IsWhy warehouse.new.book.site fault warehouse.new.book.state) }
+    ensures formed { IfErr result (λ fault. fault ≡ BrokenOff.Stuck → ¬ IsFormed warehouse.old.book.site) }
 {
-    let some = ask_all(alloc, warehouse, caller)?;
+    let Requests { some, in_vain } = match ask_all(alloc, warehouse, caller) {
+        Ok(came) => came,
+        Err(AllocError) => return Err(BrokenOff::NoMemory),
+    };
+    let stand = all_stand(warehouse);
     if some {
+        if in_vain && stand {
+            return Err(BrokenOff::Stuck);
+        }
         return Ok(false);
     }
-    Ok(all_stand(warehouse))
+    Ok(stand)
 }
 
 /// The clock ticks.
@@ -96,7 +127,8 @@ fn tick<P: Plans>(alloc: Global, warehouse: &mut Warehouse<P>, caller: u32) -> R
     ensures ticked { (added : List Line) × GoesOn caller warehouse.old.book added warehouse.new.book
         × IfOk result (λ _. IsOneLater warehouse.old.book.state warehouse.new.book.state) }
     ensures same { IfErr result (λ _. warehouse.new.book.state ≡ warehouse.old.book.state) }
-    ensures why { IfErr result (λ fault. IsWhy fault warehouse.new.book.state) }
+    ensures why { IfErr result (λ fault. IsWhy warehouse.new.book.site fault warehouse.new.book.state) }
+    ensures moving { IfErr result (λ fault. fault ≢ BrokenOff.Stuck) }
 {
     if warehouse.closed() {
         return Err(BrokenOff::Closed);
@@ -132,6 +164,8 @@ fn tick<P: Plans>(alloc: Global, warehouse: &mut Warehouse<P>, caller: u32) -> R
 /// - `BrokenOff::Closed`: the warehouse is closed; nobody asked.
 /// - `BrokenOff::ClockFull`: the clock is at its last, 1,000,000,000, and somebody asked or moves. On a well-formed instance
 ///   this comes only where the clock had fewer ticks left than the bound, or just as many.
+/// - `BrokenOff::Stuck`: all stand, and each agent that asked was refused for lack of a path, so that no tick would change anything. On a
+///   well-formed instance it never comes.
 pub fn deliver_all<P: Plans>(
     alloc: Global,
     warehouse: &mut Warehouse<P>,
@@ -148,7 +182,8 @@ pub fn deliver_all<P: Plans>(
         → ticks ≤ left_to_do warehouse.old.book.site stops warehouse.old.book.state) }
     ensures bounded { IfOk result (λ ticks. warehouse.old.book.site.homes ≡ false → (stops : ℕ) → IsFormed warehouse.old.book.site → HaveAtMost stops warehouse.old.book.state
         → ticks ≤ 2 * span warehouse.old.book.site stops * (length warehouse.old.book.site.layout.agents + open_tasks warehouse.old.book.state)) }
-    ensures why { IfErr result (λ fault. IsWhy fault warehouse.new.book.state) }
+    ensures why { IfErr result (λ fault. IsWhy warehouse.new.book.site fault warehouse.new.book.state) }
+    ensures formed { IfErr result (λ fault. fault ≡ BrokenOff.Stuck → ¬ IsFormed warehouse.old.book.site) }
     ensures late_within { IfErr result (λ fault. fault ≡ BrokenOff.ClockFull → (stops : ℕ) → IsFormed warehouse.old.book.site → HaveAtMost stops warehouse.old.book.state
         → last_clock ≤ warehouse.old.book.state.clock + left_to_do warehouse.old.book.site stops warehouse.old.book.state) }
     ensures late { IfErr result (λ fault. fault ≡ BrokenOff.ClockFull → warehouse.old.book.site.homes ≡ false → (stops : ℕ) → IsFormed warehouse.old.book.site → HaveAtMost stops warehouse.old.book.state
@@ -163,7 +198,7 @@ pub fn deliver_all<P: Plans>(
         match begin(alloc, warehouse, caller) {
             Ok(true) => return Ok(ticks),
             Ok(false) => {}
-            Err(AllocError) => return Err(BrokenOff::NoMemory),
+            Err(fault) => return Err(fault),
         }
         match tick(alloc, warehouse, caller) {
             Ok(()) => {}

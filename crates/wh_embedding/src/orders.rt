@@ -68,6 +68,7 @@ fn deliver<R: Print, P: Planner>(
         Err(BrokenOff::NoMemory) => return Err(Halt::NoMemory),
         Err(BrokenOff::Closed) => println!(rt; "closed")?,
         Err(BrokenOff::ClockFull) => println!(rt; "the clock is at its last")?,
+        Err(BrokenOff::Stuck) => println!(rt; "all stand, and no path is found")?,
     }
     println!(rt; "done: {}", warehouse.book().tasks().counts().done)?;
     Ok(())

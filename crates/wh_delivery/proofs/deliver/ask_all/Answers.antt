@@ -1,8 +1,8 @@
-use Rattle.std.proofs.Common.{◌≡◌, [], ◌∷◌, ◌++◌, rules, sym, subst}
+use Rattle.std.proofs.Common.{[], ◌∷◌, ◌++◌, rules, sym, subst}
 use Rattle.wh_book.specs.Drafts.{Seen}
 use Rattle.wh_token.specs.Asking.{MayBeAsked, AllWouldRest, IsNextToAsk}
-use Rattle.wh_delivery.specs.Deliveries.{GoesOn, HaveAsked}
-use Rattle.wh_delivery.proofs.Going.{goes-none, goes-trans, asked-none, one-more, have-more, fewer-left, next-may}
+use Rattle.wh_delivery.specs.Deliveries.{AreInVain, GoesOn, HaveAsked}
+use Rattle.wh_delivery.proofs.Going.{goes-none, goes-trans, asked-none, vain-none, vain-more, both, one-more, have-more, fewer-left, next-may}
 use Rattle.wh_delivery.proofs.deliver.ask_all.Goals as goal
 
 pub returns-in_err-asked : goal.returns-in_err-asked
@@ -11,7 +11,14 @@ returns-in_err-asked g c = record { asked = ([], goes-none c.args.caller c.args.
 pub loop-agent-init : goal.loop-agent-init
 loop-agent-init g c =
     let book = c.args.warehouse.now.book in
-    record { asked = ([], goes-none c.args.caller book, asked-none book.site book.state c.in_ok-asked.asked.items c.agents.result c.in_ok-asked.ensures c.agents.ensures.value) }
+    record {
+      asked = (
+        [],
+        goes-none c.args.caller book,
+        asked-none book.site book.state c.in_ok-asked.asked.items c.agents.result c.in_ok-asked.ensures c.agents.ensures.value,
+        λ _. vain-none book.site book.state,
+      );
+    }
 
 pub loop-agent-smaller : goal.loop-agent-smaller
 loop-agent-smaller g c =
@@ -29,17 +36,19 @@ loop-agent-preserved g c =
     let asked = c.loop-agent.asked.items in
     let h = c.loop-agent.invariant.asked in
     let same = c.in-Some.ensures.book in
-    let s = c.in_ok-ask.ensures.asked in
+    let s = c.in_ok-lacks.ensures.asked in
     let goes : GoesOn c.args.caller now (s.0 ∷ []) new = subst (λ b. GoesOn c.args.caller b (s.0 ∷ []) new) same s.1 in
     let next : IsNextToAsk book.site now.state (MayBeAsked asked) agent =
     subst (λ site. IsNextToAsk site now.state (MayBeAsked asked) agent) h.1.stays.site
     (subst (λ l. IsNextToAsk now.site now.state (MayBeAsked l) agent) c.as_slice.ensures.value c.in-Some.ensures.next) in
+    let step = one-more c.args.caller book now new h.0 agent s.0 h.1 goes s.2 in
     record {
       asked = (
         h.0 ++ s.0 ∷ [],
         goes-trans c.args.caller book now new h.0 (s.0 ∷ []) h.1 goes,
-        have-more book.site book.state now.state new.state asked c.loop-agent.some h.0 s.0 agent h.2 next s.2
-            (one-more c.args.caller book now new h.0 agent s.0 h.1 goes s.2),
+        have-more book.site book.state now.state new.state asked c.loop-agent.some h.0 s.0 agent h.2 next s.2 step,
+        λ vain. vain-more book.site book.state now.state new.state h.0 s.0 agent (h.3 (both c.loop-agent.in_vain c.in_ok-lacks.lacks vain).0) s.2
+            (s.3 (both c.loop-agent.in_vain c.in_ok-lacks.lacks vain).1) step,
       );
     }
 
@@ -59,9 +68,12 @@ returns g c =
         h.0,
         subst (λ b. GoesOn c.args.caller book h.0 b) (sym same) h.1,
         (
-          asked,
-          subst (λ (b : Seen). HaveAsked book.site book.state asked c.loop-agent.some h.0 b.state) (sym same) h.2,
-          subst (λ (b : Seen). AllWouldRest book.site b.state (MayBeAsked asked)) (sym same) rest,
+          (
+            asked,
+            subst (λ (b : Seen). HaveAsked book.site book.state asked c.loop-agent.some h.0 b.state) (sym same) h.2,
+            subst (λ (b : Seen). AllWouldRest book.site b.state (MayBeAsked asked)) (sym same) rest,
+          ),
+          λ vain. subst (λ (b : Seen). AreInVain book.site book.state h.0 b.state) (sym same) (h.3 vain),
         ),
       );
     }

@@ -1,21 +1,30 @@
-use Rattle.wh_delivery.proofs.Going.{begins-asked, begins-unasked}
+use Rattle.wh_delivery.proofs.Going.{begins-asked, begins-unasked, stuck-there, vain-unformed}
 use Rattle.wh_delivery.proofs.deliver.begin.Goals as goal
 
-pub returns-then-some : goal.returns-then-some
-returns-then-some g c =
+pub returns-then-some-clause-asked : goal.returns-then-some-clause-asked
+returns-then-some-clause-asked g c =
     let book = c.args.warehouse.now.book in
-    let a = c.in_ok-some.ensures.asked in
-    record { asked = (a.0, a.1, begins-asked book.site book.state c.ask_all.new.warehouse.book.state c.in_ok-some.some a.0 c.if-some.true a.2) }
+    let a = c.in-Ok.ensures.asked in
+    (a.0, a.1, begins-asked book.site book.state c.ask_all.new.warehouse.book.state c.in-Ok.came.some a.0 c.if-some.true a.2.0)
 
-pub returns : goal.returns
-returns g c =
+pub returns-then-stand-clause-why : goal.returns-then-stand-clause-why
+returns-then-stand-clause-why g c =
     let book = c.args.warehouse.now.book in
-    let a = c.in_ok-some.ensures.asked in
-    record {
-      asked = (
-        a.0,
-        a.1,
-        begins-unasked book.site book.state c.ask_all.new.warehouse.book.state c.in_ok-some.some c.all_stand.result a.0 c.requires.not_closed c.if-some.false
-            c.all_stand.ensures a.2,
-      );
-    }
+    let new = c.ask_all.new.warehouse.book in
+    let a = c.in-Ok.ensures.asked in
+    stuck-there c.args.caller book new c.in-Ok.came.some a.0 a.1 c.if-some.true a.2.0 (a.2.1 c.if-in_vain.true) (c.all_stand-stand.ensures.0 c.if-stand.true)
+
+pub returns-then-stand-clause-formed : goal.returns-then-stand-clause-formed
+returns-then-stand-clause-formed g c _ =
+    let a = c.in-Ok.ensures.asked in
+    vain-unformed c.args.caller c.args.warehouse.now.book c.ask_all.new.warehouse.book c.in-Ok.came.some a.0 c.if-some.true a.2.0 (a.2.1 c.if-in_vain.true) a.1
+
+pub returns-clause-asked : goal.returns-clause-asked
+returns-clause-asked g c =
+    let book = c.args.warehouse.now.book in
+    let a = c.in-Ok.ensures.asked in (
+      a.0,
+      a.1,
+      begins-unasked book.site book.state c.ask_all.new.warehouse.book.state c.in-Ok.came.some c.all_stand-stand.result a.0 c.requires.not_closed c.if-some.false
+          c.all_stand-stand.ensures a.2.0,
+    )

@@ -1,4 +1,5 @@
-use Rattle.std.proofs.Common.{◌≡◌, ◌++◌, refl, subst, ap, ◌∙◌, inr, arith}
+use Rattle.std.proofs.Common.{◌≡◌, ◌++◌, refl, sym, subst, ap, ◌∙◌, inr, arith}
+use Rattle.wh_points.specs.Formed.{IsFormed}
 use Rattle.wh_core.specs.Steps.{last_clock}
 use Rattle.wh_core.specs.States.{State}
 use Rattle.wh_delivery.specs.Deliveries.{Begins, IsDelivering, IsWhy}
@@ -87,6 +88,14 @@ loop-ticks-preserved g c =
           (subst (λ r. Begins now.site now.state r a.0 mid.state) c.in-Ok-false.field-0-test a.2) t.1 t.2;
     }
 
+pub returns-in-Err-clause-formed : goal.returns-in-Err-clause-formed
+returns-in-Err-clause-formed g c is formed =
+    let d = c.loop-ticks.invariant.delivering in
+    c.in-Err.ensures.formed is (subst (λ s. IsFormed s) (sym d.goes.stays.site) formed)
+
+pub returns-in-Err-tick-clause-formed : goal.returns-in-Err-tick-clause-formed
+returns-in-Err-tick-clause-formed g c is = absurd (c.in-Err-tick.ensures.moving is)
+
 pub returns-clause-why : goal.returns-clause-why
 returns-clause-why g c =
     let all : c.loop-ticks.ticks ≡ last_clock = (let l = c.loop-ticks-test.false in let m = c.loop-ticks.auto.ticks-end in omega arith) in
@@ -101,7 +110,7 @@ returns-in-Err-tick-clause-late_within g c is =
     let same = c.in-Err-tick.ensures.same in
     let clock : c.tick.new.warehouse.book.state.clock ≡ now.state.clock = ap (λ (s : State). s.clock) same ∙ a.2.on_time.clock in
     late-within c.args.caller book now c.tick.new.warehouse.book.state c.loop-ticks.ticks c.loop-ticks.invariant.delivering clock
-    (subst (λ f. IsWhy f c.tick.new.warehouse.book.state) is c.in-Err-tick.ensures.why)
+    (subst (λ f. IsWhy c.tick.new.warehouse.book.site f c.tick.new.warehouse.book.state) is c.in-Err-tick.ensures.why)
 
 pub returns-in-Err-tick-clause-late : goal.returns-in-Err-tick-clause-late
 returns-in-Err-tick-clause-late g c is =
@@ -111,7 +120,7 @@ returns-in-Err-tick-clause-late g c is =
     let same = c.in-Err-tick.ensures.same in
     let clock : c.tick.new.warehouse.book.state.clock ≡ now.state.clock = ap (λ (s : State). s.clock) same ∙ a.2.on_time.clock in
     late c.args.caller book now c.tick.new.warehouse.book.state c.loop-ticks.ticks c.loop-ticks.invariant.begun c.loop-ticks.invariant.delivering clock
-    (subst (λ f. IsWhy f c.tick.new.warehouse.book.state) is c.in-Err-tick.ensures.why)
+    (subst (λ f. IsWhy c.tick.new.warehouse.book.site f c.tick.new.warehouse.book.state) is c.in-Err-tick.ensures.why)
 
 pub returns-clause-late_within : goal.returns-clause-late_within
 returns-clause-late_within g c is =
