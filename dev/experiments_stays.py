@@ -96,33 +96,38 @@ class Core:
             self.open[len(self.tasks)] = [self.points[name] for name in order.stops]
             self.tasks.append(order)
 
-    def rank(self, agent: int) -> tuple[bool, int]:
-        """How near the order is that the agent would be given, urgent ones first; (True, FAR) for none."""
-        ends = set() if self.homes else {path[-1] for other, path in enumerate(self.paths) if other != agent}
-        here = self.paths[agent][0]
-        return min(((not (self.classes and self.tasks[number].urgent), self.distance(here, stops[0]))
-                    for number, stops in self.open.items() if not ends & set(stops)), default=(True, FAR))
+    def next_to_ask(self, agents: set[int]) -> tuple[int, int, int] | None:
+        """Of these agents the one that is nearest to the order that it would be given, an urgent one first; None where none is given one."""
+        owner = {} if self.homes else {path[-1]: agent for agent, path in enumerate(self.paths)}
+        best: tuple[int, int, int] | None = None
+        for number, stops in self.open.items():
+            ends = {owner[stop] for stop in stops if stop in owner}
+            later = int(not (self.classes and self.tasks[number].urgent))
+            if len(ends) <= 1 and (best is None or later <= best[0]):
+                near = min(((later, self.distance(self.paths[agent][0], stops[0]), agent) for agent in agents if ends <= {agent}), default=None)
+                best = min((one for one in (near, best) if one), default=None)
+        return best
 
     def requests(self) -> list[tuple[int, list[tuple[int, Order | None]]]]:
         """Asks for who is due, and answers which agents took an order, with the steps of its stops."""
         taken = []
-        asked: set[int] = set()
-        while self.open:
-            ranks = [(self.rank(agent), agent) for agent, due in enumerate(self.due) if due <= self.clock and agent not in asked]
-            if not ranks:
-                break
-            _, agent = min(ranks)
-            asked.add(agent)
-            said = self.ask(f'token {agent}')
-            if said[0] not in ('took', 'parked'):
-                continue
-            self.paths[agent] = [(int(x), int(y)) for x, y in (word.split(',') for word in said[3:])]
-            if said[0] == 'took':
-                taken.append((agent, self.took(agent, int(said[1]))))
-                asked = set() if not self.homes else asked
-            else:
-                self.due[agent] = self.clock + len(self.paths[agent]) - 1
+        agents = {agent for agent, due in enumerate(self.due) if due <= self.clock}
+        while (near := self.next_to_ask(agents)) is not None:
+            agents.remove(near[2])
+            if said := self.path(near[2]):
+                taken.append((near[2], self.took(near[2], int(said[1]))))
+        for agent in () if self.homes else sorted(agents):
+            if any(stops[-1] == self.paths[agent][0] for stops in self.open.values()) and self.path(agent):
+                self.due[agent] = self.clock + len(self.paths[agent]) - 1    # it makes way
         return taken
+
+    def path(self, agent: int) -> list[str]:
+        """The reply, where it gives the agent a path."""
+        said = self.ask(f'token {agent}')
+        if said[0] not in ('took', 'parked'):
+            return []
+        self.paths[agent] = [(int(x), int(y)) for x, y in (word.split(',') for word in said[3:])]
+        return said
 
     def took(self, agent: int, number: int) -> list[tuple[int, Order | None]]:
         """The steps at which its stays begin, found by place; and from when on it is due."""
@@ -230,7 +235,7 @@ def kiva(seed: int, count: int) -> tuple[Instance, list[list[str]]]:
 
 
 FLOORS = {'packing': packing, 'kiva': kiva}
-EVERY = {'packing': 7, 'kiva': 4}    # ticks from an order to the next
+EVERY = {'packing': 7, 'kiva': 3}    # ticks from an order to the next
 
 
 def stays(program: str, options: argparse.Namespace) -> None:

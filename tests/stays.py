@@ -86,6 +86,8 @@ def by_hand(program: str) -> Iterator[tuple[str, str]]:
     yield 'rows', '' if [row.number for row in found] == list(range(1, ROWS + 1)) else f'{len(found)} rows'
     for row in found:
         yield f'row {row.number}', difference(run(program, ['stays', *row.words], instance_of(row.drawing), row.lines), row.replies)
+    path = ' '.join(['0,0 1,0', *['2,0'] * 101, '3,0 4,0'])
+    yield 'a long stay', difference(run(program, ['stays'], instance_of(DOTS), ['submit x b:100 c', 'token 0']), ['accepted 0', f'took 0 path {path}'])
     lines = ['submit x b:02 c:0', 'urgent y c b:9999', 'submit x b:1:2 c', 'submit x:1 b c', 'submit x b c :1']
     log = ['accepted 0', 'accepted 1', *['refused C1'] * 3, '%%', 'wlog 2', 'start 0 slots 4',
            '0 submit x b:2 c = accepted 0', '0 urgent y c b:9999 = accepted 1', 'end 2']

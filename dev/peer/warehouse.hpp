@@ -176,7 +176,6 @@ private:
         const uint32_t kept = adopt(self, path);
         tasks_.assign(number, self);
         agent.task = number;
-        agent.since = NONE;    // the stay begins with the task
         agent.wanted = task.stops[0];
         Visits visits;    // no tick made them, so no reply tells them
         if (agent.here == agent.wanted) arrive(agent, visits);
