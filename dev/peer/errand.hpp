@@ -24,13 +24,13 @@ public:
         uint32_t bound;
         uint32_t onward;    // the ticks of the stay where it ends, and those that the legs behind it need at least
         uint32_t stop;      // where it ends; NONE for the last, which is_end alone ends
-        uint32_t stay;      // for so long; 0 for the last
         uint32_t estimate(uint32_t, uint32_t to) const { return std::min(table[to], bound) + onward; }
     };
     const Reservations& reservations;
 
 private:
     Leg legs_[MOST_LEGS];
+    uint32_t stays_[MOST_LEGS];    // where a leg ends, for how long the agent stays there; 0 for the last
     uint32_t last_ = 0, goal_ = NONE, limit_ = 0;
 
 public:
@@ -41,7 +41,8 @@ public:
         goal_ = tour.stops[last_];
         uint32_t onward = 0, staying = 0;
         for (uint32_t leg = tour.count; leg-- > 0;) {
-            legs_[leg] = {fields[leg].table, fields[leg].bound, onward, leg == last_ ? NONE : tour.stops[leg], tour.stays[leg]};
+            legs_[leg] = {fields[leg].table, fields[leg].bound, onward, leg == last_ ? NONE : tour.stops[leg]};
+            stays_[leg] = tour.stays[leg];
             if (leg == 0) break;
             onward = std::min(estimate(leg, tour.stops[leg - 1]) + tour.stays[leg - 1], UNSEEN);
             staying += tour.stays[leg - 1];
@@ -52,7 +53,7 @@ public:
     void park(const Bounded& field, uint32_t passable) {
         last_ = 0;
         goal_ = NONE;
-        legs_[0] = {field.table, field.bound, 0, NONE, 0};
+        legs_[0] = {field.table, field.bound, 0, NONE};
         set_limit(passable, 0);
     }
 
@@ -67,12 +68,12 @@ public:
 
     // A stop may be named several times in a row: one visit serves them all, up to one at which it stays.
     uint32_t arrive(uint32_t leg, uint32_t cell) const {
-        while (legs_[leg].stop == cell && legs_[leg].stay == 0) ++leg;
+        while (legs_[leg].stop == cell && stays_[leg] == 0) ++leg;
         return leg;
     }
 
     // How long an agent that is at a cell has to stay before it has done with the leg's stop; 0 where it is elsewhere.
-    uint32_t stay_at(uint32_t leg, uint32_t cell) const { return legs_[leg].stop == cell ? legs_[leg].stay : 0; }
+    uint32_t stay_at(uint32_t leg, uint32_t cell) const { return legs_[leg].stop == cell ? stays_[leg] : 0; }
 
     bool is_end(uint32_t leg, uint32_t cell, uint32_t time) const {
         if (leg != last_) return false;

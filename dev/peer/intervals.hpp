@@ -174,7 +174,7 @@ private:
     // An agent that came to its next stop has done with it once it was there for the whole stay. It may leave before, too.
     void stay(const Errand& errand, uint32_t number) {
         const Node from = nodes_[number];
-        const uint32_t time = from.time + errand.leg(from.leg).stay, leg = errand.arrive(from.leg + 1, from.cell);
+        const uint32_t time = from.time + errand.stay_at(from.leg, from.cell), leg = errand.arrive(from.leg + 1, from.cell);
         if (time <= from.until && time + errand.estimate(leg, from.cell) <= errand.limit()) meet(errand, from.cell, leg, time, number);
     }
 

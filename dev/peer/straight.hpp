@@ -34,7 +34,7 @@ public:
                 for (const Stand& stand : way_) path.push_back(stand.cell);
                 return true;
             }
-            if (time < whole && go_on(errand, here, time, whole - time, untried)) {
+            if (time < whole && (go_on(errand, here, time, whole - time, untried) || (untried == MOVES && stay_on(errand, here, time)))) {
                 untried = MOVES;
                 continue;
             }
@@ -48,7 +48,6 @@ public:
 private:
     template <typename Guide>
     bool go_on(const Guide& errand, const Stand& here, uint32_t time, uint32_t left, uint32_t untried) {
-        if (const uint32_t stay = errand.stay_at(here.leg, here.cell)) return untried == MOVES && stay_on(errand, here, time, stay);
         const auto& by = errand.beside(here.leg, here.cell);
         uint32_t nexts[MOVES];
         list_moves(here.cell, grid_.stride, nexts);
@@ -66,8 +65,9 @@ private:
 
     // At its next stop each tick of the stay lowers the estimate, and no step does.
     template <typename Guide>
-    bool stay_on(const Guide& errand, const Stand& here, uint32_t time, uint32_t stay) {
-        if (!errand.reservations.allows(here.cell, here.cell, time)) return false;
+    bool stay_on(const Guide& errand, const Stand& here, uint32_t time) {
+        const uint32_t stay = errand.stay_at(here.leg, here.cell);
+        if (stay == 0 || !errand.reservations.allows(here.cell, here.cell, time)) return false;
         const bool is_over = here.stayed + 1 == stay;
         way_.push_back({here.cell, is_over ? errand.arrive(here.leg + 1, here.cell) : here.leg, 0, is_over ? 0 : here.stayed + 1});
         return true;
