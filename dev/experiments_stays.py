@@ -4,7 +4,7 @@
     dev/experiments_stays.py                      both tables, the means over seeds 1 to 3
     dev/experiments_stays.py --seeds 1 --part stays
 
-The plan is the prototype's, dev/peer with the word `stays`, built by g++ into a temporary folder; paths go on home. The floors are
+The plan is the prototype's, dev/peer with the word `stays`, built by g++ into a temporary folder. The floors are
 examples/packing, orders drawn from the seed, and `tools/make_instance.py --layout kiva --columns 42 --rows 30 --stations 6 --agents 30
 --nofollow --seed SEED`. The agent nearest to the order that it would be given asks first.
 
@@ -13,7 +13,7 @@ tick in which another leaves it; a step takes a tick, and at each stop a vehicle
 stays, or it does not, and then its clock waits for a vehicle that is --behind steps behind. A figure is orders in 100 ticks to the last
 delivery.
 
-Urgent: orders come evenly, one in ten urgent; all have stays that the plan knows, so vehicles are on time. A figure is the mean and the
+Urgent: orders come evenly, one in ten urgent, and paths go on home; all have stays of 15 ticks that the plan knows, so vehicles are on time. A figure is the mean and the
 longest time from an order's release to the end of its last stay, over all seeds. `submit` hands them in without a class.
 """
 from __future__ import annotations
@@ -275,7 +275,8 @@ def main() -> None:
     parser.add_argument('--seeds', type=int, default=3, metavar='N', help='seeds 1 to N (%(default)s)')
     parser.add_argument('--orders', type=int, default=300, metavar='N', help='(%(default)s)')
     parser.add_argument('--stay', type=int, nargs='+', default=[15, 30], metavar='TICKS', help='at each stop (15 30)')
-    parser.add_argument('--ends', nargs='+', default=['homes'], choices=('stops', 'homes'), help='where paths end (homes)')
+    parser.add_argument('--ends', nargs='+', default=['stops', 'homes'], choices=('stops', 'homes'),
+                        help='where paths end in the table of stays (stops homes)')
     parser.add_argument('--every', type=int, metavar='TICKS', help='from an order to the next in the table of urgent orders')
     options = parser.parse_args()
     with tempfile.TemporaryDirectory() as folder:
