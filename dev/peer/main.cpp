@@ -38,6 +38,7 @@
 // - An arrival meets the next ones in the order of moves but the first: to each place beside, the first arrival in each
 //   of its intervals, in the order of their times. Where an interval is expanded from a time on, an earlier arrival in
 //   it meets only what it leads to by leaving before.
+// - An arrival at its next stop, at which it has to stay, first meets the end of the stay there, if nobody comes before.
 // - An arrival that is met is skipped where the last one met in its interval was no later.
 // - The nearest task is the one with the least number among those whose first stop is nearest.
 #include "warehouse.hpp"
