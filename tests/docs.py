@@ -42,7 +42,7 @@ CAPS = {
     'docs/DECISIONS.md': 2400, 'docs/DEFINITIONS.md': 1850, 'docs/EMBEDDING.md': 800, 'docs/EXPERIMENTS.md': 1100, 'docs/FORMATS.md': 3250,
     'docs/GLOSSARY.md': 600, 'docs/GUARANTEES.md': 1500, 'docs/INTEGRATION.md': 1500, 'docs/LIMITS.md': 1000, 'docs/MODELING.md': 1500,
     'docs/OPERATIONS.md': 1600, 'docs/PERFORMANCE.md': 1050, 'docs/PROOFS.md': 1050, 'docs/PROTOCOL.md': 1900, 'docs/READING.md': 1700,
-    'docs/START.md': 950, 'docs/TESTING.md': 850,
+    'docs/START.md': 950, 'docs/STAYS.md': 1200, 'docs/TESTING.md': 850,
 }
 MOST_IN_ALL = 30_000
 MOST_IN_A_PARAGRAPH, MOST_IN_A_CELL = 90, 40

@@ -15,6 +15,7 @@ constexpr uint16_t NOBODY = 0xFFFF;
 
 constexpr uint32_t MOST_STOPS = 8;
 constexpr uint32_t MOST_LEGS = MOST_STOPS + 1;    // through the stops, and home
+constexpr uint32_t MOST_STAY = 9999;              // ticks at a stop
 constexpr uint32_t MOST_AGENTS = 256;
 constexpr uint32_t MOST_POINTS = 4096;
 constexpr uint32_t MOST_TASKS = 1000000;

@@ -4,6 +4,7 @@
 
 #include "fields.hpp"
 #include "reservations.hpp"
+#include "tour.hpp"
 
 // Moves by the order in which all that plans takes them: stay, left, right, up, down.
 constexpr uint32_t MOVES = 5;
@@ -21,7 +22,7 @@ public:
     struct Leg {
         const uint32_t* table;
         uint32_t bound;
-        uint32_t onward;    // the steps that the legs behind it need at least
+        uint32_t onward;    // the ticks of the stay where it ends, and those that the legs behind it need at least
         uint32_t stop;      // where it ends; NONE for the last, which is_end alone ends
         uint32_t estimate(uint32_t, uint32_t to) const { return std::min(table[to], bound) + onward; }
     };
@@ -29,27 +30,31 @@ public:
 
 private:
     Leg legs_[MOST_LEGS];
+    uint32_t stays_[MOST_LEGS];    // where a leg ends, for how long the agent stays there; 0 for the last
     uint32_t last_ = 0, goal_ = NONE, limit_ = 0;
 
 public:
     explicit Errand(const Reservations& others) : reservations(others) {}
 
-    void deliver(const uint32_t* stops, uint32_t count, const Bounded* fields, uint32_t passable) {
-        last_ = count - 1;
-        goal_ = stops[last_];
-        uint32_t onward = 0;
-        for (uint32_t leg = count; leg-- > 0;) {
-            legs_[leg] = {fields[leg].table, fields[leg].bound, onward, leg == last_ ? NONE : stops[leg]};
-            if (leg != 0) onward = estimate(leg, stops[leg - 1]);
+    void deliver(const Tour& tour, const Bounded* fields, uint32_t passable) {
+        last_ = tour.count - 1;
+        goal_ = tour.stops[last_];
+        uint32_t onward = 0, staying = 0;
+        for (uint32_t leg = tour.count; leg-- > 0;) {
+            legs_[leg] = {fields[leg].table, fields[leg].bound, onward, leg == last_ ? NONE : tour.stops[leg]};
+            stays_[leg] = tour.stays[leg];
+            if (leg == 0) break;
+            onward = std::min(estimate(leg, tour.stops[leg - 1]) + tour.stays[leg - 1], UNSEEN);
+            staying += tour.stays[leg - 1];
         }
-        set_limit(passable);
+        set_limit(passable, staying);
     }
 
     void park(const Bounded& field, uint32_t passable) {
         last_ = 0;
         goal_ = NONE;
         legs_[0] = {field.table, field.bound, 0, NONE};
-        set_limit(passable);
+        set_limit(passable, 0);
     }
 
     const Leg& leg(uint32_t number) const { return legs_[number]; }
@@ -61,11 +66,14 @@ public:
         return std::min(std::min(legs_[leg].table[cell], legs_[leg].bound) + legs_[leg].onward, UNSEEN);
     }
 
-    // A stop may be named several times in a row: one visit serves them all.
+    // A stop may be named several times in a row: one visit serves them all, up to one at which it stays.
     uint32_t arrive(uint32_t leg, uint32_t cell) const {
-        while (legs_[leg].stop == cell) ++leg;
+        while (legs_[leg].stop == cell && stays_[leg] == 0) ++leg;
         return leg;
     }
+
+    // How long an agent that is at a cell has to stay before it has done with the leg's stop; 0 where it is elsewhere.
+    uint32_t stay_at(uint32_t leg, uint32_t cell) const { return legs_[leg].stop == cell ? stays_[leg] : 0; }
 
     bool is_end(uint32_t leg, uint32_t cell, uint32_t time) const {
         if (leg != last_) return false;
@@ -75,7 +83,7 @@ public:
 
 private:
     // From the horizon on each leg is a walk on a still map, and comes to no place twice.
-    void set_limit(uint64_t passable) {
-        limit_ = uint32_t(std::min<uint64_t>(reservations.horizon() + legs() * passable, UNSEEN - 1));
+    void set_limit(uint64_t passable, uint64_t staying) {
+        limit_ = uint32_t(std::min<uint64_t>(reservations.horizon() + legs() * passable + staying, UNSEEN - 1));
     }
 };

@@ -21,6 +21,8 @@ static_assert(sizeof(Entry) == 24);
 struct Submission {
     Name client, stops[MOST_STOPS];
     uint32_t count;
+    uint32_t stays[MOST_STOPS];
+    bool is_urgent;
 };
 
 class History {

@@ -148,6 +148,7 @@ private:
             const Node& parent = nodes_[from.parent];
             back = parent.cell, back_leg = parent.leg, back_until = parent.until;
         }
+        if (UNLIKELY(by.stop == from.cell)) stay(errand, number);
         uint32_t nexts[MOVES];
         list_moves(from.cell, grid_.stride, nexts);
         for (uint32_t move = 1; move < MOVES; ++move) {
@@ -168,6 +169,13 @@ private:
                 next = meet(errand, to, leg, time + 1, number) + 1;    // somebody comes there just after
             }
         }
+    }
+
+    // An agent that came to its next stop has done with it once it was there for the whole stay. It may leave before, too.
+    void stay(const Errand& errand, uint32_t number) {
+        const Node from = nodes_[number];
+        const uint32_t time = from.time + errand.stay_at(from.leg, from.cell), leg = errand.arrive(from.leg + 1, from.cell);
+        if (time <= from.until && time + errand.estimate(leg, from.cell) <= errand.limit()) meet(errand, from.cell, leg, time, number);
     }
 
     static uint32_t departure(const Reservations& others, uint32_t from, uint32_t to, uint32_t time, uint32_t last) {

@@ -35,8 +35,12 @@ private:
         switch (entry.event) {
         case Event::SUBMIT: {
             const Submission& submission = history_.submission(entry.argument);
-            output_.piece(" submit ", submission.client);
-            for (uint32_t stop = 0; stop < submission.count; ++stop) output_.piece(" ", submission.stops[stop]);
+            if (submission.is_urgent) output_.piece(" urgent ", submission.client);
+            else output_.piece(" submit ", submission.client);
+            for (uint32_t stop = 0; stop < submission.count; ++stop) {
+                output_.piece(" ", submission.stops[stop]);
+                if (submission.stays[stop]) output_.piece(":", submission.stays[stop]);
+            }
             return;
         }
         case Event::TOKEN: return output_.piece(" token ", entry.argument);

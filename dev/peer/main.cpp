@@ -2,6 +2,9 @@
 // `replay` prints, without its options; with the word `log`, what `replay --tail log` prints, and with the word `homes` what
 // `replay --ends homes` does. It is a yardstick for the product's speed and an oracle for tests/peer.py.
 //
+// With the word `stays` it is a prototype of docs/STAYS.md: orders have stays at stops and may be urgent, and replies tell
+// each cell of a path.
+//
 //   g++ -O2 -march=x86-64-v2 -std=c++17 -Wall -Wextra -o peer dev/peer/main.cpp
 //   ./peer < examples/deliveries
 //
@@ -35,6 +38,7 @@
 // - An arrival meets the next ones in the order of moves but the first: to each place beside, the first arrival in each
 //   of its intervals, in the order of their times. Where an interval is expanded from a time on, an earlier arrival in
 //   it meets only what it leads to by leaving before.
+// - An arrival at its next stop, at which it has to stay, first meets the end of the stay there, if nobody comes before.
 // - An arrival that is met is skipped where the last one met in its interval was no later.
 // - The nearest task is the one with the least number among those whose first stop is nearest.
 #include "warehouse.hpp"
@@ -47,15 +51,27 @@ static bool read_one_number(Text text, uint32_t& number) {
     return read_number(next_word(text), number) && is_blank(text);
 }
 
-static bool read_submission(Text text, Submission& submission) {
+// Takes `:TICKS` off a stop, where it is there.
+static bool read_stay(Text& word, uint32_t& stay) {
+    const char* const colon = static_cast<const char*>(memchr(word.begin, ':', word.size()));
+    if (!colon) return true;
+    if (!read_number({colon + 1, word.end}, stay) || stay > MOST_STAY) return false;
+    word.end = colon;
+    return true;
+}
+
+static bool read_submission(Text text, Submission& submission, bool stays) {
     if (!read_name(next_word(text), submission.client)) return false;
-    for (Text word = next_word(text); word.size(); word = next_word(text))
-        if (submission.count == MOST_STOPS || !read_name(word, submission.stops[submission.count++])) return false;
+    for (Text word = next_word(text); word.size(); word = next_word(text)) {
+        const uint32_t stop = submission.count++;
+        if (stop == MOST_STOPS || (stays && !read_stay(word, submission.stays[stop]))) return false;
+        if (!read_name(word, submission.stops[stop])) return false;
+    }
     return submission.count >= 2;
 }
 
 // Runs a line; answers whether it is a command, or one to skip.
-static bool run_line(Warehouse& warehouse, Text line) {
+static bool run_line(Warehouse& warehouse, Text line, bool stays) {
     uint32_t agent;
     // nearly all lines of a script are of this exact form
     if (LIKELY(line.size() > 6 && memcmp(line.begin, "token ", 6) == 0 &&
@@ -68,9 +84,10 @@ static bool run_line(Warehouse& warehouse, Text line) {
     if (is(verb, "tick")) {
         if (!is_blank(line)) return false;
         warehouse.tick();
-    } else if (is(verb, "submit")) {
+    } else if (is(verb, "submit") || (stays && is(verb, "urgent"))) {
         Submission submission{};
-        if (!read_submission(line, submission)) return false;
+        if (!read_submission(line, submission, stays)) return false;
+        submission.is_urgent = is(verb, "urgent");
         warehouse.submit(submission);
     } else if (is(verb, "token")) {
         if (!read_one_number(line, agent)) return false;
@@ -96,11 +113,12 @@ int main(int count, char** words) {
     static Input input(output);
     Site site(read_map(input));
     read_points(input, site);
-    Warehouse warehouse(std::move(site), output, is_given(count, words, "homes"));
+    const bool stays = is_given(count, words, "stays");
+    Warehouse warehouse(std::move(site), output, is_given(count, words, "homes"), stays);
     for (Text line; input.line(line);) {
         if (UNLIKELY(line.size() > LONGEST_LINE))
             output.line("refused C2");
-        else if (UNLIKELY(!run_line(warehouse, line)))
+        else if (UNLIKELY(!run_line(warehouse, line, stays)))
             output.line("refused C1");
     }
     if (is_given(count, words, "log")) {

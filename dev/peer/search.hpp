@@ -29,24 +29,25 @@ public:
           unguided_(site.grid, reservations_), straight_(site.grid), intervals_(site.grid), detours_(site.grid) {}
 
     // A least path through the stops that is as long as they are apart by columns and rows, where that is far.
-    bool deliver_unguided(uint32_t self, uint32_t start, const uint32_t* stops, uint32_t count) {
-        reservations_.look(self, stops[count - 1]);
-        unguided_.deliver(stops, count);
+    bool deliver_unguided(uint32_t self, uint32_t start, const Tour& tour) {
+        if (tour.has_stays()) return false;
+        reservations_.look(self, tour.stops[tour.count - 1]);
+        unguided_.deliver(tour.stops, tour.count);
         const uint32_t first = unguided_.arrive(0, start);
         const uint32_t whole = unguided_.estimate(first, start);
         if (whole < LONG || whole < reservations_.first_end()) return false;
         if (!straight_.find(unguided_, start, first, whole, whole, path)) return false;
-        CHECK_PATH(site_, timetable_, self, path, stops, count, nullptr);
+        CHECK_PATH(site_, timetable_, self, path, &tour, nullptr);
         return true;
     }
 
     // A least path through the stops.
-    bool deliver(uint32_t self, uint32_t start, const uint32_t* stops, uint32_t count, const Bounded* fields) {
-        reservations_.look(self, stops[count - 1]);
-        errand_.deliver(stops, count, fields, site_.grid.passable);
-        const bool found = run(start, stops, count, fields);
+    bool deliver(uint32_t self, uint32_t start, const Tour& tour, const Bounded* fields) {
+        reservations_.look(self, tour.stops[tour.count - 1]);
+        errand_.deliver(tour, fields, site_.grid.passable);
+        const bool found = run(start, &tour, fields);
         if (!found) path.clear();
-        CHECK_PATH(site_, timetable_, self, path, stops, count, nullptr);
+        CHECK_PATH(site_, timetable_, self, path, &tour, nullptr);
         return found;
     }
 
@@ -64,13 +65,13 @@ public:
             found = intervals_.find(errand_, start, 0, whole + 1, path);
         }
         if (!found) path.clear();
-        CHECK_PATH(site_, timetable_, self, path, nullptr, 1, field.table);
+        CHECK_PATH(site_, timetable_, self, path, nullptr, field.table);
         return found;
     }
 
 private:
-    // By the errand's estimates. The fields are those of the stops where a detour may be made.
-    bool run(uint32_t start, const uint32_t* stops, uint32_t count, const Bounded* fields) {
+    // By the errand's estimates. The fields are those of the tour where a detour may be made.
+    bool run(uint32_t start, const Tour* tour, const Bounded* fields) {
         const uint32_t first = errand_.arrive(0, start);
         const uint32_t whole = errand_.estimate(first, start);
         uint32_t least = reservations_.first_end();    // no path is shorter
@@ -80,16 +81,16 @@ private:
             least = whole + 1;
         }
         if (fields)
-            if (const uint32_t legs = detours_.barred(reservations_, start, stops, count, fields))
-                return detour(start, stops, count, legs, fields);
+            if (const uint32_t legs = detours_.barred(reservations_, start, tour->stops, tour->count, fields))
+                return detour(start, *tour, legs, fields);
         return intervals_.find(errand_, start, first, std::max(least, whole + 1), path);
     }
 
-    bool detour(uint32_t start, const uint32_t* stops, uint32_t count, uint32_t legs, const Bounded* fields) {
+    bool detour(uint32_t start, const Tour& tour, uint32_t legs, const Bounded* fields) {
         Bounded anew[MOST_LEGS];
-        std::copy(fields, fields + count, anew);
-        detours_.make(reservations_, start, stops, count, legs, anew);
-        errand_.deliver(stops, count, anew, detours_.passable());
-        return run(start, nullptr, 0, nullptr);
+        std::copy(fields, fields + tour.count, anew);
+        detours_.make(reservations_, start, tour.stops, tour.count, legs, anew);
+        errand_.deliver(tour, anew, detours_.passable());
+        return run(start, nullptr, nullptr);
     }
 };

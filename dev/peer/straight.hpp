@@ -9,6 +9,7 @@
 class Straight {
     struct Stand {
         uint32_t cell, leg, move;
+        uint32_t stayed;    // how long it has been at the leg's stop
     };
     const Grid& grid_;
     std::vector<Stand> way_;
@@ -24,7 +25,7 @@ public:
               std::vector<uint32_t>& path) {
         any_hopeless_ = false;
         uint32_t hopeless = 0;
-        way_.assign(1, {start, first, 0});
+        way_.assign(1, {start, first, 0, 0});
         for (uint32_t untried = MOVES;;) {
             const Stand here = way_.back();
             const uint32_t time = uint32_t(way_.size()) - 1;
@@ -33,7 +34,7 @@ public:
                 for (const Stand& stand : way_) path.push_back(stand.cell);
                 return true;
             }
-            if (time < whole && go_on(errand, here, time, whole - time, untried)) {
+            if (time < whole && (go_on(errand, here, time, whole - time, untried) || (untried == MOVES && stay_on(errand, here, time)))) {
                 untried = MOVES;
                 continue;
             }
@@ -56,10 +57,20 @@ private:
             const uint32_t leg = UNLIKELY(to == by.stop) ? errand.arrive(here.leg, to) : here.leg;
             if (UNLIKELY(any_hopeless_) && hopeless_[leg * grid_.size() + to] == pass_) continue;
             if (!errand.reservations.allows(here.cell, to, time)) continue;
-            way_.push_back({to, leg, untried});
+            way_.push_back({to, leg, untried, 0});
             return true;
         }
         return false;
+    }
+
+    // At its next stop each tick of the stay lowers the estimate, and no step does.
+    template <typename Guide>
+    bool stay_on(const Guide& errand, const Stand& here, uint32_t time) {
+        const uint32_t stay = errand.stay_at(here.leg, here.cell);
+        if (stay == 0 || !errand.reservations.allows(here.cell, here.cell, time)) return false;
+        const bool is_over = here.stayed + 1 == stay;
+        way_.push_back({here.cell, is_over ? errand.arrive(here.leg + 1, here.cell) : here.leg, 0, is_over ? 0 : here.stayed + 1});
+        return true;
     }
 
     template <typename Guide>

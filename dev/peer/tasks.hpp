@@ -7,8 +7,10 @@
 struct Task {
     uint32_t stops[MOST_STOPS];
     uint8_t count, visited;
+    bool is_urgent;
     uint32_t agent;
     uint32_t submitted;
+    uint32_t stays[MOST_STOPS];
     uint32_t last_stop() const { return stops[count - 1]; }
 };
 
@@ -23,7 +25,7 @@ class Tasks {
     std::vector<uint8_t> is_end_;    // by place, whether a path ends there
     std::vector<uint8_t> barred_;    // by task, at how many of its stops a path ends
     std::vector<uint32_t> clear_, turns_;    // the open tasks that no end bars, and by task where it stands there
-    size_t open_ = 0;
+    size_t open_ = 0, urgent_ = 0;
 
     void clear(uint32_t number) {
         turns_[number] = uint32_t(clear_.size());
@@ -44,6 +46,7 @@ public:
     Task& operator[](uint32_t number) { return tasks_[number]; }
     const Task& operator[](uint32_t number) const { return tasks_[number]; }
     bool has_open() const { return open_ != 0; }
+    bool has_urgent() const { return urgent_ != 0; }
     const std::vector<uint32_t>& clear() const { return clear_; }
     bool is_stop(uint32_t cell) const { return heads_[cell] != NONE; }       // of an open task
     bool is_last_stop(uint32_t cell) const { return drop_counts_[cell] != 0; }
@@ -72,6 +75,7 @@ public:
         if (barred == 0) clear(number);
         ++drop_counts_[task.last_stop()];
         ++open_;
+        urgent_ += task.is_urgent;
         return number;
     }
 
@@ -86,6 +90,7 @@ public:
         if (barred_[number] == 0) unclear(number);
         --drop_counts_[task.last_stop()];
         --open_;
+        urgent_ -= task.is_urgent;
         task.agent = agent;
     }
 
@@ -122,7 +127,8 @@ public:
     // The agent is where its path ends; or it is on its way home, and no path ends at a stop.
     uint32_t find(const Tasks& tasks, [[maybe_unused]] const PathEnds& ends, [[maybe_unused]] uint32_t self, uint32_t here) {
         uint32_t last = NONE;
-        uint32_t found = seek(tasks, here, last);
+        uint32_t found = tasks.has_urgent() ? seek(tasks, here, last, true) : NONE;
+        if (found == NONE) found = seek(tasks, here, last, false);
         if (found != last) {    // a sole task need not be looked for
             const uint32_t nearest = seen_[here] == sought_ ? first_[here] : look(here);
             if (nearest != NONE) found = nearest;    // else all are equally far, as no walk leads to any
@@ -133,8 +139,8 @@ public:
 
 private:
     // Notes where the tasks start at whose stops no other's path ends; answers the first of them, and tells the last. They
-    // are those that no end bars, and those that the own end bars alone.
-    uint32_t seek(const Tasks& tasks, uint32_t here, uint32_t& last) {
+    // are those that no end bars, and those that the own end bars alone; or of these the urgent ones.
+    uint32_t seek(const Tasks& tasks, uint32_t here, uint32_t& last, bool only_urgent) {
         if (sought_ >= 0xFFFFFFF0) {
             for (uint32_t& seen : seen_)
                 if (seen != NONE) seen = 0;
@@ -144,6 +150,7 @@ private:
         uint32_t eligible = NONE;
         last = 0;
         const auto note = [&](uint32_t number) {
+            if (UNLIKELY(only_urgent) && !tasks[number].is_urgent) return;
             eligible = std::min(eligible, number);
             last = std::max(last, number);
             const uint32_t place = tasks[number].stops[0];

@@ -41,6 +41,8 @@ public:
         return leg;
     }
 
+    uint32_t stay_at(uint32_t, uint32_t) const { return 0; }    // it is not asked where a task has a stay
+
     bool is_end(uint32_t leg, uint32_t cell, uint32_t time) const {
         return leg == last_ && cell == goal_ && time >= reservations.soonest();
     }

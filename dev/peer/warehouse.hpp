@@ -9,6 +9,7 @@ struct Agent {
     uint32_t here = 0;
     uint32_t task = NONE;
     uint32_t wanted = NONE;    // the cell of its next stop
+    uint32_t since = NONE;     // from when on it has been there; NONE where it is elsewhere
 };
 
 struct Visits {
@@ -19,6 +20,7 @@ class Warehouse {
     Site site_;
     Output& output_;
     const bool homes_;    // paths go on home: from the last stop to where the agent starts
+    const bool full_;     // replies tell each cell of a path
     bool is_closed_ = false;
     std::vector<Agent> agents_;
     Timetable timetable_;
@@ -31,8 +33,8 @@ class Warehouse {
     History history_;
 
 public:
-    Warehouse(Site&& site, Output& output, bool homes)
-        : site_(std::move(site)), output_(output), homes_(homes), agents_(site_.starts.size()),
+    Warehouse(Site&& site, Output& output, bool homes, bool full)
+        : site_(std::move(site)), output_(output), homes_(homes), full_(full), agents_(site_.starts.size()),
           timetable_(site_.starts, site_.grid.size()), tasks_(site_.grid.size()),
           ends_{std::vector<uint16_t>(site_.grid.size(), NOBODY)}, queue_(site_.grid.size()),
           fields_(site_.grid, queue_, agents_.size()), nearest_(site_.grid, queue_), search_(site_, timetable_) {
@@ -60,12 +62,14 @@ public:
                 return output_.line("refused E2 ", submission.stops[stop]);
             }
             task.stops[stop] = site_.points[point].cell;
+            task.stays[stop] = submission.stays[stop];
         }
         if (UNLIKELY(tasks_.size() == MOST_TASKS)) {
             history_.note(Event::SUBMIT, kept, Reply::E3);
             return output_.line("refused E3");
         }
         task.count = uint8_t(submission.count);
+        task.is_urgent = submission.is_urgent;
         task.agent = NONE;
         task.submitted = timetable_.now();
         const uint32_t number = tasks_.add(task);
@@ -98,6 +102,7 @@ public:
             Agent& agent = agents_[self];
             agent.here = timetable_.at(self, clock);
             if (agent.here == agent.wanted) arrive(agent, visits);
+            else agent.since = NONE;
         }
         history_.note(Event::TICK, 0, Reply::CLOCK, clock, visits.picked, visits.dropped);
         output_.line("clock ", clock, " picked ", visits.picked, " dropped ", visits.dropped);
@@ -146,10 +151,13 @@ private:
         if (!homes_) return timetable_.left(self);
         if (agents_[self].task == NONE) return 0;
         const Task& task = tasks_[agents_[self].task];
-        uint32_t time = timetable_.now();
-        for (uint32_t stop = task.visited; stop < task.count; ++stop)
-            while (timetable_.at(self, time) != task.stops[stop]) ++time;
-        return time - timetable_.now();
+        uint32_t time = timetable_.now(), since = agents_[self].since;
+        for (uint32_t stop = task.visited; stop < task.count; ++time) {
+            if (timetable_.at(self, time) != task.stops[stop]) since = NONE;
+            else if (since == NONE) since = time;
+            for (; stop < task.count && timetable_.at(self, time) == task.stops[stop] && time >= since + task.stays[stop]; ++stop) since = time;
+        }
+        return time - 1 - timetable_.now();
     }
 
     void choose(uint32_t self) {
@@ -163,37 +171,50 @@ private:
     void take(uint32_t self, uint32_t number) {
         Agent& agent = agents_[self];
         const Task& task = tasks_[number];
-        uint32_t stops[MOST_LEGS];
-        if (!deliver(self, agent.here, stops, tour(self, task, stops))) return refuse_path(self);
+        if (!deliver(self, agent.here, tour(self, task))) return refuse_path(self);
         const std::vector<uint32_t>& path = search_.path;
         const uint32_t kept = adopt(self, path);
         tasks_.assign(number, self);
         agent.task = number;
+        agent.wanted = task.stops[0];
         Visits visits;    // no tick made them, so no reply tells them
-        arrive(agent, visits);
+        if (agent.here == agent.wanted) arrive(agent, visits);
         history_.note(Event::TOKEN, self, Reply::TOOK, number, kept, uint32_t(path.size()));
-        output_.line("took ", number, " end ", uint32_t(path.size()) - 1);
+        output_.piece("took ", number);
+        tell_path(path);
     }
 
-    // Where the agent goes for a task: through its stops, and on home where paths go there. Answers how many stops it is.
-    uint32_t tour(uint32_t self, const Task& task, uint32_t* stops) const {
-        std::copy(task.stops, task.stops + task.count, stops);
-        stops[task.count] = site_.starts[self];
-        return task.count + homes_;
+    // Where the agent goes for a task: through its stops, and on home where paths go there. Else a stay at the last stop
+    // is followed by a leg of no steps, so that the search ends none with a stay.
+    Tour tour(uint32_t self, const Task& task) const {
+        Tour tour;
+        for (uint32_t stop = 0; stop < task.count; ++stop) tour.add(task.stops[stop], task.stays[stop]);
+        if (homes_) tour.add(site_.starts[self], 0);
+        else if (tour.stays[tour.count - 1] != 0) tour.add(task.last_stop(), 0);
+        return tour;
     }
 
-    bool deliver(uint32_t self, uint32_t here, const uint32_t* stops, uint32_t count) {
-        if (!are_filled(here, stops, count) && search_.deliver_unguided(self, here, stops, count)) return true;
+    bool deliver(uint32_t self, uint32_t here, const Tour& tour) {
+        const uint32_t* const stops = tour.stops;
+        if (!are_filled(here, tour) && search_.deliver_unguided(self, here, tour)) return true;
         Bounded fields[MOST_LEGS];
         // the first stops are the last used
-        for (uint32_t leg = count; leg-- > 0;) fields[leg] = fields_.get(stops[leg], leg == 0 ? here : stops[leg - 1]);
-        return search_.deliver(self, here, stops, count, fields);
+        for (uint32_t leg = tour.count; leg-- > 0;) fields[leg] = fields_.get(stops[leg], leg == 0 ? here : stops[leg - 1]);
+        return search_.deliver(self, here, tour, fields);
     }
 
-    bool are_filled(uint32_t here, const uint32_t* stops, uint32_t count) const {
-        for (uint32_t leg = 0; leg < count; ++leg)
+    bool are_filled(uint32_t here, const Tour& tour) const {
+        const uint32_t* const stops = tour.stops;
+        for (uint32_t leg = 0; leg < tour.count; ++leg)
             if (!fields_.is_filled(stops[leg], site_.grid.apart(leg == 0 ? here : stops[leg - 1], stops[leg]))) return false;
         return true;
+    }
+
+    void tell_path(const std::vector<uint32_t>& path) {
+        if (!full_) return output_.line(" end ", uint32_t(path.size()) - 1);
+        output_.piece(" path");
+        for (const uint32_t cell : path) output_.piece(" ", cell % site_.grid.stride, ",", cell / site_.grid.stride - 1);
+        output_.line();
     }
 
     void make_way(uint32_t self) {
@@ -206,7 +227,8 @@ private:
         uint32_t point = 0;
         while (site_.points[point].cell != path.back()) ++point;
         history_.note(Event::TOKEN, self, Reply::PARKED, point, kept, uint32_t(path.size()));
-        output_.line("parked ", site_.points[point].name, " end ", uint32_t(path.size()) - 1);
+        output_.piece("parked ", site_.points[point].name);
+        tell_path(path);
     }
 
     // The agent goes by a path that was found; answers where the history keeps it.
@@ -220,13 +242,19 @@ private:
         return history_.keep_path(path);
     }
 
-    // A stop may be named several times in a row: one arrival visits them all.
+    // It is at its next stop, which it visits once it was there for the whole stay. A stop may be named several times in
+    // a row: one arrival visits them all, but a stay begins where the one before ends.
     void arrive(Agent& agent, Visits& visits) {
         Task& task = tasks_[agent.task];
+        const uint32_t now = timetable_.now();
+        if (agent.since == NONE) agent.since = now;
         while (task.visited < task.count && task.stops[task.visited] == agent.here) {
+            if (now < agent.since + task.stays[task.visited]) return;
+            agent.since = now;
             if (task.visited == 0) ++visits.picked;
             ++task.visited;
         }
+        agent.since = NONE;
         if (task.visited < task.count) {
             agent.wanted = task.stops[task.visited];
             return;
