@@ -15,7 +15,7 @@ from types import ModuleType
 from .process import SessionError
 from .texts import Fault
 
-PACKAGES = {'simulate.': 'drive make-instance', '': 'client explain', 'figures.': 'play stats', 'web.': 'dashboard',
+PACKAGES = {'simulate.': 'demo drive make-instance', '': 'client explain', 'figures.': 'play stats', 'web.': 'dashboard',
             'convert.': 'join log-input next-shift import-mapd import-scen import-mrp import-lif export'}
 COMMANDS = {name: '.' + package + name.replace('-', '_') for package, names in PACKAGES.items() for name in names.split()} | {
     'vda5050': '.vda5050.adapter', 'vda5050-vehicle': '.vda5050.simulated', 'vda5050-orders': '.vda5050.feed'}

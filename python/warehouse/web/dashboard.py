@@ -173,6 +173,7 @@ class Handler(BaseHTTPRequestHandler):
 
 class Server(ThreadingHTTPServer):
     daemon_threads = True
+    feed: Feed
 
     def handle_error(self, request: Any, client_address: Any) -> None:
         """A page that goes away within an answer is no error."""
@@ -184,6 +185,7 @@ def serve(instance: str, log: str, host: str, port: int, ahead: int = 1, behind:
     floor = Follower(read_instance(instance, read_file(instance)), os.path.basename(instance), log, ahead)
     feed = Feed(floor, Status(floor, behind, minutes, patience))
     server = Server((host, port), type('FloorHandler', (Handler,), {'feed': feed}))
+    server.feed = feed
     threading.Thread(target=feed.follow, daemon=True).start()
     return server
 
