@@ -9,8 +9,8 @@ The floor is a packing floor of `make-instance --layout kiva`, and paths end at 
 mosquitto and paho-mqtt are installed they talk over a broker of their own, at a free port of 127.0.0.1; else over pipes, which it says.
 
 At second --lost the process of a vehicle is killed, of one with a load where there is one, and after --gone seconds it is started again.
-Its cell and its load stay as they are. Nobody plans around it: vehicles that are to pass its cells later wait, and once it is
-8 steps behind so does the clock. This is no hand-over, which `--ends homes` has none of.
+Its cell and its load stay as they are. Nobody plans around it, which `--ends homes` cannot: vehicles that are to pass its cells after it
+wait, and once it is 24 steps behind so does the clock.
 
 It ends when all orders are delivered, after --seconds, by Ctrl-C or by signal 15 or 1, and leaves no process, no folder and no pipe.
 Before that it judges the vehicles' traces, which know no plan, and has the program judge the log (`verify`).
@@ -42,10 +42,11 @@ from ..web.tail import Tail
 from . import make_instance
 
 FLOOR = ('--layout', 'kiva', '--columns', '42', '--rows', '30', '--stations', '3', '--every', '2', '--nofollow')
-BEHIND, AHEAD = 8, 4    # of the adapter, and of the page
+BEHIND, AHEAD = 24, 4   # of the adapter, and of the page
 TOLD = 10.0             # seconds between two lines of figures
 BEGINNING = 60.0        # and until all parts are there
 LOOK = 0.1
+ENDS = (signal.SIGINT, signal.SIGTERM, signal.SIGHUP)
 DELIVERED = 'delivered'
 ADAPTER = 'warehouse vda5050: '    # begins what the adapter says; the core says the rest
 
@@ -60,6 +61,7 @@ def add_options(parser: argparse.ArgumentParser) -> None:
     add('--gone', type=float, default=20.0, metavar='S', help='how long it is gone (%(default)s)')
     add('--seed', type=int, default=7, help='of the floor and its orders (%(default)s)')
     add('--port', type=int, default=0, metavar='N', help='of the page at 127.0.0.1; 0: any that is free')
+    add('--pipes', action='store_true', help='messages go over pipes also where a broker is installed')
     add('--no-browser', action='store_true', help='open none')
     add('--keep', metavar='FOLDER', help='a new folder in which all files stay')
     add('--program', default=program(), metavar='PROGRAM', help='the core (%(default)s)')
@@ -70,7 +72,7 @@ def judge_options(options: argparse.Namespace) -> None:
                             ('port', 0, 65535)):
         if not low <= getattr(options, name) <= high:
             raise Fault(f'--{name} {getattr(options, name):g}: {low:g} to {high:g} can be had')
-    if not (shutil.which(options.program)):
+    if not shutil.which(options.program):
         raise Fault(f'there is no program {options.program}: see README.md, or name one by --program')
 
 
@@ -250,10 +252,11 @@ def watch(demo: Demo) -> str:
 def play(options: argparse.Namespace, folder: str) -> int:
     """The demo in that folder."""
     instance = write_floor(options, folder)
-    why = missing()
+    why = '--pipes' if options.pipes else missing()
     starts = [instance.points[start].cell for start in instance.starts]
     more = ['--ends', 'homes', '--behind', str(BEHIND), '--ahead', str(AHEAD)]
-    cast = Cast(folder, os.path.join(folder, 'floor'), options.program, starts, instance.height, options.step, more=more, hub=Hub() if why else None)
+    cast = Cast(folder, os.path.join(folder, 'floor'), options.program, starts, instance.height, options.step, more=more, hub=Hub() if why else None,
+                apart=True)
     server = None
     try:
         server = serve(os.path.join(folder, 'floor'), cast.log, '127.0.0.1', options.port, AHEAD, BEHIND)
@@ -278,13 +281,16 @@ def play(options: argparse.Namespace, folder: str) -> int:
 
 
 def interrupted(number: int, frame: object) -> None:
+    """Once: what is ended then is ended whole."""
+    for one in ENDS:
+        signal.signal(one, signal.SIG_IGN)
     raise KeyboardInterrupt
 
 
 def run(options: argparse.Namespace) -> int:
     judge_options(options)
-    signal.signal(signal.SIGTERM, interrupted)
-    signal.signal(signal.SIGHUP, interrupted)
+    for one in ENDS:
+        signal.signal(one, interrupted)
     if options.keep is None:
         with tempfile.TemporaryDirectory(prefix='warehouse-demo-') as folder:
             return play(options, folder)

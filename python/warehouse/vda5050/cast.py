@@ -42,12 +42,13 @@ def free_port() -> int:
 
 
 class Cast:
-    """The processes. `more` are options of the adapter; `handling` is in steps; with a hub there is no broker."""
+    """The processes. `more` are options of the adapter; `handling` is in steps; with a hub there is no broker; those that are apart hear none of
+    the terminal's signals."""
 
     def __init__(self, folder: str, instance: str, program: str, starts: Sequence[Cell], rows: int, step: float, handling: float = 1.0,
-                 leaves: float = 0.0, more: Sequence[str] = (), hub: Hub | None = None):
+                 leaves: float = 0.0, more: Sequence[str] = (), hub: Hub | None = None, apart: bool = False):
         self.folder, self.instance, self.program, self.starts, self.rows = folder, instance, program, starts, rows
-        self.step, self.handling, self.leaves, self.more, self.hub = step, handling, leaves, list(more), hub
+        self.step, self.handling, self.leaves, self.more, self.hub, self.apart = step, handling, leaves, list(more), hub, apart
         self.port, self.python = (0, sys.executable) if hub else (free_port(), python_with_paho())
         self.running: dict[str, subprocess.Popen[bytes]] = {}
         self.path = os.path.join(folder, 'mosquitto.conf')
@@ -82,12 +83,12 @@ class Cast:
         return os.path.join(self.folder, f'{name if name in ("broker", "adapter", "feed") else "vehicles"}.said')
 
     def start(self, name: str) -> None:
-        """Starts a part, apart from the terminal's signals: it is ended by `end`."""
+        """Starts a part, which `end` ends."""
         pipe = subprocess.PIPE if self.hub else None
         environment = {**os.environ, 'PYTHONPATH': os.pathsep.join(filter(None, (PYTHON, os.environ.get('PYTHONPATH'))))}
         with open(self.said_by(name), 'ab') as said:
             process = subprocess.Popen(self.words(name), stdin=pipe or subprocess.DEVNULL, stdout=pipe or said, stderr=said, bufsize=0,
-                                       env=environment, start_new_session=True)
+                                       env=environment, start_new_session=self.apart)
         self.running[name] = process
         if self.hub:
             self.hub.join(process)
