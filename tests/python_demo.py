@@ -5,8 +5,10 @@ pipes that stand in for a broker, and of the judge of traces.
 The program is that of WAREHOUSE, else the one that the gate built. The last line is `N passed, M failed`, and `, K skipped` where a test needs what is
 not here; status 1 where one failed.
 """
+import functools
 import glob
 import http.client
+import itertools
 import json
 import os
 import re
@@ -15,6 +17,7 @@ import subprocess
 import sys
 import time
 import types
+from concurrent.futures import Future, ThreadPoolExecutor
 
 import counting
 from fleet_cast import Judge, broker_program, python_with_paho
@@ -26,17 +29,17 @@ sys.dont_write_bytecode = True
 from warehouse.simulate.demo import missing, open_page    # noqa: E402
 from warehouse.vda5050.wire import Hub, packed    # noqa: E402
 
-SECONDS = 60
+SECONDS = 100
+NUMBERS = itertools.count()
 SMALL = ('--agents', '4', '--orders', '6', '--step', '0.05', '--lost', '1.5', '--gone', '2.5')
-NEEDS_PROGRAM = ['test_over_pipes', 'test_over_a_broker', 'test_signals_end_it_whole', 'test_a_part_that_falls', 'test_the_time_is_over']
+NEEDS_PROGRAM = ['test_over_pipes', 'test_over_a_broker', 'test_around_a_vehicle_that_is_gone', 'test_signals_end_it_whole', 'test_a_part_that_falls', 'test_the_time_is_over']
 
 
 class Demo:
     """One that runs, with a folder for temporary files of its own; what it told so far is in `told`."""
 
     def __init__(self, *words: str):
-        Demo.count = getattr(Demo, 'count', 0) + 1
-        self.room = os.path.join(SCRATCH.name, f'room-{Demo.count}')
+        self.room = os.path.join(SCRATCH.name, f'room-{next(NUMBERS)}')
         os.mkdir(self.room)
         self.until, self.told = time.monotonic() + SECONDS, []
         self.process = subprocess.Popen([os.path.join(ROOT, 'tools', 'py'), 'demo', '--program', PROGRAM, '--no-browser', *words], stdin=subprocess.DEVNULL,
@@ -86,7 +89,7 @@ def whole(*words: str) -> str:
     has(get(url, '/metrics')[1], 'warehouse_agents 4\n')
     run = json.loads(get(url, '/events')[1].partition('data: ')[2])
     same((len(run['vehicles']['at']), run['width'], run['height'], run['nofollow']), (4, 42, 30, True))
-    demo.line(f'{killed} is started again; in the ')
+    demo.line(f'{killed} is started again; it was gone ')
     told = demo.end()
     has(told, '\n6 of 6 orders were delivered in ', 'no two vehicles were ever in one cell', ': 6 were picked up, 6 put down\n', '\nverify: run ')
     has(told, f'the adapter: {killed}: its connection is CONNECTIONBROKEN\n', f'the adapter: {killed}: is well again\n')
@@ -94,7 +97,29 @@ def whole(*words: str) -> str:
     return told
 
 
+def around() -> None:
+    """The others go on in a run of their own, which the page follows, and all of them in a third one."""
+    demo = Demo('--pipes', '--around', *SMALL[:-1], '6', '--orders', '8')
+    url = re.search(r'http://127\.0\.0\.1:[0-9]+/', demo.line('the live page is '))[0]
+    lost = re.search(r'v([0-3]) is killed, ', demo.line(' is killed, '))[1]
+    demo.line(f'the adapter: run 2 begins; out of use: v{lost}; ')
+    while (run := json.loads(get(url, '/events')[1].partition('data: ')[2]))['title'] != 'floor, run 2':
+        assert time.monotonic() < demo.until, run['title']
+    has(get(url, '/health')[1], f'vehicle {lost} is out of use')
+    demo.line('the adapter: run 3 begins; out of use: none; ')
+    told = demo.end()
+    assert re.search(r'\n8 of 8 orders were delivered in .*\n.* 8 were picked up, 8 put down\nverify: run [0-9]+, run [0-9]+, run [0-9]+ \(', told), told
+    same((demo.process.returncode, 'Traceback' in told), (0, False))
+
+
+@functools.lru_cache(None)
+def beside() -> Future:
+    """That one takes long and computes little: it runs beside the others."""
+    return ThreadPoolExecutor(1).submit(around)
+
+
 def test_over_pipes() -> None:
+    beside()
     has(whole('--pipes'), 'messages go over pipes: --pipes\n')
 
 
@@ -140,6 +165,10 @@ def test_a_part_that_falls() -> None:
     told = demo.end()
     has(told, 'adapter ended by itself, with status -9; the parts said:\n')
     same((demo.process.returncode, 'verify' in told), (1, False))
+
+
+def test_around_a_vehicle_that_is_gone() -> None:
+    beside().result()
 
 
 def test_wrong_words() -> None:

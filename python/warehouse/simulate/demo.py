@@ -10,7 +10,8 @@ mosquitto and paho-mqtt are installed they talk over a broker of their own, at a
 
 At second --lost the process of a vehicle is killed, of one with a load where there is one, and after --gone seconds it is started again.
 Its cell and its load stay as they are. Nobody plans around it, which `--ends homes` cannot: vehicles that are to pass its cells after it
-wait, and once it is 24 steps behind so does the clock.
+wait, and once it is 24 steps behind so does the clock. With --around paths end at stops; after 3 seconds all halt, and another run begins
+where they stand, without its cells (`vda5050 --out-after 3`); so again when it is back.
 
 It ends when all orders are delivered, after --seconds, by Ctrl-C or by signal 15 or 1, and leaves no process, no folder and no pipe.
 Before that it judges the vehicles' traces, which know no plan, and has the program judge the log (`verify`).
@@ -38,10 +39,12 @@ from ..vda5050.cast import Cast, broker_program, python_with_paho
 from ..vda5050.traces import Judge
 from ..vda5050.wire import Hub
 from ..web.dashboard import Server, serve
+from ..web.runs import Runs
 from ..web.tail import Tail
 from . import make_instance
 
-FLOOR = ('--layout', 'kiva', '--columns', '42', '--rows', '30', '--stations', '3', '--every', '2', '--nofollow')
+FLOOR = ('--layout', 'kiva', '--columns', '42', '--rows', '30', '--every', '2', '--nofollow')
+FEW, MANY = 3, 12       # packing stations: where paths end at stops, each serves one order at a time
 BEHIND, AHEAD = 24, 4   # of the adapter, and of the page
 TOLD = 10.0             # seconds between two lines of figures
 BEGINNING = 60.0        # and until all parts are there
@@ -61,6 +64,7 @@ def add_options(parser: argparse.ArgumentParser) -> None:
     add('--gone', type=float, default=20.0, metavar='S', help='how long it is gone (%(default)s)')
     add('--seed', type=int, default=7, help='of the floor and its orders (%(default)s)')
     add('--port', type=int, default=0, metavar='N', help='of the page at 127.0.0.1; 0: any that is free')
+    add('--around', action='store_true', help='paths end at stops, and the others plan around the vehicle that is gone')
     add('--pipes', action='store_true', help='messages go over pipes also where a broker is installed')
     add('--no-browser', action='store_true', help='open none')
     add('--keep', metavar='FOLDER', help='a new folder in which all files stay')
@@ -80,7 +84,7 @@ def write_floor(options: argparse.Namespace, folder: str) -> Instance:
     """The instance `floor`, and its orders as the feed's table `orders.csv`."""
     parser = argparse.ArgumentParser()
     make_instance.add_options(parser)
-    words = [*FLOOR, '--agents', str(options.agents), '--tasks', str(options.orders), '--ticks', str(2 * options.orders), '--seed', str(options.seed)]
+    words = [*FLOOR, '--stations', str(MANY if options.around else FEW), '--agents', str(options.agents), '--tasks', str(options.orders), '--ticks', str(2 * options.orders), '--seed', str(options.seed)]
     path = os.path.join(folder, 'floor')
     with open(path, 'w') as file:
         file.writelines(f'{line}\n' for line in make_instance.lines(parser.parse_args(words)))
@@ -122,7 +126,7 @@ class Demo:
         self.delivered = 0
         self.lost = ''                     # the vehicle that is gone, or was
         self.is_gone = False
-        self.at_loss = (0, 0, 0.0)         # clock, deliveries and second as it was killed
+        self.at_loss = ('', 0, 0.0)        # clock, deliveries and second as it was killed
         self.took = 0.0                    # seconds to the end
 
     @property
@@ -130,8 +134,11 @@ class Demo:
         return time.monotonic() - self.began
 
     @property
-    def clock(self) -> int:
-        return self.server.feed.floor.run.clock
+    def clock(self) -> str:
+        """Of the plan; a run that goes on elsewhere begins at 0."""
+        feed = self.server.feed
+        number = feed.runs.opening.number
+        return (f'run {number}, ' if number > 1 else '') + f'clock {feed.floor.run.clock}'
 
     def tell(self, words: str) -> None:
         print(f'second {self.second:3.0f}: {words}', flush=True)
@@ -150,7 +157,7 @@ class Demo:
             late, most = feed.status.most_behind()
             alarms = feed.status.alarms()
         behind = f'{late} vehicle{"s" * (late > 1)} behind plan, at most {most} step{"s" * (most > 1)}' if late else 'no vehicle behind plan'
-        self.tell(f'clock {self.clock}, {self.delivered} of {self.options.orders} orders delivered, {behind}'
+        self.tell(f'{self.clock}, {self.delivered} of {self.options.orders} orders delivered, {behind}'
                   + ''.join(f'; alarm: {words}' for words in alarms))
 
     # ---- the vehicle that is lost
@@ -178,8 +185,8 @@ class Demo:
         clock, delivered, second = self.at_loss
         self.is_gone = False
         self.cast.start(self.lost)
-        self.tell(f'{self.lost} is started again; in the {self.second - second:.0f} s without it the clock went from {clock} to {self.clock}, and '
-                  f'{self.delivered - delivered} orders were delivered')
+        self.tell(f'{self.lost} is started again; it was gone {self.second - second:.0f} s, from {clock} to {self.clock}, and orders delivered '
+                  f'meanwhile: {self.delivered - delivered}')
 
     # ---- the run
 
@@ -231,11 +238,10 @@ def judge(demo: Demo, instance: Instance) -> bool:
         print(f'WRONG by the traces: {wrong}')
     if not judge.wrong:
         print(f'by their traces no two vehicles were ever in one cell, and no load was handled twice: {picked} were picked up, {len(judge.dropped())} put down')
-    text = instance.text + read_file(demo.cast.log)
-    done = subprocess.run([demo.options.program, 'verify', '--ends', 'homes'], input=text, stdout=subprocess.PIPE, stderr=subprocess.DEVNULL)
-    verdict = done.stdout.decode('latin-1').strip()
-    print(f'verify: {verdict} (the program judges the log{": a run by the rules" if verdict.startswith("run ") else ""})', flush=True)
-    return not judge.wrong and verdict.startswith('run ')
+    verdicts = verify(demo.options, instance, demo.cast.log)
+    are_runs = all(verdict.startswith('run ') for verdict in verdicts)
+    print(f'verify: {", ".join(verdicts)} (the program judges the log{": a run by the rules" if are_runs else ""})', flush=True)
+    return not judge.wrong and are_runs
 
 
 def watch(demo: Demo) -> str:
@@ -249,12 +255,22 @@ def watch(demo: Demo) -> str:
         demo.took = demo.second
 
 
+def verify(options: argparse.Namespace, instance: Instance, log: str) -> list[str]:
+    """What the program says of the log of each run."""
+    runs, found = Runs(instance, '', log, AHEAD), []
+    for floor in [runs.follower(), *runs.each()]:
+        words = [options.program, 'verify', *([] if options.around else ['--ends', 'homes'])]
+        done = subprocess.run(words, input=floor.instance.text + read_file(floor.name), stdout=subprocess.PIPE, stderr=subprocess.DEVNULL)
+        found.append(done.stdout.decode('latin-1').strip())
+    return found
+
+
 def play(options: argparse.Namespace, folder: str) -> int:
     """The demo in that folder."""
     instance = write_floor(options, folder)
     why = '--pipes' if options.pipes else missing()
     starts = [instance.points[start].cell for start in instance.starts]
-    more = ['--ends', 'homes', '--behind', str(BEHIND), '--ahead', str(AHEAD)]
+    more = ['--behind', str(BEHIND), '--ahead', str(AHEAD), *(['--out-after', '3', '--helpers'] if options.around else ['--ends', 'homes'])]
     cast = Cast(folder, os.path.join(folder, 'floor'), options.program, starts, instance.height, options.step, more=more, hub=Hub() if why else None,
                 apart=True)
     server = None

@@ -13,8 +13,9 @@ says so), the page goes on with the next one, LOG.2.
     /metrics    Prometheus text
     /health     {"alarms": [..]}: status 200 without an alarm, else 503
 
-An alarm is: a vehicle for which the clock has waited for --patience seconds, or that is out of use; two vehicles granted one cell; a request without a path (E6) in the last minute; a
-standstill; a log that is not there or cannot be read. A log that is cut or replaced is read anew.
+An alarm is: a vehicle for which the clock has waited for --patience seconds, or that is out of use; two vehicles granted one cell; a
+request without a path (E6) in the last minute; a standstill; a log that is not there or cannot be read. A log that is cut or replaced
+is read anew.
 
 It listens on 127.0.0.1 alone unless --host says otherwise: it has no passwords, so put a proxy with TLS and passwords before it. It
 needs no network, and ends by Ctrl-C or signal 15.

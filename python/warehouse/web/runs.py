@@ -2,6 +2,7 @@
 from __future__ import annotations
 
 import json
+from typing import Iterator
 
 from ..texts import Instance
 from ..vda5050.book import Opening, opening_of
@@ -28,10 +29,17 @@ class Runs:
 
     def look(self) -> Follower | None:
         """The run that goes on, where it is another one than at the last look."""
-        before, lines = self.opening.number, self.keys.look()
+        before = self.opening.number
+        for _ in self.each():
+            pass
+        return self.follower() if self.opening.number != before else None
+
+    def each(self) -> Iterator[Follower]:
+        """The runs that the list has got since the last look, one after the other."""
+        lines = self.keys.look()
         if lines is None:    # another list
             self.keys, self.opening, lines = Tail(self.keys.path), Opening(), []
         for line in lines:
             if line.startswith(b'{"run":'):
                 self.opening = opening_of(json.loads(line))
-        return self.follower() if self.opening.number != before else None
+                yield self.follower()
