@@ -49,7 +49,7 @@ BEHIND, AHEAD = 24, 4   # of the adapter, and of the page
 TOLD = 10.0             # seconds between two lines of figures
 BEGINNING = 60.0        # and until all parts are there
 LOOK = 0.1
-ENDS = (signal.SIGINT, signal.SIGTERM, signal.SIGHUP)
+SIGNALS = (signal.SIGINT, signal.SIGTERM, signal.SIGHUP)
 DELIVERED = 'delivered'
 ADAPTER = 'warehouse vda5050: '    # begins what the adapter says; the core says the rest
 
@@ -290,22 +290,27 @@ def play(options: argparse.Namespace, folder: str) -> int:
         cast.end()
         return 0 if judge(demo, instance) else 1
     finally:
+        go_deaf()
         cast.end()
         if server:
             server.shutdown()
             server.server_close()
 
 
-def interrupted(number: int, frame: object) -> None:
-    """Once: what is ended then is ended whole."""
-    for one in ENDS:
+def go_deaf() -> None:
+    """What is ended from here on is ended whole."""
+    for one in SIGNALS:
         signal.signal(one, signal.SIG_IGN)
+
+
+def interrupted(number: int, frame: object) -> None:
+    go_deaf()
     raise KeyboardInterrupt
 
 
 def run(options: argparse.Namespace) -> int:
     judge_options(options)
-    for one in ENDS:
+    for one in SIGNALS:
         signal.signal(one, interrupted)
     if options.keep is None:
         with tempfile.TemporaryDirectory(prefix='warehouse-demo-') as folder:
