@@ -36,7 +36,10 @@ class Runs:
 
     def each(self) -> Iterator[Follower]:
         """The runs that the list has got since the last look, one after the other."""
-        lines = self.keys.look()
+        try:
+            lines = self.keys.look()
+        except OSError:    # it may be another user's
+            return
         if lines is None:    # another list
             self.keys, self.opening, lines = Tail(self.keys.path), Opening(), []
         for line in lines:
