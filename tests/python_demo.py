@@ -31,7 +31,7 @@ from warehouse.vda5050.wire import Hub, packed    # noqa: E402
 
 SECONDS = 100
 NUMBERS = itertools.count()
-SMALL = ('--agents', '4', '--orders', '6', '--step', '0.05', '--lost', '1.5', '--gone', '2.5')
+SMALL = ('--agents', '4', '--orders', '6', '--step', '0.05', '--lost', '0.1', '--gone', '2.5')
 NEEDS_PROGRAM = ['test_over_pipes', 'test_over_a_broker', 'test_around_a_vehicle_that_is_gone', 'test_signals_end_it_whole', 'test_a_part_that_falls', 'test_the_time_is_over']
 
 

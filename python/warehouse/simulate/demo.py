@@ -8,8 +8,8 @@ The floor is a packing floor of `make-instance --layout kiva`, and paths end at 
 `vda5050-vehicle`, whose speed differs; the adapter `vda5050` drives them by the core, and `vda5050-orders` sends the orders. Where
 mosquitto and paho-mqtt are installed they talk over a broker of their own, at a free port of 127.0.0.1; else over pipes, which it says.
 
-At second --lost the process of a vehicle is killed, of one with a load where there is one, and after --gone seconds it is started again.
-Its cell and its load stay as they are. Nobody plans around it, which `--ends homes` cannot: vehicles that are to pass its cells after it
+From second --lost on the first vehicle with a load is lost: its process is killed, and after --gone seconds it is started again. Its cell
+and its load stay as they are. Nobody plans around it, which `--ends homes` cannot: vehicles that are to pass its cells after it
 wait, and once it is 24 steps behind so does the clock. With --around paths end at stops; after 3 seconds all halt, and another run begins
 where they stand, without its cells (`vda5050 --out-after 3`); so again when it is back.
 
@@ -57,10 +57,10 @@ ADAPTER = 'warehouse vda5050: '    # begins what the adapter says; the core says
 def add_options(parser: argparse.ArgumentParser) -> None:
     add = parser.add_argument
     add('--agents', type=int, default=20, metavar='N', help='vehicles (%(default)s)')
-    add('--orders', type=int, default=40, metavar='N', help='orders, one a second at first (%(default)s)')
+    add('--orders', type=int, default=40, metavar='N', help='orders, one in two ticks (%(default)s)')
     add('--seconds', type=float, default=300.0, metavar='S', help='it ends after so long, whatever is open (%(default)s)')
     add('--step', type=float, default=0.5, metavar='S', help='between two ticks; what a vehicle takes for a cell differs (%(default)s)')
-    add('--lost', type=float, default=30.0, metavar='S', help='when a vehicle is killed; 0: never (%(default)s)')
+    add('--lost', type=float, default=30.0, metavar='S', help='from when on a vehicle with a load is killed; 0: never (%(default)s)')
     add('--gone', type=float, default=20.0, metavar='S', help='how long it is gone (%(default)s)')
     add('--seed', type=int, default=7, help='of the floor and its orders (%(default)s)')
     add('--port', type=int, default=0, metavar='N', help='of the page at 127.0.0.1; 0: any that is free')
@@ -84,7 +84,8 @@ def write_floor(options: argparse.Namespace, folder: str) -> Instance:
     """The instance `floor`, and its orders as the feed's table `orders.csv`."""
     parser = argparse.ArgumentParser()
     make_instance.add_options(parser)
-    words = [*FLOOR, '--stations', str(MANY if options.around else FEW), '--agents', str(options.agents), '--tasks', str(options.orders), '--ticks', str(2 * options.orders), '--seed', str(options.seed)]
+    words = [*FLOOR, '--stations', str(MANY if options.around else FEW), '--agents', str(options.agents), '--tasks', str(options.orders),
+             '--ticks', str(2 * options.orders), '--seed', str(options.seed)]
     path = os.path.join(folder, 'floor')
     with open(path, 'w') as file:
         file.writelines(f'{line}\n' for line in make_instance.lines(parser.parse_args(words)))
@@ -172,8 +173,10 @@ class Demo:
         return cell, toward, loads
 
     def lose(self) -> None:
-        worlds = {name: self.world(name) for name in self.cast.vehicles}
-        self.lost = max(worlds, key=lambda name: (bool(worlds[name][2]), bool(worlds[name][1])))
+        """The first vehicle with a load, where there is one."""
+        self.lost = next((name for name in self.cast.vehicles if self.world(name)[2]), '')
+        if not self.lost:
+            return
         self.cast.kill(self.lost)
         self.is_gone = True
         self.at_loss = self.clock, self.delivered, self.second
@@ -193,8 +196,9 @@ class Demo:
     def fallen(self) -> str:
         """What ended by itself that should not have, or ''."""
         for name in self.cast.ended():
-            if name != 'feed' and not (name == self.lost and self.is_gone):
-                return f'{name} ended by itself, with status {self.cast.running[name].returncode}'
+            status = self.cast.running[name].returncode
+            if not (name == 'feed' and status == 0) and not (name == self.lost and self.is_gone):
+                return f'{name} ended by itself, with status {status}'
         return ''
 
     def begin(self) -> str:
@@ -231,17 +235,18 @@ class Demo:
 def judge(demo: Demo, instance: Instance) -> bool:
     """Tells what came of it, by the feed's answers, the traces and the log; whether all is right."""
     demo.listen()
-    judge = Judge(demo.cast.folder)
-    picked = len(judge.loads) - len(judge.dropped())
-    print(f'{demo.delivered} of {demo.options.orders} orders were delivered in {demo.took:.0f} s, with {judge.stays} moves from cell to cell')
-    for wrong in judge.wrong:
+    traces = Judge(demo.cast.folder)
+    dropped = len(traces.dropped())
+    print(f'{demo.delivered} of {demo.options.orders} orders were delivered in {demo.took:.0f} s, with {traces.stays} moves from cell to cell')
+    for wrong in traces.wrong:
         print(f'WRONG by the traces: {wrong}')
-    if not judge.wrong:
-        print(f'by their traces no two vehicles were ever in one cell, and no load was handled twice: {picked} were picked up, {len(judge.dropped())} put down')
+    if not traces.wrong:
+        print('by their traces no two vehicles were ever in one cell, and no load was handled twice: '
+              f'{len(traces.loads) - dropped} were picked up, {dropped} put down')
     verdicts = verify(demo.options, instance, demo.cast.log)
     are_runs = all(verdict.startswith('run ') for verdict in verdicts)
     print(f'verify: {", ".join(verdicts)} (the program judges the log{": a run by the rules" if are_runs else ""})', flush=True)
-    return not judge.wrong and are_runs
+    return not traces.wrong and are_runs
 
 
 def watch(demo: Demo) -> str:
@@ -255,19 +260,25 @@ def watch(demo: Demo) -> str:
         demo.took = demo.second
 
 
+def answer(options: argparse.Namespace, subcommand: str, text: bytes) -> str:
+    """What the program says of a text."""
+    words = [options.program, subcommand, *([] if options.around else ['--ends', 'homes'])]
+    return subprocess.run(words, input=text, stdout=subprocess.PIPE).stdout.decode('latin-1').strip()
+
+
 def verify(options: argparse.Namespace, instance: Instance, log: str) -> list[str]:
     """What the program says of the log of each run."""
     runs, found = Runs(instance, '', log, AHEAD), []
     for floor in [runs.follower(), *runs.each()]:
-        words = [options.program, 'verify', *([] if options.around else ['--ends', 'homes'])]
-        done = subprocess.run(words, input=floor.instance.text + read_file(floor.name), stdout=subprocess.PIPE, stderr=subprocess.DEVNULL)
-        found.append(done.stdout.decode('latin-1').strip())
+        found.append(answer(options, 'verify', floor.instance.text + read_file(floor.name)))
     return found
 
 
 def play(options: argparse.Namespace, folder: str) -> int:
     """The demo in that folder."""
     instance = write_floor(options, folder)
+    if (verdict := answer(options, 'check', instance.text)) != 'formed':    # where the program is to be built first, it is now
+        raise Fault(f'the program says of the floor: {verdict or "nothing"}')
     why = '--pipes' if options.pipes else missing()
     starts = [instance.points[start].cell for start in instance.starts]
     more = ['--behind', str(BEHIND), '--ahead', str(AHEAD), *(['--out-after', '3', '--helpers'] if options.around else ['--ends', 'homes'])]
