@@ -205,6 +205,20 @@ class Part:
         return row['topic'], row['text']
 
 
+def test_a_vehicle_over_its_pipes() -> None:
+    """It says its will, what it hears, that it is there, and where; and ends with its input, with no paho-mqtt."""
+    world = os.path.join(SCRATCH.name, 'world')
+    words = ['vda5050-vehicle', 'v7', '--start', '1,2', '--world', world, '--rows', '5', '--broker', '-']
+    done = subprocess.run([os.path.join(ROOT, 'tools', 'py'), *words], input='', capture_output=True, text=True, timeout=SECONDS)
+    same((done.returncode, done.stderr), (0, ''))
+    will, hear, *said, end = map(json.loads, done.stdout.splitlines())
+    topic = 'uagv/v2/torchdaisy/v7/'
+    same((will['will'][0], json.loads(will['will'][1])['connectionState']), (topic + 'connection', 'CONNECTIONBROKEN'))
+    same((hear, end), ({'hear': [topic + 'order', topic + 'instantActions']}, {'end': True}))
+    told = {row['topic']: json.loads(row['text']) for row in said}
+    same((told[topic + 'connection']['connectionState'], told[topic + 'state']['lastNodeId'], told[topic + 'state']['agvPosition']['y']), ('ONLINE', '1_2', 2.5))    # the middle of the third of five rows
+
+
 def test_the_hub_passes_on_keeps_and_tells_wills() -> None:
     hub = Hub()
     one, two, three = Part(hub), Part(hub), Part(hub)

@@ -40,17 +40,17 @@ class Wire(Inbox):
 
     def __init__(self, will: tuple[str, str] | None = None):
         super().__init__()
-        self.is_over = False
+        self.is_over = self.is_unheard = False    # nothing comes any more; nobody reads what is written
         if will:
             self.write({'will': will})
 
     def write(self, row: dict[str, Any]) -> None:
         left = packed(row)
         try:
-            while left and not self.is_over:
+            while left and not self.is_unheard:
                 left = left[os.write(1, left):]
         except BrokenPipeError:
-            self.is_over = True
+            self.is_unheard = True
 
     def start(self) -> Wire:
         threading.Thread(target=self.read, daemon=True).start()
@@ -74,7 +74,7 @@ class Wire(Inbox):
 
     def take(self, wait: float, most: int = 200) -> list[Message]:
         batch = super().take(wait, most)
-        if self.is_over and not batch:
+        if (self.is_over or self.is_unheard) and not batch:
             raise KeyboardInterrupt
         return batch
 
