@@ -18,7 +18,7 @@ import sys
 import tempfile
 
 import counting
-from fleet_cast import BROKER, Cast, keys_of, python_with_paho, run_fleet
+from fleet_cast import Cast, broker_program, keys_of, python_with_paho, run_fleet
 from tools_drive import PROGRAM, ROOT, SCRATCH, file, has, same, text_of, tool
 
 sys.path.insert(0, os.path.join(ROOT, 'python'))
@@ -28,8 +28,8 @@ from warehouse import read_file, read_instance, read_orders    # noqa: E402
 
 
 def needs_parts() -> None:
-    if not os.access(BROKER, os.X_OK):
-        raise counting.Skipped(f'no {BROKER} (apt-get install mosquitto)')
+    if not broker_program():
+        raise counting.Skipped('no mosquitto (apt-get install mosquitto)')
     if not python_with_paho():
         raise counting.Skipped('no Python here sees paho-mqtt (apt-get install python3-paho-mqtt)')
 

@@ -93,8 +93,8 @@ def test_manuals():
 def completed(*words):
     """What the completion offers behind these words, the last of them begun."""
     _, top = package()
-    script = 'source "$1"; shift; COMP_WORDS=("$@"); COMP_CWORD=$(($# - 1)); _warehouse; printf "%s\\n" "${COMPREPLY[@]}"'
-    done = run('bash', '-c', script, 'bash', f'{top}/usr/share/bash-completion/completions/warehouse', *words, cwd=SCRATCH.name)
+    script = 'source "$1"; shift; COMP_WORDS=("$@"); COMP_CWORD=$(($# - 1)); "_${1/-/_}"; printf "%s\\n" "${COMPREPLY[@]}"'
+    done = run('bash', '-c', script, 'bash', f'{top}/usr/share/bash-completion/completions/{words[0]}', *words, cwd=SCRATCH.name)
     assert (done.returncode, done.stderr) == (0, ''), done
     return done.stdout.split()
 
@@ -107,6 +107,10 @@ def test_completion():
     assert completed('warehouse', 'live', '--cli') == []
     with open(f'{SCRATCH.name}/run.log', 'w'):
         assert completed('warehouse', 'serve', '--log', 'run') == ['run.log']
+        assert completed('warehouse-py', 'stats', 'run') == ['run.log']
+    assert completed('warehouse-py', 'de') == ['demo']
+    assert completed('warehouse-py', 'demo', '--ag') == ['--agents']
+    assert completed('warehouse-py', 'vda5050', '--out') == ['--out-after']
 
 
 def test_python_command():

@@ -67,8 +67,9 @@ Each is documented by its `--help`.
 |import an instance of the AAMAS 2017 authors, a MovingAI scenario|`tools/import_mapd.py MAP TASK`, `tools/import_scen.py MAP SCEN --agents 20`|
 |drive an instance to its end|`tools/drive.py my --save run.log`|
 |play a run; see one clock|`tools/play.py my run.log > run.html`, `tools/play.py my run.log --check 137`|
-|compare two runs, side by side|`tools/play.py my one.log --beside my two.log > both.html`|
+|compare two runs|`tools/play.py my one.log --beside my two.log > both.html`|
 |watch a floor while it runs|`tools/dashboard.py my run.log`|
+|watch a demo|`tools/py demo`|
 |have figures as CSV|`tools/stats.py my run.log`|
 |make the input of `verify`|`tools/log_input.py my run.log`|
 |begin the next shift|`tools/next_shift.py run.log my > next`|

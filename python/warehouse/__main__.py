@@ -15,7 +15,7 @@ from types import ModuleType
 from .process import SessionError
 from .texts import Fault
 
-PACKAGES = {'simulate.': 'drive make-instance', '': 'client explain', 'figures.': 'play stats', 'web.': 'dashboard',
+PACKAGES = {'simulate.': 'demo drive make-instance', '': 'client explain', 'figures.': 'play stats', 'web.': 'dashboard',
             'convert.': 'join log-input next-shift import-mapd import-scen import-mrp import-lif export'}
 COMMANDS = {name: '.' + package + name.replace('-', '_') for package, names in PACKAGES.items() for name in names.split()} | {
     'vda5050': '.vda5050.adapter', 'vda5050-vehicle': '.vda5050.simulated', 'vda5050-orders': '.vda5050.feed'}
@@ -31,6 +31,15 @@ def usage() -> str:
     return '\n'.join(['usage: python3 -m warehouse SUBCOMMAND ..', '', *rows, '', 'SUBCOMMAND --help tells more.', ''])
 
 
+def parser_of(name: str, prog: str) -> argparse.ArgumentParser:
+    """The parser of a subcommand's options."""
+    command = module(name)
+    parser = argparse.ArgumentParser(prog=prog, description=command.__doc__, formatter_class=argparse.RawDescriptionHelpFormatter)
+    parser.set_defaults(prog=prog, refuse=parser.error)
+    command.add_options(parser)
+    return parser
+
+
 def main(words: list[str], prog: str | None = None) -> int:
     """Runs a subcommand with its words; messages begin with `prog`. Returns the exit status."""
     if not words or words[0] in ('-h', '--help', 'help'):
@@ -43,9 +52,7 @@ def main(words: list[str], prog: str | None = None) -> int:
     command = module(words[0])
     if words[2:] and words[1] in getattr(command, 'PROGRAM_BEHIND', {}):
         return int(command.PROGRAM_BEHIND[words[1]](words[2:]))
-    parser = argparse.ArgumentParser(prog=prog, description=command.__doc__, formatter_class=argparse.RawDescriptionHelpFormatter)
-    parser.set_defaults(prog=prog, refuse=parser.error)
-    command.add_options(parser)
+    parser = parser_of(words[0], prog)
     cut = words.index('--') if '--' in words else len(words)
     if getattr(command, 'PASSES_ON', False):
         parser.set_defaults(passed_on=words[cut + 1:])

@@ -20,6 +20,8 @@ from __future__ import annotations
 
 import argparse
 import random
+import sys
+from typing import Iterator
 
 from ..texts import MOST_AGENTS, MOST_POINTS, MOST_SIDE, MOST_TASKS, Cell, Fault
 
@@ -130,33 +132,34 @@ class Places:
         return drawn + [f'C{chance.randrange(len(self.packing))}'] if self.packing else drawn
 
 
-def script(options: argparse.Namespace, places: Places, chance: random.Random) -> None:
+def script(options: argparse.Namespace, places: Places, chance: random.Random) -> Iterator[str]:
     submitted = 0
     for tick in range(options.ticks):
         if tick % options.every == 0 and submitted < options.tasks:
             count = chance.randint(2, options.stops) if options.stops > 2 else 2
-            print(f'submit c{submitted % 5}', *places.stops(count, chance))
+            yield ' '.join([f'submit c{submitted % 5}', *places.stops(count, chance)])
             submitted += 1
-        for agent in range(options.agents):
-            print(f'token {agent}')
-        print('tick')
+        yield from (f'token {agent}' for agent in range(options.agents))
+        yield 'tick'
+
+
+def lines(options: argparse.Namespace) -> Iterator[str]:
+    """The lines of the instance that the options name."""
+    chance = random.Random(options.seed)
+    cells = floor(options.columns, options.rows, options.shelf, options.open)
+    places = Places(options, cells, chance)
+    yield from ('type octile', f'height {options.rows}', f'width {options.columns}', 'map')
+    yield from (''.join(row) for row in cells)
+    yield '%%'
+    if options.nofollow:
+        yield 'rule nofollow'
+    yield from places.lines()
+    yield from (f'agent P{i}' for i in range(options.agents))
+    yield '%%'
+    yield from script(options, places, chance)
 
 
 def run(options: argparse.Namespace) -> int:
     judge_options(options)
-    chance = random.Random(options.seed)
-    cells = floor(options.columns, options.rows, options.shelf, options.open)
-    places = Places(options, cells, chance)
-    print(f'type octile\nheight {options.rows}\nwidth {options.columns}\nmap')
-    for row in cells:
-        print(''.join(row))
-    print('%%')
-    if options.nofollow:
-        print('rule nofollow')
-    for line in places.lines():
-        print(line)
-    for i in range(options.agents):
-        print(f'agent P{i}')
-    print('%%')
-    script(options, places, chance)
+    sys.stdout.writelines(f'{line}\n' for line in lines(options))
     return 0

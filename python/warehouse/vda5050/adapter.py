@@ -36,10 +36,11 @@ from ..process import CoreDied, SessionError, was_killed
 from ..session import ENDS, Vehicles
 from ..texts import Fault, Instance, read_file, read_instance
 from .book import Book
-from .broker import Address, Mqtt, add_broker_options, address_of
+from .broker import Link, add_broker_options
 from .layout import Layout
 from .loop import Adapter, Settings
 from .vehicle import SILENT, Vehicle
+from .wire import reach
 
 MAKER = 'torchdaisy'
 NO_CORE = 3
@@ -102,10 +103,9 @@ def settings_of(options: argparse.Namespace, instance: Instance) -> Settings:
                     options.prefix, options.step, options.horizon, options.silent, options.out_after, options.helpers, options.prog, options.ends)
 
 
-def connect(options: argparse.Namespace) -> Mqtt:
+def connect(options: argparse.Namespace) -> Link:
     """The broker, which need not be there yet."""
-    address: Address = address_of(options)
-    return Mqtt(f'{options.prefix}-adapter-{os.path.basename(options.log)}', address, options.prog)
+    return reach(options, f'{options.prefix}-adapter-{os.path.basename(options.log)}', options.prog)
 
 
 def may_begin_later(error: Exception) -> bool:

@@ -62,6 +62,12 @@ class Opening:
     carried: dict[str, int] = field(default_factory=dict)
 
 
+def opening_of(row: Json) -> Opening:
+    """How a run begins, by its line."""
+    cells, blocked = ([(cell[0], cell[1]) for cell in row[name]] for name in ('cells', 'blocked'))
+    return Opening(row['run'], cells, blocked, row['out'], row['carried'])
+
+
 class Book:
     """The list, in memory and in its file. Raises Fault where the file cannot be read, is none, or belongs to another list."""
 
@@ -102,8 +108,7 @@ class Book:
             case 'made':
                 self.transports[row['key']].made = row['made']
             case 'run':
-                cells, blocked = ([(cell[0], cell[1]) for cell in row[name]] for name in ('cells', 'blocked'))
-                self.opening = Opening(row['run'], cells, blocked, row['out'], row['carried'])
+                self.opening = opening_of(row)
 
     def write(self, rows: list[Json]) -> None:
         """Appends lines, and syncs them. Raises Fault where that fails; then none of them stands."""

@@ -1,6 +1,6 @@
 """A client of an MQTT broker by paho-mqtt, 1.6 or 2.x: what comes is put into one queue, and a broker that goes is tried again.
 
-`Broker` is what the adapter, the simulated vehicle and the feed use of it; tests put another in its place.
+`Broker` is what the adapter, the simulated vehicle and the feed use of it; pipes (`wire`) and tests put another in its place.
 """
 from __future__ import annotations
 
@@ -39,6 +39,28 @@ class Broker(Protocol):
     def end(self) -> None: ...
 
 
+class Link(Broker, Protocol):
+    """A connection that is begun once what it is to hear is known."""
+
+    def start(self) -> object: ...
+
+
+class Inbox:
+    """What has come, and was not taken."""
+
+    def __init__(self) -> None:
+        self.inbox: queue.Queue[Message] = queue.Queue()
+
+    def take(self, wait: float, most: int = 200) -> list[Message]:
+        """What has come, once something has or the time is over."""
+        batch: list[Message] = []
+        with contextlib.suppress(queue.Empty):
+            batch.append(self.inbox.get(timeout=wait))
+            while len(batch) < most:
+                batch.append(self.inbox.get_nowait())
+        return batch
+
+
 @dataclass(frozen=True)
 class Address:
     """Where the broker is, and as whom to come."""
@@ -50,7 +72,7 @@ class Address:
 
 
 def add_broker_options(parser: argparse.ArgumentParser) -> None:
-    parser.add_argument('--broker', default='127.0.0.1', metavar='HOST', help='%(default)s')
+    parser.add_argument('--broker', default='127.0.0.1', metavar='HOST', help='%(default)s; -: none, its messages go over the standard input and output')
     parser.add_argument('--port', type=int, default=1883, help='%(default)s')
     parser.add_argument('--user', default='', metavar='NAME', help='as whom to come to the broker')
     parser.add_argument('--password-file', default='', metavar='FILE', help='whose first line is the password')
@@ -80,11 +102,11 @@ def client_of(library: Any, name: str, clean: bool = True) -> Any:
     return library.Client(*form, client_id=name, clean_session=clean)
 
 
-class Mqtt:
-    """A Broker over the network. `will` is published for this client, retained, where its connection breaks."""
+class Mqtt(Inbox):
+    """A Link over the network. `will` is published for this client, retained, where its connection breaks."""
 
     def __init__(self, name: str, address: Address, said: str, will: tuple[str, str] | None = None, clean: bool = True):
-        self.inbox: queue.Queue[Message] = queue.Queue()
+        super().__init__()
         self.topics: list[tuple[str, int]] = []
         self.said, self.address = said, address
         self.up: bool | None = None
@@ -141,15 +163,6 @@ class Mqtt:
 
     def publish(self, topic: str, text: str, quality: int = 0, retain: bool = False) -> None:
         self.client.publish(topic, text, quality, retain)
-
-    def take(self, wait: float, most: int = 200) -> list[Message]:
-        """What has come, once something has or the time is over."""
-        batch: list[Message] = []
-        with contextlib.suppress(queue.Empty):
-            batch.append(self.inbox.get(timeout=wait))
-            while len(batch) < most:
-                batch.append(self.inbox.get_nowait())
-        return batch
 
     def end(self) -> None:
         self.up = None    # its end is no news

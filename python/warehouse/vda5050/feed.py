@@ -4,7 +4,7 @@
 
 FILE is CSV with the columns `key` and `stops` (names with blanks between), and where wanted `client`, and `at`, the second from the
 beginning at which it is sent; `-` is the standard input. It is an example of a feed: another system does the same by MQTT. One that was
-stopped is begun again with the same FILE: what was taken before is not taken again.
+stopped is begun again with the same FILE: what was taken before is not taken again. With --broker - answers are told on standard error.
 
 Status 0: all are delivered; 1: some were refused; 2: FILE or an option is wrong.
 """
@@ -20,8 +20,9 @@ import time
 from dataclasses import dataclass
 
 from ..texts import Fault, read_file
-from .broker import Broker, Mqtt, add_broker_options, address_of
+from .broker import Broker, add_broker_options
 from .schema import Json, fault_in, schema
+from .wire import PIPES, reach
 
 AGAIN = 3.0     # seconds without an answer
 LATER = 15.0    # seconds without another answer, where that may be lost with its broker
@@ -109,13 +110,14 @@ def add_options(parser: argparse.ArgumentParser) -> None:
 
 def run(options: argparse.Namespace) -> int:
     rows = read_table(options.file, read_file(options.file))
-    broker = Mqtt('', address_of(options), options.prog)
+    broker = reach(options, '', options.prog)
+    out = sys.stderr if options.broker == PIPES else sys.stdout
     feed = Feed(rows, broker, options.prefix)
     broker.start()
     try:
         while not feed.is_done():
             for line in feed.turn():
-                print(line, flush=True)
+                print(line, file=out, flush=True)
     finally:
         broker.end()
     return int(any(row.state == 'refused' for row in feed.rows.values()))

@@ -21,10 +21,11 @@ from typing import Any
 
 from ..texts import Fault
 from .adapter import MAKER
-from .broker import CONNECTED, Address, Broker, Mqtt, add_broker_options, address_of
+from .broker import CONNECTED, Broker, Mqtt, add_broker_options
 from .layout import Layout, cell_of
 from .loop import VERSION, stamp
 from .schema import Json, read_message
+from .wire import reach
 
 STATES = 2.0      # seconds between two states at the most
 REPEATED = 0.05   # of all states
@@ -308,10 +309,9 @@ def run(options: argparse.Namespace) -> int:
     if start is None or not math.isfinite(options.pace) or options.pace < 0:
         raise Fault(f'--start {options.start}: X,Y is wanted')
     os.makedirs(options.world, exist_ok=True)
-    address: Address = address_of(options)
     topic = f'uagv/v2/{options.maker}/{options.serial}/connection'
     will = json.dumps(header({}, 'connection', options.maker, options.serial) | {'connectionState': 'CONNECTIONBROKEN'})
-    broker = Mqtt(f'{options.maker}-{options.serial}', address, options.serial, (topic, will))
+    broker = reach(options, f'{options.maker}-{options.serial}', options.serial, (topic, will))
     vehicle = Simulated(options, broker)
     broker.start()
     try:

@@ -5,15 +5,17 @@
 
 INSTANCE has the sections map and points, as for `play`; LOG is the file of `--log`, which may come later. With LOG.at beside it
 (`--vehicles`) the page shows vehicles: which cells each occupies, where its plan is, how far it is behind. --ahead and --behind are
-those of the service. Times are those at which this server saw the files grow.
+those of the service. Times are those at which this server saw the files grow. Where `vda5050` has ended a run for a lost vehicle (LOG.keys
+says so), the page goes on with the next one, LOG.2.
 
     /           the player, at the last moment; scroll back with the slider or the arrows, the key end follows again
     /events     Server-Sent Events: `run`, the last ten minutes, then `more`, what is new of it
     /metrics    Prometheus text
     /health     {"alarms": [..]}: status 200 without an alarm, else 503
 
-An alarm is: a vehicle for which the clock has waited for --patience seconds; two vehicles granted one cell; a request without a path (E6) in the last minute; a
-standstill; a log that is not there or cannot be read. A log that is cut or replaced is read anew.
+An alarm is: a vehicle for which the clock has waited for --patience seconds, or that is out of use; two vehicles granted one cell; a
+request without a path (E6) in the last minute; a standstill; a log that is not there or cannot be read. A log that is cut or replaced
+is read anew.
 
 It listens on 127.0.0.1 alone unless --host says otherwise: it has no passwords, so put a proxy with TLS and passwords before it. It
 needs no network, and ends by Ctrl-C or signal 15.
@@ -33,7 +35,7 @@ from typing import Any
 
 from ..texts import Fault, read_file, read_instance
 from . import asset, page
-from .follow import Follower
+from .runs import Runs
 from .status import Status
 
 FAULT = 1
@@ -55,8 +57,8 @@ def event(kind: str, data: dict[str, Any]) -> bytes:
 class Feed:
     """What pages are sent, and the one thread that looks at the files."""
 
-    def __init__(self, floor: Follower, status: Status):
-        self.floor, self.status = floor, status
+    def __init__(self, runs: Runs, status: Status):
+        self.runs, self.floor, self.status = runs, status.floor, status
         self.lock = threading.Condition()
         self.events: deque[bytes] = deque(maxlen=MOST_EVENTS)
         self.sent = self.pages = 0      # events since the server began, and pages that listen
@@ -76,6 +78,9 @@ class Feed:
 
     def look(self) -> None:
         """Takes in what is new, and sends it."""
+        if other := self.runs.look():
+            self.floor = self.status.floor = other
+            self.number = -1    # all begin anew
         news, page = self.floor.look(), self.status.page()
         if self.floor.number != self.number:
             self.number = self.floor.number
@@ -173,6 +178,7 @@ class Handler(BaseHTTPRequestHandler):
 
 class Server(ThreadingHTTPServer):
     daemon_threads = True
+    feed: Feed
 
     def handle_error(self, request: Any, client_address: Any) -> None:
         """A page that goes away within an answer is no error."""
@@ -181,9 +187,10 @@ class Server(ThreadingHTTPServer):
 def serve(instance: str, log: str, host: str, port: int, ahead: int = 1, behind: int = 8, minutes: int = 5,
           patience: float = 3.0) -> Server:
     """A server that listens, and follows the files from now on. Raises Fault where the instance cannot be used, OSError."""
-    floor = Follower(read_instance(instance, read_file(instance)), os.path.basename(instance), log, ahead)
-    feed = Feed(floor, Status(floor, behind, minutes, patience))
+    runs = Runs(read_instance(instance, read_file(instance)), os.path.basename(instance), log, ahead)
+    feed = Feed(runs, Status(runs.follower(), behind, minutes, patience))
     server = Server((host, port), type('FloorHandler', (Handler,), {'feed': feed}))
+    server.feed = feed
     threading.Thread(target=feed.follow, daemon=True).start()
     return server
 

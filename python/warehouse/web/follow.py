@@ -25,6 +25,7 @@ class Follower:
     def __init__(self, instance: Instance, title: str, log: str, ahead: int = 1):
         self.instance, self.title, self.name, self.ahead = instance, title, log, ahead
         self.began, self.number = time.monotonic(), 0
+        self.out: list[int] = []    # agents that are out of use in this run
         self.forget()
 
     def forget(self) -> None:

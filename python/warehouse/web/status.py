@@ -54,6 +54,7 @@ class Status:
             found.append(f'there is no log {floor.name}')
         if floor.vehicles:
             found += floor.vehicles.meetings()[:3]
+        found += [f'vehicle {agent} is out of use' for agent in floor.out]
         found += self.waits_for()
         if self.stands() and not floor.log.ended:
             found.append('standstill: all agents rest, and orders are open')
