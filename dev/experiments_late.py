@@ -1,91 +1,81 @@
-#!/usr/bin/env python3
-"""The table and the plot of docs/EXPERIMENTS.md for vehicles that are late: orders in 100 seconds of the simulation, by how far a
-vehicle may be behind and how far ahead it is told, at several spreads of speed.
+"""Vehicles that are late, for dev/experiments.py: orders in 100 seconds of the simulation, by how far a vehicle may be behind and how
+far ahead it is told, at several spreads of speed.
 
-    dev/experiments_late.py --plots docs              examples/shelves, seeds 1 to 5
-    dev/experiments_late.py --seeds 1 --behind 1,8
-
-The program is that of WAREHOUSE, else ./warehouse. Each run is that of `tools/drive.py examples/shelves --late SEED ..`, which
-judges that no two vehicles meet; its transcript is read again against the log, as by `tools/play.py --vehicles .. --check`. A run
-that is not so, or leaves an order, ends the script with status 2.
+Each run is that of `tools/drive.py examples/shelves --late SEED --ask number ..`, which judges that no two vehicles meet; its transcript is read again
+against the log, as by `tools/play.py --vehicles .. --check`. A run that is not so, or leaves an order, ends the script with status 2.
+A line of the CSV has the mean over the seeds, and per100_pm half the width of the interval of 95 percent (Student's t).
 """
 from __future__ import annotations
 
 import argparse
+import functools
 import io
 import os
 import statistics
-import sys
+from typing import NamedTuple, Sequence
 
 import experiments_plot
+from experiments_floors import half_width, lines, write
 from package import ROOT, fail
 
-from warehouse.fleet import Stop
-from warehouse.session import program
 from warehouse.simulate.drive import log_of
 from warehouse.simulate.late import Plan, drive_late
-from warehouse.texts import Fault, read_file, read_instance, read_log, read_orders, read_transcript
+from warehouse.texts import read_file, read_instance, read_log, read_orders, read_transcript
 
 INSTANCE = os.path.join(ROOT, 'examples', 'shelves')
-SPEEDS = [('all alike', 0.0, 0), ('± 30 %', 0.3, 0), ('± 60 %', 0.6, 0), ('± 30 %, one stands 60 s', 0.3, 60)]
-AHEAD = [1, 3]
+AHEAD, BEHIND = (1, 3), (1, 2, 8, 32)
 
 
-class Experiment:
-    def __init__(self, seeds: int):
-        data = read_file(INSTANCE)
-        self.instance = read_instance(INSTANCE, data)
-        self.orders = read_orders(INSTANCE, data)
-        self.seeds = seeds
-        self.ticks: set[int] = set()
-        self.widest = 0.0    # how far a seed's figure was from the mean of its row
-
-    def run(self, seed: int, spread: float, stop: float, ahead: int, behind: int) -> float:
-        """Orders in 100 seconds."""
-        transcript = io.StringIO()
-        plan = Plan(seed, spread, stop, behind, ahead)
-        late = drive_late([program(), 'replay', '--tail', 'log'], self.instance, self.orders, plan, transcript)
-        run = read_log(self.instance, 'the log', log_of(late.core.tail))
-        found = read_transcript(run, 'the transcript', transcript.getvalue().encode())
-        if found.meetings or found.most_behind > behind or sum(map(len, found.told)) != late.steps:
-            fail(f'seed {seed}, spread {spread:g}, ahead {ahead}, behind {behind}: the transcript does not agree')
-        self.ticks.add(late.fleet.clock)
-        return 100 * late.done / late.last_delivery
-
-    def mean(self, *how: float) -> float:
-        found = [self.run(seed, *how) for seed in range(1, self.seeds + 1)]
-        mean = statistics.mean(found)
-        self.widest = max([self.widest] + [abs(one - mean) / mean for one in found])
-        return mean
+class Speeds(NamedTuple):
+    name: str
+    spread: float
+    stop: float    # seconds for which one vehicle stands
 
 
-def main() -> None:
-    parser = argparse.ArgumentParser(description=__doc__, formatter_class=argparse.RawDescriptionHelpFormatter)
-    parser.add_argument('--seeds', type=int, default=5, metavar='N', help='seeds 1 to N, of which a figure is the mean (%(default)s)')
-    parser.add_argument('--behind', default='1,2,8,32', metavar='N,N..', help='the bounds (%(default)s)')
-    parser.add_argument('--plots', metavar='FOLDER', help='write vehicles-late.svg there')
-    options = parser.parse_args()
-    bounds = [int(word) for word in options.behind.split(',')]
-    experiment, lines = Experiment(options.seeds), {}
-    print('| Speeds | `--ahead` | ' + ' | '.join(f'`--behind {bound}`' for bound in bounds) + ' |')
-    print('|---|---' + '|---' * len(bounds) + '|')
-    for name, spread, stop in SPEEDS:
-        for ahead in AHEAD:
-            row = [experiment.mean(spread, stop, ahead, bound) for bound in bounds]
-            print(f'| {name} | {ahead} | ' + ' | '.join(f'{value:.1f}' for value in row) + ' |', flush=True)
-            if not stop:
-                lines[f'{name}, ahead {ahead}'] = list(zip(bounds, row))
-    print(f'\nTicks of the plan: {min(experiment.ticks)} to {max(experiment.ticks)}. '
-          f'A seed is at most {100 * experiment.widest:.1f} % from its mean.')
+SPEEDS = [Speeds('all alike', 0.0, 0), Speeds('± 30 %', 0.3, 0), Speeds('± 60 %', 0.6, 0), Speeds('± 30 %, one stands 60 s', 0.3, 60)]
+
+
+class Case(NamedTuple):
+    """What is run once for each seed."""
+    speeds: Speeds
+    ahead: int
+    behind: int
+
+
+def per100(case: Case, seed: int, program: str) -> float:
+    """One run: orders in 100 seconds."""
+    data = read_file(INSTANCE)
+    instance, transcript = read_instance(INSTANCE, data), io.StringIO()
+    plan = Plan(seed, case.speeds.spread, case.speeds.stop, case.behind, case.ahead)
+    late = drive_late([program, 'replay', '--tail', 'log'], instance, read_orders(INSTANCE, data), plan, transcript)
+    run = read_log(instance, 'the log', log_of(late.core.tail))
+    found = read_transcript(run, 'the transcript', transcript.getvalue().encode())
+    if found.meetings or found.most_behind > case.behind or sum(map(len, found.told)) != late.steps:
+        fail(f'seed {seed}, {case}: the transcript does not agree')
+    return 100 * late.done / late.last_delivery
+
+
+def line_of(case: Case, found: Sequence[float]) -> dict[str, str]:
+    return {'speeds': case.speeds.name, 'ahead': str(case.ahead), 'behind': str(case.behind), 'seeds': str(len(found)),
+            'per100': f'{statistics.mean(found):.1f}', 'per100_pm': f'{half_width(found):.1f}'}
+
+
+def cases() -> list[Case]:
+    return [Case(speeds, ahead, behind) for speeds in SPEEDS for ahead in AHEAD for behind in BEHIND]
+
+
+def plot(folder: str, found: Sequence[dict[str, str]]) -> None:
+    drawn: dict[str, list[tuple[float, float]]] = {}
+    for line in found:
+        if 'stands' not in line['speeds']:
+            drawn.setdefault(f'{line["speeds"]}, ahead {line["ahead"]}', []).append((float(line['behind']), float(line['per100'])))
+    experiments_plot.write(os.path.join(folder, 'vehicles-late.svg'), experiments_plot.Plot(
+        'Orders of vehicles that are late', 'steps behind before the clock waits', 'orders in 100 s', drawn, log_x=True))
+
+
+def table(options: argparse.Namespace) -> None:
+    found = lines(cases(), functools.partial(per100, program=options.program), line_of, options)
+    if options.csv:
+        write(options.csv, found)
     if options.plots:
-        experiments_plot.write(os.path.join(options.plots, 'vehicles-late.svg'), experiments_plot.Plot(
-            'Orders of vehicles that are late', 'steps behind before the clock waits', 'orders in 100 s', lines, log_x=True))
-
-
-if __name__ == '__main__':
-    try:
-        main()
-    except (Stop, Fault) as stop:
-        fail(str(stop))
-    except KeyboardInterrupt:
-        sys.exit(130)
+        plot(options.plots, found)

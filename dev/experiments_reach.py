@@ -126,14 +126,6 @@ def reached(name: str, agents: int, instance: Instance, options: argparse.Namesp
     return found
 
 
-def check_words(options: argparse.Namespace) -> None:
-    """Floors that are known, before anything is run."""
-    options.floors = [name for name in (options.floors or ','.join(FLOORS)).split(',') if name]
-    for name in options.floors:
-        if name not in FLOORS:
-            fail(f'--floors {name}: there are {", ".join(FLOORS)}')
-
-
 def row(found: Reached) -> list[str]:
     """A row of the table; milliseconds and MB."""
     def spread(values: list[float]) -> list[str]:

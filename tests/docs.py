@@ -227,15 +227,29 @@ def days() -> Iterator[tuple[str, str]]:
         yield f'{page}: dates', f'line {line_of(text, found.start())}: `{found[0]}`, and the page is none of those that tell dates' if found else ''
 
 
+@functools.lru_cache(None)
+def helps() -> dict[str, str]:
+    """What each subcommand of the Python package prints for --help."""
+    sys.path.insert(0, os.path.join(ROOT, 'python'))
+    from warehouse.__main__ import COMMANDS, module
+    found = {}
+    for name in COMMANDS:
+        parser = argparse.ArgumentParser(prog=name, description=module(name).__doc__, formatter_class=argparse.RawDescriptionHelpFormatter)
+        module(name).add_options(parser)
+        found[f'{name} --help'] = prose(parser.format_help())
+    return found
+
+
 def words() -> Iterator[tuple[str, str]]:
-    """No page uses a word of tests/docs_words where it is not allowed."""
+    """No page, and no help of a subcommand, uses a word of tests/docs_words where it is not allowed."""
+    texts = {**{page: prose(read(page)) for page in pages()}, **helps()}
     for line in read('tests/docs_words').splitlines():
         if not line.strip() or line.startswith('#'):
             continue
         word, term, allowed = (part.strip() for part in line.split('|'))
         pattern, wrong = re.compile(rf'(?<![\w-]){re.escape(word)}(?![\w-])', re.IGNORECASE), []
-        for page in sorted(set(pages()) - set(allowed.split())):
-            text = prose(read(page))
+        for page in sorted(set(texts) - set(allowed.split())):
+            text = texts[page]
             wrong += [f'{page}:{line_of(text, found.start())}' for found in pattern.finditer(text)]
         yield f'the word `{word}`', f'{", ".join(wrong)}: write {term}' if wrong else ''
 

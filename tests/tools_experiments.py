@@ -1,5 +1,5 @@
 #!/usr/bin/env python3
-"""Tests of dev/experiments.py and dev/experiments_stations.py, with expected values worked out by hand.
+"""Tests of dev/experiments.py and its parts, with expected values worked out by hand.
 
     tests/tools_experiments.py            all; what runs the program takes it from WAREHOUSE, else the one that the gate built
     tests/tools_experiments.py --no-program
@@ -20,22 +20,25 @@ ROOT = os.path.dirname(os.path.dirname(os.path.abspath(__file__)))
 sys.path.insert(0, os.path.join(ROOT, 'dev'))
 sys.dont_write_bytecode = True
 import counting             # noqa: E402
-import experiments          # noqa: E402
-import experiments_plot     # noqa: E402
-import experiments_reach    # noqa: E402
+sys.path.insert(0, os.path.join(ROOT, 'tools'))
+import experiments_floors as floors    # noqa: E402
+import experiments_late                # noqa: E402
+import experiments_plot                # noqa: E402
+import experiments_reach               # noqa: E402
+import figures_pages                   # noqa: E402
 
-from warehouse.texts import read_instance    # noqa: E402
+from warehouse.texts import read_instance, read_orders    # noqa: E402
 
 PROGRAM = os.environ.get('WAREHOUSE') or os.path.join(ROOT, 'crates/warehouse/out/warehouse')
 SCRATCH = tempfile.TemporaryDirectory()
 
 # One agent at the left end of a row of five cells; A is one step away, B three.
 ROW = 'type t\nheight 1\nwidth 5\nmap\n.....\n%%\nparking P 0 0\nstation A 1 0\nstation B 3 0\nagent P\n%%\n'
-TAPE = ['tick = clock 1 picked 0 dropped 0', 'tick = clock 2 picked 0 dropped 0', 'submit x A B = accepted 0', 'token 0 = took 0 end 3',
-        'tick = clock 3 picked 1 dropped 0', 'tick = clock 4 picked 0 dropped 0', 'tick = clock 5 picked 0 dropped 1', 'close = closed']
-LOG = ''.join(line + '\n' for line in [
-    'wlog 2', 'start 0 slots 4', *(f'0 {line}' for line in TAPE[:3]), '0 token 0 = took 0 path 0,0 1,0 2,0 3,0',
-    *(f'0 {line}' for line in TAPE[4:]), 'end 8'])
+CASE = floors.Case('aamas', 0, 1, '0.5', 'stops')
+TAPE = ['tick = clock 1 picked 0 dropped 0', 'tick = clock 2 picked 0 dropped 0', 'submit x A B = accepted 0',
+        'token 0 = took 0 path 0,0 1,0 2,0 3,0', 'tick = clock 3 picked 1 dropped 0', 'tick = clock 4 picked 0 dropped 0',
+        'tick = clock 5 picked 0 dropped 1']
+LOG = ''.join(line + '\n' for line in ['wlog 2', 'start 0 slots 4', *(f'0 {line}' for line in TAPE), 'end 7'])
 
 STAND_IN = '''#!{python}
 import sys, time
@@ -63,7 +66,7 @@ if '--tail' in words:
 '''
 
 
-def stand_in(tape: list[str] = TAPE, verify: str = 'run 8', log: str = LOG, busy: float = 0) -> str:
+def stand_in(tape: list[str] = TAPE, verify: str = 'run 7', log: str = LOG, busy: float = 0) -> str:
     folder = tempfile.mkdtemp(dir=SCRATCH.name)
     texts = {'tape': '\n'.join(tape) + '\n', 'check': 'formed', 'verify': verify, 'log': log,
              'program': STAND_IN.format(python=sys.executable, folder=folder, busy=busy)}
@@ -100,27 +103,50 @@ def tool(*words: str) -> tuple[str, str, int]:
 # ------------------------------------------------------------------------------------------- orders and arithmetic
 
 def test_when_orders_are_released() -> None:
-    same(experiments.release_clocks(4, '0.2'), [0, 5, 10, 15])
-    same(experiments.release_clocks(4, '0.5'), [0, 2, 4, 6])
-    same(experiments.release_clocks(5, '2'), [0, 0, 1, 1, 2])
-    same(experiments.release_clocks(11, '10'), [0] * 10 + [1])
+    same(floors.release_clocks(4, '0.2'), [0, 5, 10, 15])
+    same(floors.release_clocks(4, '0.5'), [0, 2, 4, 6])
+    same(floors.release_clocks(5, '2'), [0, 0, 1, 1, 2])
+    same(floors.release_clocks(11, '10'), [0] * 10 + [1])
     # 1 / 0.3 = 3.3.., 2 / 0.3 = 6.6.., 3 / 0.3 = 10 and 7 / 0.7 = 10 exactly
-    same(experiments.release_clocks(4, '0.3'), [0, 3, 6, 10])
-    same(experiments.release_clocks(8, '0.7')[7], 10)
+    same(floors.release_clocks(4, '0.3'), [0, 3, 6, 10])
+    same(floors.release_clocks(8, '0.7')[7], 10)
+    same(floors.release_clocks(3, 'all'), [0, 0, 0])
 
 
 def test_an_instance_with_other_clocks() -> None:
     made = ROW + 'submit x A B\ntoken 0\ntick\nsubmit y B A\ntick\nsubmit z A A\n'
-    same(experiments.released(made.encode(), '2', False).decode(), ROW + '# @0\nsubmit x A B\n# @0\nsubmit y B A\n# @1\nsubmit z A A\n')
+    same(floors.released(made.encode(), '2', False).decode(), ROW + '# @0\nsubmit x A B\n# @0\nsubmit y B A\n# @1\nsubmit z A A\n')
     ruled = ROW.replace('parking P', 'rule nofollow\nparking P')
-    same(experiments.released(made.encode(), '0.25', True).decode(), ruled + '# @0\nsubmit x A B\n# @4\nsubmit y B A\n# @8\nsubmit z A A\n')
+    same(floors.released(made.encode(), '0.25', True).decode(), ruled + '# @0\nsubmit x A B\n# @4\nsubmit y B A\n# @8\nsubmit z A A\n')
 
 
-def test_times_and_changes() -> None:
-    near = experiments.VARIANTS['near']
-    same(experiments.Result(near, 1, '1', {'requests': 500}, 0.002).per_request, 4.0)
-    same(experiments.Result(near, 1, '1', {'requests': 500}).per_request, None)
-    same([experiments.change(200, 210), experiments.change(200, 150), experiments.change(3, 3)], ['+5.0 %', '-25.0 %', '+0.0 %'])
+def test_intervals() -> None:
+    # 1 to 5: the deviation is the root of 10 / 4, over the root of 5 it is 0.70711; 2.776 times that is 1.96293
+    same(round(floors.half_width([1, 2, 3, 4, 5]), 4), 1.9629)
+    # 0 and 2: the root of 2 over the root of 2
+    same(floors.half_width([0, 2]), 12.706)
+    same(floors.half_width([7]), 0.0)
+
+
+def test_a_line_of_the_table() -> None:
+    # 2 orders in 4 and in 5 ticks are 50 and 40 in 100 ticks: 45, and half of 10 by 12.706; service 2 and 4: 3 and 12.706
+    found = floors.line_of(CASE, [floors.Measured(4, [1, 3], 6, 0.002), floors.Measured(5, [3, 5], 10, 0.004)])
+    same(found, {'floor': 'aamas', 'stations': '0', 'agents': '1', 'orders_per_tick': '0.5', 'ends': 'stops', 'ask': 'nearest', 'rule': 'none',
+                 'planner': 'near', 'seeds': '2', 'makespan': '4', 'makespan_pm': '6', 'per100': '45.0', 'per100_pm': '63.5',
+                 'service_mean': '3', 'service_mean_pm': '13', 'driven': '4.0', 'driven_pm': '12.7', 'cpu_ms': '3', 'cpu_ms_pm': '13', 'service_p95': '5'})
+    same(experiments_late.line_of(experiments_late.Case(experiments_late.SPEEDS[1], 3, 8), [10.0, 12.0]),
+         {'speeds': '± 30 %', 'ahead': '3', 'behind': '8', 'seeds': '2', 'per100': '11.0', 'per100_pm': '12.7'})
+
+
+def test_cells_of_a_page() -> None:
+    line = {'ends': 'homes', 'agents': '30', 'seeds': '5', 'per100': '45.0', 'per100_pm': '1.5'}
+    same([figures_pages.value_of(line, name) for name in ('ends', 'agents+ends', 'per100±')], ['homes', '30, homes', '45.0±1.5'])
+    same(figures_pages.value_of({**line, 'seeds': '1'}, 'per100±'), '45.0')
+
+
+def test_each_case_stands_once() -> None:
+    found = list(floors.cases())
+    same((len(found), {case.floor for case in found}), (len(set(found)), set(floors.FLOORS)))
 
 
 def test_ranks() -> None:
@@ -128,62 +154,45 @@ def test_ranks() -> None:
     same([experiments_reach.rank(list(range(n, 0, -1)), 95) for n in (1, 20, 21, 100)], [1, 19, 20, 95])
 
 
-def test_the_table_of_changes() -> None:
-    def result(key: str, agents: int, makespan: int, mean: str, requests: int, seconds: float) -> experiments.Result:
-        return experiments.Result(experiments.VARIANTS[key], agents, '2', {'makespan': makespan, 'service_mean': mean, 'requests': requests}, seconds)
-    found = [result('near', 10, 100, '50.00', 40, 0.010), result('near', 20, 80, '40.00', 40, 0.010),
-             result('near-nofollow', 10, 110, '51.00', 30, 0.025), result('near-nofollow', 30, 1, '1.00', 1, 1)]
-    said = io.StringIO()
-    with contextlib.redirect_stdout(said):
-        experiments.print_changes(found, experiments.VARIANTS['near'], experiments.VARIANTS['near-nofollow'], 'T')
-        experiments.print_changes(found, experiments.VARIANTS['near'], experiments.VARIANTS['patient'], 'U')
-    same(said.getvalue().splitlines()[3:], ['| Agents | Orders a tick | Makespan | Service, mean | Requests | CPU ms, total |',
-                                            '|---|---|---|---|---|---|', '| 10 | 2 | +10.0 % | +2.0 % | -25.0 % | +150.0 % |'])
-
-
 # ------------------------------------------------------------------------------------------------------ one run
 
 def test_a_run_is_driven_and_judged() -> None:
-    # Released at 2, delivered 3 steps later; one submit, one request, five ticks, close.
-    program = stand_in()
+    # Released at 2, delivered 3 steps later: one submit, one request, five ticks.
     instance = (ROW + '# @2\nsubmit x A B\n').encode()
-    to, rows = experiments.driven('n', [program, 'replay'], instance)
-    same([rows[name] for name in ('makespan', 'service_mean', 'service_p95', 'requests', 'commands')], [5, '3.00', 3, 1, 8])
-    # the one agent has a task in 3 of 5 ticks
-    same(rows['at_work'], '0.6')
-    same(b''.join(to.sent).decode(), ROW + ''.join(line.split(' = ')[0] + '\n' for line in TAPE))
-    # the recorded commands are replayed, and the least time counts
+    program = stand_in()
+    same(floors.measured(CASE, instance, program, 1)[:3], (5, [3], 3))
+    # what is sent: the two ticks before the release in one write, and the three of the path
+    site, orders = read_instance('n', instance), read_orders('n', instance)
+    sent, log = floors.driven(CASE, site, orders, [program, 'replay'])
+    same((sent.decode(), log.decode()), (ROW + ''.join(line.split(' = ')[0] + '\n' for line in TAPE), LOG))
+    # the least time counts
     taken = iter([0.3, 0.1, 0.2])
-    real, experiments.processor_seconds = experiments.processor_seconds, lambda words, given: next(taken)
+    real, floors.processor_seconds = floors.processor_seconds, lambda words, given: next(taken)
     try:
-        same(experiments.timed([program, 'replay'], to, 'n', 3), 0.1)
+        same(floors.timed([program, 'replay'], sent, 3), 0.1)
     finally:
-        experiments.processor_seconds = real
+        floors.processor_seconds = real
     # five ticks of a hundredth of a second each: no less can be counted
-    slow = stand_in(busy=0.01)
-    assert experiments.timed([slow, 'replay'], to, 'n', 1) >= 0.05
+    assert floors.timed([stand_in(busy=0.01), 'replay'], sent, 1) >= 0.05
 
 
 def test_a_run_that_is_not_as_told() -> None:
     instance = (ROW + '# @2\nsubmit x A B\n').encode()
-    for verdict in ('bad 4', 'run 7'):
-        assert f'`verify` says `{verdict}` to 8 commands' in refused(
-            experiments.driven, 'n', [stand_in(verify=verdict), 'replay'], instance)
-    # a replay of what was sent that ends elsewhere is another run
-    to, _ = experiments.driven('n', [stand_in(), 'replay'], instance)
-    other = [*TAPE[:3], 'token 0 = took 0 end 4', *TAPE[4:]]
-    assert 'gave other replies' in refused(experiments.timed, [stand_in(other), 'replay'], to, 'n', 1)
+    for verdict in ('bad 4', 'run 6'):
+        assert f'`verify` says `{verdict}`' in refused(floors.measured, CASE, instance, stand_in(verify=verdict), 1)
+    # a log whose count is not that of its path
+    other = LOG.replace('clock 3 picked 1', 'clock 3 picked 0')
+    assert 'not those of its paths' in refused(floors.measured, CASE, instance, stand_in(log=other), 1)
     # an order that nobody takes up
-    assert 'all agents stand, 1 orders are open' in refused(experiments.driven, 'n', [stand_in(
-        ['submit x A B = accepted 0', 'token 0 = rested'], log=''), 'replay'], (ROW + 'submit x A B\n').encode())
+    stands = stand_in(['submit x A B = accepted 0', 'token 0 = rested'], log='')
+    assert 'all agents stand, 1 orders are open' in refused(floors.measured, CASE, (ROW + 'submit x A B\n').encode(), stands, 1)
 
 
 def test_words_that_are_refused() -> None:
     program = stand_in()
-    for words, part in ((['small', '--frequencies', '0'], 'numbers above 0'), (['small', '--agents', '0'], 'numbers above 0'),
-                        (['small', '--variants', 'far'], 'near,patient'), (['small', '--program', '/nowhere'], 'no program is there'),
-                        (['small', '--plots', '/nowhere'], 'no such folder'), (['reach', '--floors', '9x9'], '35x21'),
-                        (['small', '--agents', '79'], 'has 78 parkings')):
+    for words, part in ((['floors', '--seeds', '0'], 'numbers above 0'), (['floors', '--seeds', '11'], '10 at most'),
+                        (['floors', '--floors', 'small'], 'aamas, large, packing'), (['floors', '--program', '/nowhere'], 'no program is there'),
+                        (['late', '--plots', '/nowhere'], 'no such folder'), (['reach', '--floors', '9x9'], '35x21')):
         out, said, status = tool(*words, *(() if '--program' in words else ('--program', program)))
         same(status, 2)
         assert part in said, said
@@ -243,44 +252,30 @@ def test_a_plot() -> None:
 # ---------------------------------------------------------------------------------------------- with the program
 
 def test_the_figures_are_those_of_stats() -> None:
-    folder = os.path.join(SCRATCH.name, 'kept')
-    out, said, status = tool('small', '--program', PROGRAM, '--agents', '3', '--tasks', '6', '--frequencies', '0.5', '--runs', '1',
-                             '--keep', folder)
-    same((said, status), ('', 0))
-    row = [word.strip() for word in out.splitlines()[-1].split('|')[1:-1]]
-    kept = os.path.join(folder, 'small-3-0.5-near')
-    with open(kept + '.sent', 'rb') as sent, open(kept + '.log', 'wb') as log:
-        subprocess.run([PROGRAM, 'replay', '--tail', 'log'], stdin=sent, stdout=log, check=True)
-    told = subprocess.run([sys.executable, os.path.join(ROOT, 'tools', 'stats.py'), kept, kept + '.log'], capture_output=True, text=True)
-    names, values = (line.split(',') for line in told.stdout.splitlines())
-    stats = dict(zip(names, values))
-    same(row[2:5], [stats[name] for name in ('makespan', 'service_mean', 'service_p95')])
-    same((stats['tasks'], stats['done']), ('6', '6'))
-    with open(kept + '.sent') as sent:
-        same(row[6], str(sent.read().count('\ntoken ')))
-
-
-def test_few_stations() -> None:
-    """A row of experiments_stations.py has the figures of stats over the log that drive makes of the same instance, for both ends of paths."""
-    table = os.path.join(SCRATCH.name, 'stations.csv')
-    done = subprocess.run([sys.executable, os.path.join(ROOT, 'dev/experiments_stations.py'), '--stations', '1', '--agents', '3', '--tasks', '5', '--seeds', '1',
-                           '--csv', table], capture_output=True, text=True, env={**os.environ, 'WAREHOUSE': PROGRAM})
-    same((done.stderr, done.returncode), ('', 0))
-    with open(table) as text:
-        head, *rows = (line.split(',') for line in text.read().splitlines())
-    same((head, [row[:3] for row in rows]), (['stations', 'agents', 'ends', 'per100', 'service_mean', 'service_p95', 'driven'], [['1', '3', 'stops'], ['1', '3', 'homes']]))
-    site = os.path.join(SCRATCH.name, 'stations')
-    with open(site, 'wb') as file:
-        file.write(experiments.released(experiments.make(['--layout', 'kiva', '--columns', '42', '--rows', '30', '--stations', '1'], 3, 5, 1), '5', True))
-    for row in rows:
-        subprocess.run([sys.executable, os.path.join(ROOT, 'tools/drive.py'), site, '--ends', row[2], '--program', f'{PROGRAM} replay', '--save', site + '.log'],
-                       stdout=subprocess.PIPE, check=True)
+    """They are those of stats over the log that drive makes of the same instance, where orders come in time and where all are there."""
+    site = os.path.join(SCRATCH.name, 'site')
+    for case in (floors.Case('aamas', 0, 3, '0.5', 'homes'), floors.Case('aamas', 0, 3, '0.5', 'stops', ask='number', rule='nofollow'),
+                 floors.Case('packing', 1, 3, 'all', 'stops', rule='nofollow'), floors.Case('packing', 1, 3, 'all', 'homes', rule='nofollow')):
+        found = floors.run_once(case, 1, PROGRAM, 1, 8)
+        with open(site, 'wb') as file:
+            file.write(floors.instance_of(case, 1, 8))
+        subprocess.run([sys.executable, os.path.join(ROOT, 'tools/drive.py'), site, '--ends', case.ends, '--ask', case.ask, '--program', f'{PROGRAM} replay',
+                        '--save', site + '.log'], stdout=subprocess.PIPE, check=True)
         told = subprocess.run([sys.executable, os.path.join(ROOT, 'tools/stats.py'), site, site + '.log'], stdout=subprocess.PIPE, text=True, check=True)
         stats = dict(zip(*(line.split(',') for line in told.stdout.splitlines())))
-        same(row[3:], [f'{float(stats["per100"]):.1f}', f'{float(stats["service_mean"]):.0f}', stats['service_p95'], f'{int(stats["distance"]) / 5:.0f}'])
+        same((case, str(found.makespan), f'{sum(found.served) / 8:.2f}', str(found.cells), stats['done']),
+             (case, stats['makespan'], stats['service_mean'], stats['distance'], '8'))
 
 
-NEEDS_PROGRAM = {'test_the_figures_are_those_of_stats', 'test_few_stations'}
+def test_a_table_of_late_vehicles() -> None:
+    """The figure of a run is that of `drive --late --ask number`."""
+    found = experiments_late.per100(experiments_late.Case(experiments_late.SPEEDS[1], 3, 8), 1, PROGRAM)
+    told = subprocess.run([sys.executable, os.path.join(ROOT, 'tools/drive.py'), experiments_late.INSTANCE, '--late', '1', '--ask', 'number', '--ahead', '3', '--behind', '8',
+                           '--spread', '0.3', '--program', f'{PROGRAM} replay'], stdout=subprocess.PIPE, text=True, check=True)
+    same(f'per100s {found:.1f}' in told.stdout.splitlines(), True)
+
+
+NEEDS_PROGRAM = {'test_the_figures_are_those_of_stats', 'test_a_table_of_late_vehicles'}
 
 
 def guarded(test):

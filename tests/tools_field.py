@@ -299,7 +299,8 @@ def test_made_instances_are_formed() -> None:
                   '--columns 64 --rows 64 --open --agents 100 --stops 8', '--columns 300 --rows 300 --agents 256 --seed 5',
                   *(f'--layout kiva --columns 42 --rows 30 --agents 50 --stations {count}' for count in (1, 3, 12, 15)),
                   '--layout kiva --columns 20 --rows 8 --agents 28 --stations 4', '--layout kiva --columns 81 --rows 81 --agents 250 --stations 34 --stops 8',
-                  '--layout kiva --columns 47 --rows 33 --shelf 3 --stations 2'):
+                  '--layout kiva --columns 47 --rows 33 --shelf 3 --stations 2', '--layout aisles --columns 35 --rows 21 --shelf 10 --agents 50',
+                  '--layout aisles --columns 20 --rows 8 --agents 16', '--layout aisles --columns 81 --rows 80 --agents 200'):
         made, told, status = tool('make_instance.py', *(words + ' --ticks 3').split())
         same((told, status), ('', 0))
         same((words, warehouse(made, 'check')), (words, ('formed\n', 0)))
@@ -320,6 +321,20 @@ def test_packing_stations() -> None:
     same((len(orders), {stop[0] for order in orders for stop in order[:-1]}, {order[-1] for order in orders}), (60, {'S'}, {'C0', 'C1', 'C2'}))
     refused(tool('make_instance.py', '--layout', 'kiva', '--columns', '42', '--stations', '16'), '--stations 16', '1 to 15')
     refused(tool('make_instance.py', '--layout', 'kiva', '--open'), '--layout kiva')
+
+
+def test_stations_along_aisles() -> None:
+    """Two shelves of 10 in each of the rows 2, 6, .. 18, and a station at each of the 20 cells beside a shelf: 200."""
+    made, told, status = tool('make_instance.py', '--layout', 'aisles', '--columns', '35', '--rows', '21', '--shelf', '10', '--tasks', '0', '--ticks', '0')
+    same((told, status), ('', 0))
+    rows, points, _ = made.split('%%\n')
+    cells = rows.split('\n')[4:]
+    same([y for y in range(21) if '@' in cells[y]], [2, 6, 10, 14, 18])
+    same((cells[2], cells[0]), ('......' + '@' * 10 + '..' + '@' * 10 + '.......', '.' * 35))
+    beside = {(x, y) for y in range(21) for x in range(35) if cells[y][x] == '.' and '@' in [cells[other][x] for other in (y - 1, y + 1) if 0 <= other < 21]}
+    found = {(int(x), int(y)) for x, y in re.findall(r'station \w+ (\d+) (\d+)', points)}
+    same((len(found), found), (200, beside))
+    refused(tool('make_instance.py', '--layout', 'aisles', '--open'), '--layout aisles')
 
 
 def test_an_imported_instance_is_delivered() -> None:

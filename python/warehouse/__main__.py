@@ -28,7 +28,7 @@ def module(name: str) -> ModuleType:
 def usage() -> str:
     """Each subcommand with the beginning of its page."""
     rows = [f'    {name:16}{re.split("[.:,]", module(name).__doc__ or "", maxsplit=1)[0]}' for name in COMMANDS]
-    return '\n'.join(['usage: python3 -m warehouse SUBCOMMAND ..', '', *rows, '', 'SUBCOMMAND --help tells more.', ''])
+    return '\n'.join(['usage: python3 -m warehouse SUBCOMMAND ..', '', *rows, '', 'SUBCOMMAND --help has more.', ''])
 
 
 def parser_of(name: str, prog: str) -> argparse.ArgumentParser:

@@ -6,13 +6,13 @@
 The service is `serve --log FILE --client N=FOLDER`. The client opens FOLDER/out and reads to the line `entries N`: so many
 entries of the history are its own. Only then it opens FOLDER/in. Each line is sent behind the reply to the one before; empty
 lines and comments, which have no reply, are left out. It prints `entries N`, and each reply, and ends with its input, or
-where it is told `closed`.
+at the reply `closed`.
 
 Where the connection breaks, because the service was killed, say, it comes again when the service does. The new `entries N`
-then tells whether the line that had no reply stands: if it has one entry more, it stands, and `lost: LINE` is printed in
-place of its reply, which stands in the log of the service; else the line is sent again.
+then says whether the line without a reply was served: if it is one more, it was, and `lost: LINE` is printed in place of
+its reply, which is in the service's log; else the line is sent again.
 
-Status 0: all lines were answered; 1: the service did not come within --wait, or tells another number of entries than it can
+Status 0: all lines were answered; 1: the service did not come within --wait, or reports a number of entries that it cannot
 have.
 """
 from __future__ import annotations

@@ -9,6 +9,7 @@ client's own `Queue`.
 """
 from __future__ import annotations
 
+import functools
 import time
 from array import array
 from collections import OrderedDict, deque
@@ -49,6 +50,7 @@ class Distances:
 
     def __init__(self, instance: Instance):
         self.instance = instance
+        self.across = instance.width + 2    # cells are kept row by row, with a border of blocked ones
         self.fields: OrderedDict[Cell, array[int]] = OrderedDict()
 
     def __call__(self, start: Cell, end: Cell) -> int:
@@ -57,21 +59,29 @@ class Distances:
             field = self.fields[end] = self.field(end)
             if len(self.fields) > MOST_FIELDS:
                 self.fields.popitem(last=False)
-        return field[start[1] * self.instance.width + start[0]]
+        return field[self.number(start)]
+
+    def number(self, cell: Cell) -> int:
+        return (cell[1] + 1) * self.across + cell[0] + 1
+
+    @functools.cached_property
+    def passable(self) -> bytes:
+        sides = range(-1, self.instance.height + 1), range(-1, self.instance.width + 1)
+        return bytes(self.instance.is_passable((x, y)) for y in sides[0] for x in sides[1])
 
     def field(self, end: Cell) -> array[int]:
-        """Of each cell, row by row, the distance to this one."""
-        instance, width = self.instance, self.instance.width
-        field = array('l', [FAR]) * (width * instance.height)
-        field[end[1] * width + end[0]] = 0
-        waiting = deque([end])
+        """Of each cell, by its number, the distance to this one."""
+        passable, beside = self.passable, (1, -1, self.across, -self.across)
+        field = array('l', [FAR]) * len(passable)
+        field[self.number(end)] = 0
+        waiting = deque([self.number(end)])
         while waiting:
-            x, y = waiting.popleft()
-            steps = field[y * width + x] + 1
-            for cell in ((x + 1, y), (x - 1, y), (x, y + 1), (x, y - 1)):
-                if instance.is_passable(cell) and field[cell[1] * width + cell[0]] == FAR:
-                    field[cell[1] * width + cell[0]] = steps
-                    waiting.append(cell)
+            cell = waiting.popleft()
+            steps = field[cell] + 1
+            for step in beside:
+                if passable[cell + step] and field[cell + step] == FAR:
+                    field[cell + step] = steps
+                    waiting.append(cell + step)
         return field
 
 

@@ -3,7 +3,7 @@
     import-lif FILE --cell 1.2 --agents 4 > INSTANCE
 
 The nodes must lie on a grid of --cell metres, and each must have edges to and from all its neighbours there: roads that go one way, or lie
-elsewhere, cannot be had. The first --agents nodes without a station, by row and column, become parkings with an agent each. Station names
+elsewhere, are refused. The first --agents nodes without a station, by row and column, become parkings with an agent each. Station names
 have 1 to 16 letters, digits, _ or -. There is no script: add orders. The format is written from knowledge of it, not checked against its
 text.
 """

@@ -9,7 +9,7 @@ The shape that is read, written down from memory of these files and not from a d
             line 2            how many task endpoints there are: the cells `e`
             line 3            how many agents there are: the cells `r`
             line 4            a greatest time, which becomes a comment
-            then ROWS lines   of COLUMNS letters: `@` barred, `.` free, `e` task endpoint, `r` an agent's own endpoint
+            then ROWS lines   of COLUMNS letters: `@` blocked, `.` free, `e` task endpoint, `r` an agent's own endpoint
     TASK    line 1            how many tasks there are
             then one line each: release time, pickup, delivery, and two waits, which must be 0: no stop has a wait here;
                               pickup and delivery are numbers of `e` cells in reading order, from 0

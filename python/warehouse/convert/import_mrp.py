@@ -2,7 +2,7 @@
 
     import-mrp MAP.yaml > INSTANCE
 
-Agent I starts at point `PI` and its goal is the station `SI`, for which `submit mrp SI SI` is handed in: be there once. As with
+Agent I starts at point `PI` and its goal is the station `SI`, for which the order `submit mrp SI SI` is made: be there once. As with
 `import-scen` any agent may serve any goal, so costs cannot be compared. A start that is another's goal is that station. The format is
 written from knowledge of it, not checked against its text.
 """

@@ -8,9 +8,9 @@ or both are one cell: a cell has at most one point here. How many were left out 
 `parking PI` with an agent, `station SI`, and a task `submit scen SI SI`: be at that goal once.
 
 What this can mean, and what it cannot:
-- A scenario tells each agent its own goal. Here nobody can: by Token Passing the agents that have ended their paths take
+- A scenario gives each agent its own goal. Here nobody can: by Token Passing the agents that have ended their paths take
   tasks in turn, each the nearest that it may, so agent I need not go to goal I. It is the problem with goals that any
-  agent may serve, solved online. Optimal lengths and costs that are told for the scenario cannot be compared with it.
+  agent may serve, solved online. Optimal lengths and costs of the scenario cannot be compared with it.
 - An agent that has been at a goal is free again, takes another task, or rests or parks where it is not in the way. So
   not all agents stand at goals at the end.
 - Scenarios are made with no thought of well-formed instances: points may cut others off. `./warehouse check` says

@@ -7,15 +7,15 @@ LOG is a log or the output of `replay --tail log`, of a run on INSTANCE; `-` is 
 byte for byte, and so are the points but for the `agent` lines: agent N starts at the point where it rests at LOG's end.
 These lines stay in their places and in their order; one whose point is defined only further down moves behind that
 line, and those after it with it. Then each open task is a `submit` line, with its client and its stops, in the order in
-which they were handed in. Other sections of INSTANCE are not looked at.
+which they were submitted. Other sections of INSTANCE are not looked at.
 
-Numbers of tasks and the clock begin at 0 again; a comment tells each task's number and clock of before. Orders that were
-refused or never handed in are not in it: put those that are still wanted behind what this writes.
+Numbers of tasks and the clock begin at 0 again; a comment has each task's earlier number and clock. Orders that were
+refused or never submitted are not in it: put those that are still wanted behind what this writes.
 
 It refuses, with one line on standard error, status 1 and nothing on standard output,
 
-    where a task is under way (assigned or carried), or an agent has steps left: how many ticks more, with no token,
-    bring all agents to rest is told (docs/OPERATIONS.md says how to end a shift)
+    where a task is under way (assigned or carried), or an agent has steps left: it says how many ticks more, with no
+    request, bring all agents to rest (docs/OPERATIONS.md says how to end a shift)
     where an agent rests at no point, or two at one
     where LOG has no end line, is no log, or does not fit INSTANCE: its agents, stations, paths, or counts of visits
 

@@ -13,8 +13,8 @@ each tick. Where they differ the page has a red banner. A visit made as a path i
 The state at a clock is the one after all entries of that clock. Phases of a task: open, assigned (an agent is on its
 way to the first stop), carried, done.
 
-    --verify [PROGRAM]  has `PROGRAM verify` judge the log, and the page tells its answer (default: the environment's
-                        WAREHOUSE, or ./warehouse at the repository's top); without it the page tells no verdict
+    --verify [PROGRAM]  has `PROGRAM verify` judge the log, and the page has its answer (default: the environment's
+                        WAREHOUSE, or ./warehouse at the repository's top); without it the page has no verdict
     --svg T             a still of clock T as SVG on standard output
     --animate           the whole run as an SVG that moves by itself; for a few hundred ticks
     --check [T ..]      no picture: a line `clock T cells X,Y .. phases LETTERS` for each of the clocks, or for all: the
@@ -25,12 +25,12 @@ way to the first stop), carried, done.
                         the page plays a second run beside the first, by one clock, which is counted from each run's first
 
     --vehicles TRANSCRIPT
-                        also the vehicles that carried out the plan late, from what `replay --vehicles` told, each line behind
+                        also the vehicles that carried out the plan late, from what `replay --vehicles` wrote, each line behind
                         its second (`drive --late 1 --save LOG --transcript TRANSCRIPT` makes both).
                         The page then plays seconds: each vehicle, all cells that it occupies, where its plan is at the clock
                         and how many steps it is behind; tasks are carried as vehicles carry them. --svg and --check take it as
-                        it is when the clock T ends; rows of --check go on with `vehicles X,Y>X,Y .. behind N ..`, cells from
-                        where a vehicle is to the last it was told. No two may ever occupy one cell: status 1 where they do
+                        it is when the clock T ends; rows of --check continue with `vehicles X,Y>X,Y .. behind N ..`, cells from
+                        where a vehicle is to the last it was granted. No two may ever occupy one cell: status 1 where they do
 
 A mistake in what was given is one line on standard error with the file's line, and status 1.
 """

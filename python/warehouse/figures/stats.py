@@ -3,7 +3,7 @@
     ./warehouse replay --tail log < examples/shelves > shelves.out
     stats examples/shelves shelves.out
 
-All logs are of the one instance: a log names stops, and only the instance tells where these are. A log may be the
+All logs are of the one instance: a log names stops, and only the instance says where these are. A log may be the
 output of `replay --tail log`; what stands before it is skipped. `-` is the standard input. Clocks are counted in ticks.
 
     log             the name of the file
@@ -18,7 +18,7 @@ output of `replay --tail log`; what stands before it is skipped. `-` is the stan
     distance        steps to a neighbouring cell, of all agents together
     waits           steps of a path that stay in their cell; to rest with no steps left is no wait
     parkings        requests for the token answered `parked`: a way to a point where the agent is in no one's way
-    e6              requests for the token refused for want of a path
+    e6              requests for the token refused for lack of a path
     ticks           how far the log's clock went
     cut             1 where the log has no end line, else 0
 

@@ -1,12 +1,12 @@
-"""Drives an instance to its end through a pipe, as a fleet manager would: sends a command, reads its reply, goes on.
+"""Drives an instance to its end through a pipe, as a fleet manager would: sends a command, reads its reply, and so on.
 
     drive INSTANCE                            the orders are those of INSTANCE's third section
     drive INSTANCE SCRIPT --log run.log       the orders are those of SCRIPT; the program keeps the run in run.log
     drive INSTANCE --cells cells              where each agent is at each clock
-    drive INSTANCE --ends homes               paths go on home from the last stop
+    drive INSTANCE --ends homes               paths lead home from the last stop
     drive INSTANCE --program 'ssh host warehouse/warehouse replay'
 
-At each clock it hands in the orders that are due, asks the token for the agents that are due, and ticks: a
+At each clock it submits the orders that are due, asks the token for the agents that are due, and ticks: a
 tick says that every agent has made its step. It ends when each accepted order is delivered and nobody moves, or where
 no later reply can differ from those before it, or at --ticks. With --shift N it gives nobody anything to do from clock
 N on, and ends when nobody moves: `next-shift` takes such a log with the orders that are open then.
@@ -18,18 +18,18 @@ Who is asked first is --ask's: `nearest`, the one that is nearest to the first s
 nobody is left who would not rest; `number`, all who may ask in the order of their numbers; `hold`, as nearest, but an order
 waits while an agent that is busy could be at its first stop sooner.
 
-Where no later reply can differ, as where two agents at rest bar an order to each other, it ends; with --helpers it hands in
+Where no later reply can differ, as where two agents at rest block an order for each other, it ends; with --helpers it sends
 `submit helper S S` instead, which sends one of them to another station, once for each order and agent.
 
-`took N path X,Y X,Y ..` and `parked P path X,Y ..` tell the agent's cell at each clock from now on: cell k of the path at
+`took N path X,Y X,Y ..` and `parked P path X,Y ..` have the agent's cell at each clock from now on: cell k of the path at
 clock T + k. With the last index K it has no steps left when the clock is K higher; with K = 0 at once. Then it is due; and
-with --ends homes, where paths go on to where the agent started, at its last stop: what it takes up there replaces the
+with --ends homes, where paths lead on to where the agent started, at its last stop: what it takes up there replaces the
 rest. So it asks when it is due, and only where an order is open. After `rested` it asks again when an order has come in or
 another agent has taken up a path; before, the answer would be the same. `refused E6` (no path now) is asked again after
-the next tick, and then likewise. After `refused E1`, `E2` or `E3` the order is left out, and told. Any other refusal, a
+the next tick, and then likewise. After `refused E1`, `E2` or `E3` the order is left out, and reported. Any other refusal, a
 wrong reply and a program that ends end the run, with the line that was sent.
 
-What the replies tell is judged as they come, with no log: a path begins where the agent stands, each next cell is a
+What the replies say is judged as they come, with no log: a path begins where the agent stands, each next cell is a
 neighbour or the same, all are passable; a task's stops are visited in turn, a parking is where its path ends; each tick
 counts the visits that the cells give; and before a tick is sent, no two agents come to one cell, none exchange cells, and
 under `rule nofollow` none follows another. Where one of these is not so the run ends, and says which.
@@ -38,18 +38,18 @@ With --cells FILE a line `CLOCK X,Y X,Y ..` is written for each clock, agent by 
 other one before the tick to its clock is sent. So it says where the vehicles must be before that tick; a controller that
 moves vehicles would wait there until they are.
 
-With --log FILE the program keeps the run in FILE, each entry before its reply is told (`replay --log`). Where the program
-ends while commands wait for their replies, it is started again, and goes on: it tells again the entries that it had served
-without a reply (`--told`), each of which must be one of these commands; the others are sent again. A program that ends again
+With --log FILE the program keeps the run in FILE, each entry before its reply is written (`replay --log`). Where the program
+ends while commands wait for their replies, it is started again, and resumes: it prints again the entries that it had served
+without a reply (`--told`), each for one of these commands; the others are sent again. A program that ends again
 by itself before it has served anything more is not started a third time; one that is killed is, up to five times. A FILE with an earlier run is left as it is: what this
 script knew of that run, it knows no more, so it says so and ends, and FILE and FILE.site are to be removed first. --save FILE is
 for a program that knows no --log: it writes there, at the end, the log that follows the replies.
 
-With --replies short `took N end K` and `parked P end K` tell K and no cell: for a program that knows no `--replies`.
+With --replies short `took N end K` and `parked P end K` have K and no cell: for a program that knows no `--replies`.
 
 To --program's words are added `--log FILE`, or without it `--tail log`, with --ends homes that option, and, but with --replies
 short, `--replies full`, unless they name these options. The figures of deliveries are worked out at the end, from the log, as `stats` does; its paths
-must be those that the replies told.
+must be those of the replies.
 
 It prints a name and a number a line:
 
@@ -65,7 +65,7 @@ It prints a name and a number a line:
                     the pipe and the cells of a full reply are in it, and with --batch above 1 a batch shares its time evenly
 
 Figures of an order's delivery stand only where a log came. Status 0: all delivered, or the shift ended; 1: the run ended
-before that, or an order was refused, which is told; 2: it could not be driven to an end.
+before that, or an order was refused, which is reported; 2: it could not be driven to an end.
 """
 from __future__ import annotations
 
@@ -95,7 +95,7 @@ def add_options(parser: argparse.ArgumentParser) -> None:
     add('script', metavar='SCRIPT', nargs='?', help="orders, in place of INSTANCE's third section")
     add('--program', metavar="'WORDS'", default=shlex.join([program(), 'replay']), help='the program and its words (%(default)s)')
     add('--ask', choices=sorted(POLICIES), default='nearest', help='who is asked first (%(default)s)')
-    add('--replies', choices=('full', 'short'), default='full', help='whether replies tell cells (%(default)s)')
+    add('--replies', choices=('full', 'short'), default='full', help='whether replies have cells (%(default)s)')
     add('--ends', choices=ENDS, default='stops', help='where paths end: at the last stop, or where the agent started (%(default)s)')
     add('--cells', metavar='FILE', help="write each agent's cell at each clock there; - is the standard output")
     add('--batch', type=int, default=1, metavar='N', help=f'commands sent at once, 1 to {MOST_IN_BATCH} (1)')
@@ -103,7 +103,7 @@ def add_options(parser: argparse.ArgumentParser) -> None:
     add('--shift', type=int, metavar='N', help='from clock N on ask no more, and end when nobody moves')
     add('--helpers', action='store_true', help='at a standstill, hand in orders of the client `helper` that send agents out of the way')
     add('--close', action='store_true', help='send `close` at the end')
-    add('--log', metavar='FILE', help='the program keeps the run there, and goes on with it where it ends')
+    add('--log', metavar='FILE', help='the program keeps the run there, and resumes it where it ends')
     add('--save', metavar='FILE', help='write the log there at the end, for a program that knows no --log')
     add('--wait', type=float, metavar='SECONDS', help='stop where nothing comes for so long (never)')
     add_late_options(parser)

@@ -66,13 +66,13 @@ class Plan:
 def add_late_options(parser: argparse.ArgumentParser) -> None:
     add = parser.add_argument
     add('--late', type=int, metavar='SEED', help='move vehicles that are late, in a simulation, under `rule nofollow`, which is added where '
-                                                      'INSTANCE has none: warehouse/simulate/late.py tells all of it')
+                                                      'INSTANCE has none: warehouse/simulate/late.py has all of it')
     add('--behind', type=int, default=8, metavar='N', help='with --late: the clock waits for a vehicle so far behind (%(default)s)')
-    add('--ahead', type=int, default=1, metavar='N', help='with --late: steps ahead that a vehicle is told (%(default)s)')
+    add('--ahead', type=int, default=1, metavar='N', help='with --late: steps that a vehicle is granted in advance (%(default)s)')
     add('--spread', type=float, default=0.3, metavar='X', help='with --late: how far speeds differ, 0 to 0.9 (%(default)s)')
-    add('--kills', type=int, default=0, metavar='N', help='with --late and --log: end the program so often by signal 9, and go on')
+    add('--kills', type=int, default=0, metavar='N', help='with --late and --log: end the program so often by signal 9, and resume')
     add('--stop', type=float, default=0.0, metavar='SECONDS', help='with --late: so long vehicle 0 stands once, from second 100 on')
-    add('--transcript', metavar='FILE', help='with --late: write there what the program tells, each line behind its second')
+    add('--transcript', metavar='FILE', help='with --late: write there what the program replies, each line behind its second')
 
 
 class Floor:

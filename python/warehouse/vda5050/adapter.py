@@ -3,22 +3,22 @@
     vda5050 INSTANCE --log run.log                                the broker of this machine, a cell of 1 m
     vda5050 INSTANCE --log run.log --broker mq --cell 1.2 --step 2 --fleet vehicles
 
-Each path that the core adopts is one order: what the core has told by `go` is its base, the rest of the path its horizon,
+Each path that the core adopts is one order: what the core has granted by `go` is its base, the rest of the path its horizon,
 `orderUpdateId` the last released node. `lastNodeSequenceId` of a state becomes `at`. Stops are blocking node actions: `pick` at the
 first, `drop` at the last, `visit` between. Topics are `uagv/v2/MAKER/SERIAL/..`; MAKER and SERIAL are those of --fleet's lines
 `MAKER SERIAL`, agent by agent, else `torchdaisy` and `v0`, `v1`, ..
 
 Orders of transport come by MQTT at `warehouse/order`: {"id": "o17", "stops": ["S3", "S9"], "client": "wms"}. The id is a key: the same
-order again, with the same key, is not handed in again, so send it until `warehouse/order/o17` answers: state accepted, assigned,
+order again, with the same key, is not submitted again, so send it until `warehouse/order/o17` answers: state accepted, assigned,
 picked, delivered, each retained, or refused, with why. `warehouse/status`, retained, has clock, counts and alarms, which also stand
 on standard error. `warehouse/command` takes {"command": "pause"}, or resume, with "vehicle": a serial number, or for all; and with
 --out-after {"command": "out", "vehicle": ..}, or back.
 
-It keeps FILE (the core's log) and FILE.keys (keys, and how far each order is), and goes on from these and the vehicles' next states
+It keeps FILE (the core's log) and FILE.keys (keys, and how far each order is), and resumes from these and the vehicles' next states
 after any kill of itself, of the core, of the broker and of vehicles.
 
 A vehicle that is lost stops those behind it, in the end all. With --out-after SECONDS all halt instead (`cancelOrder`), the run ends,
-and the next one (FILE.2, ..) begins where they stand, without the lost vehicle and the cells that it was told; again when it is back.
+and the next one (FILE.2, ..) begins where they stand, without the lost vehicle and the cells that it was granted; again when it is back.
 
 Needs paho-mqtt. Status 0: interrupted; 2: a file or an option is wrong; 3: the core does not begin. Written from knowledge of VDA
 5050 2.x, not checked against its text.
@@ -58,8 +58,8 @@ def add_options(parser: argparse.ArgumentParser) -> None:
     add('--deviation', type=float, metavar='METRES', help='how far a vehicle may be off a node (a twentieth of a cell)')
     add('--step', type=float, default=1.0, metavar='SECONDS', help='between two ticks (%(default)s); 0: as far ahead as --behind lets it')
     add('--behind', type=int, default=8, metavar='STEPS', help='how far a vehicle may be behind before the clock waits (%(default)s)')
-    add('--ahead', type=int, default=4, metavar='STEPS', help='how many steps ahead a vehicle is told (%(default)s)')
-    add('--horizon', type=int, default=12, metavar='NODES', help='nodes beyond the base that an order tells (%(default)s)')
+    add('--ahead', type=int, default=4, metavar='STEPS', help='how many steps a vehicle is granted in advance (%(default)s)')
+    add('--horizon', type=int, default=12, metavar='NODES', help='nodes beyond the base that an order has (%(default)s)')
     add('--silent', type=float, default=SILENT, metavar='SECONDS', help='a vehicle of which no state comes for so long is lost (%(default)s)')
     add('--out-after', type=float, default=0.0, metavar='SECONDS', help='plan around a vehicle that is lost for so long (never)')
     add('--ends', choices=ENDS, default='stops', help='where paths end: at the last stop, or on where the vehicle started (%(default)s)')

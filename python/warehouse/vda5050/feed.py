@@ -1,6 +1,6 @@
 """Sends transport orders of a table to the adapter, each again until it is answered.
 
-    vda5050-orders FILE --broker mq            tells each answer as `KEY STATE`, and ends when all are delivered or refused
+    vda5050-orders FILE --broker mq            prints each answer as `KEY STATE`, and ends when all are delivered or refused
 
 FILE is CSV with the columns `key` and `stops` (names with blanks between), and where wanted `client`, and `at`, the second from the
 beginning at which it is sent; `-` is the standard input. It is an example of a feed: another system does the same by MQTT. One that was

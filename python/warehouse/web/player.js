@@ -232,7 +232,7 @@ function player(root) {
     if (kind == 'refused') return `${a}: refused ${b}`;
     if (!x) return `a visit of task ${a}`;
     const who = `${V ? 'vehicle' : 'agent'} ${x.agent}`, where = name(x.stops[b]);
-    if (b == x.stops.length - 1) return `${who} delivers task ${a} at ${where}, ${Math.round(when - x.sub)} after it came in`;
+    if (b == x.stops.length - 1) return `${who} delivers task ${a} at ${where}, ${Math.round(when - x.sub)} after submission`;
     return b == 0 ? `${who} picks up task ${a} at ${where}` : `${who} is at stop ${b + 1} of task ${a}, ${where}`;
   }
   let listed = '';
@@ -246,7 +246,7 @@ function player(root) {
     for (let i = n - 1; i >= 0 && lines.length < 120; i--) if (mine(E[i]))
       lines.push(`<p${E[i][2] == 'refused' ? ' class=bad' : ''}><i>${Math.floor(E[i][0]) + BASE}</i> ${escaped(words(E[i]))}</p>`);
     $('events').innerHTML = `<h2>Events up to now${picked < 0 ? '' : `, agent ${picked}`}, latest first (not listed: rested, E5)</h2>` + lines.join('');
-    $('agent').textContent = picked < 0 ? 'click one' : about(picked, V ? now : t);
+    $('agent').textContent = picked < 0 ? 'select an agent' : about(picked, V ? now : t);
   }
   function panelLate() {
     let late = 0, most = 0, who = -1; const held = V.held.find(h => h[0] <= now * 100 && (h[1] < 0 || now * 100 < h[1]));
