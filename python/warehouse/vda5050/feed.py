@@ -4,7 +4,7 @@
 
 FILE is CSV with the columns `key` and `stops` (names with blanks between), and where wanted `client`, and `at`, the second from the
 beginning at which it is sent; `-` is the standard input. It is an example of a feed: another system does the same by MQTT. One that was
-stopped is begun again with the same FILE: what was taken before is not taken again. With --broker - answers are told on standard error.
+stopped is begun again with the same FILE: what was taken before is not taken again. With --broker - answers are written to standard error.
 
 Status 0: all are delivered; 1: some were refused; 2: FILE or an option is wrong.
 """

@@ -6,7 +6,7 @@
 INSTANCE has the sections map and points, as for `play`; LOG is the file of `--log`, which may come later. With LOG.at beside it
 (`--vehicles`) the page shows vehicles: which cells each occupies, where its plan is, how far it is behind. --ahead and --behind are
 those of the service. Times are those at which this server saw the files grow. Where `vda5050` has ended a run for a lost vehicle (LOG.keys
-says so), the page goes on with the next one, LOG.2.
+says so), the page continues with the next one, LOG.2.
 
     /           the player, at the last moment; scroll back with the slider or the arrows, the key end follows again
     /events     Server-Sent Events: `run`, the last ten minutes, then `more`, what is new of it
