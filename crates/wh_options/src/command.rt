@@ -167,7 +167,7 @@ fn with_ends<'a>(
 ) -> Result<Command<'a>, AllocError>
     ensures { (a : App) → HasShape command.entry a → IfOk result (λ c. HasShape c (with_ends_rule ends.entry a)) }
 {
-    let help = "For few stations, homes: paths go on to where agents started [default: stops]";
+    let help = "For few stations, homes: paths lead on to where agents started [default: stops]";
     with_choice(alloc, command, "ends", ends, help)
 }
 
@@ -187,7 +187,7 @@ fn fleet_command<'a>(
     let command = with_number(alloc, command, "slots", 2, 64, help)?;
     let help = "Slots that all planners share, 2 to 65536 [default: 1024]";
     let command = with_number(alloc, command, "bank", 2, 65536, help)?;
-    let help = "Planners that stand by to replace others, 0 to 16 [default: 0]";
+    let help = "Standby planners for the command replace, 0 to 16 [default: 0]";
     let command = with_number(alloc, command, "spares", 0, 16, help)?;
     with_ends(alloc, command, ENDS.as_slice())
 }
@@ -197,12 +197,13 @@ fn with_vehicles<'a>(alloc: Global, command: Command<'a>) -> Result<Command<'a>,
     ensures { (a : App) → HasShape command.entry a → IfOk result (λ c. HasShape c (with_vehicle_rules a)) }
 {
     let help =
-        "Vehicles carry out the plan, each at its own pace: takes `at AGENT STEP`, tells `go AGENT STEP X,Y`";
+        "Vehicles carry out the plan, each at its own pace: reads `at AGENT STEP`, writes `go AGENT STEP X,Y`; the points need `rule nofollow`";
     let command = with_switch(alloc, command, "vehicles", help)?;
     let help =
         "With --vehicles: steps that a vehicle may be behind before the clock waits, 1 to 1000 [default: 8]";
     let command = with_number(alloc, command, "behind", 1, 1000, help)?;
-    let help = "With --vehicles: steps ahead that a vehicle may be told, 1 to 1000 [default: 1]";
+    let help =
+        "With --vehicles: steps that a vehicle may be granted in advance, 1 to 1000 [default: 1]";
     with_number(alloc, command, "ahead", 1, 1000, help)
 }
 
@@ -227,7 +228,7 @@ fn with_telling<'a>(
     let help = "What follows the replies, behind a line %% [default: none]";
     let command = with_choice(alloc, command, "tail", tails, help)?;
     let help =
-        "How a reply is told: short, of a path its end; full, each cell; placed, full behind its entry's number and the clock [default: short]";
+        "Reply format: short, a path by its last index; full, by each cell; placed, full with entry number and clock [default: short]";
     with_choice(alloc, command, "replies", replies, help)
 }
 
@@ -235,9 +236,9 @@ fn with_telling<'a>(
 fn with_log<'a>(alloc: Global, command: Command<'a>) -> Result<Command<'a>, AllocError>
     ensures { (a : App) → HasShape command.entry a → IfOk result (λ c. HasShape c (with_log_rules a)) }
 {
-    let help = "Keeps the log of the run in FILE, and goes on from the log that FILE has";
+    let help = "Keeps the log of the run in FILE, and resumes the run that FILE has";
     let command = with_file(alloc, command, "log", help)?;
-    let help = "With --log: tells the entries of FILE again, from this one on, before the script";
+    let help = "With --log: first prints the entries of FILE from number N on";
     let command = with_number(alloc, command, "told", 0, LAST_ENTRY, help)?;
     let help =
         "With --log: begins a new run although FILE was lost, or never begun, beside its FILE.site";
@@ -249,7 +250,7 @@ pub(crate) fn replay_command<'a>(alloc: Global) -> Result<Command<'a>, AllocErro
     ensures { IfOk result IsReplayCommand }
 {
     let about =
-        "For one client at a pipe: answers each command of a script (input: map, points, script)";
+        "For one client at a pipe: runs its commands, and writes a reply to each (input: map, points, script)";
     let command = fleet_command(alloc, "replay", about)?;
     let command = with_telling(alloc, command, TAILS.as_slice(), REPLIES.as_slice())?;
     let command = with_log(alloc, command)?;
@@ -278,7 +279,7 @@ fn with_board<'a>(alloc: Global, command: Command<'a>) -> Result<Command<'a>, Al
         "Shows the board in FILE while the run lasts: counts of tasks, and where each agent is, by the entries that are synced; FILE is replaced as a whole, and is no file of the log";
     let command = with_file(alloc, command, "board", help)?;
     let help =
-        "With --board: rests N milliseconds at least between two looks, 1 to 60000 [default: 100]";
+        "With --board: waits N milliseconds at least between two looks, 1 to 60000 [default: 100]";
     with_number(alloc, command, "board-every", 1, 60_000, help)
 }
 
@@ -291,12 +292,12 @@ fn with_clients<'a>(
     ensures { (a : App) → HasShape command.entry a → IfOk result (λ c. HasShape c (with_client_rules replies.entry a)) }
 {
     let help =
-        "Keeps the log of the run in FILE, and goes on from the log that FILE has [always needed]";
+        "Keeps the log of the run in FILE, and resumes the run that FILE has [always needed]";
     let command = with_file(alloc, command, "log", help)?;
     let help = "Begins a new run although FILE was lost, or never begun, beside its FILE.site";
     let command = with_switch(alloc, command, "new", help)?;
     let help =
-        "How a reply is told: short, of a path its end; full, each cell; placed, full behind its entry's number and the clock [default: short]";
+        "Reply format: short, a path by its last index; full, by each cell; placed, full with entry number and clock [default: short]";
     let command = with_choice(alloc, command, "replies", replies, help)?;
     let help =
         "Entries more that each client may have, 1 to 1000000 [default: an equal part of --journal]";
@@ -315,7 +316,7 @@ pub(crate) fn serve_command<'a>(alloc: Global) -> Result<Command<'a>, AllocError
     let help = "Entries more that the log may have, 1 to 1000000 [default: 1000000]";
     let command = with_number(alloc, command, "journal", 1, MOST_ROOM, help)?;
     let help =
-        "A worker beside the clients, for all agents and the clock: rests N milliseconds behind each turn, 1 to 60000";
+        "A worker beside the clients, for all agents and the clock: waits N milliseconds after each turn, 1 to 60000";
     let command = with_number(alloc, command, "every", 1, 60_000, help)?;
     let command = with_board(alloc, command)?;
     with_clients(alloc, command, REPLIES.as_slice())
@@ -389,11 +390,11 @@ fn bare_command<'a>(alloc: Global) -> Command<'a>
 pub(crate) fn warehouse_command<'a>(alloc: Global) -> Result<Command<'a>, AllocError>
     ensures { IfOk result (λ c. IsMenu (app_of c)) }
 {
-    let about = "For a new map: tells whether the warehouse is well-formed (input: map, points)";
+    let about = "For a new map: says whether the warehouse is well-formed (input: map, points)";
     let command = with_ruled(alloc, bare_command(alloc), "check", about)?;
     let command = with_replay(alloc, command)?;
     let about =
-        "For an audit: tells whether a log is a run of the warehouse (input: map, points, log)";
+        "For an audit: says whether a log is a run of the warehouse (input: map, points, log)";
     let command = with_ruled(alloc, command, "verify", about)?;
     let command = with_live(alloc, command)?;
     with_serve(alloc, command)
