@@ -17,7 +17,8 @@ use Rattle.wh_options.specs.Setting.{Text}
 use Rattle.wh_options.proofs.Shapes.{bytes_same}
 use Rattle.wh_options.proofs.Top.{stopped_walk}
 use Rattle.wh_options.proofs.Menus.{leaf_at}
-use Rattle.wh_options.proofs.Exact.{Enters, check_enters, either_true, live_enters, replay_enters, serve_enters, verify_enters}
+use Rattle.wh_options.proofs.Uses.{Enters, check_enters, live_enters, replay_enters, serve_enters, verify_enters}
+use Rattle.wh_options.proofs.Exact.{either_true}
 
 -- ---- one of some words
 

@@ -14,6 +14,7 @@ pub mod Given
 pub mod Serving
 pub mod Menus
 pub mod Spells
+pub mod Uses
 pub mod Exact
 pub mod Once
 pub mod Asks

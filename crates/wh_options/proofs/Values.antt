@@ -22,7 +22,7 @@ use Rattle.wh_options.specs.declared.chosen.Replies.{Replies}
 use Rattle.wh_options.specs.declared.chosen.Replies.TheVariants.{Short}
 use Rattle.wh_options.proofs.Shapes.{bytes_same, find_in}
 use Rattle.wh_options.specs.declared.chosen.VehicleOptions.{VehicleOptions}
-use Rattle.wh_options.proofs.Leaf.{ArePlain, IsSetting, is_set, long_plain, suits_set, suits_setting}
+use Rattle.wh_options.proofs.Leaf.{ArePlain, is_set, long_plain, suits_set}
 use Rattle.wh_options.proofs.Words.{self_same}
 use Rattle.wh_options.proofs.Rows.{IsTaken}
 
