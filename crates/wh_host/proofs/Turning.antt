@@ -2,7 +2,7 @@
 use Rattle.std.proofs.Common.{◌≡◌, ℕ, ◌+◌, ◌<◌, ◌≤◌, ◌⊎◌, inl, inr, List, [], ◌∷◌, ◌++◌, length, Option, None, Some, slice_get, ap, sym, ◌∙◌, subst, arith, append_assoc, append-nil}
 use Rattle.std.specs.List.{All}
 use Rattle.wh_grid.specs.Grids.{Floor}
-use Rattle.std.specs.Prelude.{Bool, false}
+use Rattle.std.specs.Prelude.{Bool, false, ◌==◌, ◌&&◌}
 use Rattle.wh_event.specs.declared.entry.Entry.{Entry}
 use Rattle.wh_event.specs.declared.event.Command.{Command}
 use Rattle.wh_board.specs.Pasts.{Past, Extends}
@@ -18,10 +18,10 @@ use Rattle.wh_desk.specs.Calls.{AllBegin}
 use Rattle.wh_desk.proofs.Entries.{get_push}
 use Rattle.wh_desk.proofs.Telling.{refused_keeps}
 use Rattle.wh_crew.proofs.Ending.{all_last}
-use Rattle.wh_crew.specs.Turns.{Does, DoesUntil, MayTurn, Outcome, turn_of}
+use Rattle.wh_crew.specs.Turns.{Does, DoesUntil, MayTurn, Outcome, brings_none, turn_of}
 use Rattle.wh_crew.specs.Work.{command_of}
 use Rattle.wh_crew.proofs.Resting.{rests}
-use Rattle.wh_crew.proofs.Turning.{Taking, does_receipt, taking_stops}
+use Rattle.wh_crew.proofs.Turning.{Coming, Taking, coming_more, does_receipt, taking_stops}
 use Rattle.wh_scribe.specs.Calls.{Leaves, Receives}
 use Rattle.wh_scribe.specs.declared.calling.CallFault.{CallFault}
 use Rattle.wh_scribe.specs.declared.calling.CallFault.TheVariants.{Refused, Failed, Unkept}
@@ -42,6 +42,16 @@ module _ {X : Type 0} (fits : X → Floor → Bool) (count : X → ℕ) (grid : 
   left_untold cells command had spares (Refused fault) has left l = l.0
   left_untold cells command had spares Failed has left l = l.0
   left_untold cells command had spares Unkept has left l = received_does command had spares l.0 has left l.1
+
+-- ---- a turn
+
+module _ {X : Type 0} {fits : X → Floor → Bool} {count : X → ℕ} {grid : Floor} where
+  -- a command of a turn was replied to
+  pub received_more : {board : Board} {a b c : Received} {left rest : List Command} {command : Command} {old new : Outcome} {spares more : List X} (x : ℕ × Entry)
+      → Coming board a b left old → left ≡ command ∷ rest → Receives fits count grid command b spares x c more
+      → new.in_vain ≡ (old.in_vain && ((x.0 == old.entries) && brings_none x.1.reply)) → new.entries ≡ x.0 + 1 → Coming board a c rest new
+  received_more {board} {a} {b} {c} {left} {rest} {command} {old} {new} {spares} {more} x coming next r vain entries =
+      coming_more board a b c left rest command old new x coming next r.answers r.caller_is r.gained r.known vain entries
 
 -- ---- no more entries than may be its own
 
