@@ -94,7 +94,7 @@ behind_more u [] o latest busy turns = tt
 behind_more u (t ∷ ts) o latest busy turns = (latest.0, sym (rests_same t o u.board latest.1) ∙ busy, turns)
 
 -- a board that was seen is one of a beginning of what is known later
-may_still : (known later : Past) → Extends known later → (board : Board) → MayTurn known board → MayTurn later board
+pub may_still : (known later : Past) → Extends known later → (board : Board) → MayTurn known board → MayTurn later board
 may_still known later more board m = record { past = m.past; begins = extends_trans m.past known later m.begins more; shows = m.shows }
 
 -- where nothing is to do at a board that is seen behind a turn

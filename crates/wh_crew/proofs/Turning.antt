@@ -149,6 +149,7 @@ pub record Coming (board : Board) (had has : Received) (left : List Command) (ou
   pub outcome_is : IsOutcome board going.does.received outcome
 
 pub coming_none : (board : Board) (p : Received) (outcome : Outcome) (commands : List Command) → commands ≡ turn_of board → outcome.in_vain ≡ not (moves board.agents.items) → outcome.entries ≡ board.entries → Coming board p p commands outcome
+unfolding does_nothing
 coming_none board p outcome commands all vain entries = record {
   going = record { done = []; parts = sym all; does = does_nothing p };
   outcome_is = outcome_new board outcome vain entries;
@@ -158,6 +159,7 @@ coming_none board p outcome commands all vain entries = record {
 pub coming_more : (board : Board) (a b c : Received) (left rest : List Command) (command : Command) (old new : Outcome) (x : ℕ × Entry) → Coming board a b left old → left ≡ command ∷ rest
     → command_of x.1.event ≡ command → c.caller ≡ b.caller → c.list ≡ b.list ++ x ∷ [] → IsPrefix b.known c.known
     → new.in_vain ≡ (old.in_vain && ((x.0 == old.entries) && brings_none x.1.reply)) → new.entries ≡ x.0 + 1 → Coming board a c rest new
+unfolding going_more does_more does_receipt
 coming_more board a b c left rest command old new x coming next answers caller gained known vain entries = record {
   going = going_more coming.going next (does_receipt x answers caller gained known);
   outcome_is = outcome_more board coming.going.does.received old new x coming.outcome_is vain entries;

@@ -389,10 +389,7 @@ fn shows_the_first(ran: &Left) -> bool {
         return false;
     };
     let texts = screen.texts.as_slice();
-    texts.len() == 1
-        && texts
-            .first()
-            .is_some_and(|text| text.as_slice() == OPEN)
+    texts.len() == 1 && texts.first().is_some_and(|text| text.as_slice() == OPEN)
 }
 
 /// Whether nothing was kept, told or shown of the one call that was made, and the service ended once.
