@@ -326,14 +326,36 @@ done 0
 0,1 0 none
 4,1 0 none
 .'
-# nobody asks where no task is open
-afresh c0
-begin --every 1 --client "0=$scratch/c0:close"
-log_has 3 '^63 tick'
+# an idle service makes no entry; one order is carried out, and then it is idle again
+afresh c0 c1
+begin --every 1 --client "0=$scratch/c0:close" --client "1=$scratch/c1"
+sleep 1
+judge 'an idle service makes no entry' "$(grep -c ' = ' "$scratch/log")" 0
+judge 'an order for an idle service' "$(client c1 'submit x A B')" 'entries 0;accepted 0;'
+log_has 1 'dropped 1$'
+sleep 1
+judge 'nobody asks where no task is open' "$(grep -c '^63 token' "$scratch/log")" 2
+judge 'the clock stands behind the last delivery' "$(sed -n '/dropped 1$/,$p' "$scratch/log" | grep -c ' = ')" 1
 client c0 close > /dev/null
 ended 5
-judge_log 'no task' "$(grep -c ' = ' "$scratch/log")"
-judge 'no task: what the worker asks' "$(sed -n 's/^63 \([a-z]*\).*/\1/p' "$scratch/log" | sort -u)" tick
+judge_log 'idle' "$(grep -c ' = ' "$scratch/log")"
+# an order that nobody can take, as the agents stand at its stops: each is asked once, and again once there is another order
+afresh c0 c1
+mv -- "$scratch/site" "$scratch/both"
+sed 's/^agent P0/agent A/; s/^agent P1/agent C/' "$scratch/both" > "$scratch/site"
+begin --every 1 --client "0=$scratch/c0:close" --client "1=$scratch/c1"
+judge 'an order that nobody can take' "$(client c1 'submit x A C D')" 'entries 0;accepted 0;'
+log_has 1 '^63 tick'
+sleep 1
+judge 'nobody is asked again in vain' \
+    "$(sed -n 's/^63 \([a-z]*\) .*= \([a-z]*\).*/\1 \2/p' "$scratch/log" | sort | uniq -c | tr -s ' \n' ' ')" ' 1 tick clock 2 token rested '
+judge 'another order' "$(client c1 'submit x B D')" 'entries 1;accepted 1;'
+log_has 2 'dropped 1$'
+judge 'who rested is asked again' "$(grep -c 'dropped 1$' "$scratch/log")" 2
+client c0 close > /dev/null
+ended 5
+judge_log 'in vain' "$(grep -c ' = ' "$scratch/log")"
+mv -- "$scratch/both" "$scratch/site"
 # where paths go on home an agent is asked as soon as it has no order: it is home at clock 10, and takes the other before
 afresh c0
 mv -- "$scratch/site" "$scratch/both"
@@ -407,16 +429,18 @@ mv -- "$scratch/small" "$scratch/site"
 
 # a share by the words, and what is full is told once; a worker has a share of its own
 afresh c0 c1
-begin --share 4 --journal 4 --every 1 --client "0=$scratch/c0:all" --client "1=$scratch/c1"
-log_has 4 ' = '
+begin --share 4 --journal 5 --every 1 --client "0=$scratch/c0:all" --client "1=$scratch/c1"
+judge 'an order for a small journal' "$(client c1 'submit x A B')" 'entries 0;accepted 0;'
+log_has 5 ' = '
 judge 'a share is no promise where all are more' "$(client c0 'submit x A B')" 'entries 0;refused E11;'
 killed
 judge 'a full journal is told' "$(grep -cx 'agents and clock: their share of the entries is used' "$scratch/errors") $(grep -cx 'client 0: the journal is full' "$scratch/errors")" '1 1'
 afresh c0 c1
 begin --journal 9 --every 1 --client "0=$scratch/c0:all" --client "1=$scratch/c1"
+judge 'an order for a worker' "$(client c1 'submit x A B')" 'entries 0;accepted 0;'
 log_has 3 '^63 '
-judge 'a worker leaves the others theirs' "$(client c1 'submit x A B' 'submit x A B' 'submit x A B' 'submit x A B')" \
-    'entries 0;accepted 0;accepted 1;accepted 2;refused E11;'
+judge 'a worker leaves the others theirs' "$(client c1 'submit x A B' 'submit x A B' 'submit x A B')" \
+    'entries 1;accepted 1;accepted 2;refused E11;'
 judge 'and who is to close may' "$(client c0 close)" 'entries 0;closed;'
 ended 5
 judge 'the worker had its share' "$(grep -c '^63 ' "$scratch/log") $(grep -cx 'agents and clock: their share of the entries is used' "$scratch/errors")" '3 1'

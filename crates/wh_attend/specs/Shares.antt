@@ -24,10 +24,10 @@ shared_out (Some every) journal named = named * share_of None journal (named + 1
 abbrev pub SharesFit : Type 0
 SharesFit = (every : Option ℕ) (journal named : ℕ) → sharers every named ≤ journal → shared_out every journal named ≤ journal
 
--- The worker for agents and clock takes as many turns as can be counted, rests as many milliseconds as the options say before each, and
+-- The worker for agents and clock looks as often as can be counted, rests as many milliseconds as the options say before each look, and
 -- may have its share of entries beside those that it had before the run.
 pub record IsPaced (every : ℕ) (options : ServeOptions) (earlier : List Entry) (pace : Pacing) : Type 0 where
-  pub turns_are : pace.turns + 1 ≡ 2 ^ 32
+  pub turns_are : pace.turns + 1 ≡ 2 ^ 64
   pub pause_is : as_nanos pace.pause ≡ every * 1000000
   pub share_is : pace.entries ≡ length (entries_of earlier worker_number) + worker_share options.share options.journal (length options.clients.items)
 

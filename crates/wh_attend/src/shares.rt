@@ -71,7 +71,7 @@ pub(crate) fn pacing_of(options: &ServeOptions<'_>, history: &[Entry]) -> Option
 {
     match options.every {
         Some(every) => Some(Pacing {
-            turns: u32::MAX,
+            turns: u64::MAX,
             pause: Duration::from_millis(u64::from(every)),
             entries: had_by(history, WORKER_NUMBER) + worker_share(options),
         }),

@@ -6,15 +6,17 @@
 #![tactic(auto)]
 
 mod gate;
+mod last_turn;
 mod threads;
 mod trouble;
 mod turns;
 mod worker;
 
 pub use gate::Gate;
+pub use last_turn::LastTurn;
 pub use threads::{CrewFault, Crewed, Due, crew};
 pub use trouble::trouble_of;
-pub use turns::{Turn, look_for_turn};
+pub use turns::Turn;
 pub use worker::{Missed, Report, work_through};
 
 // handed on, for callers: what the items below take, return and speak of

@@ -3,23 +3,24 @@
 
 ghost use Rattle.std.specs.Prelude.{◌≡◌, ◌+◌, ◌<◌, ◌≤◌, ◌∷◌, [], IfSome, MatchOption, drop, length};
 ghost use Rattle.wh_event.specs.declared.event.Command.{Command as Asked};
-ghost use Rattle.wh_board.specs.Pasts.{Extends};
-ghost use Rattle.wh_crew.specs.Turns.{IsTurn, asked_at, asks_from, is_due};
+ghost use Rattle.wh_crew.specs.Turns.{asked_at, asks_from, is_due, moves, turn_of};
 
 use std::marker::Model;
-use wh_board::{Board, Shown, Viewer};
+use wh_board::{Board, Shown};
 use wh_event::Command;
 use wh_tasks::Load;
 
 /// A turn by a board: each agent that is shown as due asks for the token, in their order, and then the clock ticks. An agent is due with
 /// no steps left, or, where paths go on home, without a load.
-/// Where no task is open nobody asks, as all would rest. Contracts see it as the commands that are left of it.
+/// Where no task is open nobody asks, as all would rest; where nobody asks or is shown with steps left, the clock does not tick.
+/// Contracts see it as the commands that are left of it.
 #[derive(Drop)]
 pub struct Turn {
     board: Board,
     /// The agents from this one on are still to ask.
     agent: u32,
-    has_ticked: bool,
+    /// Whether the clock is still to tick, behind them.
+    ticks: bool,
 }
 
 impl Model for Turn {
@@ -29,15 +30,30 @@ impl Model for Turn {
 
     ghost Value = { List Asked };
 
-    ghost view = { λ t. left_of t.has_ticked t.board.homes t.agent t.board.agents.items };
+    ghost view = { λ t. left_of t.ticks t.board.homes t.agent t.board.agents.items };
 }
 
 impl Turn {
+    /// The turn at a board. The board may be older than what the desk has by the time of a call: an agent that moves by then is
+    /// refused (E5), in an entry.
+    pub fn new(board: Board) -> Turn
+        ensures { result ≡ turn_of board }
+    {
+        let agent = first_to_ask(&board);
+        let asks = first_due(board.homes, board.agents.as_slice(), agent).is_some();
+        let ticks = asks || moves(board.agents.as_slice());
+        Turn {
+            board,
+            agent,
+            ticks,
+        }
+    }
+
     /// The next command of the turn, which is to be one call. `None`: none is left.
     pub fn next(&mut self) -> Option<Command>
         ensures { MatchOption result ((self.old ≡ []) × (self.new ≡ [])) (λ command. self.old ≡ command ∷ self.new) }
     {
-        if self.has_ticked {
+        if !self.ticks {
             return None;
         }
         match first_due(self.board.homes, self.board.agents.as_slice(), self.agent) {
@@ -46,7 +62,7 @@ impl Turn {
                 Some(Command::Token { agent })
             }
             None => {
-                self.has_ticked = true;
+                self.ticks = false;
                 Some(Command::Tick)
             }
         }
@@ -90,18 +106,14 @@ fn first_to_ask(board: &Board) -> u32
     }
 }
 
-/// One look at the board, for a turn by what it shows. The board may be older than what the desk has by the time of a call: an
-/// agent that moves by then is refused (E5), in an entry. It takes no memory, waits for nobody and holds no caller of the desk up.
-pub fn look_for_turn(viewer: &mut Viewer) -> Turn
-    ensures turn { IsTurn viewer.new.past result }
-    ensures later { Extends viewer.old.past viewer.new.past }
-    ensures book { viewer.new.book ≡ viewer.old.book }
+/// Whether an agent is shown with steps left.
+pub(crate) fn moves(agents: &[Shown]) -> bool
+    ensures { result ≡ moves agents.now }
 {
-    let board = viewer.look();
-    let agent = first_to_ask(&board);
-    Turn {
-        board,
-        agent,
-        has_ticked: false,
+    for shown in agents {
+        if shown.steps_left > 0 {
+            return true;
+        }
     }
+    false
 }

@@ -28,6 +28,13 @@ const HEAD: &[u8] = b"wlog 2\nstart 0 slots 4 4\n";
 const FIRST: &[u8] =
     b"wboard 1\nentries 0\nclock 0\nopen 0\nassigned 0\ncarried 0\ndone 0\n0,1 0 none\n4,1 0 none\n";
 
+/// The log of a run in which an order is open, except for its end line.
+const ORDERED: &[u8] = b"wlog 2\nstart 0 slots 4 4\n0 submit x A B = accepted 0\n";
+
+/// Its board.
+const OPEN: &[u8] =
+    b"wboard 1\nentries 1\nclock 0\nopen 1\nassigned 0\ncarried 0\ndone 0\n0,1 0 none\n4,1 0 none\n";
+
 /// What these runs leave.
 pub type Left<'a> = Ran<MemoryJournal, TextScreen<'a>, Patient>;
 
@@ -73,11 +80,11 @@ const PLAN: Plan = Plan {
 /// The worker and the looks at the board rest this many milliseconds.
 const PAUSE: u64 = 1;
 
-/// The pace of the worker, if there is one: each turn has an entry at least, so it may fill the journal and find it full.
+/// The pace of the worker, if there is one: it may look as often as there may be entries, and once more, to find the journal full.
 fn pace_of(plan: &Plan) -> Option<Pacing> {
     match plan.worker {
         Some(entries) => Some(Pacing {
-            turns: plan.entries.saturating_add(1),
+            turns: u64::from(plan.entries) + 1,
             pause: Duration::from_millis(PAUSE),
             entries,
         }),
@@ -291,9 +298,9 @@ fn tasks_are_done_beside_a_client(rt: HostRuntime) -> Result<(), Fail> {
     Ok(())
 }
 
-/// The journal of a worker that took four turns, in which nobody asked, as no task was open.
+/// What a worker adds to it in two turns: at the first both agents ask, at the second nobody, as no task is open.
 const FOUR: &[u8] =
-    b"wlog 2\nstart 0 slots 4 4\n1 tick = clock 1 picked 0 dropped 0\n1 tick = clock 2 picked 0 dropped 0\n1 tick = clock 3 picked 0 dropped 0\n1 tick = clock 4 picked 0 dropped 0\n";
+    b"1 token 0 = took 0 path 0,1 1,1 1,0 1,1 2,1 3,1 3,0\n1 token 1 = rested\n1 tick = clock 1 picked 0 dropped 0\n1 tick = clock 2 picked 1 dropped 0\n";
 
 /// Whether the worker filled the journal, and the client was refused twice.
 fn is_filled(ran: &Left, notes: &Notes) -> bool {
@@ -301,17 +308,18 @@ fn is_filled(ran: &Left, notes: &Notes) -> bool {
     let twice = [(0, Full::Journal), (0, Full::Journal)];
     ran.worker == full
         && ran.is_whole
-        && ran.journal.held.as_slice() == FOUR
+        && ran.journal.held.as_slice().strip_prefix(ORDERED) == Some(FOUR)
         && ran.screen.is_none()
         && ran.last.is_ok()
         && notes.ended == full
         && notes.fulls.as_slice() == twice.as_slice()
-        && notes.told.as_slice() == b"entries 0\nrefused E11\nrefused E11\n".as_slice()
+        && notes.told.as_slice() == b"entries 1\nrefused E11\nrefused E11\n".as_slice()
 }
 
 #[test]
 fn a_worker_fills_the_journal(rt: HostRuntime) -> Result<(), Fail> {
     let plan = Plan {
+        before: ORDERED,
         sends: &[b"tick\n# nothing\nclose\n"],
         entries: 4,
         has_screen: false,
@@ -321,26 +329,27 @@ fn a_worker_fills_the_journal(rt: HostRuntime) -> Result<(), Fail> {
     Ok(())
 }
 
-/// The log of a worker that had two calls, and of a client that closed.
+/// What a worker that has two calls adds to it, and a client that closes.
 const TWO: &[u8] =
-    b"wlog 2\nstart 0 slots 4 4\n1 tick = clock 1 picked 0 dropped 0\n1 tick = clock 2 picked 0 dropped 0\n0 close = closed\n";
+    b"1 token 0 = took 0 path 0,1 1,1 1,0 1,1 2,1 3,1 3,0\n1 token 1 = rested\n0 close = closed\n";
 
 /// Whether the worker ended at its share, and the client closed behind it.
 fn leaves_a_share(ran: &Left, notes: &Notes) -> bool {
     ran.worker == Some(WorkerEnd::ShareUsed)
         && ran.is_whole
-        && ran.journal.held.as_slice() == TWO
+        && ran.journal.held.as_slice().strip_prefix(ORDERED) == Some(TWO)
         && notes.ended == Some(WorkerEnd::ShareUsed)
         && notes.fulls.is_empty()
-        && notes.told.as_slice() == b"entries 0\nclosed\n".as_slice()
+        && notes.told.as_slice() == b"entries 1\nclosed\n".as_slice()
 }
 
 #[test]
 fn a_worker_leaves_a_client_its_share(rt: HostRuntime) -> Result<(), Fail> {
     let plan = Plan {
+        before: ORDERED,
         sends: &[b"close\n"],
         entries: 3,
-        share: 1,
+        share: 2,
         worker: Some(2),
         has_screen: false,
         ..PLAN
@@ -374,12 +383,13 @@ fn a_share_is_used(rt: HostRuntime) -> Result<(), Fail> {
     Ok(())
 }
 
-/// Whether one board was shown, that of the run's beginning.
+/// Whether one board was shown, that of the run's beginning, in which an order is open.
 fn shows_the_first(ran: &Left) -> bool {
-    match &ran.screen {
-        Some(screen) => screen.texts.len() == 1 && begins(screen.texts.as_slice()),
-        None => false,
-    }
+    let Some(screen) = &ran.screen else {
+        return false;
+    };
+    let texts = screen.texts.as_slice();
+    texts.len() == 1 && texts.first().is_some_and(|text| text.as_slice() == OPEN)
 }
 
 /// Whether nothing was kept, told or shown of the one call that was made, and the service ended once.
@@ -388,18 +398,19 @@ fn stops_at_the_fault(ran: &Left, notes: &Notes, over: u64) -> bool {
     shows_the_first(ran)
         && ran.last == Err(ShowFault::Unshown)
         && ran.worker == unkept
-        && ran.history.warehouse.history().len() == 1
+        && ran.history.warehouse.history().len() == 2
         && !ran.is_whole
-        && ran.journal.held.as_slice() == HEAD
+        && ran.journal.held.as_slice() == ORDERED
         && notes.ended == unkept
         && notes.outcome == Some(Err(ServeFault::Unjournaled))
-        && notes.told.as_slice() == b"entries 0\n".as_slice()
+        && notes.told.as_slice() == b"entries 1\n".as_slice()
         && over == 1
 }
 
 #[test]
 fn nothing_is_told_or_shown_behind_a_fault(rt: HostRuntime) -> Result<(), Fail> {
     let plan = Plan {
+        before: ORDERED,
         sends: &[b"submit x A B\n", b"tick\n"],
         has_failed: true,
         ..PLAN

@@ -1,11 +1,14 @@
 -- Turns through a journal.
-use Rattle.std.proofs.Common.{◌≡◌, ℕ, ◌+◌, ◌<◌, ◌≤◌, ◌⊎◌, inl, inr, List, [], ◌∷◌, ◌++◌, length, Option, None, Some, slice_get, ap, sym, ◌∙◌, subst, arith}
+use Rattle.std.proofs.Common.{◌≡◌, ℕ, ◌+◌, ◌<◌, ◌≤◌, ◌⊎◌, inl, inr, List, [], ◌∷◌, ◌++◌, length, Option, None, Some, slice_get, ap, sym, ◌∙◌, subst, arith, append_assoc, append-nil}
 use Rattle.std.specs.List.{All}
 use Rattle.wh_grid.specs.Grids.{Floor}
-use Rattle.std.specs.Prelude.{Bool}
+use Rattle.std.specs.Prelude.{Bool, false, ◌==◌, ◌&&◌}
 use Rattle.wh_event.specs.declared.entry.Entry.{Entry}
 use Rattle.wh_event.specs.declared.event.Command.{Command}
 use Rattle.wh_board.specs.Pasts.{Past, Extends}
+use Rattle.wh_board.specs.Boards.{IsBoardOf}
+use Rattle.wh_board.specs.declared.board.Board.{Board}
+use Rattle.wh_board.proofs.Chains.{extends_self}
 use mathlib.Core.List.{IsPrefix}
 use Rattle.std.proofs.lemmas.Option.{same_Some}
 use Rattle.std.proofs.lemmas.List.{length-append, length-map}
@@ -15,9 +18,10 @@ use Rattle.wh_desk.specs.Calls.{AllBegin}
 use Rattle.wh_desk.proofs.Entries.{get_push}
 use Rattle.wh_desk.proofs.Telling.{refused_keeps}
 use Rattle.wh_crew.proofs.Ending.{all_last}
-use Rattle.wh_crew.specs.Turns.{Does, DoesUntil, IsTurn}
+use Rattle.wh_crew.specs.Turns.{Does, DoesUntil, MayTurn, Outcome, brings_none, turn_of}
 use Rattle.wh_crew.specs.Work.{command_of}
-use Rattle.wh_crew.proofs.Turning.{Taking, does_receipt, taking_more, taking_stops}
+use Rattle.wh_crew.proofs.Resting.{rests}
+use Rattle.wh_crew.proofs.Turning.{Coming, Taking, coming_more, does_receipt, taking_stops}
 use Rattle.wh_scribe.specs.Calls.{Leaves, Receives}
 use Rattle.wh_scribe.specs.declared.calling.CallFault.{CallFault}
 use Rattle.wh_scribe.specs.declared.calling.CallFault.TheVariants.{Refused, Failed, Unkept}
@@ -39,10 +43,15 @@ module _ {X : Type 0} (fits : X → Floor → Bool) (count : X → ℕ) (grid : 
   left_untold cells command had spares Failed has left l = l.0
   left_untold cells command had spares Unkept has left l = received_does command had spares l.0 has left l.1
 
--- one turn more
-pub turn_more : (known later : Past) (a b c : Received) (turns : ℕ) (commands : List Command) → Taking known a b turns → Extends known later → IsTurn later commands → Does commands b c → Taking later a c (turns + 1)
-turn_more known later a b c turns commands taking more turn does =
-    taking_more known later a b c turns taking more turn.0 turn.1 (subst (λ (l : List Command). Does l b c) turn.2 does)
+-- ---- a turn
+
+module _ {X : Type 0} {fits : X → Floor → Bool} {count : X → ℕ} {grid : Floor} where
+  -- a command of a turn was replied to
+  pub received_more : {board : Board} {a b c : Received} {left rest : List Command} {command : Command} {old new : Outcome} {spares more : List X} (x : ℕ × Entry)
+      → Coming board a b left old → left ≡ command ∷ rest → Receives fits count grid command b spares x c more
+      → new.in_vain ≡ (old.in_vain && ((x.0 == old.entries) && brings_none x.1.reply)) → new.entries ≡ x.0 + 1 → Coming board a c rest new
+  received_more {board} {a} {b} {c} {left} {rest} {command} {old} {new} {spares} {more} x coming next r vain entries =
+      coming_more board a b c left rest command old new x coming next r.answers r.caller_is r.gained r.known vain entries
 
 -- ---- no more entries than may be its own
 
@@ -69,17 +78,38 @@ share_untold entries cells command had Unkept has l less = share_more entries co
 
 -- ---- what was done
 
+-- a turn may be taken at a board that is seen now
+pub seen_now : (known : Past) (board : Board) → IsBoardOf known board → MayTurn known board
+seen_now known board shows = record { past = known; begins = extends_self known; shows = shows }
+
+-- what a call that told no receipt leaves goes on from what was there
+untold_gains : (cells : ℕ) (command : Command) (had : Received) (fault : CallFault) (has : Received) → LeavesUntold cells command had fault has → (received : List (ℕ × Entry)) × (has.list ≡ had.list ++ received)
+untold_gains cells command had (Refused fault) has l = ([], (refused_keeps cells had fault has l).1 ∙ sym (append-nil had.list))
+untold_gains cells command had Failed has l = ([], ap (λ (p : Received). p.list) l ∙ sym (append-nil had.list))
+untold_gains cells command had Unkept has l = (l.received, l.goes_on)
+
+left_gains : (cells entries : ℕ) (command : Command) (had : Received) (end : WorkerEnd) (has : Received) → LeavesOff cells entries command had end has → (received : List (ℕ × Entry)) × (has.list ≡ had.list ++ received)
+left_gains cells entries command had ShareUsed has l = ([], ap (λ (p : Received). p.list) l.0 ∙ sym (append-nil had.list))
+left_gains cells entries command had (Untold fault) has l = untold_gains cells command had fault has l
+
+until_gains : (cells entries : ℕ) (commands : List Command) (end : WorkerEnd) (had has : Received) → DoesUntil (LeavesOff cells entries) commands end had has → (received : List (ℕ × Entry)) × (has.list ≡ had.list ++ received)
+until_gains cells entries commands end had has d =
+    let more = left_gains cells entries d.next d.between end has d.left in
+    (d.does.received ++ more.0, more.1 ∙ ap (λ (l : List (ℕ × Entry)). l ++ more.0) d.does.goes_on ∙ append_assoc had.list d.does.received more.0)
+
 -- turns that were taken are all that was done
-pub paces : (cells : ℕ) (pace : Pacing) (known : Past) (a b : Received) (turns : ℕ) → Taking known a b turns → turns ≤ pace.turns → KeepsShare pace.entries a b → PacesUntil cells pace known a b None
-paces cells pace known a b turns t few share = record { boards = t.boards; seen = t.seen; few = omega (arith, t.count, few); does = t.does; share = share }
+pub paces : (cells : ℕ) (pace : Pacing) (known : Past) (a b : Received) (looks : ℕ) (outcome : Outcome) → Taking known a b looks outcome → looks ≤ pace.turns → KeepsShare pace.entries a b → PacesUntil cells pace known a b None
+paces cells pace known a b looks outcome t few share =
+    record { boards = t.boards; seen = t.seen; few = omega (arith, t.count, few); does = t.does; share = share; turns = t.turns; taken = t.taken }
 
 -- the worker ended at a command of a turn
-pub paces_until : (cells : ℕ) (pace : Pacing) (known later : Past) (end : WorkerEnd) (a b c : Received) (turns : ℕ) (commands : List Command) → Taking known a b turns → turns < pace.turns → Extends known later
-    → IsTurn later commands → DoesUntil (LeavesOff cells pace.entries) commands end b c → KeepsShare pace.entries a b → KeepsShare pace.entries b c → PacesUntil cells pace later a c (Some end)
-paces_until cells pace known later end a b c turns commands taking less more turn stops before share =
+pub paces_until : (cells : ℕ) (pace : Pacing) (known later : Past) (end : WorkerEnd) (a b c : Received) (looks : ℕ) (outcome : Outcome) (board : Board) → Taking known a b looks outcome → looks < pace.turns → Extends known later
+    → IsBoardOf later board → rests outcome board ≡ false → DoesUntil (LeavesOff cells pace.entries) (turn_of board) end b c → KeepsShare pace.entries a b → KeepsShare pace.entries b c → PacesUntil cells pace later a c (Some end)
+paces_until cells pace known later end a b c looks outcome board taking less more shows busy stops before share =
     let leaves = LeavesOff cells pace.entries in
-    let until = taking_stops leaves known later end a b c turns taking more turn.0 turn.1 (subst (λ (l : List Command). DoesUntil leaves l end b c) turn.2 stops) in
-    record { boards = until.boards; seen = until.seen; few = omega (arith, until.count, less); does = until.does; share = share_kept pace.entries a b c before share }
+    let gains = until_gains cells pace.entries (turn_of board) end b c stops in
+    let until = taking_stops leaves known later end a b c looks outcome taking more board (seen_now later board shows) busy stops gains.0 gains.1 in
+    record { boards = until.boards; seen = until.seen; few = omega (arith, until.count, less); does = until.does; share = share_kept pace.entries a b c before share; turns = until.turns; taken = until.taken }
 
 -- the worker's caller stays, whatever it did
 untold_caller : (cells : ℕ) (command : Command) (had : Received) (fault : CallFault) (has : Received) → LeavesUntold cells command had fault has → has.caller ≡ had.caller

@@ -7,7 +7,7 @@ use Rattle.wh_board.specs.Pasts.{Origin, Past, Extends}
 use Rattle.wh_board.specs.declared.board.Board.{Board}
 use Rattle.wh_desk.specs.Lists.{Received, entries_of}
 use Rattle.wh_desk.specs.Calls.{Refuses}
-use Rattle.wh_crew.specs.Turns.{Does, DoesUntil, MayTurn, turns_of}
+use Rattle.wh_crew.specs.Turns.{Does, DoesUntil, MayTurn, Taken, TakenAt, turns_of}
 use Rattle.wh_scribe.specs.declared.calling.CallFault.{CallFault}
 use Rattle.wh_scribe.specs.declared.calling.CallFault.TheVariants.{Refused, Failed, Unkept}
 use Rattle.wh_serve.specs.declared.doors.WorkerEnd.{WorkerEnd}
@@ -33,13 +33,16 @@ LeavesOff cells entries command had ShareUsed has = (has ≡ had) × (entries �
 LeavesOff cells entries command had (Untold fault) has = LeavesUntold cells command had fault has
 
 -- Turns were taken, no more than may be, each at a board that shows a beginning of what is known. Where the worker ended at a
--- command, it was the last one. Where it gained entries, it has no more than may be its own.
+-- command, it was the last one. Where it gained entries, it has no more than may be its own. Behind a turn that changed nothing but the
+-- clock none was taken until a board showed more, and at each such board one was.
 pub record PacesUntil (cells : ℕ) (pace : Pacing) (known : Past) (had has : Received) (ended : Option WorkerEnd) : Type 0 where
   pub boards : List Board
   pub seen : All (MayTurn known) boards
   pub few : length boards ≤ pace.turns
   pub does : MatchOption ended (Does (turns_of boards) had has) (λ end. DoesUntil (LeavesOff cells pace.entries) (turns_of boards) end had has)
   pub share : (has.list ≡ had.list) ⊎ (length has.list ≤ pace.entries)
+  pub turns : List Taken
+  pub taken : TakenAt known boards had.list has.list turns
 
 -- What the agents' worker, which had this pass, has in the whole history: the replies to its turns, and nothing else. What it saw
 -- are boards of beginnings of that history.

@@ -266,8 +266,8 @@ fn host_paced<
 }
 
 /// Serves client i with pass i in its own thread (`serve_clients`), and where a pace is given, with the last pass, a worker for
-/// all agents and the clock beside them: it takes a turn after each pause, by a board of what was done by then, until it has
-/// taken all its turns, the clients are through, its entries are used up, or a call of it returns no receipt. Each call goes through the journal. Then the desk is
+/// all agents and the clock beside them: after each pause it takes a turn, by a board of what was done by then, if there is anything to do,
+/// until it has looked as often as it may, the clients are through, its entries are used up, or a call of it returns no receipt. Each call goes through the journal. Then the desk is
 /// finished. The history is one run, and each entry is a client's or the worker's. For each client its entries are those
 /// that its pass held before, and then the receipts by which it was told its replies, in order, over its connections; what was
 /// written to it is the output of what it sent. There are no more entries than the desk has cells.

@@ -1,16 +1,17 @@
 //! A worker for all agents and the clock, beside clients.
 #![tactic(auto)]
 
-ghost use Rattle.std.specs.Prelude.{◌≡◌, ◌≤◌, ◌⊎◌, IfErr, OnOk, length};
+ghost use Rattle.std.specs.Prelude.{◌≡◌, ◌≤◌, ◌⊎◌, IfErr, IfOk, length};
 ghost use Rattle.wh_board.specs.Pasts.{Extends};
-ghost use Rattle.wh_crew.specs.Turns.{Does, DoesUntil};
+ghost use Rattle.wh_crew.specs.Turns.{ComesTo, DoesUntil, turn_of};
 ghost use Rattle.wh_host.specs.Pacing.{LeavesOff, PacesUntil};
 
 use std::alloc::Global;
 use std::io::{Read, Write};
 use std::sync::Wait;
 use std::time::{Clock, Duration};
-use wh_crew::{Turn, look_for_turn};
+use wh_board::Board;
+use wh_crew::{LastTurn, Turn};
 use wh_desk::{Desk, DeskName, Pass, Viewer};
 use wh_display::Bell;
 use wh_journal::Journal;
@@ -21,15 +22,15 @@ use wh_serve::{Doors, WorkerEnd};
 /// How the worker for all agents and the clock goes on.
 #[derive(Clone, Copy, Debug, PartialEq, Eq)]
 pub struct Pacing {
-    /// It takes at most this many turns.
-    pub turns: u32,
-    /// How long it rests before each turn.
+    /// It looks at most this often, and takes a turn at most at each look.
+    pub turns: u64,
+    /// How long it rests before each look.
     pub pause: Duration,
     /// At most this many entries of the history may be its own.
     pub entries: u64,
 }
 
-/// What is left of a turn: each command is one call, through the journal, up to where the worker has as many entries as may be its
+/// A turn at a board: each command is one call, through the journal, up to where the worker has as many entries as may be its
 /// own, or to the first call that tells no receipt.
 fn take_turn<N: DeskName, S: JournalName, J: Journal + Drop, H: Wait + Drop, P: Planner, X: Wait>(
     rt: &X,
@@ -38,28 +39,31 @@ fn take_turn<N: DeskName, S: JournalName, J: Journal + Drop, H: Wait + Drop, P: 
     scribe: &Scribe<N, S, J>,
     pass: &mut Pass<N>,
     entries: u64,
-    mut turn: Turn,
-) -> Result<(), WorkerEnd>
-    ensures ok { OnOk result (Does turn pass.old pass.new) }
-    ensures err { IfErr result (λ end. DoesUntil (LeavesOff (length N.cells) entries) turn end pass.old pass.new) }
+    board: Board,
+) -> Result<LastTurn, WorkerEnd>
+    ensures ok { IfOk result (ComesTo board pass.old pass.new) }
+    ensures err { IfErr result (λ end. DoesUntil (LeavesOff (length N.cells) entries) (turn_of board) end pass.old pass.new) }
     ensures share { (pass.new.list ≡ pass.old.list) ⊎ (length pass.new.list ≤ entries) }
 {
+    let mut last = LastTurn::new(&board);
+    let mut turn = Turn::new(board);
     let mut spares = Vec::new(alloc);
     while let Some(command) = turn.next() {
         if pass.len() >= entries {
             return Err(WorkerEnd::ShareUsed);
         }
         match scribe.call(rt, alloc, desk, pass, command, &mut spares) {
-            Ok(_) => {}
+            Ok(receipt) => last.receive(receipt.position, &receipt.entry.reply),
             Err(fault) => return Err(WorkerEnd::Untold(fault)),
         }
     }
-    Ok(())
+    Ok(last)
 }
 
-/// Rests and takes a turn, again and again: the agents that are shown with no steps left ask for the token, or nobody where
-/// no task is open, and then the clock ticks. It ends after its turns, once the bell is rung or the service is over, or early: where it has as many
-/// entries as may be its own, or at the first call that tells no receipt. It says why, and the doors are told.
+/// Rests, looks, and takes a turn if there is anything to do, again and again: the agents that are shown as due ask for the token, or
+/// nobody where no task is open, and then the clock ticks, where somebody asks or has steps left. Behind a turn that changed nothing but
+/// the clock it takes none until a board shows an entry of another. It ends after so many looks, once the bell is rung or the service is over,
+/// or early: where it has as many entries as may be its own, or at the first call that tells no receipt. It says why, and the doors are told.
 pub(crate) fn take_turns<
     N: DeskName,
     S: JournalName,
@@ -85,13 +89,17 @@ pub(crate) fn take_turns<
     ensures later { Extends viewer.old.past viewer.new.past }
     ensures book { viewer.new.book ≡ viewer.old.book }
 {
+    let mut last = LastTurn::none();
     for _ in 0..pace.turns {
         if bell.rest(rt, pace.pause) || doors.is_over() {
             return None;
         }
-        let turn = look_for_turn(viewer);
-        match take_turn(rt, alloc, desk, scribe, pass, pace.entries, turn) {
-            Ok(()) => {}
+        let board = viewer.look();
+        if last.rests_at(&board) {
+            continue;
+        }
+        match take_turn(rt, alloc, desk, scribe, pass, pace.entries, board) {
+            Ok(now) => last = now,
             Err(why) => {
                 doors.worker_ends(why);
                 return Some(why);

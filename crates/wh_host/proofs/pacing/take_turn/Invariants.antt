@@ -1,12 +1,12 @@
 use Rattle.std.proofs.Common.{length}
-use Rattle.wh_crew.proofs.Turning.{Going}
+use Rattle.wh_crew.proofs.Turning.{Coming}
 use Rattle.wh_host.proofs.Turning.{KeepsShare}
 use Rattle.wh_host.proofs.pacing.take_turn.Given as goal
 
 -- the first commands were done, and these are left
 abbrev pub invariant-loop-command : goal.invariant-loop-command
 invariant-loop-command g l = record {
-  going : Going l.fn.turn l.fn.pass l.pass l.turn;
+  coming : Coming l.fn.board l.fn.pass l.pass l.turn l.last;
   share : KeepsShare l.fn.entries l.fn.pass l.pass;
 }
 
