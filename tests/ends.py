@@ -112,6 +112,36 @@ class Judge:
         steps = {number: self.floor.distance(here, self.tasks[number].stops[0]) for number in eligible}
         return min(eligible, key=lambda number: (steps[number] is None, steps[number], number), default=None)
 
+    def next_to_ask(self, asked):
+        """Who asks next where all is delivered: who would take the nearest order; else the first that has to make way; else none."""
+        due = [agent for agent in range(len(self.paths)) if agent not in asked and not self.ticks_until_idle(agent)]
+        far = {}
+        for agent in due:
+            number = self.next_for(agent)
+            if number is not None:
+                steps = self.floor.distance(self.paths[agent][0], self.tasks[number].stops[0])
+                far[agent] = (steps is None, steps, agent)
+        if far:
+            return min(far, key=far.__getitem__)
+        return next((agent for agent in due if not self.homes and self.is_delivery_cell(self.paths[agent][0])), None)
+
+    def is_delivered(self, entries):
+        """Takes entries by which all is delivered: who asks next does, once a round, then the clock ticks; and at the end nobody would
+        do anything, or all stand and ask in vain."""
+        asked, vain = set(), True
+        for number, line in enumerate(entries):
+            event, reply = (side.split(' ') for side in line.split(' = '))
+            agent = self.next_to_ask(asked)
+            demand(agent is not None or not self.is_at_rest(vain), f'entry {number}: nothing is left to do')
+            demand(event[1:] == (['tick'] if agent is None else ['token', str(agent)]), f'entry {number}: {agent} is next to ask')
+            getattr(self, event[1])(event[2:], reply)
+            asked, vain = (set(), True) if agent is None else (asked | {agent}, vain and reply == ['refused', 'E6'])
+        demand(self.next_to_ask(asked) is None and self.is_at_rest(vain), 'something is left to do')
+
+    def is_at_rest(self, vain):
+        """All stand, and whoever asked in this round did so in vain."""
+        return vain and all(len(path) == 1 for path in self.paths)
+
     def is_delivery_cell(self, cell):
         return any(task.agent is None and task.stops[-1] == cell for task in self.tasks)
 

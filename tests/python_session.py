@@ -91,6 +91,8 @@ def test_what_does_not_begin() -> None:
     has(stops(Fault, Session, '/none/such', PROGRAM), '/none/such: No such file')
     has(stops(Fault, Session, file('bad', ONE.replace('A 1 0', 'A 0 0')), PROGRAM), 'bad line 11: A stands on no passable cell')
     has(stops(SessionError, session, ONE, vehicles=Vehicles()), 'rule nofollow')
+    # the end of a path that goes on home is not where its agent has delivered
+    has(stops(SessionError, session, ONE, replies='short', ends='homes'), 'when an agent is due')
     # the program judges what the reader takes: two points at one cell
     with session(ONE.replace('%%\nparking', '%%\nparking P9 1 0\nparking')) as core:
         has(stops(CoreDied, core.tick), 'ended with status 1')

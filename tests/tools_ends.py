@@ -129,7 +129,7 @@ def built_peer():
 
 def made_log(words, text):
     """Map and points of an instance, and the log that a program makes of it."""
-    ran = subprocess.run(words, input=text, stdout=subprocess.PIPE, check=True, timeout=600)
+    ran = subprocess.run(words, input=text, capture_output=True, check=True, timeout=600)
     return ran.stdout.decode().partition('\n%%\n')[2]
 
 
@@ -180,6 +180,26 @@ def test_what_is_delivered_behind_the_script():
         same((seed, 'refused' in log, 'parked' in log), (seed, False, False))
 
 
+def test_who_asks_behind_the_script():
+    """By both rules, on floors that are formed and others: who asks, in which order, that nobody asks in vain before the end, and no tick too many."""
+    entered = 0
+    for seed in range(OPTIONS.seed, OPTIONS.seed + OPTIONS.runs):
+        site, text, homes = instance(seed)
+        floor, judge = ends.Floor(site), ends.Judge(ends.Floor(site), homes)
+        names = {name for name, (kind, _) in floor.points.items() if kind == 'station'}
+        orders = [f'{line}\n' for line in text.decode().split('\n') if re.fullmatch(r'submit \w+( [\w-]+){2,8}', line) and set(line.split()[2:]) <= names]
+        words = [PROGRAM, 'replay', '--deliver', '--tail', 'log'] + ['--ends', 'homes'] * homes
+        entries = made_log(words, (site + ''.join(orders)).encode()).split('\n')[2:-2]
+        for order in orders:
+            judge.submit(order.split()[1:], ['accepted', str(len(judge.tasks))])
+        try:
+            judge.is_delivered(entries[len(orders):])
+        except ends.Bad as why:
+            raise AssertionError(f'{seed}: {why}') from None
+        entered += len(entries)
+    assert entered > 5 * OPTIONS.runs, entered
+
+
 def made_wrong(chance, lines, floor):
     """The entries of a log with one of them made wrong, mostly."""
     number = chance.choice([n for n, line in enumerate(lines) if ' took ' in line] or [0]) if chance.random() < 0.5 else chance.randrange(len(lines))
@@ -218,7 +238,7 @@ def test_wrong_logs_are_told_alike():
     assert found >= OPTIONS.runs, found
 
 
-NEEDS_PROGRAM = {'test_logs_of_the_program', 'test_what_is_delivered_behind_the_script', 'test_wrong_logs_are_told_alike'}
+NEEDS_PROGRAM = {'test_logs_of_the_program', 'test_what_is_delivered_behind_the_script', 'test_who_asks_behind_the_script', 'test_wrong_logs_are_told_alike'}
 
 
 if __name__ == '__main__':

@@ -87,7 +87,7 @@ def test_every_code_of_the_formats_has_a_sentence() -> None:
             named |= set(re.findall(r'\b[A-Z][0-9]{1,2}\b', text.read())) - {'S1', 'N0', 'N1', 'P0', 'P1'}
     assert {'M1', 'M7', 'P10', 'C2', 'E10', 'E95', 'B2', 'L1', 'X4', 'X5'} <= named, named
     same(named - set(told), set())
-    for verdict in ('formed', 'few', 'cut', 'bad', 'run'):
+    for verdict in ('formed', 'few', 'cut', 'bad', 'run', 'orders', 'standstill', 'vehicles'):
         assert told[verdict].endswith('.')
     same(len(set(told.values())), len(told))
 

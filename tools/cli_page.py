@@ -44,11 +44,11 @@ NOTES = {
 }
 
 STATUSES = (
-    ('0', 'done. Refused commands are no error; `replay --vehicles` may add `vehicles on their way: N` on standard error, and `replay --deliver` `orders open: N`'),
+    ('0', 'done. Refused commands are no error; `replay --vehicles` may add `vehicles on their way: N` on standard error, and `replay --deliver` what stays open'),
     ('1', 'the input is refused, not well-formed, or the log is no run'),
     ('2', 'the command line is wrong, or something follows the points of `serve` (`X7`)'),
     ('3', 'input, output, log file or board failed (`X1`, `X2`, `X3`, `X5`, `X6`, `X9`), or a thread (`E93`, `E95`)'),
-    ('4', '`refused E90`: out of memory at the start, or for the log at the end'),
+    ('4', '`refused E90`: out of memory at the start, behind the script (`--deliver`), or for the log at the end'),
     ('125', 'from `./warehouse`: the program could not be built'),
 )
 

@@ -78,7 +78,7 @@ class Session:
     vehicles  that vehicles are late; then the points need `rule nofollow`, and `at` may be sent
     told      with a log: from which entry on `begun` has the run's entries (0: all; None: none)
     replies   how the program writes its replies, of FORMS
-    ends      where paths end: `stops`, or `homes`, which short replies do not go with: cells tell when an agent is due
+    ends      where paths end: `stops`, or `homes`, which short replies do not go with (SessionError): cells tell when an agent is due
     options   more words for `replay`
     wait      seconds that may pass without a byte of an answer; with a folder, seconds to a connection (None: any)
     folder    a client's folder in place of a program: the service's `--replies` is `replies` here
@@ -94,6 +94,8 @@ class Session:
         self.instance = instance if isinstance(instance, Instance) else read_instance(instance, read_file(instance))
         if vehicles and not self.instance.nofollow:
             raise SessionError('the points have no line `rule nofollow`, which late vehicles need')
+        if ends == 'homes' and replies == 'short':
+            raise SessionError('short replies do not tell when an agent is due, which is needed where paths go on to `homes`')
         self.form = replies
         self.place = self.clock = 0       # how many entries, and which clock, by the replies that came
         self.restarts: list[Restart] = []
