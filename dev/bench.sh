@@ -1,12 +1,12 @@
 #!/usr/bin/env bash
 # Times whole runs of the program on seeded instances, and counts the instructions of its parts, and prints the figures as
 # Markdown: the machine, its load, then a table of the least of several runs. docs/PERFORMANCE.md keeps what it printed.
-# Where there is a g++, the unproved peer in dev/peer runs the three warehouses too.
+# Where there is a g++, the unproved peer in dev/peer runs the three warehouses and the queue too.
 #
-#   dev/bench.sh [all|parts|instructions|runs|floods]        RUNS=5 dev/bench.sh runs
+#   dev/bench.sh [all|parts|instructions|runs|floods|queue]        RUNS=5 dev/bench.sh runs
 #
 # The parts and the instructions want valgrind, and each of their runs is made once. It builds what is not built. Run it on a machine that does
-# nothing else; instructions do not depend on that.
+# nothing else, the queue on a core of its own (`taskset`); instructions do not depend on that.
 set -eu
 
 root=$(cd -- "$(dirname -- "$(readlink -f -- "${BASH_SOURCE[0]}")")/.." && pwd)
@@ -100,8 +100,7 @@ instructions() {
     echo '| Million instructions | small warehouse | large warehouse | open map | small, 2 to 8 stops | small, the rule | large, the rule | maze |'
     echo '|---|---|---|---|---|---|---|---|'
     totals 'the program' "$program" replay --planner near
-    if command -v g++ > /dev/null; then
-        g++ -O2 -march=x86-64-v2 -std=c++17 -o "$folder/peer" "$root/dev/peer/main.cpp"
+    if peer_built; then
         totals 'the peer in C++' "$folder/peer" replay
     fi
 }
@@ -128,8 +127,7 @@ with_log() {
 
 # The three warehouses by the peer, a plain program in C++ with the same rules and methods.
 peers() {
-    command -v g++ > /dev/null || return 0
-    g++ -O2 -march=x86-64-v2 -std=c++17 -o "$folder/peer" "$root/dev/peer/main.cpp"
+    peer_built || return 0
     local program=$folder/peer
     row 'small warehouse, by the peer in C++' "$folder/small" replay
     row 'large warehouse, by the peer in C++' "$folder/large" replay
@@ -149,12 +147,21 @@ for a, b in ((x - 1, y), (x + 1, y), (x, y - 1), (x, y + 1)):
 sys.stdout.write("%%\n".join(["\n".join(rows), points, script]))'
 }
 
+# The program is built.
+built() {
+    [[ -x $program ]] || "$root/warehouse" replay < "$root/examples/deliveries" > /dev/null
+}
+
+# The peer is built, where there is a g++.
+peer_built() {
+    command -v g++ > /dev/null || return 1
+    [[ -x $folder/peer ]] || g++ -O2 -march=x86-64-v2 -std=c++17 -o "$folder/peer" "$root/dev/peer/main.cpp"
+}
+
 # The instances of both, made once; the program is built.
 instances() {
     [[ ! -e $folder/small ]] || return 0
-    if [[ ! -x $program ]]; then
-        "$root/warehouse" replay < "$root/examples/deliveries" > /dev/null    # it is built
-    fi
+    built
     $make --columns 35 --rows 21 --agents 50 --tasks 500 --ticks 1500 > "$folder/small"
     $make --columns 81 --rows 81 --agents 250 --tasks 1000 --ticks 1500 > "$folder/large"
     $make --columns 512 --rows 512 --open --agents 100 --tasks 200 --ticks 2500 > "$folder/open"
@@ -208,7 +215,7 @@ whole_runs() {
 
 # Requests that are expensive, of growing sizes (dev/floods.py).
 floods() {
-    instances    # so that the program is built
+    built
     echo
     echo '| Instance | Options | Lines | Tasks taken | No path | Processor seconds | Memory, MB | Status |'
     echo '|---|---|---|---|---|---|---|---|'
@@ -226,11 +233,55 @@ floods() {
     row 'open map, 4096 x 4096, 2 agents, a task of 2 stops' "$folder/flood" replay --planner near
 }
 
+# Sends what stands before the first request, then one request at a time, and waits for its reply: the median and the most
+# milliseconds by the clock, of each request the least of the runs.
+#   asked INPUT COMMAND..
+asked() {
+    RUNS=$runs python3 - "$@" << 'PYTHON'
+import os, statistics, subprocess, sys, time
+with open(sys.argv[1], 'rb') as given:
+    lines = given.readlines()
+first = next(number for number, line in enumerate(lines) if line.startswith(b'token '))
+def answer(run, data, count=1):
+    run.stdin.write(data)
+    run.stdin.flush()
+    return [run.stdout.readline() for _ in range(count)][-1]
+def times():
+    with subprocess.Popen(sys.argv[2:], stdin=subprocess.PIPE, stdout=subprocess.PIPE) as run:
+        answer(run, b''.join(lines[:first]), sum(line.startswith(b'submit ') for line in lines))
+        for line in lines[first:]:
+            begun = time.perf_counter()
+            reply = answer(run, line)
+            yield 1000 * (time.perf_counter() - begun)
+            assert reply.startswith(b'took '), reply
+least = [min(each) for each in zip(*[list(times()) for _ in range(int(os.environ['RUNS']))])]
+print(f'{statistics.median(least):.1f} | {max(least):.1f}')
+PYTHON
+}
+
+# All agents carry to one station (dev/floods.py): the times of their requests.
+queue() {
+    built
+    local rule figures
+    echo
+    echo '| Instance | Program | Median, ms | Worst, ms |'
+    echo '|---|---|---|---|'
+    for rule in 0 1; do
+        python3 "$root/dev/floods.py" queue 81 250 $rule > "$folder/queue"
+        figures=$(asked "$folder/queue" "$program" replay --planner near --ends homes)
+        echo "| queue 81 250 $rule | the program | $figures |"
+        peer_built || continue
+        figures=$(asked "$folder/queue" "$folder/peer" homes)
+        echo "| queue 81 250 $rule | the peer in C++ | $figures |"
+    done
+}
+
 case $what in
-    all) machine; parts; instructions; whole_runs; floods ;;
+    all) machine; parts; instructions; whole_runs; floods; queue ;;
     parts) machine; parts ;;
     instructions) machine; instructions ;;
     runs) machine; whole_runs ;;
     floods) machine; floods ;;
-    *) echo "bench.sh: all, parts, instructions, runs or floods" >&2; exit 2 ;;
+    queue) machine; queue ;;
+    *) echo "bench.sh: all, parts, instructions, runs, floods or queue" >&2; exit 2 ;;
 esac

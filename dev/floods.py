@@ -21,13 +21,21 @@ Families, and their numbers:
   rests T A N        the same tasks, and then N requests by turns, which all find that nothing can be done
   wide N A           an open map of N by N, A agents, one far task each: distance fields of whole maps
   maze N A T         a maze of N by N with its points in dead ends, A agents, T tasks, one a tick, and each agent asks at each tick
+  queue N A RULE     the floor `--layout kiva` of tools/make_instance.py, N by N with one packing station, to which each of A agents
+                     gets one task at clock 0; where RULE is 1, nobody may follow. It is for `replay --ends homes`: without it the
+                     first task holds the station
 
 All but `unreachable`, `late` and `shut` are well-formed where the numbers are large enough: `warehouse check` says so.
-The last request of an instance is the expensive one; of `rests`, `wide` and `maze` none is by itself.
+The last request of an instance is the expensive one, of `queue` each of the later ones; of `rests`, `wide` and `maze` none is by itself.
 """
+import argparse
 import os
 import random
 import sys
+
+import package    # noqa: F401
+
+from warehouse.simulate import make_instance
 
 
 def put(rows, points, script):
@@ -217,9 +225,17 @@ def maze(n, agents, tasks):
     put(rows, points, script)
 
 
+def queue(n, agents, rule):
+    options = argparse.Namespace(columns=n, rows=n, shelf=8, open=False, layout='kiva', stations=1, agents=agents)
+    cells, chance = make_instance.floor(options), random.Random(7)
+    places = make_instance.Places(options, cells, chance)
+    points = ['rule nofollow'] * bool(rule) + places.lines() + [f'agent P{i}' for i in range(agents)]
+    put(cells, points, ['submit c ' + ' '.join(places.stops(2, chance)) for _ in range(agents)] + [f'token {i}' for i in range(agents)])
+
+
 FAMILIES = {'stops': (stops, 3), 'unreachable': (lambda n, k: stops(n, k, 0, True), 2), 'ring': (ring, 2), 'door': (door, 2),
             'hall': (hall, 2), 'late': (late, 3), 'beside': (beside, 2), 'shut': (shut, 1), 'blocked': (blocked, 2),
-            'rests': (blocked, 3), 'wide': (wide, 2), 'maze': (maze, 3)}
+            'rests': (blocked, 3), 'wide': (wide, 2), 'maze': (maze, 3), 'queue': (queue, 3)}
 
 
 def main(words):

@@ -26,8 +26,9 @@ HEADS = {'agents': 'Agents', 'speeds': 'Speeds', 'ahead': '`--ahead`',
          'instance': 'Instance', 'stations': 'Stations', 'subcommand': 'Subcommand', 'seconds': 'Seconds', 'mb': 'MB', 'this_program_millions': 'this program',
          'peer_millions': '`dev/peer`', 'floor': 'Floor', 'orders_taken': 'Orders taken', 'ms_mean': 'Mean ms a tick', 'ms_p95': 'p95',
          'ms_most': 'Most', 'ms_first_tick': 'First tick', 'mb_most': 'Most MB', 'clients': 'Clients',
-         'memory_line_by_line': 'log in memory, line by line', 'memory_all_in_one_write': 'all lines in one write',
-         'disk_line_by_line': 'log on a disk, line by line', 'disk_all_in_one_write': 'all lines in one write'}
+         'median_ms': 'Median ms', 'worst_ms': 'Worst ms', 'peer_median_ms': '`dev/peer`: median', 'peer_worst_ms': 'worst',
+         'memory_line_by_line': 'log in memory, line by line', 'memory_all_in_one_write': 'in one write',
+         'disk_line_by_line': 'on a disk, line by line', 'disk_all_in_one_write': 'in one write'}
 
 
 def read(name: str) -> list[dict[str, str]]:
