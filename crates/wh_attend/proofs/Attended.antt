@@ -1,5 +1,5 @@
 -- What the whole call says.
-use Rattle.std.proofs.Common.{◌≡◌, ℕ, Bool, true, List, length, refl, sym, ap, ◌∙◌, subst, inl, inr, Option, Result, Ok, Err}
+use Rattle.std.proofs.Common.{◌≡◌, ℕ, Bool, true, List, length, refl, sym, ap, ◌∙◌, subst, inl, inr, Option, Some, Result, Ok, Err}
 use Rattle.std.specs.Prelude.{IfErr, IfOk}
 use Rattle.std.specs.declared.alloc.AllocError.{AllocError}
 use Rattle.std.specs.Io.KnownBytes.{Appends}
@@ -29,7 +29,7 @@ use Rattle.wh_serve.specs.declared.threads.Client.{Client}
 use Rattle.wh_service.specs.Kept.{IsSet, Siding, first_slots, keep_trouble}
 use Rattle.wh_service.specs.declared.parts.PlannerParts.{PlannerParts}
 use Rattle.wh_service.proofs.Lasting.{start_site, told_before}
-use Rattle.wh_attend.specs.Attends.{Attends, IsReady, IsWhyNoHistory, IsWhyUnattended, IsWhyUnended, IsWhyUntold, Serves, ServesClients, ShowsRun, log_of}
+use Rattle.wh_attend.specs.Attends.{Attends, IsReady, IsUnbegun, IsWhyNoHistory, IsWhyUnattended, IsWhyUnbegun, IsWhyUnended, IsWhyUntold, Serves, ServesClients, ShowsRun, log_of}
 use Rattle.wh_attend.specs.Guests.{IsStaffed}
 use Rattle.wh_attend.specs.declared.ready.Ready.{Ready}
 use Rattle.wh_attend.proofs.Wholes.{whole_log}
@@ -37,10 +37,10 @@ use Rattle.wh_attend.proofs.Wholes.{whole_log}
 module _ {R W X : Type 0} (fits : X → Floor → Bool) (count : X → ℕ) (remaining : R → Option (List ℕ)) (contents : W → Option (List ℕ)) (gives : PlannerParts → Result X AllocError → Type 0) (options : ServeOptions)
     (old new : Input) (file : Option (List ℕ)) (beside : Siding) (showed shows : Option (Option (List (List ℕ)))) (site : Site) (run : Ready X) (ready : IsReady gives options old new file beside.before site run) (aside : Option (List ℕ)) (still : aside ≡ beside.before) where
   -- the log was not begun, or the site not kept beside it
-  pub stops_opening : (fault : KeepFault) (told : Trouble) (had now opened : Option (List ℕ)) (failed : Bool) (bytes : List ℕ) → told ≡ keep_trouble fault → now ≡ file → bytes ≡ run.text.items
+  pub stops_opening : (fault : KeepFault) (told : Trouble) (had now opened : Option (List ℕ)) (left : Option (Option (List ℕ))) (failed : Bool) (bytes : List ℕ) → told ≡ keep_trouble fault → left ≡ Some opened → now ≡ file → bytes ≡ run.text.items
       → IsWhyNotBoth fault run.start now opened failed aside beside.after beside.failed bytes
-      → IsWhyUnattended fits count remaining contents gives options told old new had had file beside showed shows
-  stops_opening fault told had now opened failed bytes is same text why = inr (inl (
+      → IsWhyUnattended fits count remaining contents gives options told old new had had file left beside showed shows
+  stops_opening fault told had now opened left failed bytes is given same text why = inr (inl (
     fault,
     is,
     record {
@@ -48,6 +48,7 @@ module _ {R W X : Type 0} (fits : X → Floor → Bool) (count : X → ℕ) (rem
       run = run;
       ready = ready;
       opened = opened;
+      left_is = given;
       failed = failed;
       why = subst (λ (b : Option (List ℕ)). IsWhyNotBoth fault run.start file opened failed b beside.after beside.failed run.text.items) still
           (subst (λ (f : Option (List ℕ)). IsWhyNotBoth fault run.start f opened failed aside beside.after beside.failed run.text.items) same
@@ -61,8 +62,8 @@ module _ {R W X : Type 0} (fits : X → Floor → Bool) (count : X → ℕ) (rem
     set = (subst (λ (b : Option (List ℕ)). Opens b beside.after run.text.items) still opens, safe)
 
     -- there is no history
-    pub stops : (told : Trouble) (had : Option (List ℕ)) → IsWhyNoHistory showed told → IsWhyUnattended fits count remaining contents gives options told old new had had file beside showed shows
-    stops told had why = inr (inr (inl (record { site = site; run = run; ready = ready; is_set = set; why = why }, Keeps-refl had)))
+    pub stops : (told : Trouble) (had : Option (List ℕ)) (left : Option (Option (List ℕ))) → IsWhyNoHistory showed told run.start file left → IsWhyUnattended fits count remaining contents gives options told old new had had file left beside showed shows
+    stops told had left why = inr (inr (inl (record { site = site; run = run; ready = ready; is_set = set; why = why }, Keeps-refl had)))
 
     module _ (book final : Seen) (book_is : book ≡ run.start.book) (origin : origin_of final ≡ origin_of book) (served : ServesClients fits count remaining contents options (origin_of book) book.history run.clients.items final.history final.state)
         (last : Result Unit ShowFault) (given : Option (Option (List (List ℕ)))) (back : shows ≡ given) (boards : BoardsFrom (origin_of book) book.history final.history last showed given) where
@@ -80,7 +81,7 @@ module _ {R W X : Type 0} (fits : X → Floor → Bool) (count : X → ℕ) (rem
           (subst (λ (o : Origin). BoardsFrom o book.history final.history last showed given) (sym origin) boards))
 
       -- the log was kept to its end and written, and the last board was shown
-      pub attends : {A : Type 0} (kept safe : A → Option (List ℕ)) (said : Result A Trouble) (held begun now synced had has : Option (List ℕ)) (is_whole : Bool) → held ≡ file → StaysLog held begun run.start.book
+      pub attends : {A E : Type 0} (kept safe : A → Option (List ℕ)) (said : Result A E) (held begun now synced had has : Option (List ℕ)) (is_whole : Bool) → held ≡ file → StaysLog held begun run.start.book
           → IsJournalOf (first_lines begun book) now synced final.history is_whole → IfOk said (λ (_ : A). is_whole ≡ true) → IfOk said (λ (f : A). Appends now (kept f) (last_line (length final.history)))
           → IfOk said (λ (f : A). safe f ≡ kept f) → IfOk said (λ (_ : A). Appends had has (log_of final)) → IfOk said (λ (_ : A). last ≡ Ok tt)
           → IfOk said (λ (f : A). Attends fits count remaining contents gives options old new had has file (safe f) (kept f) beside showed shows)
@@ -96,12 +97,12 @@ module _ {R W X : Type 0} (fits : X → Floor → Bool) (count : X → ℕ) (rem
         tells = tells;
         boards = subst (λ (l : Result Unit ShowFault). ShowsRun run final l showed shows) all shown;
       }
-      attends kept safe (Err told) held begun now synced had has is_whole same stays journal whole ends synced_is tells all = tt
+      attends kept safe (Err e) held begun now synced had has is_whole same stays journal whole ends synced_is tells all = tt
 
       -- or was not
-      unended : (told : Trouble) (had has : Option (List ℕ)) → IsWhyUnended last told (log_of final) had has → IsWhyUnattended fits count remaining contents gives options told old new had has file beside showed shows
-      unended told had has (inl why) = inr (inr (inr (inl (record { site = site; run = run; ready = ready; is_set = set; final = final; serves = serves; why = why; last = last; boards = shown }))))
-      unended told had has (inr bad) = inr (inr (inr (inr (record {
+      unended : (told : Trouble) (had has : Option (List ℕ)) (left : Option (Option (List ℕ))) → IsWhyUnended last told (log_of final) had has → IsWhyUnattended fits count remaining contents gives options told old new had has file left beside showed shows
+      unended told had has left (inl why) = inr (inr (inr (inl (record { site = site; run = run; ready = ready; is_set = set; final = final; serves = serves; why = why; last = last; boards = shown }))))
+      unended told had has left (inr bad) = inr (inr (inr (inr (record {
         fault = bad.0;
         told_is = bad.2;
         site = site;
@@ -114,10 +115,14 @@ module _ {R W X : Type 0} (fits : X → Floor → Bool) (count : X → ℕ) (rem
         boards = subst (λ (l : Result Unit ShowFault). ShowsRun run final l showed shows) bad.1 shown;
       }))))
 
-      pub untold : {A : Type 0} (said : Result A Trouble) (had has : Option (List ℕ)) → IfErr said (λ (told : Trouble). IsWhyUnended last told (log_of final) had has)
-          → IfErr said (λ (told : Trouble). IsWhyUnattended fits count remaining contents gives options told old new had has file beside showed shows)
-      untold (Ok f) had has why = tt
-      untold (Err told) had has why = unended told had has why
+      pub untold : {A E : Type 0} (told : E → Trouble) (left : E → Option (Option (List ℕ))) (said : Result A E) (had has : Option (List ℕ)) → IfErr said (λ (e : E). IsWhyUnended last (told e) (log_of final) had has)
+          → IfErr said (λ (e : E). IsWhyUnattended fits count remaining contents gives options (told e) old new had has file (left e) beside showed shows)
+      untold told left (Ok f) had has why = tt
+      untold told left (Err e) had has why = unended (told e) had has (left e) why
+
+-- a log was not begun, and its file goes back with what it holds
+pub unbegun : (told : Trouble) (start begun : Start) (file now opened holds : Option (List ℕ)) → now ≡ file → IsOpened start begun now opened → IsWhyUnbegun told begun opened holds → IsUnbegun told start file (Some holds)
+unbegun told start begun file now opened holds same is why = (begun, opened, holds, subst (λ (f : Option (List ℕ)). IsOpened start begun f opened) same is, refl, why)
 
 -- a log of a run that was begun is the log of what stood before
 pub stays_before : (start begun : Start) (file opened new : Option (List ℕ)) (book : Seen) → IsOpened start begun file opened → book ≡ start.book → StaysLog opened new book → StaysLog file new start.book
@@ -153,6 +158,6 @@ pub no_memory : (told : Trouble) (log : List ℕ) (had : Option (List ℕ)) → 
 no_memory told log had is = subst (λ (t : Trouble). IsWhyUntold t log had had) (sym is) (Keeps-refl had)
 
 -- what holds anyhow holds where the call ended well
-pub ok_anyhow : {A : Type 0} (came : Result A Trouble) (X : Type 0) → X → IfOk came (λ _. X)
+pub ok_anyhow : {A E : Type 0} (came : Result A E) (X : Type 0) → X → IfOk came (λ _. X)
 ok_anyhow (Ok a) X x = x
-ok_anyhow (Err told) X x = tt
+ok_anyhow (Err e) X x = tt

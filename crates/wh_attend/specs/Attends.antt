@@ -1,5 +1,5 @@
 -- What a whole run of `serve` does, from the site that is read to the log that is kept.
-use Rattle.std.specs.Prelude.{◌≡◌, ◌⊎◌, ◌+◌, ℕ, Bool, true, false, List, length, Option, None, IfSome, Result, Ok, Err}
+use Rattle.std.specs.Prelude.{◌≡◌, ◌⊎◌, ◌+◌, ℕ, Bool, true, false, List, length, Option, None, Some, IfSome, Result, Ok, Err}
 use Rattle.std.specs.declared.alloc.AllocError.{AllocError}
 use Rattle.std.specs.Io.KnownBytes.{Appends, Keeps}
 use Rattle.wh_lines.specs.Input.{Input}
@@ -11,11 +11,12 @@ use Rattle.wh_core.specs.States.{State}
 use Rattle.wh_words.specs.Lines.{text_of as lines_text}
 use Rattle.wh_log.specs.Logs.{log_lines}
 use Rattle.wh_log.specs.declared.version.Version.TheVariants.{Two}
-use Rattle.wh_journal.specs.Surviving.{told_by}
+use Rattle.wh_journal.specs.Surviving.{StaysLog, told_by}
 use Rattle.wh_continue.specs.Besides.{StandsBeside}
-use Rattle.wh_continue.specs.Opening.{IsWhyNotBoth}
-use Rattle.wh_continue.specs.Running.{IsWholeLog}
+use Rattle.wh_continue.specs.Opening.{IsOpened, IsWhyNotBoth}
+use Rattle.wh_continue.specs.Running.{IsLeft, IsWholeLog}
 use Rattle.wh_continue.specs.declared.running.KeepFault.{KeepFault}
+use Rattle.wh_continue.specs.declared.starting.Start.{Start}
 use Rattle.wh_edge.specs.Site.{SiteFault, SiteKept}
 use Rattle.wh_edge.specs.declared.trouble.Trouble.{Trouble}
 use Rattle.wh_edge.specs.declared.trouble.Trouble.TheVariants as trouble
@@ -109,32 +110,40 @@ IsWhyUnready gives options told old new file beside =
     ⊎ ((new.ended ≡ true) × EndsAtStart options.fleet None options.anew told old new file beside)
     ⊎ ((client : ℕ) × (told ≡ trouble.NoPipes client) × EndsAtHall gives options client old new file beside)
 
--- A run was ready, and its log was not begun, or its site not kept beside it.
-pub record StopsOpening {X : Type 0} (gives : PlannerParts → Result X AllocError → Type 0) (options : ServeOptions) (fault : KeepFault) (old new : Input) (file : Option (List ℕ)) (beside : Siding) : Type 0 where
+-- A run was ready, and its log was not begun, or its site not kept beside it. Left, here and below, is what the file of the log holds then,
+-- if it is given back.
+pub record StopsOpening {X : Type 0} (gives : PlannerParts → Result X AllocError → Type 0) (options : ServeOptions) (fault : KeepFault) (old new : Input) (file : Option (List ℕ)) (left : Option (Option (List ℕ))) (beside : Siding) : Type 0 where
   pub site : Site
   pub run : Ready X
   pub ready : IsReady gives options old new file beside.before site run
   pub opened : Option (List ℕ)
+  pub left_is : left ≡ Some opened
   pub failed : Bool
   pub why : IsWhyNotBoth fault run.start file opened failed beside.before beside.after beside.failed run.text.items
 
--- why a log was not begun: its file took it not, or memory ran out
-abbrev pub IsWhyUnbegun : Trouble → Type 0
-IsWhyUnbegun trouble.Unkept = Unit {0}
-IsWhyUnbegun trouble.NoMemory = Unit {0}
-IsWhyUnbegun _ = ⊥
+-- Why a log was not begun, and what its file holds then: it took it not, and the log of a run is still one that this goes on from; or memory ran
+-- out, and the file is as it was or the log that was begun.
+abbrev pub IsWhyUnbegun : Trouble → Start → (file holds : Option (List ℕ)) → Type 0
+IsWhyUnbegun trouble.Unkept start file holds = IsLeft start file holds
+IsWhyUnbegun trouble.NoMemory start file holds = (holds ≡ file) ⊎ StaysLog file holds start.book
+IsWhyUnbegun _ start file holds = ⊥
+
+-- the log of this start was not begun, and its file is given back
+abbrev pub IsUnbegun : Trouble → Start → (file : Option (List ℕ)) → (left : Option (Option (List ℕ))) → Type 0
+IsUnbegun told start file left =
+    (begun : Start) × (opened holds : Option (List ℕ)) × IsOpened start begun file opened × (left ≡ Some holds) × IsWhyUnbegun told begun opened holds
 
 -- why there is no history: the log was not begun, the first board was not shown, or there is none of the clients
-abbrev pub IsWhyNoHistory : {D : Type 0} → (screen : Option D) → Trouble → Type 0
-IsWhyNoHistory screen told = IsWhyUnbegun told ⊎ IsWhyUnlived screen told
+abbrev pub IsWhyNoHistory : {D : Type 0} → (screen : Option D) → Trouble → Start → (file : Option (List ℕ)) → (left : Option (Option (List ℕ))) → Type 0
+IsWhyNoHistory screen told start file left = IsUnbegun told start file left ⊎ IsWhyUnlived screen told
 
 -- A run was ready, with its site beside its log, and came to no history.
-pub record StopsAttending {X D : Type 0} (gives : PlannerParts → Result X AllocError → Type 0) (options : ServeOptions) (told : Trouble) (old new : Input) (file : Option (List ℕ)) (beside : Siding) (screen : Option D) : Type 0 where
+pub record StopsAttending {X D : Type 0} (gives : PlannerParts → Result X AllocError → Type 0) (options : ServeOptions) (told : Trouble) (old new : Input) (file : Option (List ℕ)) (left : Option (Option (List ℕ))) (beside : Siding) (screen : Option D) : Type 0 where
   pub site : Site
   pub run : Ready X
   pub ready : IsReady gives options old new file beside.before site run
   pub is_set : IsSet beside run.text.items
-  pub why : IsWhyNoHistory screen told
+  pub why : IsWhyNoHistory screen told run.start file left
 
 -- Why a log was not written: the file that keeps it failed before, or memory ran out, and nothing was written; or a front of it was.
 abbrev pub IsWhyUntold : Trouble → List ℕ → (had has : Option (List ℕ)) → Type 0
@@ -177,13 +186,13 @@ pub record AttendsUnshown {R W X : Type 0} (fits : X → Floor → Bool) (count 
   pub tells : Appends had has (log_of final)
   pub boards : ShowsRun run final (Err fault) showed shows
 
--- Why it ended otherwise, the earlier first. Before the run is ready the file beside the log is as it was, and before the clients were
--- served nothing is written. Of the file of the log nothing is said: the run had it.
+-- Why it ended otherwise, the earlier first. Before the run is ready the file of the log, which is given back, and the one beside it are as they
+-- were, and before the clients were served nothing is written.
 abbrev pub IsWhyUnattended : {R W X : Type 0} → (X → Floor → Bool) → (X → ℕ) → (R → Option (List ℕ)) → (W → Option (List ℕ)) → (PlannerParts → Result X AllocError → Type 0) → ServeOptions → Trouble
-    → (old new : Input) → (had has file : Option (List ℕ)) → Siding → (showed shows : Option (Option (List (List ℕ)))) → Type 0
-IsWhyUnattended fits count remaining contents gives options told old new had has file beside showed shows =
-    (IsWhyUnready gives options told old new file beside.before × Keeps had has × IsUntouched beside)
-    ⊎ ((fault : KeepFault) × (told ≡ keep_trouble fault) × StopsOpening gives options fault old new file beside × Keeps had has)
-    ⊎ (StopsAttending gives options told old new file beside showed × Keeps had has)
+    → (old new : Input) → (had has file : Option (List ℕ)) → (left : Option (Option (List ℕ))) → Siding → (showed shows : Option (Option (List (List ℕ)))) → Type 0
+IsWhyUnattended fits count remaining contents gives options told old new had has file left beside showed shows =
+    (IsWhyUnready gives options told old new file beside.before × Keeps had has × (left ≡ Some file) × IsUntouched beside)
+    ⊎ ((fault : KeepFault) × (told ≡ keep_trouble fault) × StopsOpening gives options fault old new file left beside × Keeps had has)
+    ⊎ (StopsAttending gives options told old new file left beside showed × Keeps had has)
     ⊎ AttendsUntold fits count remaining contents gives options told old new had has file beside showed shows
     ⊎ AttendsUnshown fits count remaining contents gives options told old new had has file beside showed shows

@@ -7,7 +7,7 @@ ghost use Rattle.wh_service.specs.Fleets.{IsOfFleet};
 ghost use Rattle.wh_attend.specs.Guests.{AreNamed};
 ghost use Rattle.wh_attend.specs.Attends.{Attends, IsWhyUnattended, IsWhyUnbegun};
 
-use crate::ending::end_run;
+use crate::ending::{Unattended, end_run};
 use crate::ready::{Ready, prepare};
 use crate::serving::serve_all;
 use std::alloc::{AllocError, Global};
@@ -38,7 +38,7 @@ fn begin<L: LogFile, P: Planner>(
     ensures stays { IfOk result (λ _. StaysLog (L.contents file.old) (L.contents file.new) start.book) }
     ensures holds { IfOk result (λ _. HoldsLog (L.contents file.new) start.book) }
     ensures synced { IfOk result (λ _. L.synced file.new ≡ L.contents file.new) }
-    ensures fault { IfErr result IsWhyUnbegun }
+    ensures fault { IfErr result (λ told. IsWhyUnbegun told start (L.contents file.old) (L.contents file.new)) }
 {
     match begin_log(alloc, file, &start) {
         Ok(()) => {}
@@ -66,7 +66,7 @@ fn begin<L: LogFile, P: Planner>(
 /// of memory. Errors are reported in this order: the site, what follows it, the file beside the log, the log, the bank and the
 /// planners, a client without a way in, the log's first lines, what is written beside the log, the log's beginning, the first board, the run, the end of the log,
 /// the writer, the last board. Before the clients are served nothing is written to the output. The log's file is returned
-/// if all went well; else it is dropped, and nothing more is said of it here.
+/// if all went well, and given back with the trouble where the run did not have it yet: as it was, unless the log's beginning failed.
 pub fn attend<
     R: Read,
     W: Write,
@@ -90,21 +90,22 @@ pub fn attend<
     screen: &mut Option<V>,
     doors: &D,
     make: F,
-) -> Result<L, Trouble>
+) -> Result<L, Unattended<L>>
     requires range { IsOfFleet options.now.fleet }
     requires named { AreNamed options.now.clients.items }
     requires callable { F.IsAlwaysCallable make }
     ensures ok { IfOk result (λ kept. Attends P.fits_map P.slot_count (λ x. I.remaining x) (λ x. O.contents x) (F.post make) options.now lines.old lines.new (W.contents output.old) (W.contents output.new) (L.contents file) (L.synced kept) (L.contents kept)
         (record { before = B.contents beside.old; after = B.contents beside.new; synced = B.synced beside.new; failed = B.failed beside.new }) (option_map V.shown screen.old) (option_map V.shown screen.new)) }
     ensures asked { IfOk result (λ _. D.all_have doors.now ≡ true) }
-    ensures fault { IfErr result (λ told. IsWhyUnattended P.fits_map P.slot_count (λ x. I.remaining x) (λ x. O.contents x) (F.post make) options.now told lines.old lines.new (W.contents output.old) (W.contents output.new) (L.contents file)
+    ensures fault { IfErr result (λ e. IsWhyUnattended P.fits_map P.slot_count (λ x. I.remaining x) (λ x. O.contents x) (F.post make) options.now e.trouble lines.old lines.new (W.contents output.old) (W.contents output.new) (L.contents file) (option_map L.contents e.file)
         (record { before = B.contents beside.old; after = B.contents beside.new; synced = B.synced beside.new; failed = B.failed beside.new }) (option_map V.shown screen.old) (option_map V.shown screen.new)) }
 {
     let ready = match prepare(alloc, lines, options, &mut file, beside, doors, &make) {
         Ok(ready) => ready,
         Err(trouble) => {
-            drop(file);
-            return Err(trouble);
+            // as it was: nothing was begun
+            let file = Some(file);
+            return Err(Unattended { trouble, file });
         }
     };
     let Ready {
@@ -120,8 +121,9 @@ pub fn attend<
             drop(clients);
             drop(planners);
             drop(text);
-            drop(file);
-            return Err(keep_trouble(fault));
+            let trouble = keep_trouble(fault);
+            let file = Some(file);
+            return Err(Unattended { trouble, file });
         }
     };
     drop(text);
@@ -129,8 +131,8 @@ pub fn attend<
         Ok(warehouse) => warehouse,
         Err(trouble) => {
             drop(clients);
-            drop(file);
-            return Err(trouble);
+            let file = Some(file);
+            return Err(Unattended { trouble, file });
         }
     };
     if warehouse.closed() {
@@ -139,6 +141,9 @@ pub fn attend<
     }
     match serve_all(rt, alloc, options, warehouse, clients, file, screen, doors) {
         Ok(ran) => end_run(alloc, output, screen, ran),
-        Err(trouble) => Err(trouble),
+        Err(trouble) => {
+            let file = None;
+            Err(Unattended { trouble, file })
+        }
     }
 }

@@ -14,6 +14,15 @@ use wh_log::{NoMemory, log_text};
 use wh_planner::Planner;
 use wh_service::{keep_trouble, write_text};
 
+/// Why clients were not served to a good end, and the file of the log, where it is given back: a start that is refused leaves it as it was.
+#[derive(Drop)]
+pub struct Unattended<L> {
+    /// What is told.
+    pub trouble: Trouble,
+    /// The file of the log, if it is given back.
+    pub file: Option<L>,
+}
+
 /// The log of the warehouse's run. Fails when out of memory.
 fn text_of<P: Planner>(alloc: Global, warehouse: &Warehouse<P>) -> Result<Vec<u8>, Trouble>
     ensures ok { IfOk result (λ text. text.items ≡ log_of warehouse.now.book) }
@@ -33,14 +42,14 @@ pub(crate) fn end_run<L: LogFile + Drop, W: Write, P: Planner, V: Drop>(
     output: &mut W,
     screen: &mut Option<V>,
     ran: Ran<L, V, P>,
-) -> Result<L, Trouble>
+) -> Result<L, Unattended<L>>
     ensures screen { screen.new ≡ ran.screen }
     ensures whole { IfOk result (λ _. ran.is_whole ≡ true) }
     ensures ends { IfOk result (λ file. Appends (L.contents ran.journal) (L.contents file) (last_line (length ran.history.warehouse.book.history))) }
     ensures synced { IfOk result (λ file. L.synced file ≡ L.contents file) }
     ensures tells { IfOk result (λ _. Appends (W.contents output.old) (W.contents output.new) (log_of ran.history.warehouse.book)) }
     ensures shown { IfOk result (λ _. ran.last ≡ Ok tt) }
-    ensures fault { IfErr result (λ told. IsWhyUnended ran.last told (log_of ran.history.warehouse.book) (W.contents output.old) (W.contents output.new)) }
+    ensures fault { IfErr result (λ e. IsWhyUnended ran.last e.trouble (log_of ran.history.warehouse.book) (W.contents output.old) (W.contents output.new)) }
 {
     let Ran {
         history,
@@ -53,24 +62,26 @@ pub(crate) fn end_run<L: LogFile + Drop, W: Write, P: Planner, V: Drop>(
     *screen = given;
     if !is_whole {
         drop(history);
-        drop(journal);
-        return Err(Trouble::Unkept);
+        let trouble = Trouble::Unkept;
+        let file = Some(journal);
+        return Err(Unattended { trouble, file });
     }
     let warehouse = &history.warehouse;
     match end_log(alloc, &mut journal, warehouse.history().len() as u64) {
         Ok(()) => {}
         Err(fault) => {
             drop(history);
-            drop(journal);
-            return Err(keep_trouble(fault));
+            let trouble = keep_trouble(fault);
+            let file = Some(journal);
+            return Err(Unattended { trouble, file });
         }
     }
     let text = match text_of(alloc, warehouse) {
         Ok(text) => text,
         Err(trouble) => {
             drop(history);
-            drop(journal);
-            return Err(trouble);
+            let file = Some(journal);
+            return Err(Unattended { trouble, file });
         }
     };
     drop(history);
@@ -79,15 +90,16 @@ pub(crate) fn end_run<L: LogFile + Drop, W: Write, P: Planner, V: Drop>(
     match written {
         Ok(()) => {}
         Err(trouble) => {
-            drop(journal);
-            return Err(trouble);
+            let file = Some(journal);
+            return Err(Unattended { trouble, file });
         }
     }
     match last {
         Ok(()) => Ok(journal),
         Err(fault) => {
-            drop(journal);
-            Err(trouble_of_show(fault))
+            let trouble = trouble_of_show(fault);
+            let file = Some(journal);
+            Err(Unattended { trouble, file })
         }
     }
 }

@@ -15,6 +15,7 @@ mod shares;
 
 pub use attending::attend;
 pub use clients::named_by;
+pub use ending::Unattended;
 pub use laws::shares_fit;
 
 // handed on, for callers: what the items above take and speak of

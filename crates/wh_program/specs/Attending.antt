@@ -28,7 +28,8 @@ pub record AreFolders (clients : List ClientOptions) (folders : List (Option Tex
   pub places : length folders ≡ 62
   pub each : AllAt (IsFolderAt clients) folders
 
--- It was so over a log file that told this, the file beside it, and a screen, or none. Here and below fits and count say
+-- It was so over a log file that told this, the file beside it, and a screen, or none; left is what the log file tells then, where a run did not
+-- have it. Here and below fits and count say
 -- what a planner returns, gives what makes it, remaining and contents what a client's reader and writer tell; showed is what the screen told before, if
 -- there is one, and shows what it tells then.
 abbrev pub AttendsOver : {R W X : Type 0} → (X → Floor → Bool) → (X → ℕ) → (PlannerParts → Result X AllocError → Type 0) → (R → Option (List ℕ)) → (W → Option (List ℕ)) → ServeOptions → (file : Option (List ℕ)) → Siding
@@ -36,7 +37,7 @@ abbrev pub AttendsOver : {R W X : Type 0} → (X → Floor → Bool) → (X → 
 AttendsOver fits count gives remaining contents o file beside showed shows (Ok status) old new had has =
     (status ≡ Done) × ((synced holds : Option (List ℕ)) × Attends fits count remaining contents gives o old new had has file synced holds beside showed shows)
 AttendsOver fits count gives remaining contents o file beside showed shows (Err told) old new had has =
-    IsWhyUnattended fits count remaining contents gives o told old new had has file beside showed shows
+    (left : Option (Option (List ℕ))) × IsWhyUnattended fits count remaining contents gives o told old new had has file left beside showed shows
 
 -- `serve` came to this: memory ran out for names or for the doors, and nothing was read or written; or it was so,
 -- over a log file and the one beside it, and over the file of the board, if one is named.

@@ -12,7 +12,7 @@ use std::path::Path;
 use std::sync::Wait;
 use std::thread::Threads;
 use std::time::Clock;
-use wh_attend::{Doors, FileJournal, Hall, LogFile, attend, named_by};
+use wh_attend::{Doors, FileJournal, Hall, LogFile, Unattended, attend, named_by};
 use wh_display::Screen;
 use wh_edge::{Status, Trouble};
 use wh_lines::Lines;
@@ -82,7 +82,10 @@ fn attend_over<
         rt, alloc, lines, output, options, file, beside, screen, doors, make,
     ) {
         Ok(_file) => Ok(Status::Done),
-        Err(trouble) => Err(trouble),
+        Err(Unattended { trouble, file }) => {
+            drop(file);
+            Err(trouble)
+        }
     }
 }
 

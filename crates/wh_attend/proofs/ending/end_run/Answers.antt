@@ -4,7 +4,7 @@ use Rattle.wh_attend.proofs.Attended.{no_memory, unkept, written_short}
 use Rattle.wh_attend.proofs.ending.end_run.Goals as goal
 
 pub returns-in-Err-clause-fault : goal.returns-in-Err-clause-fault
-returns-in-Err-clause-fault g c = inl (unkept c.in-Err.fault _ _ _ c.keep_trouble.ensures)
+returns-in-Err-clause-fault g c = inl (unkept c.in-Err.fault _ _ _ c.keep_trouble-trouble.ensures)
 
 pub returns-in-Err-written-clause-fault : goal.returns-in-Err-written-clause-fault
 returns-in-Err-written-clause-fault g c = inl (written_short _ _ _ _ _ c.in-Err-written.ensures.fault (c.as_slice.ensures.value ∙ c.in-Ok-text_of.ensures.ok) c.in-Err-written.ensures.front)
@@ -17,7 +17,7 @@ returns-in-Ok-last-clause-tells g c =
 pub returns-clause-fault : goal.returns-clause-fault
 returns-clause-fault g c =
     let all = subst (λ (t : List ℕ). Appends (g.W.Write.contents c.args.output.now) (g.W.Write.contents c.write_text-written.new.output) t) (c.as_slice.ensures.value ∙ c.in-Ok-text_of.ensures.ok) c.in-Ok-written.ensures.ok in
-    inr (_, c.in-Err-last.is, c.trouble_of_show.ensures.value, all)
+    inr (_, c.in-Err-last.is, c.trouble_of_show-trouble.ensures.value, all)
 
 pub returns-in-Err-text_of-clause-fault : goal.returns-in-Err-text_of-clause-fault
 returns-in-Err-text_of-clause-fault g c = inl (no_memory _ _ _ c.in-Err-text_of.ensures.fault)
