@@ -29,10 +29,10 @@ use Rattle.wh_serve.specs.declared.threads.Client.{Client}
 use Rattle.wh_service.specs.Kept.{IsSet, Siding, first_slots, keep_trouble}
 use Rattle.wh_service.specs.declared.parts.PlannerParts.{PlannerParts}
 use Rattle.wh_service.proofs.Lasting.{start_site, told_before}
-use Rattle.wh_attend.specs.Attends.{Attends, IsReady, IsUnbegun, IsWhyNoHistory, IsWhyUnattended, IsWhyUnbegun, IsWhyUnended, IsWhyUntold, Serves, ServesClients, ShowsRun, log_of}
+use Rattle.wh_attend.specs.Attends.{Attends, HoldsRun, IsReady, IsUnbegun, IsWhyNoHistory, IsWhyUnattended, IsWhyUnbegun, IsWhyUnended, IsWhyUntold, LeavesRun, Serves, ServesClients, ShowsRun, log_of}
 use Rattle.wh_attend.specs.Guests.{IsStaffed}
 use Rattle.wh_attend.specs.declared.ready.Ready.{Ready}
-use Rattle.wh_attend.proofs.Wholes.{whole_log}
+use Rattle.wh_attend.proofs.Wholes.{run_left, whole_log}
 
 module _ {R W X : Type 0} (fits : X → Floor → Bool) (count : X → ℕ) (remaining : R → Option (List ℕ)) (contents : W → Option (List ℕ)) (gives : PlannerParts → Result X AllocError → Type 0) (options : ServeOptions)
     (old new : Input) (file : Option (List ℕ)) (beside : Siding) (showed shows : Option (Option (List (List ℕ)))) (site : Site) (run : Ready X) (ready : IsReady gives options old new file beside.before site run) (aside : Option (List ℕ)) (still : aside ≡ beside.before) where
@@ -100,9 +100,9 @@ module _ {R W X : Type 0} (fits : X → Floor → Bool) (count : X → ℕ) (rem
       attends kept safe (Err e) held begun now synced had has is_whole same stays journal whole ends synced_is tells all = tt
 
       -- or was not
-      unended : (told : Trouble) (had has : Option (List ℕ)) (left : Option (Option (List ℕ))) → IsWhyUnended last told (log_of final) had has → IsWhyUnattended fits count remaining contents gives options told old new had has file left beside showed shows
-      unended told had has left (inl why) = inr (inr (inr (inl (record { site = site; run = run; ready = ready; is_set = set; final = final; serves = serves; why = why; last = last; boards = shown }))))
-      unended told had has left (inr bad) = inr (inr (inr (inr (record {
+      unended : (told : Trouble) (had has : Option (List ℕ)) (left : Option (Option (List ℕ))) → HoldsRun told file final left → IsWhyUnended last told (log_of final) had has → IsWhyUnattended fits count remaining contents gives options told old new had has file left beside showed shows
+      unended told had has left holds (inl why) = inr (inr (inr (inl (record { site = site; run = run; ready = ready; is_set = set; final = final; serves = serves; why = why; holds = holds; last = last; boards = shown }))))
+      unended told had has left holds (inr bad) = inr (inr (inr (inr (record {
         fault = bad.0;
         told_is = bad.2;
         site = site;
@@ -111,14 +111,17 @@ module _ {R W X : Type 0} (fits : X → Floor → Bool) (count : X → ℕ) (rem
         is_set = set;
         final = final;
         serves = serves;
+        holds = holds;
         tells = bad.3;
         boards = subst (λ (l : Result Unit ShowFault). ShowsRun run final l showed shows) bad.1 shown;
       }))))
 
-      pub untold : {A E : Type 0} (told : E → Trouble) (left : E → Option (Option (List ℕ))) (said : Result A E) (had has : Option (List ℕ)) → IfErr said (λ (e : E). IsWhyUnended last (told e) (log_of final) had has)
+      pub untold : {A E : Type 0} (told : E → Trouble) (left : E → Option (Option (List ℕ))) (said : Result A E) (held begun now synced had has : Option (List ℕ)) (is_whole : Bool) → held ≡ file → StaysLog held begun run.start.book
+          → IsJournalOf (first_lines begun book) now synced final.history is_whole → IfErr said (λ (e : E). LeavesRun is_whole (told e) (length final.history) now (left e)) → IfErr said (λ (e : E). IsWhyUnended last (told e) (log_of final) had has)
           → IfErr said (λ (e : E). IsWhyUnattended fits count remaining contents gives options (told e) old new had has file (left e) beside showed shows)
-      untold told left (Ok f) had has why = tt
-      untold told left (Err e) had has why = unended (told e) had has (left e) why
+      untold told left (Ok f) held begun now synced had has is_whole same stays journal leaves why = tt
+      untold told left (Err e) held begun now synced had has is_whole same stays journal leaves why =
+          unended (told e) had has (left e) (run_left (told e) file begun now synced (left e) book final is_whole (subst (λ (h : Option (List ℕ)). StaysLog h begun book) same (subst (λ (b : Seen). StaysLog held begun b) (sym book_is) stays)) origin journal leaves) why
 
 -- a log was not begun, and its file goes back with what it holds
 pub unbegun : (told : Trouble) (start begun : Start) (file now opened holds : Option (List ℕ)) → now ≡ file → IsOpened start begun now opened → IsWhyUnbegun told begun opened holds → IsUnbegun told start file (Some holds)

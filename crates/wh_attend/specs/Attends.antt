@@ -11,10 +11,10 @@ use Rattle.wh_core.specs.States.{State}
 use Rattle.wh_words.specs.Lines.{text_of as lines_text}
 use Rattle.wh_log.specs.Logs.{log_lines}
 use Rattle.wh_log.specs.declared.version.Version.TheVariants.{Two}
-use Rattle.wh_journal.specs.Surviving.{StaysLog, told_by}
+use Rattle.wh_journal.specs.Surviving.{IsLogOfBook, StaysLog, told_by}
 use Rattle.wh_continue.specs.Besides.{StandsBeside}
 use Rattle.wh_continue.specs.Opening.{IsOpened, IsWhyNotBoth}
-use Rattle.wh_continue.specs.Running.{IsLeft, IsWholeLog}
+use Rattle.wh_continue.specs.Running.{IsLeft, IsWholeLog, last_line}
 use Rattle.wh_continue.specs.declared.running.KeepFault.{KeepFault}
 use Rattle.wh_continue.specs.declared.starting.Start.{Start}
 use Rattle.wh_edge.specs.Site.{SiteFault, SiteKept}
@@ -29,7 +29,7 @@ use Rattle.wh_serve.specs.Texts.{receipt_text}
 use Rattle.wh_serve.specs.declared.threads.Client.{Client}
 use Rattle.wh_serve.specs.declared.doors.WorkerEnd.{WorkerEnd}
 use Rattle.wh_host.specs.declared.pacing.Pacing.{Pacing}
-use Rattle.wh_host.specs.Runs.{ServedFrom}
+use Rattle.wh_host.specs.Runs.{IsJournalOf, ServedFrom, first_lines}
 use Rattle.wh_service.specs.Kept.{EndsAtStart, HasLog, IsSet, IsUntouched, Siding, StartsFrom, keep_trouble}
 use Rattle.wh_service.specs.Plays.{form_of}
 use Rattle.wh_service.specs.declared.parts.PlannerParts.{PlannerParts}
@@ -159,9 +159,29 @@ IsWhyUnended last told log had has =
     IsWhyUntold told log had has
     ⊎ ((fault : ShowFault) × (last ≡ Err fault) × (told ≡ trouble_of_show fault) × Appends had has log)
 
+-- What a journal holds at a fault behind a run, which is given back: what it held, where it was not whole; else a front of the line that
+-- ends a log follows.
+abbrev pub LeavesRun : (is_whole : Bool) → Trouble → (entries : ℕ) → (journal : Option (List ℕ)) → (left : Option (Option (List ℕ))) → Type 0
+LeavesRun is_whole told entries journal left =
+    (holds : Option (List ℕ)) × (left ≡ Some holds)
+    × (((is_whole ≡ true) × WritesFront journal holds (last_line entries)) ⊎ ((is_whole ≡ false) × (told ≡ trouble.Unkept) × (holds ≡ journal)))
+
+-- all entries of a run stand in its log, and maybe a front of the line that ends it
+abbrev pub HoldsAll : (holds : Option (List ℕ)) → Seen → Type 0
+HoldsAll holds final = (log : Option (List ℕ)) × IsLogOfBook log final × WritesFront log holds (last_line (length final.history))
+
+-- its first entries stand there, and maybe a front of the lines of the next ones
+abbrev pub HoldsFirst : (file holds : Option (List ℕ)) → Seen → Type 0
+HoldsFirst file holds final = (synced : Option (List ℕ)) × IsJournalOf (first_lines file final) holds synced final.history false
+
+-- The file of the log, if it tells its bytes, is given back with all entries of the run; or, where it failed, with the first of them.
+abbrev pub HoldsRun : Trouble → (file : Option (List ℕ)) → Seen → (left : Option (Option (List ℕ))) → Type 0
+HoldsRun told file final left =
+    IfSome file (λ _. (holds : Option (List ℕ)) × (left ≡ Some holds) × (HoldsAll holds final ⊎ ((told ≡ trouble.Unkept) × HoldsFirst file holds final)))
+
 -- The clients of a run were served, and boards were shown as far as may be; and its log was not kept to its end, or not written.
 pub record AttendsUntold {R W X : Type 0} (fits : X → Floor → Bool) (count : X → ℕ) (remaining : R → Option (List ℕ)) (contents : W → Option (List ℕ)) (gives : PlannerParts → Result X AllocError → Type 0) (options : ServeOptions)
-    (told : Trouble) (old new : Input) (had has file : Option (List ℕ)) (beside : Siding) (showed shows : Option (Option (List (List ℕ)))) : Type 0 where
+    (told : Trouble) (old new : Input) (had has file : Option (List ℕ)) (left : Option (Option (List ℕ))) (beside : Siding) (showed shows : Option (Option (List (List ℕ)))) : Type 0 where
   pub site : Site
   pub run : Ready X
   pub ready : IsReady gives options old new file beside.before site run
@@ -169,12 +189,13 @@ pub record AttendsUntold {R W X : Type 0} (fits : X → Floor → Bool) (count :
   pub final : Seen
   pub serves : Serves fits count remaining contents options site run final
   pub why : IsWhyUntold told (log_of final) had has
+  pub holds : HoldsRun told file final left
   pub last : Result Unit ShowFault
   pub boards : ShowsRun run final last showed shows
 
 -- The clients of a run were served, and its log was kept to its end and written; but the screen did not take the board of the whole run.
 pub record AttendsUnshown {R W X : Type 0} (fits : X → Floor → Bool) (count : X → ℕ) (remaining : R → Option (List ℕ)) (contents : W → Option (List ℕ)) (gives : PlannerParts → Result X AllocError → Type 0) (options : ServeOptions)
-    (told : Trouble) (old new : Input) (had has file : Option (List ℕ)) (beside : Siding) (showed shows : Option (Option (List (List ℕ)))) : Type 0 where
+    (told : Trouble) (old new : Input) (had has file : Option (List ℕ)) (left : Option (Option (List ℕ))) (beside : Siding) (showed shows : Option (Option (List (List ℕ)))) : Type 0 where
   pub fault : ShowFault
   pub told_is : told ≡ trouble_of_show fault
   pub site : Site
@@ -183,16 +204,17 @@ pub record AttendsUnshown {R W X : Type 0} (fits : X → Floor → Bool) (count 
   pub is_set : IsSet beside run.text.items
   pub final : Seen
   pub serves : Serves fits count remaining contents options site run final
+  pub holds : HoldsRun told file final left
   pub tells : Appends had has (log_of final)
   pub boards : ShowsRun run final (Err fault) showed shows
 
 -- Why it ended otherwise, the earlier first. Before the run is ready the file of the log, which is given back, and the one beside it are as they
--- were, and before the clients were served nothing is written.
+-- were; before the clients were served nothing is written, and from then on the file of the log holds their run.
 abbrev pub IsWhyUnattended : {R W X : Type 0} → (X → Floor → Bool) → (X → ℕ) → (R → Option (List ℕ)) → (W → Option (List ℕ)) → (PlannerParts → Result X AllocError → Type 0) → ServeOptions → Trouble
     → (old new : Input) → (had has file : Option (List ℕ)) → (left : Option (Option (List ℕ))) → Siding → (showed shows : Option (Option (List (List ℕ)))) → Type 0
 IsWhyUnattended fits count remaining contents gives options told old new had has file left beside showed shows =
     (IsWhyUnready gives options told old new file beside.before × Keeps had has × (left ≡ Some file) × IsUntouched beside)
     ⊎ ((fault : KeepFault) × (told ≡ keep_trouble fault) × StopsOpening gives options fault old new file left beside × Keeps had has)
     ⊎ (StopsAttending gives options told old new file left beside showed × Keeps had has)
-    ⊎ AttendsUntold fits count remaining contents gives options told old new had has file beside showed shows
-    ⊎ AttendsUnshown fits count remaining contents gives options told old new had has file beside showed shows
+    ⊎ AttendsUntold fits count remaining contents gives options told old new had has file left beside showed shows
+    ⊎ AttendsUnshown fits count remaining contents gives options told old new had has file left beside showed shows

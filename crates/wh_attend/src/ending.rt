@@ -1,9 +1,9 @@
 //! The end of a run whose clients were served: its log is kept to its end, and written, and it is told whether its last board was shown.
 
-ghost use Rattle.std.specs.Prelude.{◌≡◌, true, IfErr, IfOk, Ok, length};
+ghost use Rattle.std.specs.Prelude.{◌≡◌, true, IfErr, IfOk, Ok, length, option_map};
 ghost use Rattle.std.specs.Io.KnownBytes.{Appends};
 ghost use Rattle.wh_continue.specs.Running.{last_line};
-ghost use Rattle.wh_attend.specs.Attends.{IsWhyUnended, log_of};
+ghost use Rattle.wh_attend.specs.Attends.{IsWhyUnended, LeavesRun, log_of};
 
 use std::alloc::Global;
 use std::io::Write;
@@ -36,7 +36,7 @@ fn text_of<P: Planner>(alloc: Global, warehouse: &Warehouse<P>) -> Result<Vec<u8
 }
 
 /// Gives the screen back and the log its last line, writes all of the log, and then tells whether the last board was shown. Where the
-/// journal has failed the log is neither ended nor written.
+/// journal has failed the log is neither ended nor written. The journal goes back with a trouble.
 pub(crate) fn end_run<L: LogFile + Drop, W: Write, P: Planner, V: Drop>(
     alloc: Global,
     output: &mut W,
@@ -50,6 +50,7 @@ pub(crate) fn end_run<L: LogFile + Drop, W: Write, P: Planner, V: Drop>(
     ensures tells { IfOk result (λ _. Appends (W.contents output.old) (W.contents output.new) (log_of ran.history.warehouse.book)) }
     ensures shown { IfOk result (λ _. ran.last ≡ Ok tt) }
     ensures fault { IfErr result (λ e. IsWhyUnended ran.last e.trouble (log_of ran.history.warehouse.book) (W.contents output.old) (W.contents output.new)) }
+    ensures left { IfErr result (λ e. LeavesRun ran.is_whole e.trouble (length ran.history.warehouse.book.history) (L.contents ran.journal) (option_map L.contents e.file)) }
 {
     let Ran {
         history,

@@ -53,7 +53,8 @@ returns-in-Ok-serve_all-clause-fault g c =
     untold _ _ _ _ _ _ _ _ _ _ _ _ r.0 c.in-Ok.ready r.1 _ c.in-Ok.ensures.same_beside (opens_as _ _ _ _ c.as_slice.ensures.value c.in-Ok-open_both.ensures.ok) c.in-Ok-open_both.ensures.synced
     c.in-Ok-begin.warehouse.book ran.history.warehouse.book (c.in-Ok-begin.ensures.book ∙ c.in-Ok-open_both.ensures.book) c.in-Ok-serve_all.ensures.origin c.in-Ok-serve_all.ensures.ok
     ran.last (option_map g.V.Screen.shown ran.screen) (ap (option_map g.V.Screen.shown) c.end_run.ensures.screen) c.in-Ok-serve_all.ensures.boards
-    (λ e. e.trouble) (λ e. option_map g.L.Journal.contents e.file) c.end_run.result _ _ c.end_run.ensures.fault
+    (λ e. e.trouble) (λ e. option_map g.L.Journal.contents e.file) c.end_run.result _ _ _ _ _ _ ran.is_whole c.in-Ok.ensures.same (stays_before _ _ _ _ _ _ c.in-Ok-open_both.ensures.opens c.in-Ok-open_both.ensures.book c.in-Ok-begin.ensures.stays) c.in-Ok-serve_all.ensures.journal
+    c.end_run.ensures.left c.end_run.ensures.fault
 
 pub returns-in-Ok-serve_all-clause-asked : goal.returns-in-Ok-serve_all-clause-asked
 returns-in-Ok-serve_all-clause-asked g c = ok_anyhow c.end_run.result _ c.in-Ok.ensures.asked
