@@ -293,13 +293,13 @@ def test_a_stream_that_is_a_file_of_the_run() -> None:
             # into a file of the run not even that is told
             same((end, stream, said, errors, status), (end, stream, b'', b'' if stream[0] == '2' else b'refused X9\n', 3))
             same((end, stream, standing(os.path.dirname(file) + '/')), (end, stream, left))
-    # through a link too, and under a service, whose board is a file of the run
-    for own in ('log', 'board'):
+    # through a link too, and under a service, whose board is a file of the run, and so is the one that is to replace it
+    for own in ('log', 'board', 'shown.new'):
         room = afresh('c0')
         write_file(room + own, b'')
         os.symlink(room + own, room + 'link')
         write_file(room + 'site', ALONE)
-        named = {'--log': room + 'new', '--board': room + 'shown'} | {'--' + own: room + 'link'}
+        named = {'--log': room + 'new', '--board': room + 'shown'} | ({} if own == 'shown.new' else {'--' + own: room + 'link'})
         left = standing(room)
         with open(room + own, 'ab') as out, open(room + 'site', 'rb') as given:
             done = subprocess.run([PROGRAM, 'serve', '--client', f'0={room}c0', *(word for pair in named.items() for word in pair)],

@@ -55,7 +55,7 @@ SENTENCES = {
     'X6': 'The file that shows the board of `serve --board` cannot be written, or what is there is no board, or another service shows it (status 3). What is there stays.',
     'X7': 'Something stands behind the points, a line `%%` too, where `serve` reads them (status 2): its clients send their commands over their pipes.',
     'X8': 'The log was lost: FILE.site beside it is whole, and FILE is missing, empty or has not its two first lines. Bring FILE back, or begin a new run with --new. Nothing was changed.',
-    'X9': 'Standard output or standard error is a file of the run: the log, FILE.site, FILE.at or the board, perhaps through a link (status 3). It would be written over. Nothing was changed; send the stream elsewhere.',
+    'X9': 'Standard output or standard error is a file of the run: the log, FILE.site, FILE.at, or the board, old or new, perhaps through a link (status 3). It would be written over. Nothing was changed; send the stream elsewhere.',
     'formed': 'The instance is well-formed: no agent that is due is refused a path.',
     'few': 'There are fewer parkings than agents: the first number are there, the second is needed. The instance is not well-formed (docs/MODELING.md).',
     'cut': 'No walk leads from the first of these points to the second without meeting a third one. The instance is not well-formed: requests may be refused, since there is no path. Move the points between them off the way, or widen it (docs/MODELING.md).',

@@ -3,7 +3,7 @@ use Rattle.std.specs.Prelude.{◌≡◌, ◌+◌, ◌<◌, ◌==◌, ◌&&◌, �
 use Rattle.std.specs.List.{list_any}
 use Rattle.wh_grid.specs.declared.cell.Cell.{Cell}
 use Rattle.wh_grid.specs.Cells.{is_cell}
-use Rattle.wh_path.specs.Paths.{at}
+use Rattle.wh_path.specs.Paths.{at, last_index}
 use Rattle.wh_tasks.specs.declared.task.Task.{Task}
 use Rattle.wh_tasks.specs.declared.task.Phase.{Phase}
 use Rattle.wh_tasks.specs.Tasks.{delivery}
@@ -18,10 +18,14 @@ has cells here = list_any (is_cell here) cells
 abbrev pub bars : Task → Cell → Bool
 bars task here = has task.stops here && not (is_cell (delivery task) here)
 
+-- whether the agent with this path bars the task: it has no steps left, and where it is it bars the task
+abbrev pub stands_in : Task → List Cell → Bool
+stands_in task path = (last_index path == 0) && bars task (at path 0)
+
 -- the agents that bar the task, in their order, of those with these paths, the first of which has this number
 abbrev pub barring : Task → ℕ → List (List Cell) → List ℕ
 barring task n [] = []
-barring task n (path ∷ paths) = cond (bars task (at path 0)) (n ∷ barring task (n + 1) paths) (barring task (n + 1) paths)
+barring task n (path ∷ paths) = cond (stands_in task path) (n ∷ barring task (n + 1) paths) (barring task (n + 1) paths)
 
 -- the first two numbers, where there are two
 abbrev pub first_two : List ℕ → Option (ℕ × ℕ)

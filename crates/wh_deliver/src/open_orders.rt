@@ -34,14 +34,14 @@ fn bars(task: &Task, here: Cell) -> bool
     has(task.stops.as_slice(), here) && !(last.x == here.x && last.y == here.y)
 }
 
-/// The first agent, from this one on, that is at a stop of the task and not at its last.
+/// The first agent, from this one on, that rests at a stop of the task and not at its last.
 fn next<P: Plans>(warehouse: &Warehouse<P>, task: &Task, from: u32) -> Option<u32>
     ensures agent { IsFirstBarring task.now warehouse.now.book.state.paths from result }
     ensures few { IfSome result (λ agent. agent < 256) }
 {
     let agents = warehouse.agents();
     for agent in from..agents {
-        if bars(task, warehouse.cell(agent)) {
+        if warehouse.remaining(agent) == 0 && bars(task, warehouse.cell(agent)) {
             return Some(agent);
         }
     }

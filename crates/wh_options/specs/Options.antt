@@ -160,10 +160,11 @@ pub record GivesLive (settings : List Setting) (o : LiveOptions) : Type 0 where
 abbrev pub Lacks : (Text → Option Text) → Text → Text → Type 0
 Lacks given one other = (given one ≢ None) × (given other ≡ None)
 
--- a board in this file would replace a log in that one, or the site's text beside it: the board is written to FILE.new
--- and then named FILE, and beside the log stands FILE.site
+-- a board in this file would replace a log in that one, or a file beside it: the board is written to FILE.new and then named
+-- FILE, and beside the log stand FILE.site and FILE.at
 abbrev pub covers : (board log : Text) → Bool
-covers board log = bytes_eq board log || (bytes_eq log (board ++ codes ".new") || bytes_eq board (log ++ codes ".site"))
+covers board log =
+    bytes_eq board log || (bytes_eq log (board ++ codes ".new") || (bytes_eq board (log ++ codes ".site") || bytes_eq board (log ++ codes ".at")))
 
 -- the board is given a file of the log
 pub record CoversLog (given : Text → Option Text) : Type 0 where

@@ -48,7 +48,7 @@ impl Mistake {
             Mistake::ServeWithoutLog => "'serve' needs '--log <FILE>'",
             Mistake::ServeWithoutClient => "'serve' needs at least one '--client <CLIENT>'",
             Mistake::BoardCoversLog => {
-                "the argument '--board <FILE>' cannot be used with '--log <FILE>' where the board would replace the log, or FILE.site beside it"
+                "the argument '--board <FILE>' cannot be used with '--log <FILE>' where the board would replace the log, or FILE.site or FILE.at beside it"
             }
             Mistake::DeliverWithVehicles => {
                 "the argument '--deliver' cannot be used with '--vehicles'"
@@ -146,11 +146,14 @@ fn is_beside(name: &str, other: &str, end: &str) -> bool
     }
 }
 
-/// Whether a board in this file would replace a log in that one, or the site's text beside it.
+/// Whether a board in this file would replace a log in that one, or a file beside it.
 fn covers(board: &str, log: &str) -> bool
     ensures { result ≡ covers board.now log.now }
 {
-    board == log || is_beside(log, board, ".new") || is_beside(board, log, ".site")
+    board == log
+        || is_beside(log, board, ".new")
+        || is_beside(board, log, ".site")
+        || is_beside(board, log, ".at")
 }
 
 /// The name of the log's file, where what `serve` is given goes together; else what does not.

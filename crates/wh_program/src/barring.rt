@@ -5,7 +5,7 @@ ghost use Rattle.wh_program.specs.Barring.{Begins, IsBarred, IsWhyBarred, MayBeg
 ghost use Rattle.wh_program.specs.Programs.{pace_of};
 
 use crate::driving::late;
-use crate::running::names_beside;
+use crate::running::{name_beside, names_beside};
 use std::alloc::Global;
 use std::fs::{Files, metadata};
 use std::os::unix::fs::MetadataExt;
@@ -120,7 +120,13 @@ pub(crate) fn let_begin(
     };
     // the log stands in for a board that is not shown
     let board = board_name(options).unwrap_or(log);
-    let names = [log, site.as_str(), at.as_str(), board];
+    let Ok(next) = name_beside(alloc, board, ".new") else {
+        return Err(Bar {
+            trouble: Trouble::NoMemory,
+            is_told: true,
+        });
+    };
+    let names = [log, site.as_str(), at.as_str(), board, next.as_str()];
     let is_told = !is_of_run(files, ERRORS, names.as_slice());
     let is_own = !is_told || is_of_run(files, OUTPUT, names.as_slice());
     let mut arrivals = FileJournal::new(files, Path::new(at.as_str()));
