@@ -6,7 +6,7 @@ use Rattle.std.proofs.Math.ListN.{set}
 use Rattle.std.proofs.lemmas.Bool.{false≢true, cases_eq, cases_Bool}
 use Rattle.std.proofs.lemmas.Option.{none-some, same_Some, slice_get_within, slice_get-get_or, get_or_from_slice_get}
 use Rattle.std.proofs.lemmas.List.{length-set, length-replicate}
-use Rattle.std.proofs.lemmas.List.Elements.{All-nil, All-cons, All-head, All-append}
+use Rattle.std.proofs.lemmas.List.Elements.{All-nil, All-cons, All-head, All-tail, All-append}
 use Rattle.wh_points.specs.Points.{Site}
 use Rattle.wh_points.specs.Formed.{IsFormed}
 use Rattle.wh_field.proofs.Tables.{Contains-none, Contains-cases, Contains-first, Contains-later}
@@ -22,12 +22,14 @@ use Rattle.wh_event.specs.declared.reply.Reply.{Reply}
 use Rattle.wh_event.specs.declared.entry.Entry.{Entry}
 use Rattle.wh_book.specs.Drafts.{Seen, IsKept}
 use Rattle.wh_token.specs.Asking.{MayBeAsked, AllWouldRest, IsNextToAsk}
-use Rattle.wh_core.proofs.Lists.{slice_get-set_other}
+use Rattle.wh_core.proofs.Lists.{slice_get-set_other, slice_get-set_same}
 use Rattle.wh_token.proofs.Takers.{next-none}
 use Rattle.wh_progress.specs.Progress.{FindPaths, HasAsked, MayRest, StandsStill}
 use Rattle.wh_progress.proofs.Having.{asked}
 use Rattle.wh_progress.proofs.Counting.{bit, count-set}
-use Rattle.wh_delivery.specs.Deliveries.{IsOf, GoesOn, IsOnTime, HaveAsked, AllHaveAsked, AreInVain, IsStuck, Begins, no_path}
+use Rattle.wh_delivery.specs.Turns.{BringsNothing, no_path}
+use Rattle.wh_delivery.specs.Deliveries.{IsOf, GoesOn, IsOnTime, HaveAsked, AllHaveAsked, AreInVain, IsStuck, Begins}
+use Rattle.wh_delivery.proofs.Turns.{rest-left}
 
 pub goes-none : (caller : ℕ) (book : Seen) → GoesOn caller book [] book
 goes-none caller book = record {
@@ -48,7 +50,7 @@ goes-trans caller a b c xs ys h k = record {
       (k.served (subst (λ s. IsFormed s) (sym h.stays.site) formed));
 }
 
-one-step : (site : Site) (s new : State) (entry : Entry) → Run site s (entry ∷ []) new → Step site s entry new
+pub one-step : (site : Site) (s new : State) (entry : Entry) → Run site s (entry ∷ []) new → Step site s entry new
 one-step site s new entry run = subst (λ t. Step site s entry t) (sym run.2) run.1
 
 -- what was asked stays asked
@@ -89,6 +91,7 @@ pub asked-none : (site : Site) (s : State) (asked : List Bool) (n : ℕ) → ask
 asked-none site s asked n fresh all = record {
   seats = ap length fresh ∙ length-replicate n false ∙ all;
   told = λ agent is. absurd (none-asked n agent (subst (λ l. slice_get l agent ≡ Some true) fresh is));
+  only = λ agent has. absurd (Contains-none (Event.Request agent) has);
   on_time = record { closed = refl; clock = refl; tasks = refl };
   none = λ e. (refl, refl);
   one = λ e. absurd (false≢true e);
@@ -130,6 +133,29 @@ next-moves site s These agent next still = elim next [
       elim way.makes_way.in_the_way [ inl wanted ↦ stays.not_wanted wanted | inr off ↦ off stays.berth ]
 ]
 
+pub next-may : (site : Site) (s : State) (asked : List Bool) (agent : ℕ) → IsNextToAsk site s (MayBeAsked asked) agent → MayBeAsked asked agent
+next-may site s asked agent next = elim next [ inl takes ↦ takes.1.one | inr way ↦ way.one ]
+
+-- which agent a request names
+named : Event → ℕ
+named (Event.Request agent) = agent
+named event = 0
+
+-- all that have asked are marked
+only-more : (xs : List Entry) (entry : Entry) (asked : List Bool) (agent : ℕ) → MayBeAsked asked agent → entry.event ≡ Event.Request agent →
+    ((a : ℕ) → HasAsked xs a → slice_get asked a ≡ Some true) → (a : ℕ) → HasAsked (xs ++ entry ∷ []) a → slice_get (set asked agent true) a ≡ Some true
+only-more xs entry asked agent may e only a has =
+    let lt = slice_get_within asked agent false may in
+    let here : a ≡ agent → slice_get (set asked agent true) a ≡ Some true =
+    λ same. subst (λ b. slice_get (set asked agent true) b ≡ Some true) (sym same) (slice_get-set_same asked agent true lt) in
+    elim (asked-before xs entry a has) [
+      | inl earlier ↦ elim (cases_eq a agent) [
+        | inl same ↦ here same
+        | inr ne ↦ slice_get-set_other asked agent a true ne ∙ only a earlier
+      ]
+      | inr is ↦ here (ap named (sym is ∙ e))
+    ]
+
 -- one agent more has asked
 pub have-more : (site : Site) (old mid new : State) (asked : List Bool) (some : Bool) (xs : List Entry) (entry : Entry) (agent : ℕ) → HaveAsked site old asked some xs mid →
     IsNextToAsk site mid (MayBeAsked asked) agent → entry.event ≡ Event.Request agent → Answers site mid entry.reply (Event.Request agent) new →
@@ -140,6 +166,7 @@ have-more site old mid new asked some xs entry agent have next e step = record {
     | inl same ↦ subst (λ b. HasAsked (xs ++ entry ∷ []) b) (sym same) (asked-last xs entry agent e)
     | inr ne ↦ asked-left xs (entry ∷ []) a (have.told a (sym (slice_get-set_other asked agent a true ne) ∙ is))
   ];
+  only = only-more xs entry asked agent (next-may site mid asked agent next) e have.only;
   on_time = on_time-more site old mid new entry.reply agent have.on_time step;
   none = λ clash. absurd (false≢true (sym clash));
   one = λ _ stands. elim (cases_Bool some) [
@@ -158,9 +185,6 @@ fewer-left asked agent may =
     let was : bit (not (get_or asked agent true)) ≡ 1 = ap (λ b. bit (not b)) read in
     omega (arith, counts, was)
 
-pub next-may : (site : Site) (s : State) (asked : List Bool) (agent : ℕ) → IsNextToAsk site s (MayBeAsked asked) agent → MayBeAsked asked agent
-next-may site s asked agent next = elim next [ inl takes ↦ takes.1.one | inr way ↦ way.one ]
-
 -- all that were to be asked have asked
 asked-or-rests : (site : Site) (new : State) (asked : List Bool) (added : List Entry) (agent : ℕ) → ((a : ℕ) → slice_get asked a ≡ Some true → HasAsked added a) →
     AllWouldRest site new (MayBeAsked asked) → (b : Option Bool) → slice_get asked agent ≡ b → b ≢ None → IsDue site new agent →
@@ -178,12 +202,14 @@ left-asked site old new some added agent all due =
     (λ none. none-some (get_or asked agent true) (sym none ∙ slice_get-get_or asked agent true lt)) due
 
 -- somebody asked
-pub begins-asked : (site : Site) (old new : State) (some : Bool) (added : List Entry) → some ≡ true → AllHaveAsked site old some added new → Begins site old false added new
-begins-asked site old new some added one all = record {
+pub begins-asked : (site : Site) (old new : State) (some : Bool) (added : List Entry) → some ≡ true → AllHaveAsked site old some added new → ¬ BringsNothing new added →
+    Begins site old false added new
+begins-asked site old new some added one all brings = record {
   asked = λ agent due. left-asked site old new some added agent all due;
   on_time = all.1.on_time;
   stands = λ clash. absurd (false≢true clash);
   moves = λ _. all.1.one one;
+  ticks = λ _. (rest-left site new all.0 added all.1.seats all.1.told all.2, brings);
 }
 
 -- all are at rest
@@ -218,6 +244,23 @@ vain-more site old mid new xs entry agent vain e lacks step =
         | inr is ↦ subst (λ v. Answers site old no_path v old) (sym e ∙ is) here
       ];
     }
+
+-- of requests that were all refused the earlier ones were, and so was the last
+refused-before : (xs : List Entry) (entry : Entry) → All (λ entry. entry.reply ≡ no_path) (xs ++ entry ∷ []) → All (λ entry. entry.reply ≡ no_path) xs
+refused-before [] entry all = All-nil (λ entry. entry.reply ≡ no_path)
+refused-before (x ∷ xs) entry all =
+    All-cons (λ entry. entry.reply ≡ no_path) x xs (All-head (λ entry. entry.reply ≡ no_path) x (xs ++ entry ∷ []) all)
+    (refused-before xs entry (All-tail (λ entry. entry.reply ≡ no_path) x (xs ++ entry ∷ []) all))
+
+refused-last : (xs : List Entry) (entry : Entry) → All (λ entry. entry.reply ≡ no_path) (xs ++ entry ∷ []) → entry.reply ≡ no_path
+refused-last [] entry all = All-head (λ entry. entry.reply ≡ no_path) entry [] all
+refused-last (x ∷ xs) entry all = refused-last xs entry (All-tail (λ entry. entry.reply ≡ no_path) x (xs ++ entry ∷ []) all)
+
+-- once one was not refused, not all were
+pub brought-more : (vain lacks : Bool) (xs : List Entry) (entry : Entry) → (vain ≡ false → ¬ All (λ entry. entry.reply ≡ no_path) xs) →
+    (entry.reply ≡ no_path → lacks ≡ true) → (vain && lacks) ≡ false → ¬ All (λ entry. entry.reply ≡ no_path) (xs ++ entry ∷ [])
+brought-more false lacks xs entry before is _ all = before refl (refused-before xs entry all)
+brought-more true lacks xs entry before is no all = false≢true (sym no ∙ is (refused-last xs entry all))
 
 -- all stand, and ask in vain
 begins-stuck : (site : Site) (old new : State) (some : Bool) (added : List Entry) → some ≡ true → AllHaveAsked site old some added new → AreInVain site old added new →
@@ -277,6 +320,10 @@ begins-unasked site old new some rest added opens none all_rest all =
         }),
       );
       moves = λ moving stands. false≢true (sym moving ∙ all_rest.1 (subst (λ s. AllStand s) (sym same) stands.resting));
+      ticks = λ moving. (
+        rest-left site new all.0 added all.1.seats all.1.told all.2,
+        λ nothing. false≢true (sym moving ∙ all_rest.1 nothing.resting),
+      );
     }
 
 -- its history is a run from its opening to its state

@@ -1,5 +1,5 @@
 -- a round after another
-use Rattle.std.proofs.Common.{◌≡◌, ◌≢◌, ℕ, ◌+◌, ◌*◌, ◌<◌, ◌≤◌, List, [], ◌∷◌, ◌++◌, Bool, true, false, length, refl, sym, ap, subst, arith, ◌∙◌, ◌⊎◌, inl, inr, append_assoc}
+use Rattle.std.proofs.Common.{◌≡◌, ◌≢◌, ℕ, ◌+◌, ◌*◌, ◌<◌, ◌≤◌, List, [], ◌∷◌, ◌++◌, Bool, true, false, length, refl, sym, ap, subst, arith, ◌∙◌, ◌⊎◌, inl, inr, append_assoc, append-nil}
 use Prim.Native.Nat.{zero, suc}
 use Rattle.std.proofs.lemmas.Bool.{false≢true, cases_eq, cases_lt, cases_Bool}
 use Rattle.std.proofs.lemmas.List.Elements.{All-nil, All-cons, All-append}
@@ -25,13 +25,17 @@ use Rattle.wh_progress.proofs.Due.{due_until_asked}
 use Rattle.wh_progress.proofs.Reaching.{few-after, places-after}
 use Rattle.wh_progress.proofs.Standing.{still_is_done, only_held}
 use Rattle.wh_progress.proofs.Delivered.{each_round_brings, left_is_bounded}
-use Rattle.wh_delivery.specs.Deliveries.{GoesOn, IsOneLater, Begins, IsDelivering}
-use Rattle.wh_delivery.proofs.Going.{IsBegun, goes-none, goes-trans, asked-left, asked-last, reached}
+use Rattle.wh_delivery.specs.Turns.{IsInTurn, IsRoundSoFar, RunInTurn, since_all}
+use Rattle.wh_delivery.specs.Deliveries.{GoesOn, IsOneLater, IsOneTick, Begins, IsDelivering}
+use Rattle.wh_delivery.proofs.Turns.{round-behind, tick-behind}
+use Rattle.wh_delivery.proofs.Going.{IsBegun, goes-none, goes-trans, one-step, asked-left, asked-last, reached}
 
 pub delivering-none : (caller : ℕ) (book : Seen) → IsDelivering caller book 0 book
 delivering-none caller book = record {
   added = [];
   goes = goes-none caller book;
+  in_turn = refl;
+  begins = refl;
   clock = omega arith;
   tasks = refl;
   falls = λ stops formed few. omega arith;
@@ -130,11 +134,24 @@ as-round site old mid new still asks last begins first second mid_open later ope
       All-append P (asks ++ r.rests) last (All-append P asks r.rests asks_find r.finds) last_find,
     )
 
+-- each of them was in its turn
+ticked : (site : Site) (old now mid new : State) (before asks last : List Entry) → RunInTurn site old [] before now → since_all [] before ≡ [] →
+    IsRoundSoFar site now asks mid → Begins site now false asks mid → IsOneTick last → Run site mid last new →
+    RunInTurn site old [] (before ++ (asks ++ last)) new × (since_all [] (before ++ (asks ++ last)) ≡ [])
+ticked site old now mid new before asks last run begun round begins one last_run =
+    let entry = one.0 in
+    let step = one-step site mid new entry (subst (λ l. Run site mid l new) one.1 last_run) in
+    let whole = tick-behind site old now mid new before asks entry run begun round (begins.ticks refl) one.2 step in
+    let same : (before ++ asks) ++ entry ∷ [] ≡ before ++ (asks ++ last) = append_assoc before asks (entry ∷ []) ∙ ap (λ l. before ++ (asks ++ l)) (sym one.1) in (
+      subst (λ l. RunInTurn site old [] l new) same whole.0,
+      subst (λ l. since_all [] l ≡ []) same whole.1,
+    )
+
 -- all that were to be asked have asked, not all stood still, and a tick followed
 pub delivering-more : (caller : ℕ) (old now mid new : Seen) (ticks : ℕ) (asks last : List Entry) → IsBegun old →
-    IsDelivering caller old ticks now → GoesOn caller now asks mid → Begins now.site now.state false asks mid.state → GoesOn caller mid last new →
-    IsOneLater mid.state new.state → IsDelivering caller old (ticks + 1) new
-delivering-more caller old now mid new ticks asks last kept d first asked second later =
+    IsDelivering caller old ticks now → GoesOn caller now asks mid → IsRoundSoFar now.site now.state asks mid.state → Begins now.site now.state false asks mid.state →
+    GoesOn caller mid last new → IsOneTick last → IsOneLater mid.state new.state → IsDelivering caller old (ticks + 1) new
+delivering-more caller old now mid new ticks asks last kept d first round asked second one later =
     let whole = goes-trans caller now mid new asks last first second in
     let goes = goes-trans caller old now new d.added (asks ++ last) d.goes whole in
     let on = asked.on_time in
@@ -146,9 +163,13 @@ delivering-more caller old now mid new ticks asks last kept d first asked second
     let begins : Begins old.site now.state false asks mid.state = subst (λ s. Begins s now.state false asks mid.state) here asked in
     let run_first : Run old.site now.state asks mid.state = subst (λ s. Run s now.state asks mid.state) here first.run in
     let run_second : Run old.site mid.state last new.state = subst (λ s. Run s mid.state last new.state) there second.run in
+    let in_turn = ticked old.site old.state now.state mid.state new.state d.added asks last d.in_turn d.begins
+    (subst (λ s. IsRoundSoFar s now.state asks mid.state) here round) begins one run_second in
     record {
       added = d.added ++ (asks ++ last);
       goes = goes;
+      in_turn = in_turn.0;
+      begins = in_turn.1;
       clock = omega arith;
       tasks = tasks ∙ d.tasks;
       falls = λ stops formed few.
@@ -164,6 +185,30 @@ delivering-more caller old now mid new ticks asks last kept d first asked second
             | inl less ↦ omega arith
           ];
     }
+
+-- of the entries that a book gained each is in its turn
+abbrev pub GainsInTurn : Seen → Seen → Type 0
+GainsInTurn old new = (added : List Entry) × (new.history ≡ old.history ++ added) × RunInTurn old.site old.state [] added new.state
+
+-- behind whole rounds, those of one that was begun
+pub in-turn-behind : (caller : ℕ) (old now new : Seen) (ticks : ℕ) (asks : List Entry) → IsDelivering caller old ticks now → GoesOn caller now asks new →
+    IsRoundSoFar now.site now.state asks new.state → GainsInTurn old new
+in-turn-behind caller old now new ticks asks d goes round = (
+  d.added ++ asks,
+  (goes-trans caller old now new d.added asks d.goes goes).history,
+  round-behind old.site old.state now.state new.state d.added asks d.in_turn d.begins (subst (λ s. IsRoundSoFar s now.state asks new.state) d.goes.stays.site round),
+)
+
+-- and nothing behind them
+pub in-turn-still : (caller : ℕ) (old now mid new : Seen) (ticks : ℕ) (asks last : List Entry) → IsDelivering caller old ticks now → GoesOn caller now asks mid →
+    IsRoundSoFar now.site now.state asks mid.state → GoesOn caller mid last new → last ≡ [] → GainsInTurn old new
+in-turn-still caller old now mid new ticks asks last d goes round rest none =
+    let gains = in-turn-behind caller old now mid ticks asks d goes round in
+    let none_more : Run mid.site mid.state [] new.state = subst (λ l. Run mid.site mid.state l new.state) none rest.run in (
+      gains.0,
+      rest.history ∙ ap (λ l. mid.history ++ l) none ∙ append-nil mid.history ∙ gains.1,
+      subst (λ s. RunInTurn old.site old.state [] gains.0 s) (sym none_more) gains.2,
+    )
 
 -- all stood still as the round began
 pub all-rest : (caller : ℕ) (now new : Seen) (asks : List Entry) → GoesOn caller now asks new → Begins now.site now.state true asks new.state →

@@ -1,5 +1,5 @@
 -- how far a book has gone on while agents ask and the clock ticks
-use Rattle.std.specs.Prelude.{◌≡◌, ℕ, ◌+◌, ◌<◌, ◌≤◌, ◌⊎◌, List, [], ◌++◌, Bool, true, false, Some, length, slice_get, All}
+use Rattle.std.specs.Prelude.{◌≡◌, ℕ, ◌+◌, ◌<◌, ◌≤◌, ◌⊎◌, List, [], ◌∷◌, ◌++◌, Bool, true, false, Some, length, slice_get, All}
 use Rattle.wh_points.specs.Points.{Site}
 use Rattle.wh_path.specs.Paths.{steps_left}
 use Rattle.wh_points.specs.Formed.{IsFormed}
@@ -7,12 +7,12 @@ use Rattle.wh_core.specs.States.{State}
 use Rattle.wh_core.specs.Steps.{Answers, Run, IsDue, last_clock}
 use Rattle.wh_event.specs.declared.event.Event.{Event}
 use Rattle.wh_event.specs.declared.reply.Reply.{Reply}
-use Rattle.wh_event.specs.declared.reply.Refusal.{Refusal}
 use Rattle.wh_event.specs.declared.entry.Entry.{Entry}
 use Rattle.wh_book.specs.Drafts.{Seen}
 use Rattle.wh_token.specs.Houses.{StaysAt}
 use Rattle.wh_token.specs.Asking.{MayBeAsked, AllWouldRest}
 use Rattle.wh_progress.specs.Progress.{HaveAtMost, HasAsked, FindPaths, StandsStill, left_to_do}
+use Rattle.wh_delivery.specs.Turns.{IsInTurn, RunInTurn, no_path, since_all}
 use Rattle.wh_delivery.specs.declared.broken_off.BrokenOff.{BrokenOff}
 
 -- an agent asks, or the clock ticks
@@ -52,6 +52,7 @@ pub record IsOneLater (old new : State) : Type 0 where
 pub record HaveAsked (site : Site) (old : State) (asked : List Bool) (some : Bool) (added : List Entry) (new : State) : Type 0 where
   pub seats : length asked ≡ length new.paths
   pub told : (agent : ℕ) → slice_get asked agent ≡ Some true → HasAsked added agent
+  pub only : (agent : ℕ) → HasAsked added agent → slice_get asked agent ≡ Some true
   pub on_time : IsOnTime old new
   pub none : some ≡ false → (added ≡ []) × (new ≡ old)
   pub one : some ≡ true → ¬ StandsStill site old
@@ -60,10 +61,6 @@ pub record HaveAsked (site : Site) (old : State) (asked : List Bool) (some : Boo
 -- and each other that is due would be told to rest
 abbrev pub AllHaveAsked : Site → State → Bool → List Entry → State → Type 0
 AllHaveAsked site old some added new = (asked : List Bool) × HaveAsked site old asked some added new × AllWouldRest site new (MayBeAsked asked)
-
--- for lack of a path
-abbrev pub no_path : Reply
-no_path = Reply.Refused Refusal.NoPath
 
 -- These requests were all refused for lack of a path, so nothing has changed.
 pub record AreInVain (site : Site) (old : State) (added : List Entry) (new : State) : Type 0 where
@@ -83,15 +80,22 @@ pub record Begins (site : Site) (old : State) (still : Bool) (added : List Entry
   pub on_time : IsOnTime old new
   pub stands : still ≡ true → (new ≡ old) × StandsStill site old
   pub moves : still ≡ false → ¬ StandsStill site old
+  pub ticks : still ≡ false → IsInTurn site new added Event.Tick
 
 -- After so many ticks: what is left to do has fallen with each of them.
 pub record IsDelivering (caller : ℕ) (old : Seen) (ticks : ℕ) (now : Seen) : Type 0 where
   pub added : List Entry
   pub goes : GoesOn caller old added now
+  pub in_turn : RunInTurn old.site old.state [] added now.state
+  pub begins : since_all [] added ≡ []
   pub clock : now.state.clock ≡ old.state.clock + ticks
   pub tasks : length now.state.tasks ≡ length old.state.tasks
   pub falls : (stops : ℕ) → IsFormed old.site → HaveAtMost stops old.state →
       ticks + left_to_do old.site stops now.state ≤ left_to_do old.site stops old.state
+
+-- nothing but a tick
+abbrev pub IsOneTick : List Entry → Type 0
+IsOneTick added = (entry : Entry) × (added ≡ entry ∷ []) × (entry.event ≡ Event.Tick)
 
 -- why it was broken off
 abbrev pub IsWhy : Site → BrokenOff → State → Type 0

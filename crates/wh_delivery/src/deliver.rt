@@ -1,6 +1,6 @@
 //! Agents ask, the nearest order first, and the clock ticks until all stands still.
 
-ghost use Rattle.std.specs.Prelude.{◌≡◌, ◌≢◌, ℕ, ◌+◌, ◌*◌, ◌<◌, ◌≤◌, ◌⊎◌, ◌↔◌, List, [], ◌∷◌, false, length, replicate, IfOk, IfErr, IsTrue};
+ghost use Rattle.std.specs.Prelude.{◌≡◌, ◌≢◌, ℕ, ◌+◌, ◌*◌, ◌<◌, ◌≤◌, ◌⊎◌, ◌↔◌, List, [], ◌∷◌, ◌++◌, false, length, replicate, All, IfOk, IfErr, IsTrue, MatchResult};
 ghost use Rattle.wh_path.specs.Paths.{steps_left};
 ghost use Rattle.wh_points.specs.Formed.{IsFormed};
 ghost use Rattle.wh_tasks.specs.declared.task.Task.{Task as Job};
@@ -12,7 +12,8 @@ ghost use Rattle.wh_event.specs.declared.entry.Entry.{Entry as Line};
 ghost use Rattle.wh_progress.specs.Progress.{span, open_tasks, left_to_do, HaveAtMost, AreOfTwoPlaces, StandsStill, IsHeld, AllDone};
 ghost use Rattle.wh_progress.specs.Laws.{NoneCanStand};
 ghost use Rattle.wh_event.specs.declared.reply.Reply.{Reply as Answer};
-ghost use Rattle.wh_delivery.specs.Deliveries.{AllHaveAsked, AreInVain, Begins, GoesOn, IsOneLater, IsWhy, no_path};
+ghost use Rattle.wh_delivery.specs.Turns.{IsRoundSoFar, RunInTurn, no_path};
+ghost use Rattle.wh_delivery.specs.Deliveries.{AllHaveAsked, AreInVain, Begins, GoesOn, IsOneLater, IsOneTick, IsWhy};
 
 use crate::broken_off::BrokenOff;
 use std::alloc::{AllocError, Global};
@@ -23,7 +24,7 @@ use wh_token::Warehouse;
 
 /// Whether it is a refusal for lack of a path.
 fn lacks_path(reply: &Reply) -> bool
-    ensures { IsTrue result → reply.now ≡ no_path }
+    ensures { IsTrue result ↔ (reply.now ≡ no_path) }
 {
     matches!(reply, Reply::Refused(Refusal::NoPath))
 }
@@ -36,7 +37,7 @@ fn ask<P: Plans>(
     agent: u32,
 ) -> Result<bool, AllocError>
     ensures asked { IfOk result (λ lacks. (entry : Line) × GoesOn caller warehouse.old.book (entry ∷ []) warehouse.new.book × (entry.event ≡ Asked.Request agent)
-        × (IsTrue lacks → entry.reply ≡ no_path)) }
+        × (IsTrue lacks ↔ (entry.reply ≡ no_path))) }
     ensures starved { IfErr result (λ _. GoesOn caller warehouse.old.book [] warehouse.new.book) }
 {
     match warehouse.step(alloc, caller, Command::Token { agent }, None) {
@@ -68,8 +69,10 @@ fn ask_all<P: Plans>(
     caller: u32,
 ) -> Result<Requests, AllocError>
     ensures asked { (added : List Line) × GoesOn caller warehouse.old.book added warehouse.new.book
+        × IsRoundSoFar warehouse.old.book.site warehouse.old.book.state added warehouse.new.book.state
         × IfOk result (λ came. AllHaveAsked warehouse.old.book.site warehouse.old.book.state came.some added warehouse.new.book.state
-        × (IsTrue came.in_vain → AreInVain warehouse.old.book.site warehouse.old.book.state added warehouse.new.book.state)) }
+        × (IsTrue came.in_vain → AreInVain warehouse.old.book.site warehouse.old.book.state added warehouse.new.book.state)
+        × (came.in_vain ≡ false → ¬ All (λ entry. entry.reply ≡ no_path) added)) }
 {
     let mut asked = nobody(alloc, warehouse.agents())?;
     let mut some = false;
@@ -103,6 +106,7 @@ fn begin<P: Plans>(
 ) -> Result<bool, BrokenOff>
     requires not_closed { warehouse.old.book.state.closed ≡ false }
     ensures asked { (added : List Line) × GoesOn caller warehouse.old.book added warehouse.new.book
+        × IsRoundSoFar warehouse.old.book.site warehouse.old.book.state added warehouse.new.book.state
         × IfOk result (λ still. Begins warehouse.old.book.site warehouse.old.book.state still added warehouse.new.book.state) }
     ensures fault { IfErr result (λ fault. (fault ≡ BrokenOff.NoMemory) ⊎ (fault ≡ BrokenOff.Stuck)) }
     ensures why { IfErr result (λ fault. IsWhy warehouse.new.book.site fault warehouse.new.book.state) }
@@ -125,7 +129,7 @@ fn begin<P: Plans>(
 /// The clock ticks.
 fn tick<P: Plans>(alloc: Global, warehouse: &mut Warehouse<P>, caller: u32) -> Result<(), BrokenOff>
     ensures ticked { (added : List Line) × GoesOn caller warehouse.old.book added warehouse.new.book
-        × IfOk result (λ _. IsOneLater warehouse.old.book.state warehouse.new.book.state) }
+        × MatchResult result (λ _. IsOneTick added × IsOneLater warehouse.old.book.state warehouse.new.book.state) (λ _. added ≡ []) }
     ensures same { IfErr result (λ _. warehouse.new.book.state ≡ warehouse.old.book.state) }
     ensures why { IfErr result (λ fault. IsWhy warehouse.new.book.site fault warehouse.new.book.state) }
     ensures moving { IfErr result (λ fault. fault ≢ BrokenOff.Stuck) }
@@ -172,6 +176,7 @@ pub fn deliver_all<P: Plans>(
     caller: u32,
 ) -> Result<u32, BrokenOff>
     ensures goes { (added : List Line) × GoesOn caller warehouse.old.book added warehouse.new.book }
+    ensures in_turn { (added : List Line) × (warehouse.new.book.history ≡ warehouse.old.book.history ++ added) × RunInTurn warehouse.old.book.site warehouse.old.book.state [] added warehouse.new.book.state }
     ensures clock { IfOk result (λ ticks. warehouse.new.book.state.clock ≡ warehouse.old.book.state.clock + ticks) }
     ensures still { IfOk result (λ _. StandsStill warehouse.new.book.site warehouse.new.book.state) }
     ensures held { IfOk result (λ _. warehouse.old.book.site.homes ≡ false → 0 < length warehouse.old.book.site.layout.agents → (n : ℕ) (job : Job) → IsTask warehouse.new.book.state.tasks n job
