@@ -137,7 +137,7 @@ pub next-may : (site : Site) (s : State) (asked : List Bool) (agent : ℕ) → I
 next-may site s asked agent next = elim next [ inl takes ↦ takes.1.one | inr way ↦ way.one ]
 
 -- which agent a request names
-named : Event → ℕ
+abbrev named : Event → ℕ
 named (Event.Request agent) = agent
 named event = 0
 
@@ -260,7 +260,7 @@ refused-last (x ∷ xs) entry all = refused-last xs entry (All-tail (λ entry. e
 pub brought-more : (vain lacks : Bool) (xs : List Entry) (entry : Entry) → (vain ≡ false → ¬ All (λ entry. entry.reply ≡ no_path) xs) →
     (entry.reply ≡ no_path → lacks ≡ true) → (vain && lacks) ≡ false → ¬ All (λ entry. entry.reply ≡ no_path) (xs ++ entry ∷ [])
 brought-more false lacks xs entry before is _ all = before refl (refused-before xs entry all)
-brought-more true lacks xs entry before is no all = false≢true (sym no ∙ is (refused-last xs entry all))
+brought-more true lacks xs entry before is was all = false≢true (sym was ∙ is (refused-last xs entry all))
 
 -- all stand, and ask in vain
 begins-stuck : (site : Site) (old new : State) (some : Bool) (added : List Entry) → some ≡ true → AllHaveAsked site old some added new → AreInVain site old added new →

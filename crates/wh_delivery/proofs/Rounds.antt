@@ -25,7 +25,7 @@ use Rattle.wh_progress.proofs.Due.{due_until_asked}
 use Rattle.wh_progress.proofs.Reaching.{few-after, places-after}
 use Rattle.wh_progress.proofs.Standing.{still_is_done, only_held}
 use Rattle.wh_progress.proofs.Delivered.{each_round_brings, left_is_bounded}
-use Rattle.wh_delivery.specs.Turns.{IsInTurn, IsRoundSoFar, RunInTurn, since_all}
+use Rattle.wh_delivery.specs.Turns.{IsRoundSoFar, RunInTurn, since_all}
 use Rattle.wh_delivery.specs.Deliveries.{GoesOn, IsOneLater, IsOneTick, Begins, IsDelivering}
 use Rattle.wh_delivery.proofs.Turns.{round-behind, tick-behind}
 use Rattle.wh_delivery.proofs.Going.{IsBegun, goes-none, goes-trans, one-step, asked-left, asked-last, reached}

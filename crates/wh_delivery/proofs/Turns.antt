@@ -36,7 +36,7 @@ next-alike site s These Those to from agent next = elim next [
 may-left : (s : State) (asked : List Bool) (added : List Entry) → length asked ≡ length s.paths → ((a : ℕ) → HasAsked added a → slice_get asked a ≡ Some true) →
     (agent : ℕ) → MayBeAsked asked agent → IsLeft s added agent
 may-left s asked added seats only agent may = (
-  rw sym seats; slice_get_within asked agent false may,
+  subst (λ n. agent < n) seats (slice_get_within asked agent false may),
   λ has. false≢true (same_Some false true (sym may ∙ only agent has)),
 )
 
