@@ -20,10 +20,10 @@ import counting
 ROOT = os.path.dirname(os.path.dirname(os.path.abspath(__file__)))
 PROGRAM = os.environ.get('WAREHOUSE') or os.path.join(ROOT, 'crates/warehouse/out/warehouse')
 MEMORY, SECONDS = 700 << 20, 10    # of address space, with the program's own
-# Million instructions of `queue 31 40 1`. An unproved build takes 157.5; a proved one may differ by 2 percent, and 3 are the
+# Million instructions of `queue 31 40 1`. An unproved build takes 49.7; a proved one may differ by 2 percent, and 3 are the
 # libc's copies and fills, so 5 percent more are let through. No contract says that a search does not step back to where it
-# came from (`leads_from` of wh_intervals): one that does finds the same paths, and takes 175.
-QUEUE_MILLIONS = 165
+# came from (`leads_from` of wh_intervals): one that does finds the same paths, and takes some 8 percent more.
+QUEUE_MILLIONS = 52
 
 
 def made(*words: object) -> str:

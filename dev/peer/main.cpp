@@ -24,7 +24,10 @@
 // - Before any field is filled that is not yet filled as far: where the stops are 128 or more apart by columns and rows,
 //   a straight pass by that estimate, which is given up where more places lead nowhere than the way has steps. It finds
 //   what the next would find.
-// - Straight pass: unless nobody may rest at the last stop so soon, a walk of just as many steps as are estimated at
+// - No path is shorter than its legs by their estimates, where it comes to each stop but the last at the first time from then on
+//   at which nobody else is there (under the rule, nor was just before; where there is none it is not waited for); nor ends before
+//   one may rest at the last stop (under the rule, one later).
+// - Straight pass: unless no path is so short, a walk of just as many steps as are estimated at
 //   the start is sought depth first, by those moves alone by which the estimate falls, of the moves the last one first.
 // - Where that finds none, the way to each stop is walked down its field from the stop before, always to the first place
 //   beside that is nearer and not taken: at which not somebody else is at each time from now on. Where on the way to some
@@ -32,7 +35,7 @@
 //   of those that have no steps left, and with the field over that map of each such stop.
 // - Over intervals: an arrival is a place, a number of stops behind, a time, and until when nobody else comes there, or
 //   the last time at which anything is sought. Of those that wait one of the least bound comes first, by time and
-//   estimate; all bounds up to the least that a path may have (from when on one may rest at the last stop, and one more
+//   estimate; all bounds up to the least that a path may have (as above, and one more
 //   than the straight pass looked for) are equal. Among equal ones that with the least estimate comes first, then the
 //   earliest, and then the last put in.
 // - An arrival meets the next ones in the order of moves but the first: to each place beside, the first arrival in each

@@ -58,6 +58,16 @@ public:
         }
     }
 
+    // From this time on the first one at which the agent may be at a cell: nobody else is; under the rule nobody was just
+    // before either. This time where there is none.
+    uint32_t visit_from(uint32_t cell, uint32_t time) const {
+        for (uint32_t next = time;; ++next) {
+            next = next_free(cell, next);
+            if (next == NONE) return time;
+            if (!nofollow_ || next == 0 || !stay_at(cell, next - 1)) return next;
+        }
+    }
+
     // Whether somebody is at a cell at each time, as one that stays there is.
     bool is_taken(uint32_t cell) const { return next_free(cell, 0) == NONE; }
 

@@ -35,7 +35,7 @@ public:
         unguided_.deliver(tour.stops, tour.count);
         const uint32_t first = unguided_.arrive(0, start);
         const uint32_t whole = unguided_.estimate(first, start);
-        if (whole < LONG || whole < reservations_.first_end()) return false;
+        if (whole < LONG || whole < least_of(unguided_, first, start)) return false;
         if (!straight_.find(unguided_, start, first, whole, whole, path)) return false;
         CHECK_PATH(site_, timetable_, self, path, &tour, nullptr);
         return true;
@@ -70,12 +70,24 @@ public:
     }
 
 private:
+    // No path is shorter: it comes to each stop when the agent may be there, and from one to the next takes the steps that are estimated.
+    template <typename Guide>
+    uint32_t least_of(const Guide& guide, uint32_t first, uint32_t start) const {
+        uint32_t time = 0, cell = start;
+        for (uint32_t leg = first; leg + 1 < guide.legs(); ++leg) {
+            const uint32_t stop = guide.leg(leg).stop;
+            time = reservations_.visit_from(stop, time + guide.estimate(leg, cell) - guide.leg(leg).onward) + guide.stay_at(leg, stop);
+            cell = stop;
+        }
+        return std::max(reservations_.first_end(), time + guide.estimate(guide.legs() - 1, cell));
+    }
+
     // By the errand's estimates. The fields are those of the tour where a detour may be made.
     bool run(uint32_t start, const Tour* tour, const Bounded* fields) {
         const uint32_t first = errand_.arrive(0, start);
         const uint32_t whole = errand_.estimate(first, start);
-        uint32_t least = reservations_.first_end();    // no path is shorter
         if (whole > errand_.limit()) return false;
+        uint32_t least = least_of(errand_, first, start);
         if (whole >= least) {
             if (straight_.find(errand_, start, first, whole, NONE, path)) return true;
             least = whole + 1;

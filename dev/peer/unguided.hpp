@@ -31,6 +31,7 @@ public:
     }
 
     uint32_t legs() const { return last_ + 1; }
+    const Leg& leg(uint32_t number) const { return legs_[number]; }
 
     uint32_t estimate(uint32_t leg, uint32_t cell) const {
         return apart(x(cell), legs_[leg].x) + apart(y(cell), legs_[leg].y) + legs_[leg].onward;

@@ -45,7 +45,7 @@ pub fn sighted_errand<'x>(
     let via = &stops[..last];
     let ends = &stops[last..];
     let horizon = others.horizon();
-    Errand {
+    let errand = Errand {
         grid,
         others,
         loc,
@@ -58,7 +58,8 @@ pub fn sighted_errand<'x>(
         soonest,
         exact: true,
         least: first_end(others, stops[last], soonest),
-    }
+    };
+    errand.with_waits()
 }
 
 /// A shortest path, or none where there is no delivery.

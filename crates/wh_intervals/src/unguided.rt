@@ -46,7 +46,7 @@ fn manhattan_errand<'x>(
     let via = &stops[..last];
     let ends = &stops[last..];
     let horizon = others.horizon();
-    Errand {
+    let errand = Errand {
         grid,
         others,
         loc,
@@ -59,7 +59,8 @@ fn manhattan_errand<'x>(
         soonest,
         exact: true,
         least: first_end(others, stops[last], soonest),
-    }
+    };
+    errand.with_waits()
 }
 
 /// A lawful path from loc through the stops with the least last index, where it is a long one that leads along columns and

@@ -4,6 +4,7 @@ pub mod BestFirst
 pub mod Reach
 pub mod Bound
 pub mod Visits
+pub mod Sooner
 pub mod Paths
 pub mod Kept
 pub mod Expands

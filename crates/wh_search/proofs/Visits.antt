@@ -55,7 +55,7 @@ progress g others loc via ends first p a d v (suc k) =
     }
 
 -- the same visits, each by the last index
-visits_by_end : (p via : List Cell) → VisitsInOrder p via → VisitsInOrder p via
+pub visits_by_end : (p via : List Cell) → VisitsInOrder p via → VisitsInOrder p via
 visits_by_end p via v =
     record {
       when = λ i. min (v.when i) (last_index p);
@@ -66,7 +66,7 @@ visits_by_end p via v =
       ];
     }
 
-by_end : (p via : List Cell) (v : VisitsInOrder p via) (i : ℕ) → (visits_by_end p via v).when i < last_index p + 1
+pub by_end : (p via : List Cell) (v : VisitsInOrder p via) (i : ℕ) → (visits_by_end p via v).when i < last_index p + 1
 unfolding visits_by_end
 by_end p via v i = omega arith
 

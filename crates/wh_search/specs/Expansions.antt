@@ -2,6 +2,7 @@
 use Rattle.std.specs.Prelude.{◌≡◌, ℕ, ◌-◌, List, true}
 use Rattle.wh_grid.specs.declared.cell.Cell.{Cell}
 use Rattle.wh_grid.specs.Grids.{Floor}
+use Rattle.wh_resv.specs.Calls.{IsVacant}
 use Rattle.wh_resv.specs.Others.{Others, MayRest}
 use Rattle.wh_search.specs.States.{State, Arrives, Steps, Reaches}
 
@@ -15,3 +16,8 @@ pub record IsReachable (g : Floor) (others : Others) (via : List Cell) (loc : Ce
 pub record MayEnd (others : Others) (c : Cell) (k : ℕ) : Type 0 where
   pub rests : MayRest others c k
   pub follows_none : others.nofollow ≡ true → MayRest others c (k - 1)
+
+-- An agent may be at a cell at k: none of the others is; and none was just before, where nobody may follow.
+pub record MayVisit (others : Others) (c : Cell) (k : ℕ) : Type 0 where
+  pub vacant : IsVacant others.paths c k
+  pub follows_none : others.nofollow ≡ true → IsVacant others.paths c (k - 1)

@@ -14,6 +14,7 @@ mod memory;
 pub mod moves;
 pub mod noted;
 mod straight;
+mod waits;
 
 pub use fault::Fault;
 pub use memory::{MOST_KEPT, SearchMemory};

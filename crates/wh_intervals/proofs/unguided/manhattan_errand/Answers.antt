@@ -4,6 +4,7 @@ use Rattle.wh_grid.specs.declared.cell.Cell.{Cell}
 use Rattle.wh_grid.specs.Grids.{passable_cells}
 use Rattle.wh_path.specs.Paths.{last_index, cell_at}
 use Rattle.wh_resv.specs.Others.{MayRest}
+use Rattle.wh_search.specs.declared.errand.Errand.{Errand}
 use Rattle.wh_search.proofs.Stops.{tour_delivery, delivery_ends, via_size, last_only, last_part, one_only}
 use Rattle.wh_intervals.proofs.Manhattan.{estimates_by_manhattan}
 use Rattle.wh_intervals.proofs.unguided.manhattan_errand.Goals as goal
@@ -11,12 +12,8 @@ use Rattle.wh_intervals.proofs.unguided.manhattan_errand.Goals as goal
 pub first_end-requires : goal.first_end-requires
 first_end-requires c = λ k. (c.requires.soonest k).0
 
-pub returns-clause-task : goal.returns-clause-task
-returns-clause-task c =
-    record { grid_is = refl; others_are = refl; from = refl; through = refl; to = last_part c.args.stops.now }
-
-pub returns-clause-errand : goal.returns-clause-errand
-returns-clause-errand c =
+pub with_waits-requires : goal.with_waits-requires
+with_waits-requires c =
     let g = c.args.grid.now in
     let stops = c.args.stops.now in
     let n = length stops - 1 in
@@ -42,4 +39,15 @@ returns-clause-errand c =
           let is : cell_at stops n ≡ end = one_only (cell_at stops n) end (subst (λ (w : List Cell). Contains w end) (last_part stops ∙ last_only stops n (omega arith)) b) in
           subst (λ (d : Cell). MayRest c.args.others.now d k) is ((c.requires.soonest k).1 since);
       none_before = λ q t. c.first_end.ensures.none (last_index q) (delivery_ends g c.args.others.now c.args.loc stops q (tour_delivery g c.args.others.now c.args.loc stops via ends q many refl (last_part stops) t));
+    }
+
+pub returns-clause-task : goal.returns-clause-task
+returns-clause-task c =
+    let same = c.with_waits.ensures.same in
+    record {
+      grid_is = ap (λ (e : Errand). e.grid.now) same;
+      others_are = ap (λ (e : Errand). e.others.now) same;
+      from = ap (λ (e : Errand). e.loc) same;
+      through = ap (λ (e : Errand). e.via.now) same;
+      to = ap (λ (e : Errand). e.ends.now) same ∙ last_part c.args.stops.now;
     }
