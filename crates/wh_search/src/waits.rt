@@ -13,7 +13,7 @@ use crate::errand::Errand;
 use wh_grid::Cell;
 use wh_resv::Reservations;
 
-/// A time before which an agent may not be at a cell at k or later. It is the first one at which it may, and k where it never may.
+/// A time before which, from k on, no agent may be at a cell: the first at which it may, and k where it never may.
 fn visit_from(others: &Reservations, cell: Cell, k: u64) -> u64
     ensures { (j : ℕ) → k ≤ j → MayVisit others.now cell j → result ≤ j }
 {
