@@ -17,19 +17,22 @@ use Rattle.wh_delivery.specs.Turns.{IsInTurn, IsLeft, IsRoundSoFar, RunInTurn, s
 next-alike : (site : Site) (s : State) (These Those : ℕ → Type 0) → ((a : ℕ) → These a → Those a) → ((a : ℕ) → Those a → These a) → (agent : ℕ) →
     IsNextToAsk site s These agent → IsNextToAsk site s Those agent
 next-alike site s These Those to from agent next = elim next [
-  | inl takes ↦ inl (takes.0, record {
+  | inl takes ↦ inl (
+    takes.0,
+    record {
       one = to agent takes.1.one;
       number = takes.1.number;
       takes = takes.1.takes;
       least = λ other n far those would. takes.1.least other n far (from other those) would;
-    })
+    },
+  )
   | inr way ↦ inr (record {
-      one = to agent way.one;
-      none = λ a those due. way.none a (from a those) due;
-      due = way.due;
-      makes_way = way.makes_way;
-      first = λ other those due makes. way.first other (from other those) due makes;
-    })
+    one = to agent way.one;
+    none = λ a those due. way.none a (from a those) due;
+    due = way.due;
+    makes_way = way.makes_way;
+    first = λ other those due makes. way.first other (from other those) due makes;
+  })
 ]
 
 -- who may be asked is left to ask, and the other way round
@@ -114,6 +117,6 @@ tick-behind site old mid last new before asks entry run begins round ticks e ste
     let one : RunInTurn site last asks (entry ∷ []) new = (turn, (new, step, refl)) in
     let since = since-behind before asks begins round.since in (
       turn-join site old [] (before ++ asks) last (entry ∷ []) new (round-behind site old mid last before asks run begins round)
-      (subst (λ l. RunInTurn site last l (entry ∷ []) new) (sym since) one),
+          (subst (λ l. RunInTurn site last l (entry ∷ []) new) (sym since) one),
       since-append [] (before ++ asks) (entry ∷ []) ∙ since-tick (since_all [] (before ++ asks)) entry e,
     )

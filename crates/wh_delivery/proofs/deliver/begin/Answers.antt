@@ -6,11 +6,15 @@ use Rattle.wh_delivery.proofs.deliver.begin.Goals as goal
 pub returns-then-some-clause-asked : goal.returns-then-some-clause-asked
 returns-then-some-clause-asked g c =
     let book = c.args.warehouse.now.book in
-    let a = c.in-Ok.ensures.asked in
-    (a.0, a.1, a.2, begins-asked book.site book.state c.ask_all.new.warehouse.book.state c.in-Ok.came.some a.0 c.if-some.true a.3.0 (λ nothing. elim c.else-in_vain.either [
-      | inl stands ↦ false≢true (sym stands.1 ∙ c.all_stand-stand.ensures.1 nothing.resting)
-      | inr brought ↦ a.3.2 brought nothing.refused
-    ]))
+    let a = c.in-Ok.ensures.asked in (
+      a.0,
+      a.1,
+      a.2,
+      begins-asked book.site book.state c.ask_all.new.warehouse.book.state c.in-Ok.came.some a.0 c.if-some.true a.3.0 (λ nothing. elim c.else-in_vain.either [
+        | inl stands ↦ false≢true (sym stands.1 ∙ c.all_stand-stand.ensures.1 nothing.resting)
+        | inr brought ↦ a.3.2 brought nothing.refused
+      ]),
+    )
 
 pub returns-then-stand-clause-why : goal.returns-then-stand-clause-why
 returns-then-stand-clause-why g c =
