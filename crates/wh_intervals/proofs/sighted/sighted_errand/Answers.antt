@@ -26,19 +26,21 @@ with_waits-requires c =
     let size : length via + 1 ≡ length stops = (let z = via_size stops in omega arith) in
     let product : (length via + 1) * passable_cells g ≡ length stops * c.from.result = ap (λ k. k * passable_cells g) size ∙ ap (λ k. length stops * k) (sym cells) in
     record {
-      inside = c.requires.inside;
-      arrives = c.arrive.ensures;
-      horizon_is = c.horizon-horizon.ensures.value;
-      limit_is = omega (arith, c.horizon-horizon.ensures.value);
-      small = omega (arith, c.horizon-horizon.ensures.bound);
-      guided = estimates_over g stops via ends c.args.sights.now c.args.onward.now many refl (last_part stops) c.requires.sights c.requires.onward;
-      not_sooner = λ k s e.
-          let is : cell_at stops n ≡ s.cell = one_only (cell_at stops n) s.cell (subst (λ (w : List Cell). Contains w s.cell) (last_part stops ∙ last_only stops n (omega arith)) e.delivered) in
-          (c.requires.soonest k).0 (subst (λ (d : Cell). MayRest c.args.others.now d k) (sym is) e.rests);
-      exact = λ t k end b since.
-          let is : cell_at stops n ≡ end = one_only (cell_at stops n) end (subst (λ (w : List Cell). Contains w end) (last_part stops ∙ last_only stops n (omega arith)) b) in
-          subst (λ (d : Cell). MayRest c.args.others.now d k) is ((c.requires.soonest k).1 since);
-      none_before = λ q t. c.first_end.ensures.none (last_index q) (delivery_ends g c.args.others.now c.args.loc stops q (tour_delivery g c.args.others.now c.args.loc stops via ends q many refl (last_part stops) t));
+      errand = record {
+        inside = c.requires.inside;
+        arrives = c.arrive.ensures;
+        horizon_is = c.horizon-horizon.ensures.value;
+        limit_is = omega (arith, c.horizon-horizon.ensures.value);
+        small = omega (arith, c.horizon-horizon.ensures.bound);
+        guided = estimates_over g stops via ends c.args.sights.now c.args.onward.now many refl (last_part stops) c.requires.sights c.requires.onward;
+        not_sooner = λ k s e.
+            let is : cell_at stops n ≡ s.cell = one_only (cell_at stops n) s.cell (subst (λ (w : List Cell). Contains w s.cell) (last_part stops ∙ last_only stops n (omega arith)) e.delivered) in
+            (c.requires.soonest k).0 (subst (λ (d : Cell). MayRest c.args.others.now d k) (sym is) e.rests);
+        exact = λ t k end b since.
+            let is : cell_at stops n ≡ end = one_only (cell_at stops n) end (subst (λ (w : List Cell). Contains w end) (last_part stops ∙ last_only stops n (omega arith)) b) in
+            subst (λ (d : Cell). MayRest c.args.others.now d k) is ((c.requires.soonest k).1 since);
+        none_before = λ q t. c.first_end.ensures.none (last_index q) (delivery_ends g c.args.others.now c.args.loc stops q (tour_delivery g c.args.others.now c.args.loc stops via ends q many refl (last_part stops) t));
+      };
     }
 
 pub returns-clause-task : goal.returns-clause-task
