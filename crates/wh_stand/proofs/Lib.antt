@@ -7,3 +7,4 @@ pub mod Adding
 pub mod Contradicting
 pub mod Telling
 pub mod Built
+pub mod Whole

@@ -24,7 +24,7 @@ use Rattle.wh_core.proofs.Sound.{kept-of, sound-from}
 use Rattle.wh_core.proofs.Stopped.{loads_are_told}
 use Rattle.wh_stand.specs.Parts.{Parts, state_of, parts_of, told_load}
 use Rattle.wh_stand.specs.TaskFlaws.{IsHeld}
-use Rattle.wh_stand.specs.Flawless.{AreFlawless, FlawlessIsSound, PartsTellTheState}
+use Rattle.wh_stand.specs.Flawless.{AreFlawless, PartsTellTheState}
 use Rattle.wh_stand.proofs.Holding.{told-cases, held-underway, underway-held, held-number}
 
 -- where the next stop is elsewhere none is visited, and the other way round
@@ -143,9 +143,6 @@ sound-flawless site s sound =
       one = λ agent m n task other a b. sound-one site s sound agent m n task other (own-as told s agent m task refl a) (own-as told s agent n other refl b);
       away = λ agent n task own. sound-away site s sound agent n task (own-as told s agent n task refl own);
     }
-
-pub flawless_is_sound : FlawlessIsSound
-flawless_is_sound site parts size = (flawless-sound site parts size, sound-flawless site (state_of parts))
 
 pub parts_tell_the_state : PartsTellTheState
 parts_tell_the_state site s b =

@@ -1,5 +1,5 @@
 -- parts without a flaw, what sound states have to do with them, and what is said of a refusal
-use Rattle.std.specs.Prelude.{◌≡◌, ◌≢◌, ℕ, ◌<◌, ◌≤◌, ◌↔◌, List, ◌++◌, length}
+use Rattle.std.specs.Prelude.{◌≡◌, ◌≢◌, ℕ, ◌<◌, ◌≤◌, List, ◌++◌, length}
 use Rattle.wh_grid.specs.declared.cell.Cell.{Cell}
 use Rattle.wh_path.specs.Paths.{cell_at, path_of, place_of, IsWalk, AllFree}
 use Rattle.wh_points.specs.Points.{Site}
@@ -49,11 +49,6 @@ NoneHasTasks site parts =
 abbrev pub Told : (Flaw → Type 0) → Refused → Type 0
 Told Says refused.NoMemory = Unit {0}
 Told Says (refused.Flaw flaw) = Says flaw
-
--- Parts for as many agents as the points have make a sound state exactly if they have no flaw.
-abbrev pub FlawlessIsSound : Type 0
-FlawlessIsSound =
-    (site : Site) (parts : Parts) → length parts.paths ≡ length site.layout.agents → AreFlawless site parts ↔ IsSound site (state_of parts)
 
 -- A sound state is the one that its parts make.
 abbrev pub PartsTellTheState : Type 0

@@ -5,3 +5,4 @@ pub mod TaskFlaws
 pub mod Flawless
 pub mod Columns
 pub mod Building
+pub mod Whole

@@ -39,14 +39,6 @@ pub enum Refused {
     Flaw(Flaw),
 }
 
-impl From<Flaw> for Refused {
-    ghost from_gives = { λ flaw e. e ≡ refused.Flaw flaw };
-
-    fn from(flaw: Flaw) -> Refused {
-        Refused::Flaw(flaw)
-    }
-}
-
 impl From<AllocError> for Refused {
     ghost from_gives = { λ _ e. e ≡ refused.NoMemory };
 

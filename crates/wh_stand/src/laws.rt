@@ -1,11 +1,12 @@
 //! Laws of states that are told part by part. The functions do nothing: their contracts are the laws.
 #![tactic(auto)]
 
-ghost use Rattle.wh_stand.specs.Flawless.{FlawlessIsSound, PartsTellTheState};
+ghost use Rattle.wh_stand.specs.Flawless.{PartsTellTheState};
+ghost use Rattle.wh_stand.specs.Whole.{TakenIsSound};
 
-/// Parts for as many agents as the points have make a sound state exactly if they have no flaw.
-pub fn flawless_is_sound()
-    ensures { FlawlessIsSound }
+/// All parts are taken exactly if they make a sound state.
+pub fn taken_is_sound()
+    ensures { TakenIsSound }
 {}
 
 /// A sound state is the one that its parts make.
