@@ -51,7 +51,7 @@ impl<'a> StateBuilder<'a> {
     /// No part yet of a state over the grid and its points, where paths go on home or not, at a clock of at most
     /// 1,000,000,000, and closed or not.
     ///
-    /// Error: `AllocError` when out of memory. It needs some ten bytes for each station.
+    /// Error: `AllocError` when out of memory. It needs memory for the stations' cells.
     pub fn begin(
         alloc: Global,
         grid: &'a Grid,

@@ -1,7 +1,7 @@
 //! The judge of a state that is given part by part: agents, then tasks.
 //!
 //! Proved: parts are taken whole exactly if their state is sound, so that a run may begin with it; what is refused is
-//! named by its first flaw, and changes nothing (`StateBuilder`, `judge`, `laws`).
+//! named by its first flaw, and changes nothing (`StateBuilder`, `laws`).
 #![tactic(auto)]
 
 mod builder;
