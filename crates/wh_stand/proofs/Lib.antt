@@ -1,0 +1,10 @@
+pub mod Times
+pub mod Freeness
+pub mod StationLemmas
+pub mod Holding
+pub mod Soundness
+pub mod Adding
+pub mod Contradicting
+pub mod Telling
+pub mod Built
+pub mod Whole
