@@ -1,0 +1,4 @@
+pub mod Sums
+pub mod Spelling
+pub mod Ranges
+pub mod Fronts
