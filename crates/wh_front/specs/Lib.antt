@@ -2,3 +2,5 @@ pub mod Sums
 pub mod Spelling
 pub mod Ranges
 pub mod Fronts
+pub mod Reading
+pub mod ReadTasks
