@@ -1,0 +1,9 @@
+use Rattle.std.proofs.Common.{codes, rules}
+use Rattle.wh_front.specs.Spelling.{seat_words}
+use Rattle.wh_front.proofs.Lines.{line_pushed}
+use Rattle.wh_front.proofs.write.push_agent_line.Goals as goal
+
+pub returns : goal.returns
+returns c =
+    line_pushed c.args.out.now.items c.extend_from_slice.new.self.items c.push_seat.new.out.items c.push.new.self.items
+    (codes "agent") (seat_words (record { slots = c.args.slots; path = c.args.path.now })) (search rules) (search rules) (search rules)

@@ -1,0 +1,9 @@
+use Rattle.std.proofs.Common.{codes, rules}
+use Rattle.wh_front.specs.Spelling.{rules_words}
+use Rattle.wh_front.proofs.Lines.{line_pushed}
+use Rattle.wh_front.proofs.write.push_rules_line.Goals as goal
+
+pub returns : goal.returns
+returns c =
+    line_pushed c.args.out.now.items c.extend_from_slice.new.self.items c.push_rules.new.out.items c.push.new.self.items
+    (codes "rules") (rules_words c.args.rules.now) (search rules) (search rules) (search rules)

@@ -1,0 +1,6 @@
+pub mod Sums
+pub mod Spelling
+pub mod Ranges
+pub mod Fronts
+pub mod Reading
+pub mod ReadTasks
