@@ -5,3 +5,8 @@ pub mod PartLaws
 pub mod TaskLaws
 pub mod RowLaws
 pub mod ReadLoops
+pub mod DraftLaws
+pub mod Completing
+pub mod Running
+pub mod Readings
+pub mod NextLaws

@@ -1,5 +1,5 @@
 -- What follows the first word of a line: what is read is so written, and what is so written is read.
-use Rattle.std.proofs.Common.{◌≡◌, ℕ, ◌<◌, ◌≤◌, ◌^◌, Bool, true, false, cond, ◌&&◌, ◌||◌, ◌⊎◌, inl, inr, List, [], ◌∷◌, ◌++◌, map, length, Option, Some, None, decimal, codes, eqb, refl, sym, ap, ◌∙◌, subst, arith, lit<, lit≤}
+use Rattle.std.proofs.Common.{◌≡◌, ℕ, ◌<◌, ◌≤◌, ◌^◌, Bool, true, false, cond, ◌&&◌, ◌||◌, inl, inr, List, [], ◌∷◌, ◌++◌, map, length, Option, Some, None, decimal, codes, eqb, refl, sym, ap, ◌∙◌, subst, arith, lit<, lit≤}
 use Rattle.std.proofs.Math.Dec.{leb as nat_le}
 use Rattle.std.proofs.lemmas.Bool.{cases_lt, lt-ltb, leb-true, le-leb, eqb-true, eqb-false, ne_eqb, and_parts, and_from}
 use Rattle.std.specs.List.{AllByRecursion, list_all}
@@ -19,8 +19,8 @@ use Rattle.wh_front.specs.declared.rules.Kind.TheVariants.{Whole, Stopped, Edite
 use Rattle.wh_front.specs.declared.front.Seat.{Seat}
 use Rattle.wh_front.specs.declared.line.Line.{Line}
 use Rattle.wh_front.specs.declared.line.Line.TheVariants as lines
-use Rattle.wh_front.specs.Spelling.{before_words, ends_words, age_words, rules_words, open_word, kind_word, seat_words, line_words}
-use Rattle.wh_front.specs.Ranges.{BeforeFits, RulesFit, CellFits, SeatFits, IsAgents, LineFits, are_told}
+use Rattle.wh_front.specs.Spelling.{before_words, ends_words, rules_words, open_word, kind_word, seat_words, line_words}
+use Rattle.wh_front.specs.Ranges.{BeforeFits, RulesFit, SeatFits, IsAgents, LineFits, are_told}
 use Rattle.wh_front.specs.Reading.{if_so, log_of, before_of, age_of, homes_of, ends_of, rules_of, closed_of, kind_of, state_of, agents_of, path_of, seat_of, cells_of, slots_of}
 use Rattle.wh_front.proofs.WordLaws.{after, first_found, slots_again, slots_at_found, cells_found, cells_again, cells_plain, small_plain, clock_plain}
 

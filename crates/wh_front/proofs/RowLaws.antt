@@ -1,5 +1,5 @@
 -- Lines of a front: what is read is so written, and what is so written is read.
-use Rattle.std.proofs.Common.{◌≡◌, ℕ, List, [], ◌∷◌, Option, Some, None, Result, Ok, Err, codes, refl, sym, ap, ◌∙◌, subst, arith}
+use Rattle.std.proofs.Common.{◌≡◌, ℕ, List, [], ◌∷◌, Option, Some, Result, Ok, Err, codes, refl, sym, ap, ◌∙◌, subst, arith}
 use Rattle.std.specs.Prelude.{IfOk}
 use Rattle.std.specs.List.{AllByRecursion}
 use Rattle.wh_text.specs.Lines.{IsLine}
@@ -12,7 +12,7 @@ use Rattle.wh_front.specs.declared.line.Line.{Line}
 use Rattle.wh_front.specs.declared.line.Line.TheVariants as lines
 use Rattle.wh_front.specs.Spelling.{line_words, front_line}
 use Rattle.wh_front.specs.Ranges.{LineFits}
-use Rattle.wh_front.specs.Reading.{Gives, before_of, rules_of, state_of, counts_of, agents_of, seat_of}
+use Rattle.wh_front.specs.Reading.{Gives, before_of, rules_of, counts_of, agents_of, seat_of}
 use Rattle.wh_front.specs.ReadTasks.{tasks_of, submission_of, title_of, line_by, line_at}
 use Rattle.wh_front.proofs.WordLaws.{after, counts_found, counts_again, counts_plain, small_plain}
 use Rattle.wh_front.proofs.PartLaws.{before_found, before_again, before_plain, rules_found, rules_again, rules_plain, state_found, state_again, state_plain, agents_found, agents_again, seat_found, seat_again, seat_plain}

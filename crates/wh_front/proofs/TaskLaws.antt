@@ -1,5 +1,5 @@
 -- Tasks: what is read is so written, and what is so written is read.
-use Rattle.std.proofs.Common.{◌≡◌, ℕ, ◌<◌, ◌≤◌, ◌^◌, Bool, true, false, cond, ◌&&◌, List, [], ◌∷◌, ◌++◌, map, length, Option, Some, None, decimal, codes, eqb, refl, sym, ap, ◌∙◌, subst, arith, lit<, lit≤}
+use Rattle.std.proofs.Common.{◌≡◌, ℕ, ◌<◌, ◌≤◌, ◌^◌, Bool, true, false, cond, ◌&&◌, List, [], ◌∷◌, ◌++◌, map, length, Option, Some, None, decimal, codes, eqb, refl, ap, ◌∙◌, subst, arith, lit<, lit≤}
 use Rattle.std.proofs.Math.Dec.{leb as nat_le}
 use Rattle.std.proofs.lemmas.Bool.{leb-true, le-leb, ne_eqb, and_parts}
 use Rattle.std.specs.Str.{bytes_eq}
@@ -10,15 +10,14 @@ use Rattle.wh_words.specs.Numerals.{numeral_of}
 use Rattle.wh_words.proofs.NumeralLemmas.{numeral_found, numeral_again, decimal_digits}
 use Rattle.wh_grid.specs.declared.cell.Cell.{Cell}
 use Rattle.wh_tasks.specs.declared.task.Task.{Task}
-use Rattle.wh_event.specs.Grammar.{IsName}
 use Rattle.wh_log.specs.Reading.{◌>>=◌, literal_at, at_end, first_at, small_at, clock_at, name_at}
-use Rattle.wh_log.specs.Ranges.{IsSmall, IsClock}
+use Rattle.wh_log.specs.Ranges.{IsClock}
 use Rattle.wh_log.specs.Spelling.{cell_word}
 use Rattle.wh_log.proofs.Steps.{bind_some, guard_some, some_is, bytes_are, by_name, literal_found, end_found, small_found, clock_at_found, name_found, small_again, clock_at_again, name_again}
 use Rattle.wh_log.proofs.EventLaws.{name_plain}
 use Rattle.wh_front.specs.declared.front.Submission.{Submission}
 use Rattle.wh_front.specs.Spelling.{visits_words, who_words, submission_words}
-use Rattle.wh_front.specs.Ranges.{CellFits, WhoFits, TaskFits, SubmissionFits, IsTasks}
+use Rattle.wh_front.specs.Ranges.{WhoFits, TaskFits, SubmissionFits, IsTasks}
 use Rattle.wh_front.specs.Reading.{if_so, cells_of, caller_of}
 use Rattle.wh_front.specs.ReadTasks.{tasks_of, Holder, clock_of, clocks_at, counted_of, some_clocks_at, visits_at, open_at, agent_at, who_at, stops_of, submission_of}
 use Rattle.wh_front.proofs.WordLaws.{after, caller_again, caller_at_found, cells_found, cells_again, cells_plain, plain_words, small_plain, clock_plain}

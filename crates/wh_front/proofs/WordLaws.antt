@@ -1,5 +1,5 @@
 -- Words: what is read is so written, and what is so written is read.
-use Rattle.std.proofs.Common.{◌≡◌, ℕ, suc, ◌<◌, ◌≤◌, ◌^◌, ◌+◌, Bool, true, false, cond, List, [], ◌∷◌, ◌++◌, map, length, take, drop, Option, Some, None, decimal, codes, eqb, refl, sym, ap, ◌∙◌, subst, arith, lit<, lit≤, length-append}
+use Rattle.std.proofs.Common.{◌≡◌, ℕ, suc, ◌<◌, ◌≤◌, ◌^◌, ◌+◌, Bool, true, List, [], ◌∷◌, ◌++◌, map, length, take, drop, Option, Some, decimal, refl, ap, ◌∙◌, subst, arith, lit<, lit≤, length-append}
 use Rattle.std.proofs.Math.Dec.{ltb as nat_lt, leb as nat_le}
 use Rattle.std.proofs.lemmas.Bool.{ltb-true, lt-ltb, leb-true, le-leb, ne_eqb, and_parts, and_from}
 use Rattle.std.proofs.lemmas.List.{take_at}

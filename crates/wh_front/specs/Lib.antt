@@ -4,3 +4,5 @@ pub mod Ranges
 pub mod Fronts
 pub mod Reading
 pub mod ReadTasks
+pub mod Drafts
+pub mod FirstBad

@@ -1,9 +1,8 @@
 -- Reading tasks. Private, as the reading of the other lines.
-use Rattle.std.specs.Prelude.{ℕ, Bool, List, [], ◌∷◌, length, Option, Some, None, nat_le, ◌&&◌, cond, codes}
+use Rattle.std.specs.Prelude.{ℕ, List, [], ◌∷◌, length, Option, Some, None, nat_le, ◌&&◌, cond, codes}
 use Rattle.std.specs.Str.{bytes_eq}
 use Rattle.wh_words.specs.Numerals.{numeral_of}
 use Rattle.wh_grid.specs.declared.cell.Cell.{Cell}
-use Rattle.wh_tasks.specs.declared.task.Task.{Task}
 use Rattle.wh_log.specs.Reading.{◌>>=◌, literal_at, at_end, first_at, small_at, clock_at, name_at}
 use Rattle.wh_front.specs.declared.front.Submission.{Submission}
 use Rattle.wh_front.specs.declared.line.Line.{Line}

@@ -3,7 +3,7 @@ use Rattle.std.specs.Prelude.{◌≡◌, ℕ, Bool, true, false, ◌+◌, ◌^�
 use Rattle.std.specs.Str.{bytes_eq}
 use Rattle.wh_words.specs.Numerals.{numeral_of, wide_numeral_of}
 use Rattle.wh_grid.specs.declared.cell.Cell.{Cell}
-use Rattle.wh_log.specs.Reading.{◌>>=◌, literal_at, at_end, first_at, small_at, clock_at, wide_at, name_at}
+use Rattle.wh_log.specs.Reading.{◌>>=◌, literal_at, at_end, first_at, small_at, clock_at, wide_at}
 use Rattle.wh_front.specs.declared.form_fault.FormFault.{FormFault}
 use Rattle.wh_front.specs.declared.form_fault.FormFault.TheVariants as faults
 use Rattle.wh_front.specs.declared.before.Before.{Before}

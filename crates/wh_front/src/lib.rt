@@ -1,10 +1,11 @@
-//! The front of a log of version 3, the text of a state with which a run begins: written whole, and read line by line.
+//! The front of a log of version 3, the text of a state with which a run begins.
 //!
-//! Proved: a front has one text, fixed by what it tells; what is read of a line is written so, and what is written so is
-//! read (`front_text`, `read_line`). Begin at `Front` and `specs/Fronts.antt`.
+//! Proved: its text is fixed by what it tells (`front_text`); what is read is written so, what is written so is read, and a
+//! fault names the first bad line (`read_line`, `read_front`). Begin at `Front` and `specs/Fronts.antt`.
 #![tactic(auto)]
 
 mod before;
+mod draft;
 mod form_fault;
 mod front;
 mod line;
@@ -13,8 +14,11 @@ mod read_lists;
 mod read_parts;
 mod read_task;
 mod read_words;
+mod reader;
 mod rows;
 mod rules;
+mod stage;
+mod worked;
 mod write;
 mod write_parts;
 mod write_task;
@@ -25,6 +29,7 @@ pub use form_fault::FormFault;
 pub use front::{Count, Front, Seat, Submission};
 pub use line::Line;
 pub use one_line::read_line;
+pub use reader::{FrontFault, Read, read_front};
 pub use rows::Rows;
 pub use rules::{Kind, Rules};
 pub use write::{agent_text, front_text, line_text, task_text};
