@@ -18,7 +18,7 @@ ROOT = os.path.dirname(os.path.dirname(os.path.abspath(__file__)))
 DEPLOY = f'{ROOT}/deploy'
 PROGRAM = os.path.abspath(os.environ.get('WAREHOUSE') or f'{ROOT}/crates/warehouse/out/warehouse')
 SCRATCH = tempfile.TemporaryDirectory()
-SECONDS = 30    # for one command
+SECONDS = 120    # for one command
 MAP = 'type octile\nheight 3\nwidth 6\nmap\n......\n......\n......\n'
 POINTS = 'station a 1 0\nstation b 4 0\nparking P 0 2\nparking Q 5 2\nagent P\nagent Q\n'
 
