@@ -1,19 +1,16 @@
 -- nobody can be at a cell that is taken, so the same paths deliver on the grid without such cells
-use Rattle.std.proofs.Common.{ℕ, List, length, get_or, All, Option, Some, None, Result, Ok, Err, sym, subst, arith}
+use Rattle.std.proofs.Common.{ℕ, List, length, All, Result, Ok, Err, sym, subst, arith}
 use Rattle.std.proofs.lemmas.Nat.{mul-le}
 use Rattle.wh_grid.specs.declared.cell.Cell.{Cell}
-use Rattle.wh_grid.specs.Grids.{Floor, IsPassable, passable_cells}
+use Rattle.wh_grid.specs.Grids.{Floor, passable_cells}
 use Rattle.wh_resv.specs.Others.{Others}
-use Rattle.wh_resv.specs.Calls.{IsVacant}
-use Rattle.wh_path.specs.Paths.{at, cell_at, IsFree}
+use Rattle.wh_path.specs.Paths.{at, IsFree}
 use Rattle.wh_search.specs.Deliveries.{IsDelivery, IsLawful, IfNoPath}
 use Rattle.wh_search.specs.declared.errand.Errand.{Errand}
 use Rattle.wh_search.specs.declared.fault.Fault.{Fault}
 use Rattle.wh_search.specs.declared.fault.Fault.TheVariants.{NoPath, NoMemory}
-use Rattle.wh_search.specs.Sights.{IsSightAt, AreSightsOf}
-use Rattle.wh_intervals.specs.Tasks.{IsTaskOf, IsSightOver, AreSightsOver}
-use Rattle.wh_field.specs.declared.sight.Sight.{Sight}
-use Rattle.wh_detours.specs.Taken.{IsTaken, IsLeft, IsWithoutTaken}
+use Rattle.wh_intervals.specs.Tasks.{IsTaskOf}
+use Rattle.wh_detours.specs.Taken.{IsTaken, IsWithoutTaken}
 use Rattle.wh_detours.specs.Laws.{SameDeliveries, AllLeastThere}
 
 never_taken : (others : Others) (p : List Cell) (k : ℕ) → All (λ q. IsFree others.nofollow p q) others.paths → IsTaken others (at p k) → ⊥
@@ -64,10 +61,6 @@ all_least_there g without others paths loc stops p w l =
       least = λ q d. l.least q (delivers_there g without others paths loc stops q w d);
     }
 
--- who may rest somewhere is at no cell that is taken
-pub start_left : (g : Floor) (others : Others) (paths : List (List Cell)) (n : ℕ) (loc : Cell) → IsPassable g loc → IsVacant others.paths loc 0 → IsLeft g others paths n loc
-start_left g others paths n loc inside clear = record { passable = inside; free = λ taken s. taken 0 clear }
-
 pub no_path_weaker : {T : Type 0} (r : Result T Fault) (P Q : Type 0) → (P → Q) → IfNoPath r P → IfNoPath r Q
 no_path_weaker (Ok x) P Q f h = h
 no_path_weaker (Err NoPath) P Q f h = f h
@@ -79,13 +72,3 @@ delivers_errand g others loc stops p e t d =
     subst (λ (x : Floor). IsDelivery x e.others.now e.loc stops p) (sym t.grid_is)
     (subst (λ (y : Others). IsDelivery g y e.loc stops p) (sym t.others_are)
     (subst (λ (z : Cell). IsDelivery g others z stops p) (sym t.from) d))
-
--- sights of the whole grid serve there too
-sight_there : (g without : Floor) (others : Others) (paths : List (List Cell)) (stop : Cell) (o : Option Sight) → IsWithoutTaken g others paths without → IsSightAt g o stop → IsSightOver without o stop
-sight_there g without others paths stop None w h = tt
-sight_there g without others paths stop (Some s) w h =
-    record { more = λ c p. subst (λ (x : Floor). IsPassable x c) (sym h.0) ((w.each c).0 p).passable; source = h.1 }
-
-pub sights_there : (g without : Floor) (others : Others) (paths : List (List Cell)) (stops : List Cell) (sights : List (Option Sight)) → IsWithoutTaken g others paths without → AreSightsOf g stops sights → AreSightsOver without stops sights
-sights_there g without others paths stops sights w h =
-    record { size = h.size; each = λ l b. sight_there g without others paths (cell_at stops l) (get_or sights l None) w (h.each l b) }

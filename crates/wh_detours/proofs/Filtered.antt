@@ -15,17 +15,17 @@ use Rattle.wh_detours.specs.Taken.{IsTaken, IsLeft, IsWithoutTaken, IsFiltered, 
 marked_in : (xs : List Bool) (i : ℕ) → get_or xs i false ≡ true → i < length xs
 marked_in xs i e = elim (cases_lt i (length xs)) [ inl b ↦ b | inr b ↦ absurd (past_end xs i b e) ]
 
-walkable_there : (g : Floor) (c : Cell) → IsPassable g c → get_or g.walkable (c.y * g.width + c.x) false ≡ true
+pub walkable_there : (g : Floor) (c : Cell) → IsPassable g c → get_or g.walkable (c.y * g.width + c.x) false ≡ true
 walkable_there g c p = get_or_from_slice_get g.walkable (c.y * g.width + c.x) true false p.is_walkable
 
 pub walkable_below : (g : Floor) (c : Cell) → IsPassable g c → c.y * g.width + c.x < length g.walkable
 walkable_below g c p = marked_in g.walkable (c.y * g.width + c.x) (walkable_there g c p)
 
-walkable_is : (xs : List Bool) (i : ℕ) → get_or xs i false ≡ true → slice_get xs i ≡ Some true
+pub walkable_is : (xs : List Bool) (i : ℕ) → get_or xs i false ≡ true → slice_get xs i ≡ Some true
 walkable_is xs i e = slice_get-get_or xs i false (marked_in xs i e) ∙ ap (λ b. Some b) e
 
 -- two cells within a row's length at one place are one
-one_place : (w : ℕ) (c d : Cell) → c.x < w → d.x < w → c.y * w + c.x ≡ d.y * w + d.x → c ≡ d
+pub one_place : (w : ℕ) (c d : Cell) → c.x < w → d.x < w → c.y * w + c.x ≡ d.y * w + d.x → c ≡ d
 one_place w c d a b e =
     same_cell c d (sym (mod-mul-add c.y w c.x a) ∙ ap (λ k. k % w) e ∙ mod-mul-add d.y w d.x b) (sym (div-mul-add c.y w c.x a) ∙ ap (λ k. k / w) e ∙ div-mul-add d.y w d.x b)
 

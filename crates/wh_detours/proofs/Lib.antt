@@ -3,3 +3,4 @@ pub mod Telling
 pub mod Detours
 pub mod Filling
 pub mod Filtered
+pub mod Closing

@@ -9,7 +9,7 @@ use Rattle.wh_resv.specs.Others.{Others}
 use Rattle.wh_detours.specs.Barred.{IsShut, IsClearBy, AreBarred, cell_before}
 
 pub barred_more : (g : Floor) (others : Others) (loc : Cell) (stops : List Cell) (sights : List (Option Sight)) (barred : List Bool) (n : ℕ) (b : Bool) → n < length barred → AreBarred g others loc stops sights barred n
-    → (b ≡ true → IsShut g others (cell_before loc stops n) (cell_at stops n)) → (b ≡ false → IsClearBy g others (cell_before loc stops n) (cell_at stops n) (get_or sights n None))
+    → (b ≡ true → IsShut g others loc (cell_before loc stops n) (cell_at stops n)) → (b ≡ false → IsClearBy g others loc (cell_before loc stops n) (cell_at stops n) (get_or sights n None))
     → AreBarred g others loc stops sights (set barred n b) (n + 1)
 barred_more g others loc stops sights barred n b within told shut clear =
     let now = set barred n b in
@@ -19,11 +19,11 @@ barred_more g others loc stops sights barred n b within told shut clear =
       shut = λ i few e. elim (cases_lt i n) [
         | inl h ↦ told.shut i h (sym (before i h) ∙ e)
         | inr h ↦ (let same : n ≡ i = omega arith in
-            subst (λ (j : ℕ). IsShut g others (cell_before loc stops j) (cell_at stops j)) same (shut (sym (last i same) ∙ e)))
+            subst (λ (j : ℕ). IsShut g others loc (cell_before loc stops j) (cell_at stops j)) same (shut (sym (last i same) ∙ e)))
       ];
       clear = λ i few e. elim (cases_lt i n) [
         | inl h ↦ told.clear i h (sym (before i h) ∙ e)
         | inr h ↦ (let same : n ≡ i = omega arith in
-            subst (λ (j : ℕ). IsClearBy g others (cell_before loc stops j) (cell_at stops j) (get_or sights j None)) same (clear (sym (last i same) ∙ e)))
+            subst (λ (j : ℕ). IsClearBy g others loc (cell_before loc stops j) (cell_at stops j) (get_or sights j None)) same (clear (sym (last i same) ∙ e)))
       ];
     }

@@ -1,4 +1,5 @@
 pub mod Taken
+pub mod Closed
 pub mod Barred
 pub mod Filled
 pub mod Laws

@@ -1,4 +1,4 @@
-//! The call for a task of two to eight stops, with detours round others that stay.
+//! The call for a task of two to eight stops, with detours round others that stay or come to rest in time.
 #![tactic(auto)]
 
 ghost use Rattle.std.specs.Prelude.{◌≡◌, ℕ, ◌+◌, ◌-◌, ◌<◌, ◌≤◌, List, IfOk, length};
@@ -8,14 +8,14 @@ ghost use Rattle.wh_path.specs.Paths.{last_index};
 ghost use Rattle.wh_resv.specs.Calls.{IsVacant};
 ghost use Rattle.wh_search.specs.Deliveries.{IsDelivery, IsLawful, IfNoPath, AreStops};
 ghost use Rattle.wh_search.specs.Frontiers.{IsErrand};
-ghost use Rattle.wh_search.specs.Guides.{guide_estimate};
 ghost use Rattle.wh_search.specs.Sights.{AreSightsOf};
 ghost use Rattle.wh_search.specs.Tours.{IsTour};
+ghost use Rattle.wh_intervals.specs.Late.{IsLateAtMost};
 ghost use Rattle.wh_intervals.specs.Tasks.{IsTaskOf};
 
 use crate::barred::barred_ways;
+use crate::closed::without_shut;
 use crate::fields::{fields_over, sights_over};
-use crate::taken::without_taken;
 use std::alloc::Global;
 use wh_field::Sight;
 use wh_grid::{Cell, Grid};
@@ -24,10 +24,10 @@ use wh_path::TimedPath;
 use wh_resv::Reservations;
 use wh_search::errand::Errand;
 use wh_search::guide::onward_by_sights;
-use wh_search::{Fault, SearchMemory, find_straight};
+use wh_search::{Fault, SearchMemory, straight_or_bound};
 
-/// A shortest path on the grid without the cells that are taken, where one of these paths stays; by fields over it where the
-/// way is barred.
+/// A path that is late by no more than `slack` steps, on the grid without the cells at which one of these paths stays, or comes to
+/// rest before the agent can be there; by fields over it where the way is barred.
 fn deliver_without(
     alloc: Global,
     memory: &mut SearchMemory,
@@ -36,17 +36,18 @@ fn deliver_without(
     stops: &[Cell],
     sights: &[Option<Sight>],
     barred: [bool; 9],
+    slack: u64,
 ) -> Result<TimedPath, Fault>
     requires inside { IsPassable errand.now.grid.now errand.now.loc }
     requires clear { IsVacant errand.now.others.now.paths errand.now.loc 0 }
     requires stops { AreStops stops.now }
     requires sights { AreSightsOf errand.now.grid.now stops.now sights.now }
     ensures lawful { IfOk result (λ p. IsLawful errand.now.grid.now errand.now.others.now errand.now.loc stops.now p) }
-    ensures least { IfOk result (λ p. (q : List Cell) → IsDelivery errand.now.grid.now errand.now.others.now errand.now.loc stops.now q → last_index p ≤ last_index q) }
+    ensures late { IfOk result (IsLateAtMost (IsDelivery errand.now.grid.now errand.now.others.now errand.now.loc stops.now) slack) }
     ensures none { IfNoPath result ((q : List Cell) → IsDelivery errand.now.grid.now errand.now.others.now errand.now.loc stops.now q → ⊥) }
 {
     let (others, loc) = (errand.others, errand.loc);
-    let Ok(without) = without_taken(alloc, errand.grid, others, paths) else {
+    let Ok(without) = without_shut(alloc, errand.grid, others, paths, loc) else {
         return Err(Fault::NoMemory);
     };
     let Ok(kept) = fields_over(alloc, &without, loc, stops, barred) else {
@@ -61,10 +62,11 @@ fn deliver_without(
         loc,
         stops,
         &all[..stops.len()],
+        slack,
     )
 }
 
-/// A shortest path, where each delivery has more steps than are estimated at the start.
+/// A path that is late by no more than `slack` steps, where no delivery has fewer steps than `least`.
 fn deliver_beyond(
     alloc: Global,
     memory: &mut SearchMemory,
@@ -72,34 +74,35 @@ fn deliver_beyond(
     paths: &[TimedPath],
     stops: &[Cell],
     sights: &[Option<Sight>],
+    least: u64,
+    slack: u64,
 ) -> Result<TimedPath, Fault>
     requires errand { IsErrand errand.now }
     requires task { IsTaskOf errand.now.grid.now errand.now.others.now errand.now.loc stops.now errand.now }
     requires clear { IsVacant errand.now.others.now.paths errand.now.loc 0 }
     requires stops { AreStops stops.now }
     requires sights { AreSightsOf errand.now.grid.now stops.now sights.now }
-    requires late { (q : List Cell) → IsTour errand.now.grid.now errand.now.others.now errand.now.loc errand.now.via.now errand.now.ends.now q → guide_estimate errand.now.guide errand.now.first errand.now.loc < last_index q }
+    requires least { (q : List Cell) → IsTour errand.now.grid.now errand.now.others.now errand.now.loc errand.now.via.now errand.now.ends.now q → least ≤ last_index q }
     ensures lawful { IfOk result (λ p. IsLawful errand.now.grid.now errand.now.others.now errand.now.loc stops.now p) }
-    ensures least { IfOk result (λ p. (q : List Cell) → IsDelivery errand.now.grid.now errand.now.others.now errand.now.loc stops.now q → last_index p ≤ last_index q) }
+    ensures late { IfOk result (IsLateAtMost (IsDelivery errand.now.grid.now errand.now.others.now errand.now.loc stops.now) slack) }
     ensures none { IfNoPath result ((q : List Cell) → IsDelivery errand.now.grid.now errand.now.others.now errand.now.loc stops.now q → ⊥) }
 {
     let barred = barred_ways(errand.grid, errand.others, errand.loc, stops, sights);
     if barred.contains(&true) {
-        return deliver_without(alloc, memory, errand, paths, stops, sights, barred);
+        return deliver_without(alloc, memory, errand, paths, stops, sights, barred, slack);
     }
-    let whole = errand.guide.estimate(errand.first, errand.loc);
-    match over_intervals(alloc, errand, whole.saturating_add(1)) {
+    match over_intervals(alloc, errand, least, slack) {
         Ok(Some(path)) => Ok(path),
         Ok(None) => Err(Fault::NoPath),
         Err(_) => Err(Fault::NoMemory),
     }
 }
 
-/// A lawful path from loc through the stops, with the least last index, guided by fields that are filled up to a
-/// level; in memory that is kept from one search to the next. Where others that stay bar the way to a stop, it is searched
-/// for on the grid without their cells, as far as they stand in these paths, and by a field of its own in place of that
-/// stop's. That changes nothing in which paths are least. `NoPath` exactly if no path delivers, however long; `NoMemory` if
-/// memory ran out.
+/// A lawful path from loc through the stops that is late by no more than `slack` steps, guided by fields that are filled up to a
+/// level; in memory that is kept from one search to the next. Where others that stay, or come to rest before the agent can be
+/// there, bar the way to a stop, it is searched for on the grid without their cells, as far as they do by these paths, and by a
+/// field of its own in place of that stop's. That changes nothing in which paths are how late. `NoPath` exactly if no path
+/// delivers, however long; `NoMemory` if memory ran out.
 pub fn deliver_round<'x>(
     alloc: Global,
     memory: &mut SearchMemory,
@@ -109,13 +112,14 @@ pub fn deliver_round<'x>(
     loc: Cell,
     stops: &'x [Cell],
     sights: &'x [Option<Sight<'x>>],
+    slack: u64,
 ) -> Result<TimedPath, Fault>
     requires inside { IsPassable grid.now loc }
     requires clear { IsVacant others.now.paths loc 0 }
     requires stops { AreStops stops.now }
     requires sights { AreSightsOf grid.now stops.now sights.now }
     ensures lawful { IfOk result (λ p. IsLawful grid.now others.now loc stops.now p) }
-    ensures least { IfOk result (λ p. (q : List Cell) → IsDelivery grid.now others.now loc stops.now q → last_index p ≤ last_index q) }
+    ensures late { IfOk result (IsLateAtMost (IsDelivery grid.now others.now loc stops.now) slack) }
     ensures none { IfNoPath result ((q : List Cell) → IsDelivery grid.now others.now loc stops.now q → ⊥) }
 {
     let Some(soonest) = others.not_before(stops[stops.len() - 1]) else {
@@ -125,9 +129,11 @@ pub fn deliver_round<'x>(
         return Err(Fault::NoMemory);
     };
     let errand = sighted_errand(grid, others, loc, stops, sights, &onward, soonest);
-    match find_straight(alloc, memory, &errand) {
-        Ok(Some(path)) => Ok(path),
-        Ok(None) => deliver_beyond(alloc, memory, &errand, paths, stops, sights),
-        Err(_) => Err(Fault::NoMemory),
+    let Ok((found, least)) = straight_or_bound(alloc, memory, &errand) else {
+        return Err(Fault::NoMemory);
+    };
+    match found {
+        Some(path) => Ok(path),
+        None => deliver_beyond(alloc, memory, &errand, paths, stops, sights, least, slack),
     }
 }

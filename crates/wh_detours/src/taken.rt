@@ -10,7 +10,7 @@ use wh_path::TimedPath;
 use wh_resv::Reservations;
 
 /// Whether at each time somebody is at a cell.
-pub fn is_taken(others: &Reservations, cell: Cell) -> bool
+fn is_taken(others: &Reservations, cell: Cell) -> bool
     ensures { IsTrue result ↔ IsTaken others.now cell }
 {
     // mostly nobody is there now

@@ -1,13 +1,14 @@
 -- numbers of cells that are linked
-use Rattle.std.proofs.Common.{◌≡◌, ℕ, ◌+◌, ◌*◌, ◌/◌, ◌%◌, ◌<◌, ◌⊎◌, inl, inr, ◌↔◌, ◌∙◌, length, get_or, eqb, false, zero, suc, refl, sym, ap, subst, arith}
+use Rattle.std.proofs.Common.{◌≡◌, ℕ, ◌+◌, ◌*◌, ◌/◌, ◌%◌, ◌<◌, ◌⊎◌, inl, inr, ◌↔◌, ◌∙◌, List, Bool, All, Contains, length, get_or, take, eqb, false, zero, suc, refl, sym, ap, subst, arith}
 use Rattle.std.proofs.lemmas.Bool.{cases_lt, cases_eq, eq-eqb, eqb-true}
 use Rattle.std.proofs.lemmas.List.{get_or-map}
+use Rattle.std.proofs.lemmas.List.Elements.{All-contains, All-more, All-weaker}
 use Rattle.std.proofs.Math.Nat.{div-add-mod, div-lt_iff_lt-mul, mod-lt, mul_comm, zero-mul}
 use Rattle.wh_grid.specs.declared.cell.Cell.{Cell}
-use Rattle.wh_grid.specs.Grids.{Floor, IsMove, IsPassable}
+use Rattle.wh_grid.specs.Grids.{Floor, IsAdjacent, IsMove, IsPassable}
 use Rattle.wh_path.proofs.WalkLemmas.{move_back}
 use Rattle.wh_formed.specs.Fills.{IsMarked, IsReached, Reaches, place}
-use Rattle.wh_formed.specs.Labels.{AreLabelsBelow, AreParts, HasNumber, IsNumbered, cell_at}
+use Rattle.wh_formed.specs.Labels.{AreLabelsBelow, AreLabelsBeside, AreParts, HasNumber, IsNumbered, NumbersMore, cell_at}
 use Rattle.wh_formed.specs.Rounds.{Marks, Rounds, marks_of}
 use Rattle.wh_formed.proofs.TableLemmas.{place_apart, place_below}
 
@@ -118,23 +119,48 @@ module _ (g : Floor) (P : Cell → Type 0) (inside : (c : Cell) → P c → IsPa
             ];
       }
 
-  pub more_labels : (i : ℕ) → place g s ≡ i → s.x < g.width → ((c : Cell) → P c → place g c < i → IsNumbered g older.numbers c) → AreLabelsBelow g P (i + 1) newer.numbers
-  more_labels i at s_in every =
-      let positive_now : 0 < newer.current = omega (arith, written.current) in
+  -- what was numbered still is
+  pub kept_numbered : (c : Cell) → IsNumbered g older.numbers c → IsNumbered g newer.numbers c
+  kept_numbered c h = elim (still_number c h.0 h.2) [ inl w ↦ (h.0, h.1, w) | inr w ↦ (newer.current, omega (arith, written.current), w) ]
+
+  pub more_numbers : (i : ℕ) → place g s ≡ i → s.x < g.width → NumbersMore g P (λ c. place g c ≡ i) older.numbers newer.numbers
+  more_numbers i at s_in =
       record {
         parts = more_parts;
-        every = λ c h below.
-            elim (cases_lt (place g c) i) [
-              | inl b ↦
-                  (let old = every c h b in
-                  elim (still_number c old.0 old.2) [ inl w ↦ (old.0, old.1, w) | inr w ↦ (newer.current, positive_now, w) ])
-              | inr b ↦
-                  (let here : place g c ≡ place g s = omega arith in
-                  let p = inside c h in
-                  let e : c ≡ s = place_apart g c s p.in_width s_in here in
-                  (newer.current, positive_now, reached_number c (0, (inside s seed, e))))
-            ];
+        kept = kept_numbered;
+        every = λ c h there.
+            (let p = inside c h in
+            let e : c ≡ s = place_apart g c s p.in_width s_in (there ∙ sym at) in
+            (newer.current, omega (arith, written.current), reached_number c (0, (inside s seed, e))));
       }
+
+-- one place more
+pub more_labels : (g : Floor) (P : Cell → Type 0) (i : ℕ) (older newer : List ℕ) → AreLabelsBelow g P i older → NumbersMore g P (λ c. place g c ≡ i) older newer → AreLabelsBelow g P (i + 1) newer
+more_labels g P i older newer before more =
+    record {
+      parts = more.parts;
+      every = λ c h below. elim (cases_lt (place g c) i) [ inl b ↦ more.kept c (before.every c h b) | inr b ↦ more.every c h (omega arith) ];
+    }
+
+-- of cells one after another, one more
+pub more_near : (g : Floor) (o : List Bool) (around : List Cell) (i : ℕ) (d : Cell) (older newer : List ℕ) → i < length around → All (λ r. IsMarked g o r → IsNumbered g older r) (take i around)
+    → NumbersMore g (IsMarked g o) (λ c. c ≡ get_or around i d) older newer → All (λ r. IsMarked g o r → IsNumbered g newer r) (take (i + 1) around)
+more_near g o around i d older newer inside before more =
+    All-more (λ r. IsMarked g o r → IsNumbered g newer r) around i d inside
+    (All-weaker (λ r. IsMarked g o r → IsNumbered g older r) (λ r. IsMarked g o r → IsNumbered g newer r) (λ r h m. more.kept r (h m)) (take i around) before)
+    (λ m. more.every (get_or around i d) m refl)
+
+-- a cell and those around it are all that are one step from it
+pub labels_around : (g : Floor) (o : List Bool) (around : List Cell) (cell : Cell) (numbers : List ℕ) → AreParts g (IsMarked g o) numbers → (IsMarked g o cell → IsNumbered g numbers cell)
+    → All (λ r. IsMarked g o r → IsNumbered g numbers r) around → ((r : Cell) → r.x < g.width → r.y < g.height → IsAdjacent cell r → Contains around r) → AreLabelsBeside g (IsMarked g o) cell numbers
+labels_around g o around cell numbers parts own near complete =
+    record {
+      parts = parts;
+      every = λ c m step. elim step [
+        | inl e ↦ subst (λ (r : Cell). IsMarked g o r → IsNumbered g numbers r) e own m
+        | inr n ↦ All-contains (λ r. IsMarked g o r → IsNumbered g numbers r) around c near (complete c m.in_width m.in_height n) m
+      ];
+    }
 
 -- Part 4: the cell of a place
 

@@ -26,14 +26,28 @@ pub record AreParts (g : Floor) (P : Cell → Type 0) (numbers : List ℕ) : Typ
   pub linked : (c d : Cell) (k : ℕ) → 0 < k → HasNumber g numbers c k → HasNumber g numbers d k → IsReached g P c d
   pub closed : (c d : Cell) (k : ℕ) → 0 < k → HasNumber g numbers c k → IsReached g P c d → HasNumber g numbers d k
 
--- all cells with P before the place i are numbered so
-pub record AreLabelsBelow (g : Floor) (P : Cell → Type 0) (i : ℕ) (numbers : List ℕ) : Type 0 where
+-- the cells with P of which Q holds too are among those that are numbered so
+pub record AreLabelsWhere (g : Floor) (P : Cell → Type 0) (Q : Cell → Type 0) (numbers : List ℕ) : Type 0 where
   pub parts : AreParts g P numbers
-  pub every : (c : Cell) → P c → place g c < i → IsNumbered g numbers c
+  pub every : (c : Cell) → P c → Q c → IsNumbered g numbers c
 
--- all cells with P are numbered so
+-- all cells with P before the place i are
+abbrev pub AreLabelsBelow : Floor → (Cell → Type 0) → ℕ → List ℕ → Type 0
+AreLabelsBelow g P i numbers = AreLabelsWhere g P (λ c. place g c < i) numbers
+
+-- all cells with P one step from a are
+abbrev pub AreLabelsBeside : Floor → (Cell → Type 0) → Cell → List ℕ → Type 0
+AreLabelsBeside g P a numbers = AreLabelsWhere g P (IsMove a) numbers
+
+-- all cells with P are
 abbrev pub AreLabels : Floor → (Cell → Type 0) → List ℕ → Type 0
 AreLabels g P numbers = AreLabelsBelow g P (g.width * g.height) numbers
+
+-- what is numbered stays so, and the cells with P of which Q holds too are numbered as well
+pub record NumbersMore (g : Floor) (P : Cell → Type 0) (Q : Cell → Type 0) (older newer : List ℕ) : Type 0 where
+  pub parts : AreParts g P newer
+  pub kept : (c : Cell) → IsNumbered g older c → IsNumbered g newer c
+  pub every : (c : Cell) → P c → Q c → IsNumbered g newer c
 
 -- the cell of a place in a list that has a grid row by row
 abbrev pub cell_at : Floor → ℕ → Cell

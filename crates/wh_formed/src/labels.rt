@@ -1,10 +1,10 @@
 //! Numbers for the cells that open cells link with one another.
 #![tactic(auto)]
 
-ghost use Rattle.std.specs.Prelude.{◌≡◌, ℕ, ◌+◌, ◌*◌, ◌<◌, ◌≤◌, ◌^◌, ◌↔◌, IsTrue, IfOk, OnOk, length};
+ghost use Rattle.std.specs.Prelude.{◌≡◌, ℕ, ◌+◌, ◌*◌, ◌<◌, ◌≤◌, ◌^◌, ◌↔◌, IsTrue, OnOk, length};
 ghost use Rattle.wh_grid.specs.declared.cell.Cell.{Cell};
-ghost use Rattle.wh_formed.specs.Fills.{IsMarked};
-ghost use Rattle.wh_formed.specs.Labels.{AreLabels, AreLabelsBelow, AreLinked, HasNumber, IsBesideNumber, MarksPassable, ShareNumber};
+ghost use Rattle.wh_formed.specs.Fills.{IsMarked, place};
+ghost use Rattle.wh_formed.specs.Labels.{AreLabels, AreLabelsBeside, AreLinked, AreParts, HasNumber, IsBesideNumber, MarksPassable, NumbersMore, ShareNumber};
 
 use crate::fill::Fill;
 use crate::table::{cell_of, is_inside, neighbours, place_of, places};
@@ -14,12 +14,11 @@ use wh_grid::{Cell, Grid};
 /// Numbers the cells that are linked with the cell of a place, if it is open and has no number.
 fn label_from(grid: &Grid, open_cells: &[bool], fill: &mut Fill, i: usize) -> Result<(), AllocError>
     requires table { MarksPassable grid.now open_cells.now }
-    requires size { length fill.old.marks.numbers ≡ grid.now.width * grid.now.height }
     requires current { fill.old.marks.current + 1 < 2 ^ 32 }
     requires inside { i < grid.now.width * grid.now.height }
-    requires before { AreLabelsBelow grid.now (IsMarked grid.now open_cells.now) i fill.old.marks.numbers }
+    requires parts { AreParts grid.now (IsMarked grid.now open_cells.now) fill.old.marks.numbers }
     ensures current { OnOk result (fill.new.marks.current ≤ fill.old.marks.current + 1) }
-    ensures labels { OnOk result (AreLabelsBelow grid.now (IsMarked grid.now open_cells.now) (i + 1) fill.new.marks.numbers) }
+    ensures more { OnOk result (NumbersMore grid.now (IsMarked grid.now open_cells.now) (λ c. place grid.now c ≡ i) fill.old.marks.numbers fill.new.marks.numbers) }
 {
     if !open_cells[i] {
         return Ok(());
@@ -31,19 +30,58 @@ fn label_from(grid: &Grid, open_cells: &[bool], fill: &mut Fill, i: usize) -> Re
     Ok(())
 }
 
+/// Numbers the cells that are linked with a cell, if it is open and has no number.
+fn label_cell(
+    grid: &Grid,
+    open_cells: &[bool],
+    fill: &mut Fill,
+    cell: Cell,
+) -> Result<(), AllocError>
+    requires table { MarksPassable grid.now open_cells.now }
+    requires current { fill.old.marks.current + 1 < 2 ^ 32 }
+    requires parts { AreParts grid.now (IsMarked grid.now open_cells.now) fill.old.marks.numbers }
+    ensures current { OnOk result (fill.new.marks.current ≤ fill.old.marks.current + 1) }
+    ensures more { OnOk result (NumbersMore grid.now (IsMarked grid.now open_cells.now) (λ c. c ≡ cell) fill.old.marks.numbers fill.new.marks.numbers) }
+{
+    if !is_inside(grid, cell) {
+        return Ok(());
+    }
+    label_from(grid, open_cells, fill, place_of(grid, cell))
+}
+
+/// Numbers the open cells one step from a cell, and what is linked with them.
+pub fn label_beside(
+    grid: &Grid,
+    open_cells: &[bool],
+    fill: &mut Fill,
+    cell: Cell,
+) -> Result<(), AllocError>
+    requires table { MarksPassable grid.now open_cells.now }
+    requires current { fill.old.marks.current + 5 < 2 ^ 32 }
+    requires parts { AreParts grid.now (IsMarked grid.now open_cells.now) fill.old.marks.numbers }
+    ensures current { OnOk result (fill.new.marks.current ≤ fill.old.marks.current + 5) }
+    ensures labels { OnOk result (AreLabelsBeside grid.now (IsMarked grid.now open_cells.now) cell fill.new.marks.numbers) }
+{
+    label_cell(grid, open_cells, fill, cell)?;
+    let around = neighbours(grid, cell);
+    for next in &around {
+        label_cell(grid, open_cells, fill, *next)?;
+    }
+    Ok(())
+}
+
 /// Numbers the open cells: two have the same number exactly where a walk through open cells links
 /// them. All others have the number 0.
-pub fn label(alloc: Global, grid: &Grid, open_cells: &[bool]) -> Result<Vec<u32>, AllocError>
-    requires { MarksPassable grid.now open_cells.now }
-    ensures { IfOk result (λ v. AreLabels grid.now (IsMarked grid.now open_cells.now) v.items) }
+pub fn label(grid: &Grid, open_cells: &[bool], fill: &mut Fill) -> Result<(), AllocError>
+    requires table { MarksPassable grid.now open_cells.now }
+    requires current { fill.old.marks.current + 2 ^ 24 < 2 ^ 32 }
+    requires parts { AreParts grid.now (IsMarked grid.now open_cells.now) fill.old.marks.numbers }
+    ensures { OnOk result (AreLabels grid.now (IsMarked grid.now open_cells.now) fill.new.marks.numbers) }
 {
-    let mut fill = Fill::new(alloc);
-    let size = places(grid);
-    fill.marks.reset(size)?;
-    for i in 0..size {
-        label_from(grid, open_cells, &mut fill, i)?;
+    for i in 0..places(grid) {
+        label_from(grid, open_cells, fill, i)?;
     }
-    Ok(fill.marks.into_numbers())
+    Ok(())
 }
 
 /// The number of a cell, 0 outside.

@@ -84,13 +84,9 @@ impl Stamps {
     }
 
     /// The numbers of all places.
-    pub fn into_numbers(self) -> Vec<u32>
-        ensures { result.items ≡ self.numbers }
+    pub fn numbers(&self) -> &[u32]
+        ensures { result.now ≡ self.now.numbers }
     {
-        let Stamps {
-            numbers,
-            current: _,
-        } = self;
-        numbers
+        &self.numbers
     }
 }

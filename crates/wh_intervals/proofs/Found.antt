@@ -4,7 +4,7 @@ use Rattle.std.proofs.lemmas.Bool.{cases_lt}
 use Rattle.wh_grid.specs.declared.cell.Cell.{Cell}
 use Rattle.wh_path.specs.Paths.{last_index, horizon}
 use Rattle.wh_search.specs.States.{State, Steps, IsEnd, Reaches}
-use Rattle.wh_search.specs.Tours.{IsTour, IsLeastTour}
+use Rattle.wh_search.specs.Tours.{IsTour}
 use Rattle.wh_search.proofs.BestFirst.{IsSpace, start_before}
 use Rattle.wh_search.proofs.Bound.{end_by_bound}
 use Rattle.wh_search.proofs.Paths.{leads_tour, leads_size}
@@ -14,6 +14,7 @@ use Rattle.wh_intervals.specs.Queues.{Waiting, Pops}
 use Rattle.wh_intervals.specs.declared.entry.Entry.{Entry}
 use Rattle.wh_intervals.specs.declared.node.Node.{Node}
 use Rattle.wh_intervals.specs.Arrivals.{Arrival, Covered, IsInterval, AreExpanded, total}
+use Rattle.wh_intervals.specs.Late.{IsLateTour}
 use Rattle.wh_intervals.specs.Laws.{IsSettled}
 use Rattle.wh_intervals.specs.Problems.{Problem, IsProblem}
 use Rattle.wh_intervals.specs.Nodes.{state_of, arrival_of, node_at, total_at, bound_at, HasState, IsExpanded, IsKept, IsTrace}
@@ -59,9 +60,9 @@ none_by : (p : Problem) (nodes : List Node) (queue : List Entry) (bound : ℕ) �
 none_by p nodes queue bound h kept small late t r end =
     no_end_by p.grid p.others p.via p.ends p.start p.estimate p.limit bound (IsNode nodes) (kept_expanded p nodes queue bound kept late) (start_settled p h) h.guided small bound t (omega arith) r end
 
--- the bound of what is taken is no later than the last index of any tour
+-- the bound of what is taken is no later than the last index of any tour, and the slack
 pub popped_least : (p : Problem) (nodes : List Node) (queue rest : List Entry) (bound index : ℕ) → IsProblem p → IsKept p nodes queue None → Pops queue rest bound index
-    → (q : List Cell) → IsTour p.grid p.others p.start.cell p.via p.ends q → bound ≤ last_index q
+    → (q : List Cell) → IsTour p.grid p.others p.start.cell p.via p.ends q → bound ≤ last_index q + p.slack
 popped_least p nodes queue rest bound index h kept pop q tour =
     let mine = kept.all.queued bound index pop.was in
     let small = mine.small in
@@ -69,7 +70,7 @@ popped_least p nodes queue rest bound index h kept pop q tour =
     let base = h.none_before q tour in
     let there = tour_ends p.grid p.others p.start.cell p.via p.ends p.start.leg q h.arrives tour in
     let m = last_index q in
-    elim (cases_lt m bound) [
+    elim (cases_lt (m + p.slack) bound) [
       | inr b ↦ b
       | inl b ↦ absurd (none_by p nodes queue m h kept (omega arith) (λ i low w. omega (arith, pop.least (bound_at p (node_at nodes i)) i w)) there.0 there.1 there.2)
     ]
@@ -106,9 +107,9 @@ trace_size p path n trace =
     let y : last_index (p.start.cell ∷ trace.rest) ≡ n.time = omega arith in
     ap last_index trace.path_is ∙ y
 
--- the path to the first end is a least tour
+-- the path to the first end is a tour that is late by no more than the slack
 pub found_tour : (p : Problem) (nodes : List Node) (queue rest : List Entry) (bound index : ℕ) (path : List Cell) → IsProblem p → IsKept p nodes queue None → Pops queue rest bound index
-    → IsEnd p.others p.via p.ends (node_at nodes index).time (state_of (node_at nodes index)) → IsTrace p path (node_at nodes index) → IsLeastTour p.grid p.others p.start.cell p.via p.ends path
+    → IsEnd p.others p.via p.ends (node_at nodes index).time (state_of (node_at nodes index)) → IsTrace p path (node_at nodes index) → IsLateTour p.grid p.others p.start.cell p.via p.ends p.slack path
 found_tour p nodes queue rest bound index path h kept pop end trace =
     let n = node_at nodes index in
     let mine = kept.all.queued bound index pop.was in
@@ -121,14 +122,14 @@ found_tour p nodes queue rest bound index path h kept pop end trace =
     record {
       is_tour = subst T (sym trace.path_is) (leads_tour p.grid p.others p.start.cell p.via p.ends p.start.leg trace.rest n.time (state_of n) h.inside h.arrives end trace.leads);
       bounded = omega (arith, h.limit_is);
-      least = λ q tour. omega (arith, popped_least p nodes queue rest bound index h kept pop q tour);
+      late = λ q tour. omega (arith, popped_least p nodes queue rest bound index h kept pop q tour);
     }
 
 -- what is taken is a node that was reached
 pub popped_within : (p : Problem) (nodes : List Node) (queue rest : List Entry) (bound index : ℕ) → IsKept p nodes queue None → Pops queue rest bound index → index < length nodes
 popped_within p nodes queue rest bound index kept pop = (kept.all.queued bound index pop.was).within
 
--- the time and estimate of the node that is taken are no later than the last index of any tour
+-- the time and estimate of the node that is taken are no later than the last index of any tour, and the slack
 pub popped_lead : (p : Problem) (nodes : List Node) (queue rest : List Entry) (bound index : ℕ) → IsProblem p → IsKept p nodes queue None → Pops queue rest bound index
-    → (q : List Cell) → IsTour p.grid p.others p.start.cell p.via p.ends q → total_at p (node_at nodes index) ≤ last_index q
+    → (q : List Cell) → IsTour p.grid p.others p.start.cell p.via p.ends q → total_at p (node_at nodes index) ≤ last_index q + p.slack
 popped_lead p nodes queue rest bound index h kept pop q tour = omega (arith, (kept.all.queued bound index pop.was).bound_is, popped_least p nodes queue rest bound index h kept pop q tour)

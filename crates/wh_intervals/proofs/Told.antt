@@ -279,7 +279,7 @@ rest_kept p nodes queue new_nodes new_queue index closed stays last x within pas
 -- the rest of the interval of the node that was taken is expanded, and new nodes wait
 pub told_note : (p : Problem) (nodes : List Node) (queue : List Entry) (new_nodes : List Node) (new_queue : List Entry) (index : ℕ) (closed new_closed : Interval → Option ℕ) (stays : List Stay) (last : ℕ)
     → IsTold p nodes queue (Some index) closed stays → index < length nodes → ((i : ℕ) → i < length nodes → IsReached p nodes i (node_at nodes i))
-    → ((q : List Cell) → IsTour p.grid p.others p.start.cell p.via p.ends q → total_at p (node_at nodes index) ≤ last_index q)
+    → ((q : List Cell) → IsTour p.grid p.others p.start.cell p.via p.ends q → total_at p (node_at nodes index) ≤ last_index q + p.slack)
     → ((i : Interval) (t : ℕ) → closed i ≡ Some t → bound_at p (node_in i t) ≤ bound_at p (node_at nodes index))
     → ((b i : ℕ) → Waiting queue b i → bound_at p (node_at nodes index) ≤ b)
     → (IsEnd p.others p.via p.ends (node_at nodes index).time (state_of (node_at nodes index)) → ⊥)
@@ -294,7 +294,7 @@ told_note p nodes queue new_nodes new_queue index closed new_closed stays last x
     let part = rest_ends p nodes queue index closed stays last x r past rest in
     let after = stays ++ one ∷ [] in
     let P : Stay → Type 0 = λ s. (k : ℕ) → s.time ≤ k → k ≤ s.until → Reaches (Steps p.grid p.others p.via) p.start k (arrival s).state in
-    let L : Stay → Type 0 = λ s. (q : List Cell) → IsTour p.grid p.others p.start.cell p.via p.ends q → total p.estimate s.time (arrival s).state ≤ last_index q in
+    let L : Stay → Type 0 = λ s. (q : List Cell) → IsTour p.grid p.others p.start.cell p.via p.ends q → total p.estimate s.time (arrival s).state ≤ last_index q + p.slack in
     let I : Stay → Type 0 = IsPart p.others p.estimate p.base p.limit after in
     let W : Stay → Type 0 = IsWithin new_closed in
     let long : last ≤ n.until = last_within p nodes queue closed stays n last x.spent rest in
@@ -400,9 +400,9 @@ told_skip p nodes queue index closed stays x skip =
 
 -- what was expanded when an end is taken that a tour leads to
 pub found_expanded : (p : Problem) (nodes : List Node) (queue rest : List Entry) (bound index : ℕ) (path : List Cell) (closed : Interval → Option ℕ) (stays : List Stay) → IsProblem p → IsKept p nodes queue None → Pops queue rest bound index → IsTold p nodes queue None closed stays
-    → IsTour p.grid p.others p.start.cell p.via p.ends path → last_index path ≡ (node_at nodes index).time
+    → IsTour p.grid p.others p.start.cell p.via p.ends path → last_index path ≡ (node_at nodes index).time → p.slack ≡ 0
     → AreExpandedBy p.grid p.others p.via p.start.cell p.estimate p.base p.limit (last_index path) stays
-found_expanded p nodes queue rest bound index path closed stays h kept pop told tour size =
+found_expanded p nodes queue rest bound index path closed stays h kept pop told tour size none_late =
     let mine = kept.all.queued bound index pop.was in
     let is = mine.bound_is in
     let reach = kept.all.reached index mine.within in
@@ -414,7 +414,7 @@ found_expanded p nodes queue rest bound index path closed stays h kept pop told 
       reached = λ s c k from to. record { first = p.start.leg; arrives = h.arrives; reaches = told.reached s c k from to };
       parts = told.parts;
       once = told.once;
-      may_lead = λ s c. told.may_lead s c path tour;
+      may_lead = λ s c. omega (arith, none_late, told.may_lead s c path tour);
       all = λ k t r less late.
           let one = arrives_one p.via 0 p.start.cell r.first p.start.leg r.arrives h.arrives in
           let reaches : Reaches Step p.start k t = subst (λ (f : ℕ). Reaches Step (record { leg = f; cell = p.start.cell }) k t) one r.reaches in

@@ -56,11 +56,11 @@ pub data IsRest (since : Option ℕ) (n : Node) (last : ℕ) : Type 0 where
 abbrev pub IsBegun : List Stay → ℕ → Type 0
 IsBegun stays t = (s : Stay) × Contains stays s × (s.time ≡ t)
 
--- each stay can be reached at all its times, may lead to the end of any tour, and is a part of an interval; each node's interval is expanded from its
+-- each stay can be reached at all its times, may lead to the end of any tour, or to one that is late by no more than the slack, and is a part of an interval; each node's interval is expanded from its
 -- time on, or it waits, or is the one that is being expanded; and a stay begins with each node that leads to another one
 pub record IsTold (p : Problem) (nodes : List Node) (queue : List Entry) (busy : Option ℕ) (closed : Interval → Option ℕ) (stays : List Stay) : Type 0 where
   pub reached : (s : Stay) → Contains stays s → (k : ℕ) → s.time ≤ k → k ≤ s.until → Reaches (Steps p.grid p.others p.via) p.start k (arrival s).state
-  pub may_lead : (s : Stay) → Contains stays s → (q : List Cell) → IsTour p.grid p.others p.start.cell p.via p.ends q → total p.estimate s.time (arrival s).state ≤ last_index q
+  pub may_lead : (s : Stay) → Contains stays s → (q : List Cell) → IsTour p.grid p.others p.start.cell p.via p.ends q → total p.estimate s.time (arrival s).state ≤ last_index q + p.slack
   pub parts : (s : Stay) → Contains stays s → IsPart p.others p.estimate p.base p.limit stays s
   pub once : AreOnce stays
   pub spent : (i : Interval) (t : ℕ) → closed i ≡ Some t → IsSpent p nodes queue stays i t

@@ -14,8 +14,9 @@ use wh_search::guide::Guide;
 use wh_search::noted::holds;
 
 /// What an agent must do: beside whom, from where, through which stops in order, and to which ends;
-/// how many stops it has behind it at once, the last time that is looked at, and a time before which
-/// no path ends.
+/// how many stops it has behind it at once, the last time that is looked at, by how many steps a path
+/// may be late, and a time before which, less those steps, no path ends: all that may lead to an end by
+/// that time is alike.
 #[derive(Clone, Copy)]
 pub struct Errand<'a> {
     pub grid: &'a Grid,
@@ -27,6 +28,7 @@ pub struct Errand<'a> {
     pub first: usize,
     pub limit: u64,
     pub base: u64,
+    pub slack: u64,
 }
 
 impl<'a> Errand<'a> {

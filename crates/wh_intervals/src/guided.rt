@@ -63,6 +63,7 @@ fn find<'x>(
         first: arrive(via, 0, loc),
         limit: horizon + stops.len() as u64 * u64::from(grid.cells()),
         base: first_end(others, stops[last], soonest),
+        slack: 0,
     };
     search(alloc, &errand, expanded)
 }

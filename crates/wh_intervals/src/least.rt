@@ -6,27 +6,30 @@ ghost use Rattle.wh_grid.specs.declared.cell.Cell.{Cell};
 ghost use Rattle.wh_path.specs.Paths.{last_index};
 ghost use Rattle.wh_resv.specs.Calls.{IsVacant};
 ghost use Rattle.wh_search.specs.Frontiers.{IsErrand};
-ghost use Rattle.wh_search.specs.Tours.{IsTour, IsLeastTour};
+ghost use Rattle.wh_search.specs.Tours.{IsTour};
+ghost use Rattle.wh_intervals.specs.Late.{IsLateTour};
 
 use crate::errand::Errand;
 use crate::search::search;
 use std::alloc::{AllocError, Global};
 use wh_path::TimedPath;
 use wh_search::errand::Errand as Task;
-use wh_search::{SearchMemory, find_straight};
+use wh_search::{SearchMemory, straight_or_bound};
 
-/// A shortest tour, or none where there is no tour, by a search over intervals. None has fewer steps than `least`.
+/// A tour that is late by no more than `slack` steps, or none where there is no tour, by a search over intervals. None has fewer
+/// steps than `least`.
 pub fn over_intervals(
     alloc: Global,
     errand: &Task,
     least: u64,
+    slack: u64,
 ) -> Result<Option<TimedPath>, AllocError>
     requires errand { IsErrand errand.now }
     requires clear { IsVacant errand.now.others.now.paths errand.now.loc 0 }
     requires least { (q : List Cell) → IsTour errand.now.grid.now errand.now.others.now errand.now.loc errand.now.via.now errand.now.ends.now q → least ≤ last_index q }
     ensures { IfOk result (λ found. MatchOption found
         ((q : List Cell) → IsTour errand.now.grid.now errand.now.others.now errand.now.loc errand.now.via.now errand.now.ends.now q → ⊥)
-        (λ p. IsLeastTour errand.now.grid.now errand.now.others.now errand.now.loc errand.now.via.now errand.now.ends.now p)) }
+        (λ p. IsLateTour errand.now.grid.now errand.now.others.now errand.now.loc errand.now.via.now errand.now.ends.now slack p)) }
 {
     let task = Errand {
         grid: errand.grid,
@@ -37,29 +40,31 @@ pub fn over_intervals(
         guide: errand.guide,
         first: errand.first,
         limit: errand.limit,
-        base: errand.least.max(least),
+        base: errand.least.max(least).saturating_add(slack),
+        slack,
     };
     let mut expanded = 0;
     search(alloc, &task, &mut expanded)
 }
 
-/// A shortest tour, or none where there is no tour. It looks first for one of no more steps than are estimated at the start.
+/// A tour that is late by no more than `slack` steps, or none where there is no tour. It looks first for one of no more steps
+/// than are estimated at the start, and gives that up where it takes too long.
+#[tactic(auto, using(crate::proofs::Late::tour_late))]
 pub fn find_least(
     alloc: Global,
     memory: &mut SearchMemory,
     errand: &Task,
+    slack: u64,
 ) -> Result<Option<TimedPath>, AllocError>
     requires errand { IsErrand errand.now }
     requires clear { IsVacant errand.now.others.now.paths errand.now.loc 0 }
     ensures { IfOk result (λ found. MatchOption found
         ((q : List Cell) → IsTour errand.now.grid.now errand.now.others.now errand.now.loc errand.now.via.now errand.now.ends.now q → ⊥)
-        (λ p. IsLeastTour errand.now.grid.now errand.now.others.now errand.now.loc errand.now.via.now errand.now.ends.now p)) }
+        (λ p. IsLateTour errand.now.grid.now errand.now.others.now errand.now.loc errand.now.via.now errand.now.ends.now slack p)) }
 {
-    match find_straight(alloc, memory, errand)? {
+    let (found, least) = straight_or_bound(alloc, memory, errand)?;
+    match found {
         Some(path) => Ok(Some(path)),
-        None => {
-            let whole = errand.guide.estimate(errand.first, errand.loc);
-            over_intervals(alloc, errand, whole.saturating_add(1))
-        }
+        None => over_intervals(alloc, errand, least, slack),
     }
 }

@@ -11,6 +11,7 @@ ghost use Rattle.wh_search.specs.Frontiers.{IsErrand};
 ghost use Rattle.wh_search.specs.Guides.{guide_estimate, nearest_by};
 ghost use Rattle.wh_search.specs.Parkings.{IsParking, IsLeastParking};
 ghost use Rattle.wh_intervals.specs.Tasks.{IsErrandOf};
+ghost use Rattle.wh_intervals.specs.Late.{IsLateParking};
 
 use crate::least::over_intervals;
 use std::alloc::{AllocError, Global};
@@ -77,7 +78,8 @@ fn find_near(
     find_straight(alloc, memory, &errand)
 }
 
-/// A shortest path to one of the allowed cells, or none, by their field; none has fewer steps than `least`.
+/// A path to one of the allowed cells that is late by no more than `slack` steps, or none, by their field; none has fewer steps
+/// than `least`.
 fn find_far(
     alloc: Global,
     grid: &Grid,
@@ -86,6 +88,7 @@ fn find_far(
     allowed: &[Cell],
     field: &NearestField,
     least: u64,
+    slack: u64,
 ) -> Result<Option<TimedPath>, AllocError>
     requires inside { IsPassable grid.now loc }
     requires clear { IsVacant others.now.paths loc 0 }
@@ -94,14 +97,16 @@ fn find_far(
     requires least { (q : List Cell) → IsParking grid.now others.now loc allowed.now q → least ≤ last_index q }
     ensures { IfOk result (λ found. MatchOption found
         ((q : List Cell) → IsParking grid.now others.now loc allowed.now q → ⊥)
-        (λ p. IsLeastParking grid.now others.now loc allowed.now p)) }
+        (λ p. IsLateParking grid.now others.now loc allowed.now slack p)) }
 {
     let errand = errand_to_nearest(grid, others, loc, allowed, field);
-    over_intervals(alloc, &errand, least)
+    over_intervals(alloc, &errand, least, slack)
 }
 
-/// A shortest path to one of the allowed cells, or none. Their field is filled as far as loc, and all of it where no path
-/// has so few steps: beyond what is filled all cells are alike, and the search would look at too many.
+/// A path to one of the allowed cells that is late by no more than `slack` steps, or none. Their field is filled as far as
+/// loc, and all of it where no path has so few steps: beyond what is filled all cells are alike, and the search would look
+/// at too many.
+#[tactic(auto, using(crate::proofs::Late::parking_late))]
 fn find_nearest(
     alloc: Global,
     memory: &mut SearchMemory,
@@ -109,12 +114,13 @@ fn find_nearest(
     others: &Reservations,
     loc: Cell,
     allowed: &[Cell],
+    slack: u64,
 ) -> Result<Option<TimedPath>, AllocError>
     requires inside { IsPassable grid.now loc }
     requires clear { IsVacant others.now.paths loc 0 }
     ensures { IfOk result (λ found. MatchOption found
         ((q : List Cell) → IsParking grid.now others.now loc allowed.now q → ⊥)
-        (λ p. IsLeastParking grid.now others.now loc allowed.now p)) }
+        (λ p. IsLateParking grid.now others.now loc allowed.now slack p)) }
 {
     let mut field = NearestField::until(alloc, grid, allowed, loc)?;
     if let Some(path) = find_near(alloc, memory, grid, others, loc, allowed, &field)? {
@@ -122,12 +128,12 @@ fn find_nearest(
     }
     let least = u64::from(field.estimate(loc)) + 1;
     field.fill();
-    find_far(alloc, grid, others, loc, allowed, &field, least)
+    find_far(alloc, grid, others, loc, allowed, &field, least, slack)
 }
 
-/// A lawful path from loc to one of the allowed cells, with the least last index; it makes the field of them all, as far as
-/// it must, in memory that is kept from one search to the next. `NoPath` exactly if no path parks, however long; `NoMemory`
-/// if memory ran out.
+/// A lawful path from loc to one of the allowed cells that is late by no more than `slack` steps; it makes the field of them
+/// all, as far as it must, in memory that is kept from one search to the next. `NoPath` exactly if no path parks, however
+/// long; `NoMemory` if memory ran out.
 pub fn park_in(
     alloc: Global,
     memory: &mut SearchMemory,
@@ -135,20 +141,21 @@ pub fn park_in(
     others: &Reservations,
     loc: Cell,
     allowed: &[Cell],
+    slack: u64,
 ) -> Result<TimedPath, Fault>
     requires inside { IsPassable grid.now loc }
     requires clear { IsVacant others.now.paths loc 0 }
-    ensures least { IfOk result (λ p. IsLeastParking grid.now others.now loc allowed.now p) }
+    ensures late { IfOk result (IsLateParking grid.now others.now loc allowed.now slack) }
     ensures none { IfNoPath result ((q : List Cell) → IsParking grid.now others.now loc allowed.now q → ⊥) }
 {
-    match find_nearest(alloc, memory, grid, others, loc, allowed) {
+    match find_nearest(alloc, memory, grid, others, loc, allowed, slack) {
         Ok(Some(path)) => Ok(path),
         Ok(None) => Err(Fault::NoPath),
         Err(_) => Err(Fault::NoMemory),
     }
 }
 
-/// As `park_in`, in memory of its own.
+/// As `park_in`, in memory of its own, with the least last index.
 pub fn park(
     alloc: Global,
     grid: &Grid,
@@ -162,5 +169,5 @@ pub fn park(
     ensures none { IfNoPath result ((q : List Cell) → IsParking grid.now others.now loc allowed.now q → ⊥) }
 {
     let mut memory = SearchMemory::empty(alloc);
-    park_in(alloc, &mut memory, grid, others, loc, allowed)
+    park_in(alloc, &mut memory, grid, others, loc, allowed, 0)
 }

@@ -1,4 +1,4 @@
-//! The search, guided by an estimate, for a shortest lawful path.
+//! The search, guided by an estimate, for a lawful path that is shortest, or late by no more than a slack.
 #![tactic(auto)]
 
 ghost use Rattle.std.specs.Prelude.{◌≡◌, ℕ, ◌+◌, ◌<◌, ◌≤◌, ◌^◌, List, OnOk, IfOk, IfSome, MatchOption, Option, Some, None, vec_len};
@@ -6,7 +6,8 @@ ghost use Rattle.wh_grid.specs.declared.cell.Cell.{Cell};
 ghost use Rattle.wh_resv.specs.Calls.{IsVacant};
 ghost use Rattle.wh_intervals.specs.Problems.{problem, IsProblem};
 ghost use Rattle.wh_search.specs.States.{IsEnd};
-ghost use Rattle.wh_search.specs.Tours.{IsTour, IsLeastTour};
+ghost use Rattle.wh_search.specs.Tours.{IsTour};
+ghost use Rattle.wh_intervals.specs.Late.{IsLateTour};
 ghost use Rattle.wh_path.specs.Paths.{last_index};
 ghost use Rattle.wh_search.specs.Guides.{guide_estimate};
 ghost use Rattle.wh_intervals.specs.Efforts.{IsExpandedOf, MovesAtMost};
@@ -42,7 +43,7 @@ fn take(
     requires few { expanded.old + 1 < 2 ^ 64 }
     requires first { (b i : ℕ) → Waiting states.old.queue b i → bound_at (problem errand.now) (node_at states.old.nodes.items index) ≤ b }
     requires past { (i : Span) (t : ℕ) → closed_by (known_in states.old.intervals) i ≡ Some t → bound_at (problem errand.now) (node_in i t) ≤ bound_at (problem errand.now) (node_at states.old.nodes.items index) }
-    requires may_lead { (q : List Cell) → IsTour errand.now.grid.now errand.now.others.now errand.now.loc errand.now.via.now errand.now.ends.now q → total_at (problem errand.now) (node_at states.old.nodes.items index) ≤ last_index q }
+    requires may_lead { (q : List Cell) → IsTour errand.now.grid.now errand.now.others.now errand.now.loc errand.now.via.now errand.now.ends.now q → total_at (problem errand.now) (node_at states.old.nodes.items index) ≤ last_index q + errand.now.slack }
     requires no_end { IsEnd errand.now.others.now errand.now.via.now errand.now.ends.now (node_at states.old.nodes.items index).time (state_of (node_at states.old.nodes.items index)) → ⊥ }
     ensures kept { OnOk result (IsKept (problem errand.now) states.new.nodes.items states.new.queue None) }
     ensures told { OnOk result (IsCounted (problem errand.now) states.new.nodes.items states.new.queue None (closed_by (known_in states.new.intervals)) expanded.new) }
@@ -57,7 +58,8 @@ fn take(
     Ok(())
 }
 
-/// A shortest tour, or none where there is no tour; and how many arrivals were expanded, whatever was there before.
+/// A tour that is late by no more than the slack, or none where there is no tour; and how many arrivals were expanded, whatever
+/// was there before.
 pub fn search(
     alloc: Global,
     errand: &Errand,
@@ -65,11 +67,11 @@ pub fn search(
 ) -> Result<Option<TimedPath>, AllocError>
     requires errand { IsProblem (problem errand.now) }
     requires clear { IsVacant errand.now.others.now.paths errand.now.loc 0 }
-    ensures expanded { IfOk result (λ found. IfSome found (λ p. IsExpandedOf errand.now.grid.now errand.now.others.now errand.now.via.now errand.now.loc (guide_estimate errand.now.guide) errand.now.base errand.now.limit (last_index p) expanded.new)) }
+    ensures expanded { IfOk result (λ found. IfSome found (λ p. errand.now.slack ≡ 0 → IsExpandedOf errand.now.grid.now errand.now.others.now errand.now.via.now errand.now.loc (guide_estimate errand.now.guide) errand.now.base errand.now.limit (last_index p) expanded.new)) }
     ensures moves { IfOk result (λ found. IfSome found (λ p. MovesAtMost p expanded.new)) }
     ensures found { IfOk result (λ found. MatchOption found
         ((q : List Cell) → IsTour errand.now.grid.now errand.now.others.now errand.now.loc errand.now.via.now errand.now.ends.now q → ⊥)
-        (λ p. IsLeastTour errand.now.grid.now errand.now.others.now errand.now.loc errand.now.via.now errand.now.ends.now p)) }
+        (λ p. IsLateTour errand.now.grid.now errand.now.others.now errand.now.loc errand.now.via.now errand.now.ends.now errand.now.slack p)) }
 {
     let left = errand.guide.estimate(errand.first, errand.loc);
     if left > errand.limit {

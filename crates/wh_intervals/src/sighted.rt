@@ -7,10 +7,11 @@ ghost use Rattle.wh_grid.specs.Grids.{IsPassable};
 ghost use Rattle.wh_resv.specs.Others.{MayRest};
 ghost use Rattle.wh_resv.specs.Calls.{IsVacant};
 ghost use Rattle.wh_path.specs.Paths.{last_index, cell_at};
-ghost use Rattle.wh_search.specs.Deliveries.{IsDelivery, IsLawful, IsLeast, IfNoPath, AreStops};
+ghost use Rattle.wh_search.specs.Deliveries.{IsDelivery, IsLawful, IfNoPath, AreStops};
 ghost use Rattle.wh_search.specs.Frontiers.{IsErrand};
 ghost use Rattle.wh_search.specs.Sights.{AreSightsOf, IsOnwardBySights};
 ghost use Rattle.wh_intervals.specs.Tasks.{IsTaskOf, AreSightsOver};
+ghost use Rattle.wh_intervals.specs.Late.{IsLateAtMost, IsLateDelivery};
 
 use crate::least::find_least;
 use std::alloc::{AllocError, Global};
@@ -62,7 +63,7 @@ pub fn sighted_errand<'x>(
     errand.with_waits()
 }
 
-/// A shortest path, or none where there is no delivery.
+/// A path that is late by no more than `slack` steps, or none where there is no delivery.
 fn find_sighted<'x>(
     alloc: Global,
     memory: &mut SearchMemory,
@@ -71,6 +72,7 @@ fn find_sighted<'x>(
     loc: Cell,
     stops: &'x [Cell],
     sights: &'x [Option<Sight<'x>>],
+    slack: u64,
 ) -> Result<Option<TimedPath>, AllocError>
     requires inside { IsPassable grid.now loc }
     requires clear { IsVacant others.now.paths loc 0 }
@@ -78,17 +80,18 @@ fn find_sighted<'x>(
     requires sights { AreSightsOver grid.now stops.now sights.now }
     ensures found { IfOk result (λ found. MatchOption found
         ((q : List Cell) → IsDelivery grid.now others.now loc stops.now q → ⊥)
-        (λ p. IsLeast grid.now others.now loc stops.now p)) }
+        (λ p. IsLateDelivery grid.now others.now loc stops.now slack p)) }
 {
     let Some(soonest) = others.not_before(stops[stops.len() - 1]) else {
         return Ok(None);
     };
     let onward = onward_by_sights(alloc, stops, sights)?;
     let errand = sighted_errand(grid, others, loc, stops, sights, &onward, soonest);
-    find_least(alloc, memory, &errand)
+    find_least(alloc, memory, &errand, slack)
 }
 
-/// As `deliver_sighted`, by fields of which some may be over another grid, on which no fewer cells may be walked on.
+/// As `deliver_sighted`, but late by no more than `slack` steps, and by fields of which some may be over another grid, on
+/// which no fewer cells may be walked on.
 pub fn deliver_over<'x>(
     alloc: Global,
     memory: &mut SearchMemory,
@@ -97,16 +100,17 @@ pub fn deliver_over<'x>(
     loc: Cell,
     stops: &'x [Cell],
     sights: &'x [Option<Sight<'x>>],
+    slack: u64,
 ) -> Result<TimedPath, Fault>
     requires inside { IsPassable grid.now loc }
     requires clear { IsVacant others.now.paths loc 0 }
     requires stops { AreStops stops.now }
     requires sights { AreSightsOver grid.now stops.now sights.now }
     ensures lawful { IfOk result (λ p. IsLawful grid.now others.now loc stops.now p) }
-    ensures least { IfOk result (λ p. (q : List Cell) → IsDelivery grid.now others.now loc stops.now q → last_index p ≤ last_index q) }
+    ensures late { IfOk result (IsLateAtMost (IsDelivery grid.now others.now loc stops.now) slack) }
     ensures none { IfNoPath result ((q : List Cell) → IsDelivery grid.now others.now loc stops.now q → ⊥) }
 {
-    match find_sighted(alloc, memory, grid, others, loc, stops, sights) {
+    match find_sighted(alloc, memory, grid, others, loc, stops, sights, slack) {
         Ok(Some(path)) => Ok(path),
         Ok(None) => Err(Fault::NoPath),
         Err(_) => Err(Fault::NoMemory),
@@ -133,5 +137,5 @@ pub fn deliver_sighted<'x>(
     ensures least { IfOk result (λ p. (q : List Cell) → IsDelivery grid.now others.now loc stops.now q → last_index p ≤ last_index q) }
     ensures none { IfNoPath result ((q : List Cell) → IsDelivery grid.now others.now loc stops.now q → ⊥) }
 {
-    deliver_over(alloc, memory, grid, others, loc, stops, sights)
+    deliver_over(alloc, memory, grid, others, loc, stops, sights, 0)
 }

@@ -1,5 +1,5 @@
 -- between what a duty asks and what the search finds
-use Rattle.std.proofs.Common.{◌≡◌, ◌≢◌, ℕ, ◌<◌, ◌≤◌, ◌∙◌, Bool, true, false, ◌==◌, ◌&&◌, List, [], length, get_or, Contains, Result, Ok, Err, IfErr, refl, sym, ap, subst, eqb-true, arith}
+use Rattle.std.proofs.Common.{◌≡◌, ◌≢◌, ℕ, ◌+◌, ◌<◌, ◌≤◌, ◌∙◌, Bool, true, false, ◌==◌, ◌&&◌, List, [], length, get_or, Contains, Result, Ok, Err, IfErr, refl, sym, ap, subst, eqb-true, arith}
 use Rattle.std.proofs.lemmas.List.{get_or_default}
 use Rattle.std.specs.Cmp.{booleans_Decides}
 use Rattle.std.specs.Cmp.Lexicographic.{pointwise}
@@ -8,13 +8,14 @@ use Rattle.std.proofs.lemmas.Slice.Eq.{slice_eq-Decides}
 use Rattle.wh_grid.specs.declared.cell.Cell.{Cell}
 use Rattle.wh_grid.specs.Grids.{Floor, IsPassable, same_floor}
 use Rattle.wh_grid.proofs.Removed.{all_removed-from}
-use Rattle.wh_path.specs.Paths.{at, last_index, path_of, place_of, others, IsWalk, AllFree}
+use Rattle.wh_path.specs.Paths.{at, path_of, place_of, others, IsWalk, AllFree}
 use Rattle.wh_resv.specs.Others.{Others}
 use Rattle.wh_resv.specs.Calls.{IsVacant}
 use Rattle.wh_search.specs.declared.fault.Fault.{Fault}
 use Rattle.wh_search.specs.declared.fault.Fault.TheVariants.{NoPath}
 use Rattle.wh_search.specs.Deliveries.{IsDelivery, IsLawful as IsSearchLawful, IfNoPath}
-use Rattle.wh_search.specs.Parkings.{IsParking, IsLeastParking}
+use Rattle.wh_search.specs.Parkings.{IsParking}
+use Rattle.wh_intervals.specs.Late.{IsLateAtMost, IsLateParking}
 use Rattle.wh_planner.specs.declared.duty.Duty.{Duty}
 use Rattle.wh_planner.specs.declared.duty.Duty.TheVariants.{Deliver, Park}
 use Rattle.wh_planner.specs.Duties.{Delivers, ParksAt, IsLawful, HasNoClearWay}
@@ -64,15 +65,15 @@ module _ (g : Floor) (nofollow : Bool) (paths : List (List Cell)) (agent : ℕ) 
     delivery_seen stops path s =
         subst (λ (o : Others). IsDelivery g o loc stops path) (sym same) (subst (λ (c : Cell). IsDelivery g (others_of nofollow paths agent) c stops path) (sym here) (service_delivery stops path s))
 
-    pub least_delivery : (stops path : List Cell) → ((q : List Cell) → IsDelivery g seen loc stops q → last_index path ≤ last_index q) → HasNoShorter g nofollow paths agent (Delivers stops) path
-    least_delivery stops path least other s = least other (delivery_seen stops other s)
+    pub late_delivery : (stops : List Cell) (slack : ℕ) (path : List Cell) → IsLateAtMost (IsDelivery g seen loc stops) slack path → HasNoShorter g nofollow paths agent (Delivers stops) slack path
+    late_delivery stops slack path late other s = late other (delivery_seen stops other s)
 
     pub no_delivery : (stops : List Cell) → ((q : List Cell) → IsDelivery g seen loc stops q → ⊥) → HasNoService g nofollow paths agent (Delivers stops)
     no_delivery stops none path s = none path (delivery_seen stops path s)
 
-    pub lawful_parking : (allowed path : List Cell) → IsLeastParking g seen loc allowed path → IsLawful g nofollow paths agent 2 (ParksAt (Contains allowed)) path
-    lawful_parking allowed path found =
-        let l = subst (λ (c : Cell). IsLeastParking g (others_of nofollow paths agent) c allowed path) here (subst (λ (o : Others). IsLeastParking g o loc allowed path) same found) in
+    pub lawful_parking : (allowed : List Cell) (slack : ℕ) (path : List Cell) → IsLateParking g seen loc allowed slack path → IsLawful g nofollow paths agent 2 (ParksAt (Contains allowed)) path
+    lawful_parking allowed slack path found =
+        let l = subst (λ (c : Cell). IsLateParking g (others_of nofollow paths agent) c allowed slack path) here (subst (λ (o : Others). IsLateParking g o loc allowed slack path) same found) in
         let p = l.is_parking in
         record { walk = p.walk; starts_here = p.starts; free = p.free; bounded = l.bounded; serves = p.parks }
 
@@ -80,8 +81,8 @@ module _ (g : Floor) (nofollow : Bool) (paths : List (List Cell)) (agent : ℕ) 
     parking_seen allowed path s =
         subst (λ (o : Others). IsParking g o loc allowed path) (sym same) (subst (λ (c : Cell). IsParking g (others_of nofollow paths agent) c allowed path) (sym here) (service_parking allowed path s))
 
-    pub least_parking : (allowed path : List Cell) → IsLeastParking g seen loc allowed path → HasNoShorter g nofollow paths agent (ParksAt (Contains allowed)) path
-    least_parking allowed path found other s = found.least other (parking_seen allowed other s)
+    pub late_parking : (allowed : List Cell) (slack : ℕ) (path : List Cell) → IsLateParking g seen loc allowed slack path → HasNoShorter g nofollow paths agent (ParksAt (Contains allowed)) slack path
+    late_parking allowed slack path found other s = found.late other (parking_seen allowed other s)
 
     pub no_parking : (allowed : List Cell) → ((q : List Cell) → IsParking g seen loc allowed q → ⊥) → HasNoService g nofollow paths agent (ParksAt (Contains allowed))
     no_parking allowed none path s = none path (parking_seen allowed path s)

@@ -1,5 +1,5 @@
 -- the paths that serve, however long
-use Rattle.std.specs.Prelude.{◌≡◌, ℕ, ◌≤◌, List, Bool, All}
+use Rattle.std.specs.Prelude.{◌≡◌, ℕ, ◌+◌, ◌≤◌, List, Bool, All}
 use Rattle.wh_grid.specs.declared.cell.Cell.{Cell}
 use Rattle.wh_grid.specs.Grids.{Floor}
 use Rattle.wh_path.specs.Paths.{at, last_index, place_of, others, IsWalk, IsFree}
@@ -15,10 +15,10 @@ pub record IsService (g : Floor) (nofollow : Bool) (paths : List (List Cell)) (a
 abbrev pub HasNoService : Floor → Bool → List (List Cell) → ℕ → (List Cell → Type 0) → Type 0
 HasNoService g nofollow paths agent Serves = (path : List Cell) → ¬ IsService g nofollow paths agent Serves path
 
--- no path for the duty has a smaller last index than this one
-abbrev pub HasNoShorter : Floor → Bool → List (List Cell) → ℕ → (List Cell → Type 0) → List Cell → Type 0
-HasNoShorter g nofollow paths agent Serves path =
-    (other : List Cell) → IsService g nofollow paths agent Serves other → last_index path ≤ last_index other
+-- no path for the duty ends before this one, less the slack
+abbrev pub HasNoShorter : Floor → Bool → List (List Cell) → ℕ → (List Cell → Type 0) → ℕ → List Cell → Type 0
+HasNoShorter g nofollow paths agent Serves slack path =
+    (other : List Cell) → IsService g nofollow paths agent Serves other → last_index path ≤ last_index other + slack
 
 -- the others' paths and the rule, as the search sees them
 abbrev pub others_of : Bool → List (List Cell) → ℕ → Others

@@ -4,7 +4,8 @@
 ghost use Rattle.std.specs.Prelude.{◌≡◌, ℕ, ◌<◌, ◌≤◌, IfOk, IsSomeAnd, List, None, Some, length, slice_index_or};
 ghost use Rattle.wh_grid.specs.declared.cell.Cell.{Cell};
 ghost use Rattle.wh_grid.specs.Grids.{IsPassable};
-ghost use Rattle.wh_path.specs.Paths.{cell_at, last_index};
+ghost use Rattle.wh_path.specs.Paths.{cell_at};
+ghost use Rattle.wh_intervals.specs.Late.{IsLateAtMost};
 ghost use Rattle.wh_resv.specs.Calls.{IsVacant};
 ghost use Rattle.wh_search.specs.Deliveries.{AreStops, IsDelivery, IsLawful, IfNoPath};
 ghost use Rattle.wh_search.specs.Sights.{IsSightAt};
@@ -100,9 +101,9 @@ fn are_filled(store: &SharedFields, loc: Cell, stops: &[Cell]) -> bool {
     true
 }
 
-/// A shortest path through the stops, guided by the shared fields of all of them, or of as many first ones as the store has
-/// room for; and, where others that stay bar a way by them, by fields of its own, as far as they stand in these paths.
-/// What other planners have filled changes nothing in it.
+/// A path through the stops that is late by no more than `slack` steps, guided by the shared fields of all of them, or of as
+/// many first ones as the store has room for; and, where others that stay bar a way by them, by fields of its own, as far as
+/// they stand in these paths. What other planners have filled changes nothing in it.
 fn deliver_guided(
     alloc: Global,
     store: &mut SharedFields,
@@ -113,6 +114,7 @@ fn deliver_guided(
     paths: &[TimedPath],
     loc: Cell,
     stops: &[Cell],
+    slack: u64,
 ) -> Result<TimedPath, Fault>
     requires fits { stored_grid store.old ≡ grid.now }
     requires inside { IsPassable grid.now loc }
@@ -122,7 +124,7 @@ fn deliver_guided(
     ensures grid { stored_grid store.new ≡ stored_grid store.old }
     ensures slots { slots share.new ≡ slots share.old }
     ensures lawful { IfOk result (λ p. IsLawful grid.now others.now loc stops.now p) }
-    ensures least { IfOk result (λ p. (q : List Cell) → IsDelivery grid.now others.now loc stops.now q → last_index p ≤ last_index q) }
+    ensures late { IfOk result (IsLateAtMost (IsDelivery grid.now others.now loc stops.now) slack) }
     ensures none { IfNoPath result ((q : List Cell) → IsDelivery grid.now others.now loc stops.now q → ⊥) }
 {
     match ask_fields(alloc, store, share, loc, stops) {
@@ -137,14 +139,15 @@ fn deliver_guided(
                 loc,
                 stops,
                 &sights[..stops.len()],
+                slack,
             )
         }
         Err(_) => Err(Fault::NoMemory),
     }
 }
 
-/// A shortest path through the stops. Where a field is still to be filled it is first looked for a long one along columns
-/// and rows, which needs none.
+/// A path through the stops that is late by no more than `slack` steps. Where a field is still to be filled it is first looked
+/// for a long one along columns and rows, which needs none and is shortest.
 pub fn deliver_shared(
     alloc: Global,
     store: &mut SharedFields,
@@ -155,6 +158,7 @@ pub fn deliver_shared(
     paths: &[TimedPath],
     loc: Cell,
     stops: &[Cell],
+    slack: u64,
 ) -> Result<TimedPath, Fault>
     requires fits { stored_grid store.old ≡ grid.now }
     requires inside { IsPassable grid.now loc }
@@ -164,7 +168,7 @@ pub fn deliver_shared(
     ensures grid { stored_grid store.new ≡ stored_grid store.old }
     ensures slots { slots share.new ≡ slots share.old }
     ensures lawful { IfOk result (λ p. IsLawful grid.now others.now loc stops.now p) }
-    ensures least { IfOk result (λ p. (q : List Cell) → IsDelivery grid.now others.now loc stops.now q → last_index p ≤ last_index q) }
+    ensures late { IfOk result (IsLateAtMost (IsDelivery grid.now others.now loc stops.now) slack) }
     ensures none { IfNoPath result ((q : List Cell) → IsDelivery grid.now others.now loc stops.now q → ⊥) }
 {
     if !are_filled(store, loc, stops) {
@@ -174,5 +178,7 @@ pub fn deliver_shared(
             Err(_) => return Err(Fault::NoMemory),
         }
     }
-    deliver_guided(alloc, store, share, memory, grid, others, paths, loc, stops)
+    deliver_guided(
+        alloc, store, share, memory, grid, others, paths, loc, stops, slack,
+    )
 }

@@ -31,7 +31,7 @@ fn reserve<'a>(alloc: Global, scene: &Scene<'a>) -> Result<Reservations<'a>, All
     Reservations::beside(alloc, scene.paths, agent, scene.nofollow)
 }
 
-/// A shortest lawful path through the stops.
+/// A lawful path through the stops that is late by no more than `slack` steps.
 pub fn plan_delivery(
     alloc: Global,
     fields: &mut SharedFields,
@@ -39,6 +39,7 @@ pub fn plan_delivery(
     memory: &mut SearchMemory,
     scene: &Scene,
     stops: &[Cell],
+    slack: u64,
 ) -> Result<TimedPath, PlanFault>
     requires fits { stored_grid fields.old ≡ scene.now.grid.now }
     requires agent { scene.now.agent < length scene.now.paths.now }
@@ -49,7 +50,7 @@ pub fn plan_delivery(
     ensures grid { stored_grid fields.new ≡ stored_grid fields.old }
     ensures slots { slots share.new ≡ slots share.old }
     ensures lawful { IfOk result (IsLawful scene.now.grid.now scene.now.nofollow scene.now.paths.now scene.now.agent (length stops.now) (Delivers stops.now)) }
-    ensures least { IfOk result (HasNoShorter scene.now.grid.now scene.now.nofollow scene.now.paths.now scene.now.agent (Delivers stops.now)) }
+    ensures late { IfOk result (HasNoShorter scene.now.grid.now scene.now.nofollow scene.now.paths.now scene.now.agent (Delivers stops.now) slack) }
     ensures none { IfErr result (λ fault. fault ≡ PlanFault.NoPath → HasNoService scene.now.grid.now scene.now.nofollow scene.now.paths.now scene.now.agent (Delivers stops.now)) }
 {
     let paths = scene.paths.paths();
@@ -59,7 +60,7 @@ pub fn plan_delivery(
     }
     match reserve(alloc, scene) {
         Ok(others) => match deliver_shared(
-            alloc, fields, share, memory, scene.grid, &others, paths, loc, stops,
+            alloc, fields, share, memory, scene.grid, &others, paths, loc, stops, slack,
         ) {
             Ok(path) => Ok(path),
             Err(Fault::NoPath) => Err(PlanFault::NoPath),
@@ -69,18 +70,19 @@ pub fn plan_delivery(
     }
 }
 
-/// A shortest lawful path to one of the allowed cells.
+/// A lawful path to one of the allowed cells that is late by no more than `slack` steps.
 pub fn plan_parking(
     alloc: Global,
     memory: &mut SearchMemory,
     scene: &Scene,
     allowed: &[Cell],
+    slack: u64,
 ) -> Result<TimedPath, PlanFault>
     requires agent { scene.now.agent < length scene.now.paths.now }
     requires walk { IsWalk scene.now.grid.now (path_of scene.now.paths.now scene.now.agent) }
     requires free { AllFree scene.now.nofollow scene.now.paths.now }
     ensures lawful { IfOk result (IsLawful scene.now.grid.now scene.now.nofollow scene.now.paths.now scene.now.agent 2 (ParksAt (Contains allowed.now))) }
-    ensures least { IfOk result (HasNoShorter scene.now.grid.now scene.now.nofollow scene.now.paths.now scene.now.agent (ParksAt (Contains allowed.now))) }
+    ensures late { IfOk result (HasNoShorter scene.now.grid.now scene.now.nofollow scene.now.paths.now scene.now.agent (ParksAt (Contains allowed.now)) slack) }
     ensures none { IfErr result (λ fault. fault ≡ PlanFault.NoPath → HasNoService scene.now.grid.now scene.now.nofollow scene.now.paths.now scene.now.agent (ParksAt (Contains allowed.now))) }
 {
     let paths = scene.paths.paths();
@@ -89,7 +91,7 @@ pub fn plan_parking(
         return Err(PlanFault::NoPath);
     }
     match reserve(alloc, scene) {
-        Ok(others) => match park_in(alloc, memory, scene.grid, &others, loc, allowed) {
+        Ok(others) => match park_in(alloc, memory, scene.grid, &others, loc, allowed, slack) {
             Ok(path) => Ok(path),
             Err(Fault::NoPath) => Err(PlanFault::NoPath),
             Err(Fault::NoMemory) => Err(PlanFault::NoMemory),

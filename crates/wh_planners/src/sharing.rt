@@ -1,4 +1,5 @@
-//! The planner that searches for a shortest path, guided by distance fields that all planners share.
+//! The planner that searches for a path that is shortest, or late by no more than a slack, guided by distance fields that
+//! all planners share.
 #![tactic(auto)]
 
 ghost use Rattle.std.specs.Prelude.{◌≡◌, ◌<◌, ◌≤◌, IfOk, IfErr, [], length};
@@ -22,14 +23,15 @@ use wh_planner::{Duty, PlanFault, Planner, Plans, Scene};
 use wh_search::SearchMemory;
 use wh_shared::{Share, SharedFields};
 
-/// Searches for a shortest path by fields that are lent to it, and counts one as kept for each slot of its claim. When it
-/// is dropped, its claim gives the slots back.
+/// Searches for a shortest path, or one that is late by no more than a slack, by fields that are lent to it, and counts one
+/// as kept for each slot of its claim. When it is dropped, its claim gives the slots back.
 #[derive(Drop)]
 pub struct Sharing {
     grid: Arc<Grid, Global>,
     claim: Claim,
     share: Share,
     memory: SearchMemory,
+    slack: u32,
 }
 
 impl Model for Sharing {
@@ -38,20 +40,21 @@ impl Model for Sharing {
 
     ghost Value = { Sharer };
 
-    ghost view = { λ n. record { grid = n.grid.value; claim = n.claim; kept = kept_stops n.share } };
+    ghost view = { λ n. record { grid = n.grid.value; claim = n.claim; kept = kept_stops n.share; slack = n.slack } };
 
     ghost invariant = { λ n. HasShare n.claim n.share };
 }
 
 impl Sharing {
-    /// A searching planner on a grid, with the slots of a claim: 2 to 64 of them, that counts no field as kept yet. Fails
-    /// when out of memory, and the claim is dropped.
+    /// A planner on a grid that searches for shortest paths, with the slots of a claim: 2 to 64 of them, that counts no
+    /// field as kept yet. Fails when out of memory, and the claim is dropped.
     pub fn new(alloc: Global, grid: Arc<Grid, Global>, claim: Claim) -> Result<Sharing, AllocError>
         requires at_least { 2 ≤ claim_amount claim }
         requires at_most { claim_amount claim ≤ 64 }
         ensures grid { IfOk result (λ n. n.grid ≡ grid.value) }
         ensures claim { IfOk result (λ n. n.claim ≡ claim) }
         ensures kept { IfOk result (λ n. n.kept ≡ []) }
+        ensures slack { IfOk result (λ n. n.slack ≡ 0) }
     {
         let Some(most) = NonZeroUsize::new(claim.amount() as usize) else {
             unreachable!()
@@ -62,7 +65,15 @@ impl Sharing {
             claim,
             share,
             memory: SearchMemory::empty(alloc),
+            slack: 0,
         })
+    }
+
+    /// The same planner, whose paths may be late by this many steps.
+    pub fn with_slack(self, slack: u32) -> Sharing
+        ensures { result ≡ record { grid = self.grid; claim = self.claim; kept = self.kept; slack = slack } }
+    {
+        Sharing { slack, ..self }
     }
 
     /// How many distance fields it counts as kept at the moment: no more than its slots.
@@ -105,15 +116,17 @@ impl Plans for Sharing {
         requires duty { IsDuty duty }
         ensures grid_stays { self.new.grid ≡ self.old.grid }
         ensures claim_stays { self.new.claim ≡ self.old.claim }
+        ensures slack_stays { self.new.slack ≡ self.old.slack }
         ensures fits_stays { (g : Floor) → same_floor self.new.grid g ≡ same_floor self.old.grid g }
         ensures slots_stay { claim_amount self.new.claim ≡ claim_amount self.old.claim }
         ensures room_stays { room fields.new ≡ room fields.old }
         ensures stored_stays { stored_grid fields.new ≡ stored_grid fields.old }
         ensures lawful { IfOk result (IsLawful scene.now.grid.now scene.now.nofollow scene.now.paths.now scene.now.agent (legs duty.entry) (Serves duty.entry)) }
-        ensures least { IfOk result (HasNoShorter scene.now.grid.now scene.now.nofollow scene.now.paths.now scene.now.agent (Serves duty.entry)) }
+        ensures late { IfOk result (HasNoShorter scene.now.grid.now scene.now.nofollow scene.now.paths.now scene.now.agent (Serves duty.entry) self.old.slack) }
         ensures none { IfErr result (λ fault. fault ≡ PlanFault.NoPath → HasNoService scene.now.grid.now scene.now.nofollow scene.now.paths.now scene.now.agent (Serves duty.entry)) }
         ensures no_path { IfErr result (λ fault. fault ≡ PlanFault.NoPath → HasNoClearWay scene.now.grid.now scene.now.paths.now scene.now.agent (Serves duty.entry)) }
     {
+        let slack = u64::from(self.slack);
         match duty {
             Duty::Deliver { stops } => plan_delivery(
                 alloc,
@@ -122,8 +135,11 @@ impl Plans for Sharing {
                 &mut self.memory,
                 scene,
                 stops,
+                slack,
             ),
-            Duty::Park { allowed } => plan_parking(alloc, &mut self.memory, scene, allowed),
+            Duty::Park { allowed } => {
+                plan_parking(alloc, &mut self.memory, scene, allowed, slack)
+            }
         }
     }
 }

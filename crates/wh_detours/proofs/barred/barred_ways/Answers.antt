@@ -22,9 +22,9 @@ loop-i-preserved c =
       size = omega (arith, length-set c.loop-i.barred n c.is_way_barred.result);
       from_is = get_or_default stops n (record { x = 0; y = 0 }) loc (omega arith) ∙ sym (ap (λ i. get_or (loc ∷ stops) i loc) (add-one n));
       told = barred_more g o loc stops sights c.loop-i.barred n c.is_way_barred.result (omega (arith, c.requires.few)) c.loop-i.invariant.told
-          (λ yes. subst (λ (d : Cell). IsShut g o d (cell_at stops n)) from (c.is_way_barred.ensures.shut yes))
-          (λ no. subst (λ (s : Option Sight). IsClearBy g o (cell_before loc stops n) (cell_at stops n) s) sight
-          (subst (λ (d : Cell). IsClearBy g o d (cell_at stops n) c.index-sights-i.result) from (c.is_way_barred.ensures.clear no)));
+          (λ yes. subst (λ (d : Cell). IsShut g o loc d (cell_at stops n)) from (c.is_way_barred.ensures.shut yes))
+          (λ no. subst (λ (s : Option Sight). IsClearBy g o loc (cell_before loc stops n) (cell_at stops n) s) sight
+          (subst (λ (d : Cell). IsClearBy g o loc d (cell_at stops n) c.index-sights-i.result) from (c.is_way_barred.ensures.clear no)));
     }
 
 pub returns-clause-each : goal.returns-clause-each

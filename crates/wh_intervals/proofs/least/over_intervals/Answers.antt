@@ -10,5 +10,5 @@ search-requires-clause-errand c =
       limit_is = h.limit_is;
       small = h.small;
       guided = h.guided;
-      none_before = λ q t. omega (arith, c.max.ensures, h.none_before q t, c.requires.least q t);
+      none_before = λ q t. omega (arith, c.saturating_add.ensures, c.max.ensures, h.none_before q t, c.requires.least q t);
     }

@@ -1,10 +1,11 @@
 use Rattle.std.proofs.Common.{List, MatchOption}
 use Rattle.wh_grid.specs.declared.cell.Cell.{Cell}
 use Rattle.wh_path.specs.Paths.{last_index}
-use Rattle.wh_search.specs.Deliveries.{IsDelivery, IsLeast}
-use Rattle.wh_search.specs.Tours.{IsTour, IsLeastTour}
+use Rattle.wh_search.specs.Deliveries.{IsDelivery}
+use Rattle.wh_search.specs.Tours.{IsTour}
+use Rattle.wh_intervals.specs.Late.{IsLateTour, IsLateDelivery}
 use Rattle.wh_search.proofs.Stops.{ok_weaker, delivery_rests}
-use Rattle.wh_intervals.proofs.Tasks.{task_found}
+use Rattle.wh_intervals.proofs.Late.{task_late}
 use Rattle.wh_intervals.proofs.sighted.find_sighted.Goals as goal
 
 pub returns-in_default : goal.returns-in_default
@@ -21,7 +22,7 @@ returns c =
     let e = c.sighted_errand-errand.result in
     record {
       found = ok_weaker c.find_least.result
-          (λ found. MatchOption found ((q : List Cell) → IsTour e.grid.now e.others.now e.loc e.via.now e.ends.now q → ⊥) (λ p. IsLeastTour e.grid.now e.others.now e.loc e.via.now e.ends.now p))
-          (λ found. MatchOption found ((q : List Cell) → IsDelivery g o c.args.loc stops q → ⊥) (λ p. IsLeast g o c.args.loc stops p))
-          (λ found h. task_found g o c.args.loc stops e found c.requires.stops.0 c.sighted_errand-errand.ensures.task h) c.find_least.ensures;
+          (λ found. MatchOption found ((q : List Cell) → IsTour e.grid.now e.others.now e.loc e.via.now e.ends.now q → ⊥) (λ p. IsLateTour e.grid.now e.others.now e.loc e.via.now e.ends.now c.args.slack p))
+          (λ found. MatchOption found ((q : List Cell) → IsDelivery g o c.args.loc stops q → ⊥) (λ p. IsLateDelivery g o c.args.loc stops c.args.slack p))
+          (λ found h. task_late g o c.args.loc stops c.args.slack e found c.requires.stops.0 c.sighted_errand-errand.ensures.task h) c.find_least.ensures;
     }

@@ -1,7 +1,7 @@
 use Rattle.std.proofs.Common.{sym, subst}
 use Rattle.wh_grid.specs.Grids.{IsPassable}
 use Rattle.wh_planner.specs.Duties.{Delivers}
-use Rattle.wh_planners.proofs.Services.{loc_is, no_path, no_service, here_vacant, lawful_delivery, least_delivery, no_delivery}
+use Rattle.wh_planners.proofs.Services.{loc_is, no_path, no_service, here_vacant, lawful_delivery, late_delivery, no_delivery}
 use Rattle.wh_planners.proofs.searches.plan_delivery.Goals as goal
 
 pub returns-then-not-passable-clause-none : goal.returns-then-not-passable-clause-none
@@ -25,12 +25,12 @@ returns-in-Ok-deliver_shared-clause-lawful c =
     let here = loc_is c.paths-paths.result.now paths scene.agent c.index-paths-scene.result c.at-loc.result c.requires.agent c.paths-paths.ensures c.index-paths-scene.is c.at-loc.ensures in
     lawful_delivery scene.grid.now scene.nofollow paths scene.agent c.in-Ok.others c.at-loc.result c.in-Ok.ensures here c.args.stops.now c.in-Ok-deliver_shared.path c.in-Ok-deliver_shared.ensures.lawful
 
-pub returns-in-Ok-deliver_shared-clause-least : goal.returns-in-Ok-deliver_shared-clause-least
-returns-in-Ok-deliver_shared-clause-least c =
+pub returns-in-Ok-deliver_shared-clause-late : goal.returns-in-Ok-deliver_shared-clause-late
+returns-in-Ok-deliver_shared-clause-late c =
     let scene = c.args.scene.now in
     let paths = scene.paths.now in
     let here = loc_is c.paths-paths.result.now paths scene.agent c.index-paths-scene.result c.at-loc.result c.requires.agent c.paths-paths.ensures c.index-paths-scene.is c.at-loc.ensures in
-    least_delivery scene.grid.now scene.nofollow paths scene.agent c.in-Ok.others c.at-loc.result c.in-Ok.ensures here c.args.stops.now c.in-Ok-deliver_shared.path c.in-Ok-deliver_shared.ensures.least
+    late_delivery scene.grid.now scene.nofollow paths scene.agent c.in-Ok.others c.at-loc.result c.in-Ok.ensures here c.args.stops.now c.args.slack c.in-Ok-deliver_shared.path c.in-Ok-deliver_shared.ensures.late
 
 pub returns-in-Err-NoPath-clause-none : goal.returns-in-Err-NoPath-clause-none
 returns-in-Err-NoPath-clause-none c = λ e.
