@@ -3,6 +3,7 @@ pub mod Calls
 pub mod Crews
 pub mod Sending
 pub mod Trying
+pub mod Asking
 pub mod Resting
 pub mod Turning
 pub mod Ending

@@ -1,172 +1,156 @@
--- Calls one after another, and turns of the agents' worker.
-use Rattle.std.proofs.Common.{◌≡◌, ◌≤◌, ℕ, ◌+◌, ◌==◌, ◌&&◌, not, true, false, List, [], ◌∷◌, ◌++◌, length, refl, ap, sym, ◌∙◌, subst, arith, append_assoc}
-use Rattle.std.proofs.lemmas.List.{map-append, append-nil, length_push}
-use Rattle.std.proofs.lemmas.Grind.{flat_map-append}
-use Rattle.std.proofs.lemmas.List.Elements.{All-cons, All-nil, All-weaker, All-append}
+-- Turns of the agents' worker, one after another.
+use Rattle.std.proofs.Common.{◌≡◌, ◌⊎◌, inl, inr, ◌≤◌, ℕ, ◌+◌, ◌<◌, true, false, Bool, nat_le, List, [], ◌∷◌, ◌++◌, length, refl, sym, ◌∙◌, subst, arith}
 use Rattle.std.specs.List.{All}
+use Rattle.std.proofs.lemmas.Bool.{and_parts}
+use Rattle.std.proofs.lemmas.List.Elements.{All-cons, All-nil, All-weaker}
 use mathlib.Core.List.{IsPrefix}
 use Rattle.wh_event.specs.declared.entry.Entry.{Entry}
-use Rattle.wh_event.specs.declared.event.Command.{Command}
-use Rattle.wh_board.specs.Pasts.{Past, Extends}
+use Rattle.wh_board.specs.Pasts.{Origin}
+use Rattle.wh_board.specs.Boards.{IsBoardOf}
 use Rattle.wh_board.specs.declared.board.Board.{Board}
 use Rattle.wh_board.proofs.Fronts.{prefix_self, prefix_trans}
 use Rattle.wh_desk.specs.Lists.{Received}
-use Rattle.wh_crew.specs.Work.{command_of, commands_of}
-use Rattle.wh_crew.specs.Turns.{turn_of, turns_of, brings_none, moves, ComesTo, Does, DoesUntil, IsOutcome, MayTurn, Outcome, Taken, TakenAt}
-use Rattle.wh_crew.proofs.Resting.{Latest, may_still, outcome_more, outcome_new, rests, taken_more, taken_none, taken_rests}
+use Rattle.wh_desk.specs.Calls.{KnowsMore}
+use Rattle.wh_desk.proofs.Asking.{rest_later}
+use Rattle.wh_crew.specs.Turns.{AreTaken, ComesTo, Gains, IsLastWhole, IsSeen, IsTurn, NobodyIsLeft, Outcome, Shows, Taken, received_by, rests_at}
+use Rattle.wh_crew.proofs.Asking.{ask_later}
+use Rattle.wh_crew.proofs.Resting.{Latest, busy_behind, rests, rests_same}
 
--- ---- calls
+-- ---- what is so in a history is so in each that goes on from it
 
-pub does_nothing : (p : Received) → Does [] p p
-does_nothing p = record { caller_is = refl; received = []; goes_on = sym (append-nil p.list); commands_are = refl; known = prefix_self p.known }
+left_later : {origin : Origin} {board : Board} (h g : List Entry) (requests ticks : List (ℕ × Entry)) (marked : List Bool) → IsPrefix h g
+    → NobodyIsLeft origin h board requests ticks marked ⊎ ((board.open_tasks ≡ 0) × (requests ≡ [])) → NobodyIsLeft origin g board requests ticks marked ⊎ ((board.open_tasks ≡ 0) × (requests ≡ []))
+left_later h g requests ticks marked p (inr closed) = inr closed
+left_later h g requests ticks marked p (inl n) = inl (record {
+  place = n.place;
+  behind_board = n.behind_board;
+  behind = n.behind;
+  before = n.before;
+  rest = rest_later h g n.place marked p n.rest;
+})
 
--- a pass gained one receipt, which answers the command
-pub does_receipt : {command : Command} {had has : Received} (x : ℕ × Entry) → command_of x.1.event ≡ command → has.caller ≡ had.caller → has.list ≡ had.list ++ x ∷ [] → IsPrefix had.known has.known → Does (command ∷ []) had has
-does_receipt {command} {had} {has} x answers caller_is gained known =
-    record { caller_is = caller_is; received = x ∷ []; goes_on = gained; commands_are = ap (λ (c : Command). c ∷ []) answers; known = known }
-
-pub does_more : {xs ys : List Command} {a b c : Received} → Does xs a b → Does ys b c → Does (xs ++ ys) a c
-does_more {xs} {ys} {a} {b} {c} p q = record {
-  caller_is = q.caller_is ∙ p.caller_is;
-  received = p.received ++ q.received;
-  goes_on = q.goes_on ∙ ap (λ (l : List (ℕ × Entry)). l ++ q.received) p.goes_on ∙ append_assoc a.list p.received q.received;
-  commands_are = map-append (λ (x : ℕ × Entry). command_of x.1.event) p.received q.received ∙ ap (λ (l : List Command). l ++ commands_of q.received) p.commands_are ∙ ap (λ (l : List Command). xs ++ l) q.commands_are;
-  known = prefix_trans a.known b.known c.known p.known q.known;
+pub turn_later : {origin : Origin} {board : Board} {received : List (ℕ × Entry)} (h g : List Entry) → IsPrefix h g → IsTurn origin h board received → IsTurn origin g board received
+turn_later {origin} {board} {received} h g p t = record {
+  requests = t.requests;
+  ticks = t.ticks;
+  received_are = t.received_are;
+  marked = t.marked;
+  ask = ask_later origin h g _ t.requests t.marked p t.ask;
+  all_asked = left_later h g t.requests t.ticks t.marked p t.all_asked;
+  ticked = t.ticked;
 }
 
-pub until_more : {F : Type 0} {leaves : Command → Received → F → Received → Type 0} {xs ys : List Command} {fault : F} {a b c : Received} → Does xs a b → DoesUntil leaves ys fault b c → DoesUntil leaves (xs ++ ys) fault a c
-until_more {F} {leaves} {xs} {ys} {fault} {a} {b} {c} p q = record {
-  done = xs ++ q.done;
-  next = q.next;
-  rest = q.rest;
-  parts = ap (λ (l : List Command). xs ++ l) q.parts ∙ sym (append_assoc xs q.done (q.next ∷ q.rest));
-  between = q.between;
-  does = does_more p q.does;
-  left = q.left;
+pub whole_later : (origin : Origin) (h g : List Entry) (turns : List Taken) → IsPrefix h g → IsLastWhole origin h turns → IsLastWhole origin g turns
+whole_later origin h g [] p whole = tt
+whole_later origin h g (t ∷ ts) p whole = turn_later h g p whole
+
+shows_later : {origin : Origin} {own : List (ℕ × Entry)} {board : Board} (h g : List Entry) → IsPrefix h g → Shows origin h own board → Shows origin g own board
+shows_later {origin} {own} {board} h g p s = record { front = s.front; begins = prefix_trans s.front h g s.begins p; board_is = s.board_is; own_are = s.own_are }
+
+-- a board that was seen behind a turn, at which there was nothing to do
+abbrev Later : Origin → List Entry → Taken → Board → Type 0
+Later origin history t board = Shows origin history (t.had ++ t.received) board × (rests_at t board ≡ true)
+
+seen_later : {origin : Origin} {t : Taken} (h g : List Entry) → IsPrefix h g → IsSeen origin h t → IsSeen origin g t
+seen_later {origin} {t} h g p s = record {
+  board = shows_later h g p s.board;
+  later = All-weaker (Later origin h t) (Later origin g t) (λ board l. (shows_later h g p l.0, l.1)) t.later s.later;
 }
 
--- what is left of the commands, once the first of them were done
-pub record Going (commands : List Command) (had has : Received) (left : List Command) : Type 0 where
-  pub done : List Command
-  pub parts : commands ≡ done ++ left
-  pub does : Does done had has
-
-pub going_more : {commands left rest : List Command} {command : Command} {a b c : Received} → Going commands a b left → left ≡ command ∷ rest → Does (command ∷ []) b c → Going commands a c rest
-going_more {commands} {left} {rest} {command} going next now = record {
-  done = going.done ++ command ∷ [];
-  parts = going.parts ∙ ap (λ (l : List Command). going.done ++ l) next ∙ sym (append_assoc going.done (command ∷ []) rest);
-  does = does_more going.does now;
-}
+pub taken_later : (origin : Origin) (h g : List Entry) (had : List (ℕ × Entry)) (turns : List Taken) → IsPrefix h g → AreTaken origin h had turns → AreTaken origin g had turns
+taken_later origin h g had [] p taken = tt
+taken_later origin h g had (t ∷ ts) p taken = (taken.0, seen_later h g p taken.1, whole_later origin h g ts p taken.2, taken.3, taken_later origin h g had ts p taken.4)
 
 -- ---- turns
 
-still_seen : (known later : Past) (boards : List Board) → Extends known later → All (MayTurn known) boards → All (MayTurn later) boards
-still_seen known later boards more all = All-weaker (MayTurn known) (MayTurn later) (may_still known later more) boards all
-
-turns_push : (boards : List Board) (board : Board) → turns_of boards ++ turn_of board ≡ turns_of (boards ++ board ∷ [])
-turns_push boards board =
-    ap (λ (l : List Command). turns_of boards ++ l) (sym (append-nil (turn_of board)))
-    ∙ sym (flat_map-append turn_of boards (board ∷ []))
-
 -- so many looks were taken, and turns at some of them, the last of which came to this
-pub record Taking (known : Past) (had has : Received) (looks : ℕ) (outcome : Outcome) : Type 0 where
-  pub boards : List Board
-  pub seen : All (MayTurn known) boards
-  pub does : Does (turns_of boards) had has
-  pub count : length boards ≤ looks
+pub record Taking (origin : Origin) (had has : Received) (looks : ℕ) (outcome : Outcome) : Type 0 where
+  pub caller_is : has.caller ≡ had.caller
+  pub goes_on : IsPrefix had.known has.known
   pub turns : List Taken
-  pub taken : TakenAt known boards had.list has.list turns
+  pub count : length turns ≤ looks
+  pub taken : AreTaken origin has.known had.list turns
+  pub received : has.list ≡ received_by had.list turns
+  pub whole : IsLastWhole origin has.known turns
   pub latest : Latest turns outcome
 
-pub taking_none : (known : Past) (p : Received) (outcome : Outcome) → outcome.in_vain ≡ false → Taking known p p 0 outcome
-taking_none known p outcome first =
-    record { boards = []; seen = All-nil (MayTurn known); does = does_nothing p; count = omega arith; turns = []; taken = taken_none known p.list; latest = first }
+pub taking_none : (origin : Origin) (p : Received) (outcome : Outcome) → outcome.in_vain ≡ false → Taking origin p p 0 outcome
+taking_none origin p outcome first = record {
+  caller_is = refl;
+  goes_on = prefix_self p.known;
+  turns = [];
+  count = omega arith;
+  taken = tt;
+  received = refl;
+  whole = tt;
+  latest = first;
+}
 
-all_push : (known : Past) (boards : List Board) (board : Board) → All (MayTurn known) boards → MayTurn known board → All (MayTurn known) (boards ++ board ∷ [])
-all_push known boards board all one =
-    All-append (MayTurn known) boards (board ∷ []) all (All-cons (MayTurn known) board [] one (All-nil (MayTurn known)))
+-- more of the history is known
+pub taking_knows : {origin : Origin} {a b c : Received} {looks : ℕ} {outcome : Outcome} → Taking origin a b looks outcome → KnowsMore b c → Taking origin a c looks outcome
+taking_knows {origin} {a} {b} {c} t k = record {
+  caller_is = k.caller_is ∙ t.caller_is;
+  goes_on = prefix_trans a.known b.known c.known t.goes_on k.goes_on;
+  turns = t.turns;
+  count = t.count;
+  taken = taken_later origin b.known c.known a.list t.turns k.goes_on t.taken;
+  received = k.list_is ∙ t.received;
+  whole = whole_later origin b.known c.known t.turns k.goes_on t.whole;
+  latest = t.latest;
+}
 
--- a turn was taken at the board that was seen
-pub taking_more : (known later : Past) (a b c : Received) (looks : ℕ) (before outcome : Outcome) → Taking known a b looks before → Extends known later
-    → (board : Board) → MayTurn later board → rests before board ≡ false → ComesTo board b c outcome → Taking later a c (looks + 1) outcome
-taking_more known later a b c looks before outcome t more board may busy comes = record {
-  boards = t.boards ++ board ∷ [];
-  seen = all_push later t.boards board (still_seen known later t.boards more t.seen) may;
-  does = subst (λ (l : List Command). Does l a c) (turns_push t.boards board) (does_more t.does comes.does);
-  count = omega (arith, length_push t.boards board, t.count);
-  turns = record { board = board; received = comes.does.received; later = [] } ∷ t.turns;
-  taken = taken_more known later t.boards board a.list b.list c.list t.turns before comes.does.received t.taken t.latest more busy comes.does.goes_on;
-  latest = (comes.does.commands_are, comes.outcome_is);
+-- a board that is seen by one who knows of this
+pub shows_now : {origin : Origin} {board : Board} (p : Received) → IsBoardOf (record { origin = origin; history = p.known }) board → All (λ x. x.0 < board.entries) p.list → Shows origin p.known p.list board
+shows_now {origin} {board} p is own = record { front = p.known; begins = prefix_self p.known; board_is = is; own_are = own }
+
+-- a turn that received this was taken at the board that was seen
+pub taken_more : {origin : Origin} {a b c : Received} {looks : ℕ} {before : Outcome} {board : Board} (received : List (ℕ × Entry)) → (t : Taking origin a b looks before) → Shows origin b.known b.list board
+    → rests before board ≡ false → Gains b received c → AreTaken origin c.known a.list (record { had = b.list; board = board; received = received; later = [] } ∷ t.turns)
+taken_more {origin} {a} {b} {c} {looks} {before} {board} received t shows busy gains =
+    let u : Taken = record { had = b.list; board = board; received = received; later = [] } in (
+      t.received,
+      record { board = shows_later b.known c.known gains.goes_on shows; later = All-nil (Later origin c.known u) },
+      whole_later origin b.known c.known t.turns gains.goes_on t.whole,
+      busy_behind t.turns before board t.latest busy,
+      taken_later origin b.known c.known a.list t.turns gains.goes_on t.taken,
+    )
+
+pub taking_more : {origin : Origin} {a b c : Received} {looks : ℕ} {before outcome : Outcome} {board : Board} → Taking origin a b looks before → Shows origin b.known b.list board → rests before board ≡ false
+    → ComesTo origin board b c outcome → Taking origin a c (looks + 1) outcome
+taking_more {origin} {a} {b} {c} {looks} {before} {outcome} {board} t shows busy comes = record {
+  caller_is = comes.gains.caller_is ∙ t.caller_is;
+  goes_on = prefix_trans a.known b.known c.known t.goes_on comes.gains.goes_on;
+  turns = record { had = b.list; board = board; received = comes.received; later = [] } ∷ t.turns;
+  count = omega (arith, t.count);
+  taken = taken_more comes.received t shows busy comes.gains;
+  received = comes.gains.list_is;
+  whole = comes.turn;
+  latest = comes.outcome_is;
 }
 
 -- there was nothing to do at the board that was seen
-pub taking_rests : (known later : Past) (a b : Received) (looks : ℕ) (outcome : Outcome) → Taking known a b looks outcome → Extends known later
-    → (board : Board) → MayTurn later board → rests outcome board ≡ true → Taking later a b (looks + 1) outcome
-taking_rests known later a b looks outcome t more board may rest =
-    let rested = taken_rests known later t.boards board a.list b.list t.turns outcome t.taken t.latest more may rest in
+pub taking_rests : {origin : Origin} {a b : Received} {looks : ℕ} {outcome : Outcome} {board : Board} (turns : List Taken) → b.caller ≡ a.caller → IsPrefix a.known b.known → length turns ≤ looks → AreTaken origin b.known a.list turns
+    → b.list ≡ received_by a.list turns → IsLastWhole origin b.known turns → Latest turns outcome → Shows origin b.known b.list board → rests outcome board ≡ true → Taking origin a b (looks + 1) outcome
+taking_rests {origin} {a} {b} {looks} {outcome} {board} [] caller on few taken received whole latest shows rest = absurd (let no : outcome.in_vain ≡ true = (and_parts outcome.in_vain (nat_le board.entries outcome.entries) rest).0 in cc)
+taking_rests {origin} {a} {b} {looks} {outcome} {board} (t ∷ ts) caller on few taken received whole latest shows rest =
+    let u : Taken = record { had = t.had; board = t.board; received = t.received; later = board ∷ t.later } in
+    let own : Shows origin b.known (t.had ++ t.received) board = subst (λ (l : List (ℕ × Entry)). Shows origin b.known l board) received shows in
     record {
-      boards = t.boards;
-      seen = still_seen known later t.boards more t.seen;
-      does = t.does;
-      count = omega (arith, t.count);
-      turns = rested.turns;
-      taken = rested.taken;
-      latest = rested.latest;
+      caller_is = caller;
+      goes_on = on;
+      turns = u ∷ ts;
+      count = omega (arith, few);
+      taken = (
+        taken.0,
+        record {
+          board = taken.1.board;
+          later = All-cons (Later origin b.known u) board t.later (own, sym (rests_same t outcome board latest) ∙ rest) taken.1.later;
+        },
+        taken.2,
+        taken.3,
+        taken.4,
+      );
+      received = received;
+      whole = whole;
+      latest = latest;
     }
-
--- turns were taken, up to a call in the last of them that told no receipt
-pub record Stopping {F : Type 0} (leaves : Command → Received → F → Received → Type 0) (known : Past) (fault : F) (had has : Received) (looks : ℕ) : Type 0 where
-  pub boards : List Board
-  pub seen : All (MayTurn known) boards
-  pub does : DoesUntil leaves (turns_of boards) fault had has
-  pub count : length boards ≤ looks
-  pub turns : List Taken
-  pub taken : TakenAt known boards had.list has.list turns
-
-pub taking_stops : {F : Type 0} (leaves : Command → Received → F → Received → Type 0) (known later : Past) (fault : F) (a b c : Received) (looks : ℕ) (before : Outcome) → Taking known a b looks before → Extends known later
-    → (board : Board) → MayTurn later board → rests before board ≡ false → DoesUntil leaves (turn_of board) fault b c → (received : List (ℕ × Entry)) → c.list ≡ b.list ++ received
-    → Stopping leaves later fault a c (looks + 1)
-taking_stops leaves known later fault a b c looks before t more board may busy stops received gains = record {
-  boards = t.boards ++ board ∷ [];
-  seen = all_push later t.boards board (still_seen known later t.boards more t.seen) may;
-  does = subst (λ (l : List Command). DoesUntil leaves l fault a c) (turns_push t.boards board) (until_more t.does stops);
-  count = omega (arith, length_push t.boards board, t.count);
-  turns = record { board = board; received = received; later = [] } ∷ t.turns;
-  taken = taken_more known later t.boards board a.list b.list c.list t.turns before received t.taken t.latest more busy gains;
-}
-
--- ---- one turn
-
-comes_whole : (board : Board) (had has : Received) (outcome : Outcome) (done : List Command) → done ≡ turn_of board → (does : Does done had has) → IsOutcome board does.received outcome → ComesTo board had has outcome
-comes_whole board had has outcome done whole does is = record {
-  does = record { caller_is = does.caller_is; received = does.received; goes_on = does.goes_on; commands_are = does.commands_are ∙ whole; known = does.known };
-  outcome_is = is;
-}
-
--- what is left of a turn at a board, and what came of it so far
-pub record Coming (board : Board) (had has : Received) (left : List Command) (outcome : Outcome) : Type 0 where
-  pub going : Going (turn_of board) had has left
-  pub outcome_is : IsOutcome board going.does.received outcome
-
-pub coming_none : (board : Board) (p : Received) (outcome : Outcome) (commands : List Command) → commands ≡ turn_of board → outcome.in_vain ≡ not (moves board.agents.items) → outcome.entries ≡ board.entries → Coming board p p commands outcome
-unfolding does_nothing
-coming_none board p outcome commands all vain entries = record {
-  going = record { done = []; parts = sym all; does = does_nothing p };
-  outcome_is = outcome_new board outcome vain entries;
-}
-
--- a command of it was replied to
-pub coming_more : (board : Board) (a b c : Received) (left rest : List Command) (command : Command) (old new : Outcome) (x : ℕ × Entry) → Coming board a b left old → left ≡ command ∷ rest
-    → command_of x.1.event ≡ command → c.caller ≡ b.caller → c.list ≡ b.list ++ x ∷ [] → IsPrefix b.known c.known
-    → new.in_vain ≡ (old.in_vain && ((x.0 == old.entries) && brings_none x.1.reply)) → new.entries ≡ x.0 + 1 → Coming board a c rest new
-unfolding going_more does_more does_receipt
-coming_more board a b c left rest command old new x coming next answers caller gained known vain entries = record {
-  going = going_more coming.going next (does_receipt x answers caller gained known);
-  outcome_is = outcome_more board coming.going.does.received old new x coming.outcome_is vain entries;
-}
-
--- all of it was
-pub coming_all : (board : Board) (had has : Received) (left : List Command) (outcome : Outcome) → Coming board had has left outcome → left ≡ [] → ComesTo board had has outcome
-coming_all board had has left outcome coming none =
-    let whole : coming.going.done ≡ turn_of board = sym (append-nil coming.going.done) ∙ ap (λ (l : List Command). coming.going.done ++ l) (sym none) ∙ sym coming.going.parts in
-    comes_whole board had has outcome coming.going.done whole coming.going.does coming.outcome_is

@@ -1,95 +1,90 @@
 -- turns of the agents' worker
-use Rattle.std.specs.Prelude.{◌≡◌, ℕ, ◌+◌, ◌==◌, ◌&&◌, ◌||◌, nat_le, nat_lt, not, Bool, true, false, List, [], ◌∷◌, ◌++◌, length, map, reverse, drop, cond, All, Option, None, Some}
-use Rattle.std.specs.List.{flat_map}
+use Rattle.std.specs.Prelude.{◌≡◌, ◌≢◌, ◌⊎◌, ℕ, ◌+◌, ◌<◌, ◌≤◌, ◌==◌, ◌&&◌, ◌||◌, nat_le, nat_lt, not, Bool, true, false, List, [], ◌∷◌, ◌++◌, length, replicate, slice_set, cond, All, Option, None, Some}
 use mathlib.Core.List.{IsPrefix}
 use Rattle.wh_event.specs.declared.entry.Entry.{Entry}
 use Rattle.wh_event.specs.declared.event.Command.{Command}
 use Rattle.wh_event.specs.declared.event.Command.TheVariants.{Token, Tick}
 use Rattle.wh_event.specs.declared.reply.Reply.{Reply}
-use Rattle.wh_tasks.specs.declared.task.Load.{Load}
-use Rattle.wh_board.specs.Pasts.{Past, Extends}
+use Rattle.wh_event.specs.declared.reply.Refusal.{Refusal}
+use Rattle.wh_core.specs.Steps.{last_clock}
+use Rattle.wh_board.specs.Pasts.{Origin}
 use Rattle.wh_board.specs.Boards.{IsBoardOf}
 use Rattle.wh_board.specs.declared.board.Board.{Board}
 use Rattle.wh_board.specs.declared.board.Shown.{Shown}
 use Rattle.wh_desk.specs.Lists.{Received}
-use Rattle.wh_crew.specs.Work.{commands_of}
+use Rattle.wh_desk.specs.Calls.{AllRestAt, IsNextAt}
+use Rattle.wh_crew.specs.Work.{command_of, commands_of}
+use Rattle.wh_crew.specs.declared.last_turn.Idle.{Idle}
 
--- no task
-abbrev pub has_none : Load → Bool
-has_none Load.None = true
-has_none _ = false
+-- ---- one turn
 
--- an agent that is shown so is due: it has no steps left, or, where paths go on home, no load
-abbrev pub is_due : (homes : Bool) → Shown → Bool
-is_due false shown = shown.steps_left == 0
-is_due true shown = has_none shown.load
+-- nobody was asked
+abbrev pub nobody : Origin → List Bool
+nobody origin = replicate (length origin.site.layout.agents) false
 
--- what an agent that is shown so asks for: the token, where it is due
-abbrev pub asks : (homes : Bool) → ℕ → Shown → List Command
-asks homes agent shown = cond (is_due homes shown) (Token agent ∷ []) []
+-- These receipts are requests, one after another: each by the agent that is next to ask in the history before it, of those that were not
+-- asked; who asked is marked then. So nobody asks who would be told to rest, and nobody twice.
+abbrev pub AskInTurn : Origin → List Entry → List Bool → List (ℕ × Entry) → List Bool → Type 0
+AskInTurn origin history asked [] marked = marked ≡ asked
+AskInTurn origin history asked (x ∷ xs) marked =
+    (agent : ℕ) × (command_of x.1.event ≡ Token agent) × IsNextAt origin history x.0 asked agent × AskInTurn origin history (slice_set asked agent true) xs marked
 
--- what the agents ask for, in their order, counted from this number
-abbrev pub asks_from : (homes : Bool) → ℕ → List Shown → List Command
-asks_from homes agent [] = []
-asks_from homes agent (shown ∷ agents) = asks homes agent shown ++ asks_from homes (agent + 1) agents
-
--- what agents ask for at a board: each that is due the token, in their order; nothing where no task is open, as all would rest
-abbrev pub asked_at : Board → List Command
-asked_at board = cond (board.open_tasks == 0) [] (asks_from board.homes 0 board.agents.items)
+-- At a place of the history, behind the board and these requests and before these ticks, each agent that is due would be told to rest, of
+-- those that were not asked.
+pub record NobodyIsLeft (origin : Origin) (history : List Entry) (board : Board) (requests ticks : List (ℕ × Entry)) (marked : List Bool) : Type 0 where
+  pub place : ℕ
+  pub behind_board : board.entries ≤ place
+  pub behind : All (λ x. x.0 < place) requests
+  pub before : All (λ x. place ≤ x.0) ticks
+  pub rest : AllRestAt origin history place marked
 
 -- somebody is shown with steps left
 abbrev pub moves : List Shown → Bool
 moves [] = false
 moves (shown ∷ agents) = nat_lt 0 shown.steps_left || moves agents
 
+-- whether there is any
+abbrev pub has_any : {A : Type 0} → List A → Bool
+has_any [] = false
+has_any (x ∷ xs) = true
+
 -- the tick behind these requests: where there are any, or somebody is shown with steps left
-abbrev pub ticked_behind : List Command → List Shown → List Command
-ticked_behind [] agents = cond (moves agents) (Tick ∷ []) []
-ticked_behind (command ∷ commands) agents = Tick ∷ []
+abbrev pub ticked_behind : List (ℕ × Entry) → List Shown → List Command
+ticked_behind requests agents = cond (has_any requests || moves agents) (Tick ∷ []) []
 
--- One turn at a board: what agents ask for there, and then the clock ticks, where somebody asks or has steps left. So where no task is
--- open and all stand, it is nothing.
-abbrev pub turn_of : Board → List Command
-turn_of board = asked_at board ++ ticked_behind (asked_at board) board.agents.items
+-- What is received in one turn at a board. Agents ask, one after another, each as it is next to ask, until nobody is left to ask; nobody asks
+-- where no task is open. Then the clock ticks, where somebody asked or has steps left. So where nobody has to ask and all stand, it is nothing.
+pub record IsTurn (origin : Origin) (history : List Entry) (board : Board) (received : List (ℕ × Entry)) : Type 0 where
+  pub requests : List (ℕ × Entry)
+  pub ticks : List (ℕ × Entry)
+  pub received_are : received ≡ requests ++ ticks
+  pub marked : List Bool
+  pub ask : AskInTurn origin history (nobody origin) requests marked
+  pub all_asked : NobodyIsLeft origin history board requests ticks marked ⊎ ((board.open_tasks ≡ 0) × (requests ≡ []))
+  pub ticked : commands_of ticks ≡ ticked_behind requests board.agents.items
 
--- what is left of a turn once the agents before this one were asked for, and then the clock has ticked, if it is to
-abbrev pub left_of : (ticks homes : Bool) → ℕ → List Shown → List Command
-left_of ticks homes agent agents = cond ticks (asks_from homes agent (drop agent agents) ++ Tick ∷ []) []
+-- All had asked in a turn at a board, and the clock was to tick: these are its requests, and these its ticks, if there are any.
+pub record IsAtTick (origin : Origin) (history : List Entry) (board : Board) (requests ticks : List (ℕ × Entry)) : Type 0 where
+  pub marked : List Bool
+  pub ask : AskInTurn origin history (nobody origin) requests marked
+  pub all_asked : NobodyIsLeft origin history board requests ticks marked ⊎ ((board.open_tasks ≡ 0) × (requests ≡ []))
+  pub due : (has_any requests || moves board.agents.items) ≡ true
+  pub only_ticks : All (λ x. command_of x.1.event ≡ Tick) ticks
 
--- a turn for each of the boards, one after another
-abbrev pub turns_of : List Board → List Command
-turns_of boards = flat_map turn_of boards
-
--- the pass gained entries that answer the commands, in order, and nothing else
-pub record Does (commands : List Command) (had has : Received) : Type 0 where
-  pub caller_is : has.caller ≡ had.caller
-  pub received : List (ℕ × Entry)
-  pub goes_on : has.list ≡ had.list ++ received
-  pub commands_are : commands_of received ≡ commands
-  pub known : IsPrefix had.known has.known
-
--- it did so for the first of them, and the call for the next one told no receipt, and left what such a call leaves
-pub record DoesUntil {F : Type 0} (leaves : Command → Received → F → Received → Type 0) (commands : List Command) (fault : F) (had has : Received) : Type 0 where
-  pub done : List Command
-  pub next : Command
-  pub rest : List Command
-  pub parts : commands ≡ done ++ next ∷ rest
-  pub between : Received
-  pub does : Does done had between
-  pub left : leaves next between fault has
-
--- a turn may be taken at this board: it shows a beginning of what is known
-pub record MayTurn (known : Past) (board : Board) : Type 0 where
-  pub past : Past
-  pub begins : Extends past known
-  pub shows : IsBoardOf past board
+-- A turn at a board was broken off at a call that was still to be made: the worker was told of these calls before it, and of that one it was told
+-- nothing. It was a request, where a task is open; or the tick, behind all requests.
+abbrev pub IsBrokenOff : Origin → List Entry → Board → (told untold : List (ℕ × Entry)) → Type 0
+IsBrokenOff origin history board told untold =
+    ((board.open_tasks ≢ 0) × ((marked : List Bool) × AskInTurn origin history (nobody origin) (told ++ untold) marked)) ⊎ IsAtTick origin history board told untold
 
 -- ---- whether there is anything to do behind a turn
 
--- what a turn came to: whether it changed nothing but the clock, and then how many entries the history has behind it
+-- what a turn came to: whether it changed nothing but the clock, then how many entries the history has behind it, and whether an agent was
+-- refused a path in it
 pub record Outcome : Type 0 where
   pub in_vain : Bool
   pub entries : ℕ
+  pub no_path : Bool
 
 -- how many entries there are up to the last one, which stands at this place, if there is one
 abbrev pub behind : Option ℕ → ℕ
@@ -112,42 +107,122 @@ are_in_vain place (x ∷ xs) = ((x.0 == place) && brings_none x.1.reply) && are_
 abbrev pub is_in_vain : Board → List (ℕ × Entry) → Bool
 is_in_vain board received = not (moves board.agents.items) && are_in_vain board.entries received
 
+-- the reply is E6
+abbrev pub is_no_path : Reply → Bool
+is_no_path (Reply.Refused Refusal.NoPath) = true
+is_no_path reply = false
+
+-- one of these receipts is of an agent that was refused a path
+abbrev pub refuses_path : List (ℕ × Entry) → Bool
+refuses_path [] = false
+refuses_path (x ∷ xs) = is_no_path x.1.reply || refuses_path xs
+
 -- a turn at a board that received this came to this
 pub record IsOutcome (board : Board) (received : List (ℕ × Entry)) (outcome : Outcome) : Type 0 where
   pub in_vain : outcome.in_vain ≡ is_in_vain board received
   pub entries : outcome.in_vain ≡ true → outcome.entries ≡ board.entries + length received
+  pub no_path : outcome.no_path ≡ refuses_path received
 
--- a whole turn at a board came to this
-pub record ComesTo (board : Board) (had has : Received) (outcome : Outcome) : Type 0 where
-  pub does : Does (turn_of board) had has
-  pub outcome_is : IsOutcome board does.received outcome
+-- what a turn comes to with one receipt more
+abbrev pub with_receipt : Outcome → ℕ → Reply → Outcome
+with_receipt old place reply = record {
+  in_vain = old.in_vain && ((place == old.entries) && brings_none reply);
+  entries = place + 1;
+  no_path = old.no_path || is_no_path reply;
+}
 
--- A turn that was taken: at which board, what it received, and which boards were seen behind it, at which none was taken.
+-- Why orders stay open where there is nothing to do at a board behind what came to this: the clock is at its last; or an agent was refused a path;
+-- or all rest, at a standstill. None where no order is open.
+abbrev pub idle_at : Outcome → Board → Option Idle
+idle_at outcome board = cond (board.open_tasks == 0) None (Some (cond (board.clock == last_clock) Idle.Clock (cond outcome.no_path Idle.NoPath Idle.Standstill)))
+
+-- ---- calls of a turn
+
+-- The pass gained these receipts, which stand in the history that it knows now.
+pub record Gains (had : Received) (received : List (ℕ × Entry)) (has : Received) : Type 0 where
+  pub caller_is : has.caller ≡ had.caller
+  pub list_is : has.list ≡ had.list ++ received
+  pub goes_on : IsPrefix had.known has.known
+  pub within : All (λ x. x.0 < length has.known) received
+
+-- they are of requests, each by who is next to ask
+pub record Asks (origin : Origin) (had : Received) (asked : List Bool) (received : List (ℕ × Entry)) (has : Received) (marked : List Bool) : Type 0 where
+  pub gains : Gains had received has
+  pub ask : AskInTurn origin has.known asked received marked
+
+-- all asked that were to ask in a turn at a board, and whether any did
+pub record AllAsked (origin : Origin) (board : Board) (had : Received) (some : Bool) (has : Received) (outcome : Outcome) : Type 0 where
+  pub requests : List (ℕ × Entry)
+  pub marked : List Bool
+  pub asks : Asks origin had (nobody origin) requests has marked
+  pub all : AllRestAt origin has.known (length has.known) marked ⊎ ((board.open_tasks ≡ 0) × (requests ≡ []))
+  pub some_is : some ≡ has_any requests
+  pub outcome_is : IsOutcome board requests outcome
+
+-- the clock ticked, behind all that was known
+pub record Ticks (had : Received) (x : ℕ × Entry) (has : Received) : Type 0 where
+  pub gains : Gains had (x ∷ []) has
+  pub tick : command_of x.1.event ≡ Tick
+  pub behind : length had.known ≤ x.0
+
+-- and this came of it
+pub record TicksOnce (had : Received) (old : Outcome) (has : Received) (new : Outcome) : Type 0 where
+  pub receipt : ℕ × Entry
+  pub ticks : Ticks had receipt has
+  pub outcome_is : new ≡ with_receipt old receipt.0 receipt.1.reply
+
+-- a turn at a board came to this
+pub record ComesTo (origin : Origin) (board : Board) (had has : Received) (outcome : Outcome) : Type 0 where
+  pub received : List (ℕ × Entry)
+  pub gains : Gains had received has
+  pub turn : IsTurn origin has.known board received
+  pub outcome_is : IsOutcome board received outcome
+
+-- ---- turns, one after another
+
+-- A turn that was taken: what the worker had received before it, at which board it was taken, what was received in it, and which boards were
+-- seen behind it, at which none was taken.
 pub record Taken : Type 0 where
+  pub had : List (ℕ × Entry)
   pub board : Board
   pub received : List (ℕ × Entry)
   pub later : List Board
+
+-- The board shows a beginning of the history, in which all of these entries stand.
+pub record Shows (origin : Origin) (history : List Entry) (own : List (ℕ × Entry)) (board : Board) : Type 0 where
+  pub front : List Entry
+  pub begins : IsPrefix front history
+  pub board_is : IsBoardOf (record { origin = origin; history = front }) board
+  pub own_are : All (λ x. x.0 < board.entries) own
 
 -- there is nothing to do at a board that is seen behind a turn: the turn changed nothing but the clock, and the board shows no entry more
 abbrev pub rests_at : Taken → Board → Bool
 rests_at t board = is_in_vain t.board t.received && nat_le board.entries (t.board.entries + length t.received)
 
--- The turns before this one, the last one first: each received the replies to all its commands, and at the board of the next one
--- there was something to do.
-abbrev pub IsBehind : Taken → List Taken → Type 0
-IsBehind t [] = Unit {0}
-IsBehind t (u ∷ us) = (commands_of u.received ≡ turn_of u.board) × (rests_at u t.board ≡ false) × IsBehind u us
+-- The board of a turn, and each that was seen behind it, shows all that the worker had received by then. Behind it there was nothing to do.
+pub record IsSeen (origin : Origin) (history : List Entry) (t : Taken) : Type 0 where
+  pub board : Shows origin history t.had t.board
+  pub later : All (λ board. Shows origin history (t.had ++ t.received) board × (rests_at t board ≡ true)) t.later
 
--- turns that were taken one behind another, the last one first
-abbrev pub AreInTurn : List Taken → Type 0
-AreInTurn [] = Unit {0}
-AreInTurn (t ∷ ts) = IsBehind t ts
+-- what the worker has received behind these turns, the last one first
+abbrev pub received_by : (had : List (ℕ × Entry)) → List Taken → List (ℕ × Entry)
+received_by had [] = had
+received_by had (t ∷ ts) = t.had ++ t.received
 
--- These turns, the last one first, were taken at these boards, and the list went on by what they received. At each other board that was
--- seen, up to the next turn, there was nothing to do, and at the board of each turn there was something to do behind the one before. So
--- nobody is asked again in vain, and an entry of another is never passed over.
-pub record TakenAt (known : Past) (boards : List Board) (had has : List (ℕ × Entry)) (turns : List Taken) : Type 0 where
-  pub boards_are : boards ≡ map (λ t. t.board) (reverse turns)
-  pub gained : has ≡ had ++ flat_map (λ t. t.received) (reverse turns)
-  pub resting : All (λ t. All (λ board. MayTurn known board × (rests_at t board ≡ true)) t.later) turns
-  pub in_turn : AreInTurn turns
+-- the last turn, if there is one, is whole
+abbrev pub IsLastWhole : Origin → List Entry → List Taken → Type 0
+IsLastWhole origin history [] = Unit {0}
+IsLastWhole origin history (t ∷ ts) = IsTurn origin history t.board t.received
+
+-- there is something to do at a board that is seen behind these turns
+abbrev pub IsBusy : List Taken → Board → Type 0
+IsBusy [] board = Unit {0}
+IsBusy (t ∷ ts) board = rests_at t board ≡ false
+
+-- Turns were taken, the last one first, by a worker that had received this before them all. Each but the last one is a whole turn; at the board
+-- of the next one there was something to do; and at each other board that was seen up to that there was nothing to do. So nobody is asked again
+-- in vain, an entry of another is never passed over, and no board lacks an entry of the worker's own.
+abbrev pub AreTaken : Origin → List Entry → (had : List (ℕ × Entry)) → List Taken → Type 0
+AreTaken origin history had [] = Unit {0}
+AreTaken origin history had (t ∷ ts) =
+    (t.had ≡ received_by had ts) × IsSeen origin history t × IsLastWhole origin history ts × IsBusy ts t.board × AreTaken origin history had ts

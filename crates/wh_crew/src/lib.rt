@@ -1,8 +1,8 @@
-//! Workers as threads over one desk, and the turns of a worker for agents and clock, by a board.
+//! Workers as threads over one desk, and what a turn of a worker for agents and clock came to.
 //!
 //! Proved: the history is a run from an opening and holds each worker's commands, in order, without those missed, each
-//! with a cause; a turn is a request for each agent that a board shows idle, or for none if no task is open, and then a
-//! tick (`crew`, `look_for_turn`).
+//! with a cause; whether a turn changed nothing but the clock, so that nothing is to do at a board (`crew`,
+//! `LastTurn::rests_at`).
 #![tactic(auto)]
 
 mod gate;
@@ -13,10 +13,10 @@ mod turns;
 mod worker;
 
 pub use gate::Gate;
-pub use last_turn::LastTurn;
+pub use last_turn::{Idle, LastTurn};
 pub use threads::{CrewFault, Crewed, Due, crew};
 pub use trouble::trouble_of;
-pub use turns::Turn;
+pub use turns::is_to_tick;
 pub use worker::{Missed, Report, work_through};
 
 // handed on, for callers: what the items below take, return and speak of

@@ -2,11 +2,10 @@
 use Rattle.std.proofs.Common.{Option, None, IfSome, IfNone, ◌≡◌, ◌≢◌, ℕ, zero, suc, ◌+◌, ◌<◌, List, [], ◌∷◌, ◌++◌, length, set, Some, slice_get, refl, ap, sym, ◌∙◌, subst, arith, ◌⊎◌, inl, inr}
 use Rattle.std.specs.List.{All}
 use Rattle.std.proofs.lemmas.List.{map_push, length_push, length-set}
-use Rattle.std.proofs.lemmas.List.Elements.{All-push, All-nil}
+use Rattle.std.proofs.lemmas.List.Elements.{All-push}
 use Rattle.once_cell.specs.declared.race.note.Note.{Note}
 use Rattle.wh_event.specs.declared.entry.Entry.{Entry}
 use Rattle.logbook.specs.Pages.{Book}
-use Rattle.wh_core.specs.Steps.{Run}
 use Rattle.wh_book.specs.Drafts.{Seen, IsSame}
 use Rattle.wh_board.specs.Pasts.{Origin, Past, Known, Stand, Extends, grown, past_of}
 use Rattle.wh_board.proofs.Chains.{extends_same, extends_trans, extends_grown}

@@ -1,7 +1,7 @@
 -- What the calls tell follows from what the journal and the pass keep.
 use Rattle.std.proofs.Common.{Option, None, IfSome, ◌≡◌, ℕ, ◌+◌, ◌<◌, List, [], ◌∷◌, ◌++◌, length, take, Some, slice_get, refl, ap, sym, ◌∙◌, subst, arith, IfOk, Result, Ok, Err}
 use Rattle.std.specs.List.{All}
-use Rattle.std.proofs.lemmas.List.{take_at}
+use Rattle.std.proofs.lemmas.List.{take_at, length_push}
 use Rattle.std.proofs.lemmas.List.Elements.{All-weaker}
 use Rattle.wh_event.specs.declared.entry.Entry.{Entry}
 use Rattle.wh_event.specs.declared.event.Command.{Command}
@@ -12,11 +12,11 @@ use Rattle.wh_core.specs.Steps.{Run}
 use Rattle.wh_desk.specs.Lists.{entries_of, StandIn, Received, Ledger}
 use Rattle.logbook.specs.Pages.{Book}
 use Rattle.wh_board.specs.Pasts.{Origin, Known}
-use Rattle.wh_board.proofs.Fronts.{prefix_self, prefix_trans}
+use Rattle.wh_board.proofs.Fronts.{prefix_self, prefix_trans, prefix_length}
 use mathlib.Core.List.{IsPrefix}
-use Rattle.std.proofs.Common.{◌≢◌, ◌≤◌, IfErr, OnErr}
+use Rattle.std.proofs.Common.{◌≢◌, IfErr, OnErr}
 use Rattle.wh_desk.specs.Lists.{TellsTheSame}
-use Rattle.wh_desk.specs.Calls.{Entered, Called, IsClockAt, KnowsFull, Refuses, TellsReceipt, Together, Untouched}
+use Rattle.wh_desk.specs.Calls.{Entered, Called, IsClockAt, IsStateAt, KnowsFull, Refuses, TellsReceipt, Together, Untouched}
 use Rattle.wh_desk.proofs.Entries.{get_left, get_push, entries_stands, entries_before, entries_push_same}
 
 pub called : {X : Type 0} {origin : Origin} {before after : Ledger X} {had has : Received} {command : Command} {position : ℕ} {entry : Entry} → Entered origin before had command after has position entry → Run origin.site origin.opening after.history after.state → Called origin had command has position entry
@@ -31,6 +31,7 @@ called {X} {origin} {before} {after} {had} {has} {command} {position} {entry} e 
       state = after.state;
       run = run;
       goes_on = prefix_trans had.known before.history after.history e.had_known (entry ∷ [], sym e.history);
+      behind = omega (arith, e.position_is, prefix_length had.known before.history e.had_known);
       had_stand = subst (λ h. StandIn h had.list) (sym e.history) (subst (λ l. StandIn grown l) (sym e.had_all) kept);
       stands = ap (λ h. slice_get h position) e.history ∙ stands;
       later = subst (λ l. All (λ (x : ℕ × Entry). x.0 < position) l) (sym e.had_all) earlier;
@@ -68,6 +69,19 @@ clock_if origin before after had has command (Ok r) e is run =
     let front : take r.position has.known ≡ before.history = ap (λ (l : List Entry). take r.position l) (e.has_known ∙ e.history) ∙ take_at before.history (r.entry ∷ []) r.position (sym e.position_is) in
     (before.state, subst (λ (l : List Entry). Run origin.site origin.opening l before.state) (sym front) run, is)
 clock_if origin before after had has command (Err fault) e is run = tt
+
+-- and the state before it is that from which the entry was made
+pub state_if : {X : Type 0} (origin : Origin) (before after : Ledger X) (had has : Received) (command : Command) (outcome : Result Receipt DeskFault)
+    → IfOk outcome (λ r. Entered origin before had command after has r.position r.entry) → Run origin.site origin.opening before.history before.state
+    → IfOk outcome (λ r. IsStateAt origin has.known r.position before.state)
+state_if origin before after had has command (Ok r) e run =
+    let grown : has.known ≡ before.history ++ r.entry ∷ [] = e.has_known ∙ e.history in
+    let front : take r.position has.known ≡ before.history = ap (λ (l : List Entry). take r.position l) grown ∙ take_at before.history (r.entry ∷ []) r.position (sym e.position_is) in
+    record {
+      within = omega (arith, e.position_is, ap (λ (l : List Entry). length l) grown, length_push before.history r.entry);
+      run = subst (λ (l : List Entry). Run origin.site origin.opening l before.state) (sym front) run;
+    }
+state_if origin before after had has command (Err fault) e run = tt
 
 told_one : {X : Type 0} (origin : Origin) (book : Book) (before after : Ledger X) (had has : Received) (command : Command) (position : ℕ) (entry : Entry) (told : Option Known)
     → Entered origin before had command after has position entry

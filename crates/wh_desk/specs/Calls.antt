@@ -1,5 +1,5 @@
 -- what the calls of a desk tell
-use Rattle.std.specs.Prelude.{◌≡◌, ℕ, ◌<◌, Bool, true, List, [], ◌∷◌, ◌++◌, length, take, Option, Some, slice_get, slice_set, All}
+use Rattle.std.specs.Prelude.{◌≡◌, ℕ, ◌<◌, ◌≤◌, Bool, true, List, [], ◌∷◌, ◌++◌, length, take, Option, Some, slice_get, slice_set, All}
 use mathlib.Core.List.{IsPrefix}
 use Rattle.wh_points.specs.Formed.{IsFormed}
 use Rattle.wh_grid.specs.Grids.{Floor}
@@ -8,10 +8,12 @@ use Rattle.logbook.specs.Pages.{Book}
 use Rattle.wh_event.specs.declared.entry.Entry.{Entry}
 use Rattle.wh_event.specs.declared.event.Event.{Event}
 use Rattle.wh_event.specs.declared.event.Command.{Command}
+use Rattle.wh_event.specs.declared.event.Command.TheVariants.{Token}
 use Rattle.wh_event.specs.declared.event.Spare.{Spare}
 use Rattle.wh_core.specs.States.{State}
 use Rattle.wh_core.specs.Steps.{Step, Run}
 use Rattle.wh_book.specs.Drafts.{AllServed}
+use Rattle.wh_token.specs.Asking.{AllWouldRest, IsNextToAsk, MayBeAsked}
 use Rattle.wh_token.specs.Commands.{event_of}
 use Rattle.wh_token.specs.Fleet.{StaySeated}
 use Rattle.wh_board.specs.Pasts.{Origin, Known}
@@ -58,13 +60,14 @@ Untouched before DeskFault.Full after = after ≡ before
 Untouched before fault after = TellsTheSame before after
 
 -- There is a history that is a run, in which all that the pass had received stands at its positions, and this entry after
--- all of them. It goes on from the history of which the pass knew. The pass has the entry too now, and so all that its
--- caller did in that history, of which it knows.
+-- all of them. It goes on from the history of which the pass knew, and the entry stands behind that. The pass has the entry too now, and so
+-- all that its caller did in that history, of which it knows.
 pub record Called (origin : Origin) (had : Received) (command : Command) (has : Received) (position : ℕ) (entry : Entry) : Type 0 where
   pub history : List Entry
   pub state : State
   pub run : Run origin.site origin.opening history state
   pub goes_on : IsPrefix had.known history
+  pub behind : length had.known ≤ position
   pub had_stand : StandIn history had.list
   pub stands : slice_get history position ≡ Some entry
   pub later : All (λ x. x.0 < position) had.list
@@ -79,6 +82,39 @@ pub record Called (origin : Origin) (had : Received) (command : Command) (has : 
 abbrev pub IsClockAt : Origin → List Entry → ℕ → ℕ → Type 0
 IsClockAt origin history position clock =
     (before : State) × Run origin.site origin.opening (take position history) before × (clock ≡ before.clock)
+
+-- a state to which the entries before a place of the history lead
+pub record IsStateAt (origin : Origin) (history : List Entry) (place : ℕ) (s : State) : Type 0 where
+  pub within : place ≤ length history
+  pub run : Run origin.site origin.opening (take place history) s
+
+-- at a place of the history the agent is next to ask, of those that were not asked
+abbrev pub IsNextAt : Origin → List Entry → ℕ → List Bool → ℕ → Type 0
+IsNextAt origin history place asked agent = (s : State) × IsStateAt origin history place s × IsNextToAsk origin.site s (MayBeAsked asked) agent
+
+-- at a place of the history each agent that is due would be told to rest, of those that were not asked
+abbrev pub AllRestAt : Origin → List Entry → ℕ → List Bool → Type 0
+AllRestAt origin history place asked = (s : State) × IsStateAt origin history place s × AllWouldRest origin.site s (MayBeAsked asked)
+
+-- the pass has what it had, and knows of a history that goes on from the one it knew of
+pub record KnowsMore (had has : Received) : Type 0 where
+  pub caller_is : has.caller ≡ had.caller
+  pub list_is : has.list ≡ had.list
+  pub goes_on : IsPrefix had.known has.known
+
+-- The agent that was next to ask in the history before the entry, of those that were not asked, took the token, and is marked as asked.
+pub record AskedNext (origin : Origin) (had : Received) (asked : List Bool) (has : Received) (marked : List Bool) (position : ℕ) (entry : Entry) : Type 0 where
+  pub agent : ℕ
+  pub called : Called origin had (Token agent) has position entry
+  pub next : IsNextAt origin has.known position asked agent
+  pub marked_is : marked ≡ slice_set asked agent true
+
+-- Nobody asked: at the end of the history that the pass knows now each agent that is due would be told to rest, of those that were not
+-- asked.
+pub record NobodyAsked (origin : Origin) (had : Received) (asked : List Bool) (has : Received) (marked : List Bool) : Type 0 where
+  pub knows : KnowsMore had has
+  pub rest : AllRestAt origin has.known (length has.known) asked
+  pub marked_is : marked ≡ asked
 
 -- what comes with a receipt is of this desk's book, and stands for a history with the receipt's entry at its position
 pub record TellsReceipt (book : Book) (origin : Origin) (position : ℕ) (entry : Entry) (told : Known) : Type 0 where

@@ -1,7 +1,7 @@
 //! The desk.
 #![tactic(auto)]
 
-ghost use Rattle.std.specs.Prelude.{◌≡◌, ◌≢◌, ◌<◌, ◌≤◌, ◌↔◌, [], length, true, IfOk, IfErr, IfSome, IsTrue, IsSome, MatchResult, All};
+ghost use Rattle.std.specs.Prelude.{◌≡◌, ◌≢◌, ◌<◌, ◌≤◌, ◌↔◌, [], length, true, IfOk, IfErr, IfNone, IfSome, IsTrue, IsSome, MatchResult, OnErr, All};
 ghost use Rattle.std.specs.List.{sum_by};
 ghost use Rattle.wh_points.specs.Formed.{IsFormed};
 ghost use Rattle.wh_event.specs.declared.event.Command.{Command as Asked};
@@ -10,10 +10,11 @@ ghost use Rattle.wh_event.specs.declared.reply.Refusal.{Refusal as Reason};
 ghost use Rattle.wh_core.specs.Laws.{IsOpening};
 ghost use Rattle.wh_core.specs.Steps.{Run};
 ghost use Rattle.wh_token.specs.Fleet.{TellsFor, replaced_agent};
+ghost use Rattle.wh_board.specs.Boards.{IsBoardOf};
 ghost use Rattle.wh_board.specs.Pasts.{Extends, origin_of, past_of};
 ghost use Rattle.wh_desk.specs.Earlier.{IsWhyUnopened};
 ghost use Rattle.wh_desk.specs.Lists.{entries_of};
-ghost use Rattle.wh_desk.specs.Calls.{AllBegin, AllEmpty, Called, HandsBack, InOrder, IsClockAt, NoneWantsPath, Refuses, TellsReceipt, Together};
+ghost use Rattle.wh_desk.specs.Calls.{AllBegin, AllEmpty, AskedNext, Called, HandsBack, InOrder, IsClockAt, KnowsMore, NobodyAsked, NoneWantsPath, Refuses, TellsReceipt, Together};
 
 use crate::answer::{Answer, DeskFault, Met, Receipt, Stale};
 use crate::cells::Cells;
@@ -23,7 +24,7 @@ use crate::naming::DeskName;
 use crate::pass::Pass;
 use std::alloc::{AllocError, Global};
 use std::sync::{Mutex, Wait};
-use wh_board::{Publisher, Told, Viewer, ViewerFault};
+use wh_board::{Board, Publisher, Told, Viewer, ViewerFault};
 use wh_event::{Command, Stops};
 use wh_planner::{Planner, Plans};
 use wh_text::Name;
@@ -143,11 +144,7 @@ impl<N: DeskName, H: Wait + Drop, P: Plans> Desk<N, H, P> {
         ensures err { IfErr result.outcome (λ fault. Refuses (length N.cells) pass.old fault pass.new) }
         ensures back { MatchResult result.outcome (λ r. HandsBack P.fits_map N.origin.site.grid (replaced_agent r.entry) spare result.back) (λ _. result.back ≡ spare) }
     {
-        let mut journal = self.journal.lock(rt);
-        journal.is_run();
-        let answer = journal.enter(alloc, pass, command, spare);
-        journal.is_run();
-        answer
+        self.journal.lock(rt).call(alloc, pass, command, spare)
     }
 
     /// A client's task. Its entry stands in one history for good, after all that the pass had received. It may wait for the lock.
@@ -190,6 +187,30 @@ impl<N: DeskName, H: Wait + Drop, P: Plans> Desk<N, H, P> {
     {
         let command = Command::Token { agent };
         self.call(rt, alloc, pass, command, None).outcome
+    }
+
+    /// Of the agents that were not asked the one that is next to ask takes the token, and is marked as asked: who would be given the order
+    /// with the nearest first stop, or, where none would be given any, the first that has to make way. `asked` tells for each agent whether
+    /// it was asked. Its receipt and its refusals are those of `submit`; where it is refused nobody is marked. `None`: nobody is left to
+    /// ask, as each that is due would be told to rest. Then no entry is made, and the pass knows of all that was done by then.
+    pub fn request_next<R: Wait>(
+        &self,
+        rt: &R,
+        alloc: Global,
+        pass: &mut Pass<N>,
+        asked: &mut [bool],
+    ) -> Result<Option<Receipt>, DeskFault>
+        requires { length asked.old ≡ length N.origin.site.layout.agents }
+        ensures next { IfOk result (λ next. IfSome next (λ r. AskedNext N.origin pass.old asked.old pass.new asked.new r.position r.entry)) }
+        ensures none { IfOk result (λ next. IfNone next (NobodyAsked N.origin pass.old asked.old pass.new asked.new)) }
+        ensures clock { IfOk result (λ next. IfSome next (λ r. IsClockAt N.origin pass.new.known r.position r.clock)) }
+        ensures shown { IfOk result (λ next. IfSome next (λ r. IsTrue r.shown ↔ IsSome r.told)) }
+        ensures told { IfOk result (λ next. IfSome next (λ r. IfSome r.told (λ t. TellsReceipt N.book N.origin r.position r.entry t))) }
+        ensures served { IfOk result (λ next. IfSome next (λ r. IsFormed N.origin.site → r.entry.reply ≢ Answered.Refused Reason.NoPath)) }
+        ensures err { IfErr result (λ fault. Refuses (length N.cells) pass.old fault pass.new) }
+        ensures same { OnErr result (asked.new ≡ asked.old) }
+    {
+        self.journal.lock(rt).call_next(alloc, pass, asked)
     }
 
     /// One step of the clock, and of each agent on its way. Its receipt and its refusals are those of `submit`.
@@ -246,6 +267,18 @@ impl<N: DeskName, H: Wait + Drop, P: Plans> Desk<N, H, P> {
         ensures back { MatchResult result.outcome (λ r. HandsBack P.fits_map N.origin.site.grid (replaced_agent r.entry) spare result.back) (λ _. result.back ≡ spare) }
     {
         self.call(rt, alloc, pass, Command::Replace { agent }, spare)
+    }
+
+    /// The board of all that was done by now, of which the pass then knows. So it shows each entry of the pass's caller, also one that no
+    /// memory was left to publish. It takes no memory, and may wait for the lock. E95: the pass does not have all that its caller did.
+    pub fn look<R: Wait>(&self, rt: &R, pass: &mut Pass<N>) -> Result<Board, Stale>
+        ensures board { IfOk result (IsBoardOf (record { origin = N.origin; history = pass.new.known })) }
+        ensures seats { IfOk result (λ board. length board.agents.items ≡ length N.origin.site.layout.agents) }
+        ensures knows { IfOk result (λ _. KnowsMore pass.old pass.new) }
+        ensures own { IfOk result (λ board. All (λ x. x.0 < board.entries) pass.new.list) }
+        ensures stale { OnErr result (pass.new ≡ pass.old) }
+    {
+        self.journal.lock(rt).look(pass)
     }
 
     /// A viewer of this desk's board, one of at most 64. The call may wait for the lock; its looks wait for nobody, also once

@@ -4,15 +4,18 @@
 ghost use Rattle.std.specs.Prelude.{◌≡◌, ◌≢◌, ◌<◌, ◌≤◌, ◌&&◌, ◌↔◌, [], true, false, length, IfSome, IfNone, IsSome, IfOk, IfErr, OnErr, IsErr, IsTrue, Err, MatchResult, All};
 ghost use mathlib.Core.List.{IsPrefix};
 ghost use Rattle.wh_points.specs.Formed.{IsFormed};
+ghost use Rattle.wh_event.specs.declared.event.Command.{Command as Asked};
 ghost use Rattle.wh_event.specs.declared.reply.Reply.{Reply as Answered};
 ghost use Rattle.wh_event.specs.declared.reply.Refusal.{Refusal as Reason};
 ghost use Rattle.wh_core.specs.Laws.{IsOpening};
 ghost use Rattle.wh_core.specs.Steps.{Run};
+ghost use Rattle.wh_token.specs.Asking.{AllWouldRest, IsNextToAsk, MayBeAsked};
 ghost use Rattle.wh_token.specs.Fleet.{IsTied, StaySeated, TellsFor, replaced_agent};
+ghost use Rattle.wh_board.specs.Boards.{IsBoardOf};
 ghost use Rattle.wh_board.specs.Pasts.{origin_of, past_of};
 ghost use Rattle.wh_desk.specs.Lists.{AllAt, TellsTheSame, entries_of, is_current};
 ghost use Rattle.wh_desk.specs.Kept.{NoteAt, RowOf};
-ghost use Rattle.wh_desk.specs.Calls.{AllBegin, Entered, HandsBack, NoneWantsPath, Refuses, Reseats, Together, Untouched};
+ghost use Rattle.wh_desk.specs.Calls.{AllBegin, AskedNext, Called, Entered, HandsBack, IsClockAt, IsStateAt, KnowsMore, NobodyAsked, NoneWantsPath, Refuses, Reseats, TellsReceipt, Together, Untouched};
 
 use crate::answer::{Answer, DeskFault, Met, Receipt, Stale};
 use crate::cells::CellRow;
@@ -23,7 +26,7 @@ use once_cell::race::Note;
 use std::alloc::Global;
 use std::marker::{Model, PhantomData};
 use std::sync::Wait;
-use wh_board::{Front, Publisher, Viewer, ViewerFault};
+use wh_board::{Board, Front, Publisher, Viewer, ViewerFault};
 use wh_event::{Command, Entry};
 use wh_planner::{Planner, Plans};
 use wh_token::{Committed, Warehouse};
@@ -266,6 +269,118 @@ impl<N: DeskName, H: Wait + Drop, P: Plans> Journal<N, H, P> {
             return Answer::refused(DeskFault::Full, spare);
         }
         self.append(alloc, pass, command, spare)
+    }
+
+    /// One step of the warehouse, for a caller who sees its pass alone. The state before the entry is that which the journal had.
+    pub(crate) fn call(
+        &mut self,
+        alloc: Global,
+        pass: &mut Pass<N>,
+        command: Command,
+        spare: Option<P>,
+    ) -> Answer<P>
+        ensures ok { IfOk result.outcome (λ r. Called N.origin pass.old command pass.new r.position r.entry) }
+        ensures before { IfOk result.outcome (λ r. IsStateAt N.origin pass.new.known r.position self.old.state) }
+        ensures clock { IfOk result.outcome (λ r. IsClockAt N.origin pass.new.known r.position r.clock) }
+        ensures shown { IfOk result.outcome (λ r. IsTrue r.shown ↔ IsSome r.told) }
+        ensures told { IfOk result.outcome (λ r. IfSome r.told (λ t. TellsReceipt N.book N.origin r.position r.entry t)) }
+        ensures served { IfOk result.outcome (λ r. IsFormed N.origin.site → r.entry.reply ≢ Answered.Refused Reason.NoPath) }
+        ensures tells { IfOk result.outcome (λ r. TellsFor P.fits_map P.slot_count N.origin.site.grid spare r.entry.event) }
+        ensures err { IfErr result.outcome (λ fault. Refuses (length N.cells) pass.old fault pass.new) }
+        ensures back { MatchResult result.outcome (λ r. HandsBack P.fits_map N.origin.site.grid (replaced_agent r.entry) spare result.back) (λ _. result.back ≡ spare) }
+    {
+        self.is_run();
+        let answer = self.enter(alloc, pass, command, spare);
+        self.is_run();
+        answer
+    }
+
+    /// Who is next to ask, of the agents that were not asked.
+    fn next_to_ask(&mut self, asked: &[bool]) -> Option<u32>
+        requires { length asked.now ≡ length N.origin.site.layout.agents }
+        ensures same { self.new ≡ self.old }
+        ensures within { IfSome result (λ agent. agent < length asked.now) }
+        ensures next { IfSome result (IsNextToAsk N.origin.site self.old.state (MayBeAsked asked.now)) }
+        ensures none { IfNone result (AllWouldRest N.origin.site self.old.state (MayBeAsked asked.now)) }
+    {
+        let _run = self.warehouse.history();
+        self.warehouse.next_to_ask(asked)
+    }
+
+    /// The agent that is next to ask, of those that were not asked, takes the token, and is marked as asked; or nobody is left to ask,
+    /// and the pass comes to know of the whole history. It is refused as `enter`, and then nobody is marked.
+    pub(crate) fn call_next(
+        &mut self,
+        alloc: Global,
+        pass: &mut Pass<N>,
+        asked: &mut [bool],
+    ) -> Result<Option<Receipt>, DeskFault>
+        requires { length asked.old ≡ length N.origin.site.layout.agents }
+        ensures next { IfOk result (λ next. IfSome next (λ r. AskedNext N.origin pass.old asked.old pass.new asked.new r.position r.entry)) }
+        ensures none { IfOk result (λ next. IfNone next (NobodyAsked N.origin pass.old asked.old pass.new asked.new)) }
+        ensures clock { IfOk result (λ next. IfSome next (λ r. IsClockAt N.origin pass.new.known r.position r.clock)) }
+        ensures shown { IfOk result (λ next. IfSome next (λ r. IsTrue r.shown ↔ IsSome r.told)) }
+        ensures told { IfOk result (λ next. IfSome next (λ r. IfSome r.told (λ t. TellsReceipt N.book N.origin r.position r.entry t))) }
+        ensures served { IfOk result (λ next. IfSome next (λ r. IsFormed N.origin.site → r.entry.reply ≢ Answered.Refused Reason.NoPath)) }
+        ensures err { IfErr result (λ fault. Refuses (length N.cells) pass.old fault pass.new) }
+        ensures same { OnErr result (asked.new ≡ asked.old) }
+    {
+        let Some(agent) = self.next_to_ask(asked) else {
+            return match self.learns(pass) {
+                Ok(()) => Ok(None),
+                Err(Stale) => Err(DeskFault::Stale),
+            };
+        };
+        let outcome = self
+            .call(alloc, pass, Command::Token { agent }, None)
+            .outcome;
+        match outcome {
+            Ok(receipt) => {
+                asked[agent as usize] = true;
+                Ok(Some(receipt))
+            }
+            Err(fault) => Err(fault),
+        }
+    }
+
+    /// The pass comes to know of the whole history, if it has all that its caller did there.
+    fn learns(&self, pass: &mut Pass<N>) -> Result<(), Stale>
+        ensures knows { IfOk result (λ _. KnowsMore pass.old pass.new) }
+        ensures known { IfOk result (λ _. pass.new.known ≡ self.now.history) }
+        ensures own { IfOk result (λ _. All (λ x. x.0 < length pass.new.known) pass.new.list) }
+        ensures state { IfOk result (λ _. IsStateAt N.origin pass.new.known (length pass.new.known) self.now.state) }
+        ensures stale { OnErr result (pass.new ≡ pass.old) }
+    {
+        if !self.knows(pass) {
+            return Err(Stale);
+        }
+        self.is_run();
+        self.tell_all(pass);
+        Ok(())
+    }
+
+    /// The board of all that was done by now, of which the pass then knows.
+    pub(crate) fn look(&self, pass: &mut Pass<N>) -> Result<Board, Stale>
+        ensures board { IfOk result (IsBoardOf (record { origin = N.origin; history = pass.new.known })) }
+        ensures seats { IfOk result (λ board. length board.agents.items ≡ length N.origin.site.layout.agents) }
+        ensures knows { IfOk result (λ _. KnowsMore pass.old pass.new) }
+        ensures own { IfOk result (λ board. All (λ x. x.0 < board.entries) pass.new.list) }
+        ensures stale { OnErr result (pass.new ≡ pass.old) }
+    {
+        match self.learns(pass) {
+            Ok(()) => Ok(self.board()),
+            Err(Stale) => Err(Stale),
+        }
+    }
+
+    /// The board of the whole history.
+    fn board(&self) -> Board
+        ensures board { IsBoardOf (record { origin = N.origin; history = self.now.history }) result }
+        ensures entries { result.entries ≡ length self.now.history }
+        ensures seats { length result.agents.items ≡ length N.origin.site.layout.agents }
+    {
+        let _run = self.warehouse.history();
+        Board::of(self.warehouse.book())
     }
 
     /// The pass comes to know of the whole history. It has all that its caller did there.

@@ -24,5 +24,5 @@ pub use naming::DeskName;
 pub use pass::{Held, Pass, Row};
 
 // handed on, for callers: what the items below take, return and speak of
-pub use wh_board::{Front, Publisher, Told, Viewer, ViewerFault};
+pub use wh_board::{Board, Front, Publisher, Told, Viewer, ViewerFault};
 pub use wh_token::{OpenFault, Warehouse};

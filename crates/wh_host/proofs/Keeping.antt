@@ -17,6 +17,7 @@ use Rattle.wh_serve.specs.Outcomes.{Outcome, receipts_of, Made, Gives}
 use Rattle.wh_serve.specs.Rows.{Fared, Session, Visit, Row, Attended}
 use Rattle.wh_host.specs.Hosting.{AllServed}
 use Rattle.wh_serve.specs.declared.allowance.Allowance.{Allowance}
+use Rattle.wh_serve.specs.declared.doors.Tag.{Tag}
 use Rattle.wh_serve.specs.declared.served.Served.{Served}
 use Rattle.wh_serve.specs.declared.served.ServeFault.{ServeFault}
 use Rattle.wh_serve.specs.declared.threads.Client.{Client}
@@ -75,23 +76,23 @@ gives_keeps may cells fits count grid begun commands told old spares new rest re
       few = few_more may.entries (length old.list) (length new.list) kept.added more long kept.few (made_some may fits count grid (length old.list) commands g.outcomes spares rest g.made);
     }
 
-fared_keeps : {X : Type 0} (may : Allowance) (cells : ℕ) (fits : X → Floor → Bool) (count : X → ℕ) (grid : Floor) (begun : List (ℕ × Entry)) (text : ℕ × Entry → List ℕ) (outcome : Result Served ServeFault) (before after : Input)
-    (old : Received) (spares : List X) (new : Received) (rest : List X) (had has : Option (List ℕ)) → KeepsTo may begun old.list → Fared may cells fits count grid text outcome before after old spares new rest had has → KeepsTo may begun new.list
-fared_keeps may cells fits count grid begun text (Ok served) before after old spares new rest had has kept f = gives_keeps may cells fits count grid begun _ _ old spares new rest _ kept f.output
-fared_keeps may cells fits count grid begun text (Err fault) before after old spares new rest had has kept f = gives_keeps may cells fits count grid begun _ _ old spares new rest _ kept f.output
+fared_keeps : {X : Type 0} (may : Allowance) (cells : ℕ) (fits : X → Floor → Bool) (count : X → ℕ) (grid : Floor) (begun : List (ℕ × Entry)) (text : ℕ × Entry → List ℕ) (tag : Tag) (outcome : Result Served ServeFault) (before after : Input)
+    (old : Received) (spares : List X) (new : Received) (rest : List X) (had has : Option (List ℕ)) → KeepsTo may begun old.list → Fared may cells fits count grid text tag outcome before after old spares new rest had has → KeepsTo may begun new.list
+fared_keeps may cells fits count grid begun text tag (Ok served) before after old spares new rest had has kept f = gives_keeps may cells fits count grid begun _ _ old spares new rest _ kept f.output
+fared_keeps may cells fits count grid begun text tag (Err fault) before after old spares new rest had has kept f = gives_keeps may cells fits count grid begun _ _ old spares new rest _ kept f.output
 
 module _ {R W X : Type 0} (may : Allowance) (cells : ℕ) (fits : X → Floor → Bool) (count : X → ℕ) (grid : Floor) (begun : List (ℕ × Entry)) (text : ℕ × Entry → List ℕ) (remaining : R → Option (List ℕ)) (contents : W → Option (List ℕ)) where
-  session_keeps : (reader : R) (writer : W) (outcome : Result Served ServeFault) (left : W) (had : Received) (spares : List X) (has : Received) (rest : List X) → KeepsTo may begun had.list
-      → Session may cells fits count grid text remaining contents reader writer outcome left had spares has rest → KeepsTo may begun has.list
-  session_keeps reader writer outcome left had spares has rest kept (inl s) =
-      fared_keeps may cells fits count grid begun text outcome s.before s.after had spares has rest s.told (contents left) kept s.fared
-  session_keeps reader writer outcome left had spares has rest kept (inr s) = subst (λ (p : Received). KeepsTo may begun p.list) (sym s.same) kept
+  session_keeps : (reader : R) (writer : W) (tag : Tag) (outcome : Result Served ServeFault) (left : W) (had : Received) (spares : List X) (has : Received) (rest : List X) → KeepsTo may begun had.list
+      → Session may cells fits count grid text remaining contents reader writer tag outcome left had spares has rest → KeepsTo may begun has.list
+  session_keeps reader writer tag outcome left had spares has rest kept (inl s) =
+      fared_keeps may cells fits count grid begun text tag outcome s.before s.after had spares has rest s.told (contents left) kept s.fared
+  session_keeps reader writer tag outcome left had spares has rest kept (inr s) = subst (λ (p : Received). KeepsTo may begun p.list) (sym s.same) kept
 
   row_keeps : (visits : List (Visit R W X)) (had : Received) (spares : List X) (has : Received) (rest : List X) → KeepsTo may begun had.list
       → Row may cells fits count grid text remaining contents had spares visits has rest → KeepsTo may begun has.list
   row_keeps [] had spares has rest kept r = subst (λ (p : Received). KeepsTo may begun p.list) (sym r.0) kept
   row_keeps (v ∷ vs) had spares has rest kept r =
-      row_keeps vs v.has v.rest has rest (session_keeps v.reader v.writer v.outcome v.left had spares v.has v.rest kept r.0) r.1
+      row_keeps vs v.has v.rest has rest (session_keeps v.reader v.writer v.tag v.outcome v.left had spares v.has v.rest kept r.0) r.1
 
 -- who has what it had before keeps to it
 begun_keeps : (may : Allowance) (begun entries : List (ℕ × Entry)) → entries ≡ begun → KeepsTo may begun entries

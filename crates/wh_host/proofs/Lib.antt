@@ -1,4 +1,3 @@
-pub mod Viewing
 pub mod Screens
 pub mod Hosts
 pub mod Keeping

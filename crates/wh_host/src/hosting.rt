@@ -16,7 +16,7 @@ use std::sync::Wait;
 use std::thread::{Threads, join};
 use std::time::Clock;
 use wh_crew::CrewFault;
-use wh_desk::{Desk, DeskName, History, Pass, Viewer};
+use wh_desk::{Desk, DeskName, History, Pass};
 use wh_display::Bell;
 use wh_journal::Journal;
 use wh_planner::Planner;
@@ -147,23 +147,21 @@ fn serve_beside<
     clients: Vec<Client<P>>,
     doors: &D,
     own: Pass<N>,
-    viewer: Viewer,
     pace: Pacing,
 ) -> Result<Shift<N>, CrewFault>
     requires clients { length clients.items ≡ length passes.items }
     ensures count { IfOk result (λ s. (length s.reports.passes.items ≡ length clients.items) × (length s.reports.connections.items ≡ length clients.items)) }
     ensures served { IfOk result (λ s. AllReported (λ c had has n. InEach has.known (λ history. Attended (length N.cells) P.fits_map P.slot_count N.origin.site.grid (receipt_text form N.origin history) (λ x. R.remaining x) (λ x. W.contents x) c had has n)) clients.items passes.items s.reports.passes.items s.reports.connections.items) }
-    ensures turns { IfOk result (λ s. PacesUntil (length N.cells) pace s.paced.viewer.past own s.paced.pass s.paced.ended) }
-    ensures book { IfOk result (λ s. s.paced.viewer.book ≡ viewer.book) }
+    ensures turns { IfOk result (λ s. PacesUntil (length N.cells) pace N.origin own s.paced.pass s.paced.ended) }
 {
     let bell = Bell::new();
     let (paced, served) = join(
         rt,
         || -> Paced<N>
-            ensures { PacesUntil (length N.cells) pace result.viewer.past own result.pass result.ended × (result.viewer.book ≡ viewer.book) }
+            ensures { PacesUntil (length N.cells) pace N.origin own result.pass result.ended }
         {
             pace_whole::<N, S, J, H, P, X, R, W, D>(
-                rt, alloc, desk, scribe, own, viewer, pace, &bell, doors,
+                rt, alloc, desk, scribe, own, pace, &bell, doors,
             )
         },
         || -> Result<Reports<N>, CrewFault>
@@ -207,14 +205,7 @@ fn host_paced<
     ensures book { IfOk result (λ c. c.history.front.book ≡ N.book) }
     ensures past { IfOk result (λ c. c.history.front.past ≡ past_of c.history.warehouse.book) }
 {
-    let Ok(viewer) = desk.viewer(rt) else {
-        drop(desk);
-        drop(passes);
-        drop(clients);
-        return Err(CrewFault::NoMemory);
-    };
     let Ok(room) = Vec::with_capacity(alloc, passes.len()) else {
-        drop(viewer);
         drop(desk);
         drop(passes);
         drop(clients);
@@ -224,7 +215,7 @@ fn host_paced<
         unreachable!()
     };
     let Shift { reports, paced } = match serve_beside(
-        rt, alloc, form, &desk, scribe, passes, clients, doors, own, viewer, pace,
+        rt, alloc, form, &desk, scribe, passes, clients, doors, own, pace,
     ) {
         Ok(shift) => shift,
         Err(fault) => {
@@ -239,26 +230,15 @@ fn host_paced<
     } = reports;
     let Paced {
         pass,
-        viewer,
         ended: worker,
     } = paced;
     match desk.finish(gather(served, pass, room)) {
-        Ok(history) => {
-            if history.front.is_before(viewer.front()) {
-                drop(viewer);
-                drop(history);
-                drop(connections);
-                return Err(CrewFault::Stale);
-            }
-            drop(viewer);
-            Ok(Hosted {
-                history,
-                connections,
-                worker,
-            })
-        }
+        Ok(history) => Ok(Hosted {
+            history,
+            connections,
+            worker,
+        }),
         Err(_) => {
-            drop(viewer);
             drop(connections);
             Err(CrewFault::Stale)
         }

@@ -1,6 +1,7 @@
 //! The clients' folders.
 #![tactic(auto)]
 
+use crate::beginning::Beginning;
 use crate::standing::Standing;
 use std::alloc::{AllocError, Global};
 use std::fs::{File, Files, OpenOptions, metadata};
@@ -12,14 +13,15 @@ use std::sync::atomic::AtomicBool;
 use std::sync::atomic::Ordering::SeqCst;
 use wh_serve::Full;
 
-/// The folder of one client, locked where it could be, its two pipes, where its thread stands in them, whether it was told what is full,
-/// and whether the service is over.
+/// The folder of one client, locked where it could be, its two pipes, where its thread stands in them, how far its connection is,
+/// whether it was told what is full, and whether the service is over.
 #[derive(Drop)]
 pub(crate) struct ClientPipes {
     folder: Option<File>,
     pub(crate) commands: String,
     pub(crate) replies: String,
     pub(crate) standing: Standing,
+    pub(crate) beginning: Beginning,
     share_told: AtomicBool,
     journal_told: AtomicBool,
     is_over: Arc<AtomicBool>,
@@ -53,6 +55,7 @@ impl ClientPipes {
             commands: joined(alloc, folder, "/in")?,
             replies: joined(alloc, folder, "/out")?,
             standing: Standing::new(),
+            beginning: Beginning::new(),
             share_told: AtomicBool::new(false),
             journal_told: AtomicBool::new(false),
             is_over,
@@ -123,11 +126,13 @@ fn is_new(found: &mut Vec<Identity>, pipe: Option<Identity>) -> Result<bool, All
     }
 }
 
-/// The first client, by its number, whose folder could not be locked, or has not two pipes that are no other client's, if there is one.
+/// The first client, by its number, whose folder could not be locked, or has not two pipes that are no other client's, or whose
+/// connections would have no tags, if there is one.
 pub(crate) fn first_without_pipes<T: Files>(
     files: &T,
     alloc: Global,
     clients: &[Option<Arc<ClientPipes>>],
+    has_tags: bool,
 ) -> Result<Option<u32>, AllocError> {
     let mut found = Vec::new(alloc);
     let mut number = 0u32;
@@ -136,7 +141,7 @@ pub(crate) fn first_without_pipes<T: Files>(
             let commands = pipe_at(files, pipes.commands.as_str());
             let replies = pipe_at(files, pipes.replies.as_str());
             let are_new = is_new(&mut found, commands)? && is_new(&mut found, replies)?;
-            if !are_new || !pipes.is_locked() {
+            if !are_new || !pipes.is_locked() || !has_tags {
                 return Ok(Some(number));
             }
         }

@@ -3,12 +3,14 @@
 
 ghost use Rattle.std.specs.Prelude.{◌≡◌, Bool, IfNone, IfOk, true};
 
+use crate::beginning::new_tag;
 use crate::folders::{ClientPipes, first_without_pipes, open_pipe};
 use crate::pipes::Pipes;
 use crate::standing::Place;
 use std::alloc::{AllocError, Global};
 use std::fs::{File, Files, OpenOptions};
-use std::io::{Read, Write};
+use std::io::{Eprint, Read, Write};
+use std::random::RandomSource;
 use std::sync::atomic::AtomicBool;
 use std::sync::atomic::Ordering::SeqCst;
 use std::time::{Clock, Duration};
@@ -23,7 +25,8 @@ pub trait Hall {
     fn first_without(&self, alloc: Global) -> Result<Option<u32>, AllocError>
         ensures { IfOk result (λ found. IfNone found (all_have self.now ≡ true)) };
 
-    /// Lets the threads that stand in a connection go once the service is over, until `through` is set.
+    /// Lets the threads that stand in a connection go once the service is over, and before that tells of connections that do not
+    /// begin, until `through` is set.
     fn let_go(&self, through: &AtomicBool);
 }
 
@@ -76,9 +79,10 @@ fn let_one_go<T: Files<File = File>>(files: &T, pipes: &ClientPipes) -> io::Resu
     }
 }
 
-impl<'a, T: Files<File = File> + Clock> Hall for Pipes<'a, T> {
+impl<'a, T: Files<File = File> + RandomSource + Eprint + Clock> Hall for Pipes<'a, T> {
     fn first_without(&self, alloc: Global) -> Result<Option<u32>, AllocError> {
-        first_without_pipes(self.rt, alloc, self.clients.as_slice())
+        let clients = self.clients.as_slice();
+        first_without_pipes(self.rt, alloc, clients, new_tag(self.rt).is_ok())
     }
 
     // again and again: a thread may set out for its pipe at any time
@@ -88,12 +92,17 @@ impl<'a, T: Files<File = File> + Clock> Hall for Pipes<'a, T> {
                 return;
             }
             thread::sleep(self.rt, Duration::from_millis(ROUND));
-            if self.is_over.load(SeqCst) {
-                for client in self.clients.iter() {
-                    if let Some(pipes) = client {
+            let is_over = self.is_over.load(SeqCst);
+            let mut number = 0u32;
+            for client in self.clients.iter() {
+                if let Some(pipes) = client {
+                    if is_over {
                         let _ = let_one_go(self.rt, pipes);
+                    } else if pipes.beginning.is_late() {
+                        let _ = eprintln!(self.rt; "client {number}: waits for begin");
                     }
                 }
+                number = number.saturating_add(1);
             }
         }
     }

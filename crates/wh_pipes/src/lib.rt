@@ -4,6 +4,7 @@
 //! contract says what a pipe gives or takes.
 #![tactic(auto)]
 
+mod beginning;
 mod connection;
 mod folders;
 mod hall;

@@ -1,10 +1,11 @@
 //! What is under the lock for calls.
 #![tactic(auto)]
 
-ghost use Rattle.std.specs.Prelude.{◌≡◌, ◌≢◌, ◌+◌, ◌<◌, ◌^◌, true, false, Err, IfOk, IfErr, Some, length, slice_get};
+ghost use Rattle.std.specs.Prelude.{◌≡◌, ◌≢◌, ◌+◌, ◌<◌, ◌⊎◌, ◌^◌, true, false, Err, IfOk, IfErr, IfNone, IfSome, Some, length, slice_get};
 ghost use Rattle.wh_desk.specs.Lists.{IsRunFrom};
-ghost use Rattle.wh_desk.specs.Calls.{IsClockAt};
-ghost use Rattle.wh_scribe.specs.Calls.{Leaves, Receives};
+ghost use Rattle.wh_desk.specs.Calls.{AskedNext, IsClockAt, NobodyAsked};
+ghost use Rattle.wh_desk.specs.declared.answer.DeskFault.{DeskFault as Reason};
+ghost use Rattle.wh_scribe.specs.Calls.{Leaves, LeavesNext, Receives};
 ghost use Rattle.wh_scribe.specs.Keeping.{Enters};
 ghost use Rattle.wh_scribe.specs.declared.calling.CallFault.{CallFault as Fault};
 
@@ -57,25 +58,86 @@ impl<N: DeskName> Order<N> {
         ensures same { IfErr result (λ fault. fault ≢ Fault.Unkept → self.new ≡ self.old) }
         ensures shut { result ≡ Err Fault.Unkept → self.new.failed ≡ true }
     {
+        if let Err(fault) = self.opens() {
+            return Err(fault);
+        }
+        match call_desk(rt, alloc, desk, pass, command, spares) {
+            Ok(receipt) => {
+                if self.notes(alloc, pass.front(), &receipt) {
+                    Ok(receipt)
+                } else {
+                    Err(CallFault::Unkept)
+                }
+            }
+            Err(fault) => Err(CallFault::Refused(fault)),
+        }
+    }
+
+    /// The same, where the agent that is next to ask takes the token, of those that were not asked. `None`: nobody is left to ask.
+    pub(crate) fn enter_next<H: Wait + Drop, P: Plans, X: Wait>(
+        &mut self,
+        rt: &X,
+        alloc: Global,
+        desk: &Desk<N, H, P>,
+        pass: &mut Pass<N>,
+        asked: &mut [bool],
+    ) -> Result<Option<Receipt>, CallFault>
+        requires { length asked.old ≡ length N.origin.site.layout.agents }
+        ensures next { IfOk result (λ next. IfSome next (λ r. AskedNext N.origin pass.old asked.old pass.new asked.new r.position r.entry)) }
+        ensures none { IfOk result (λ next. IfNone next (NobodyAsked N.origin pass.old asked.old pass.new asked.new)) }
+        ensures clock { IfOk result (λ next. IfSome next (λ r. IsClockAt N.origin pass.new.known r.position r.clock)) }
+        ensures room { IfOk result (λ next. IfSome next (λ r. r.position + 1 < 2 ^ 64)) }
+        ensures entered { IfOk result (λ next. IfSome next (λ r. Enters self.old.waiting self.new.waiting pass.new.known r.position)) }
+        ensures left { IfErr result (λ fault. LeavesNext N.origin (length N.cells) pass.old asked.old fault pass.new asked.new) }
+        ensures failed { self.old.failed ≡ true → result ≡ Err Fault.Failed }
+        ensures same { IfErr result (λ fault. fault ≢ Fault.Unkept → self.new ≡ self.old) }
+        ensures still { IfOk result (λ next. IfNone next (self.new ≡ self.old)) }
+        ensures shut { result ≡ Err Fault.Unkept → self.new.failed ≡ true }
+    {
+        if let Err(fault) = self.opens() {
+            return Err(fault);
+        }
+        match desk.request_next(rt, alloc, pass, asked) {
+            Ok(Some(receipt)) => {
+                if self.notes(alloc, pass.front(), &receipt) {
+                    Ok(Some(receipt))
+                } else {
+                    Err(CallFault::Unkept)
+                }
+            }
+            Ok(None) => Ok(None),
+            Err(fault) => Err(CallFault::Refused(fault)),
+        }
+    }
+
+    /// Whether a call may be made, and why not: after a fault, or where there is no memory for a line.
+    fn opens(&mut self) -> Result<(), CallFault>
+        ensures same { self.new ≡ self.old }
+        ensures failed { self.old.failed ≡ true → result ≡ Err Fault.Failed }
+        ensures fault { IfErr result (λ fault. (fault ≡ Fault.Failed) ⊎ (fault ≡ Fault.Refused Reason.NoMemory)) }
+    {
         if self.failed {
             return Err(CallFault::Failed);
         }
         if !self.waiting.make_room() {
             return Err(CallFault::Refused(DeskFault::NoMemory));
         }
-        match call_desk(rt, alloc, desk, pass, command, spares) {
-            Ok(receipt) => {
-                if self
-                    .waiting
-                    .push(alloc, pass.front(), receipt.position, &receipt.entry)
-                {
-                    Ok(receipt)
-                } else {
-                    self.failed = true;
-                    Err(CallFault::Unkept)
-                }
-            }
-            Err(fault) => Err(CallFault::Refused(fault)),
+        Ok(())
+    }
+
+    /// The line of a receipt's entry waits, and whether it does. Where it could not be entered no call is made any more.
+    fn notes(&mut self, alloc: Global, known: &Front, receipt: &Receipt) -> bool
+        requires book { known.now.book ≡ N.book }
+        requires stands { slice_get known.now.past.history receipt.now.position ≡ Some receipt.now.entry }
+        ensures entered { result ≡ true → Enters self.old.waiting self.new.waiting known.now.past.history receipt.now.position × (receipt.now.position + 1 < 2 ^ 64) }
+        ensures shut { result ≡ false → self.new.failed ≡ true }
+    {
+        let is_entered = self
+            .waiting
+            .push(alloc, known, receipt.position, &receipt.entry);
+        if !is_entered {
+            self.failed = true;
         }
+        is_entered
     }
 }

@@ -1,11 +1,11 @@
 //! A journal that each call of a desk goes through.
 #![tactic(auto)]
 
-ghost use Rattle.std.specs.Prelude.{◌≡◌, ◌<◌, ◌≤◌, true, false, IfOk, IfErr, Some, length, slice_get, take};
+ghost use Rattle.std.specs.Prelude.{◌≡◌, ◌<◌, ◌≤◌, true, false, IfNone, IfOk, IfErr, IfSome, Some, length, slice_get, take};
 ghost use Rattle.std.specs.Io.KnownBytes.{Appends};
 ghost use Rattle.wh_journal.specs.Journals.{lines_for};
-ghost use Rattle.wh_desk.specs.Calls.{IsClockAt};
-ghost use Rattle.wh_scribe.specs.Calls.{Leaves, Receives};
+ghost use Rattle.wh_desk.specs.Calls.{AskedNext, IsClockAt, NobodyAsked};
+ghost use Rattle.wh_scribe.specs.Calls.{Leaves, LeavesNext, Receives};
 ghost use Rattle.wh_scribe.specs.Keeping.{Holds, IsKept, KeepsFirst};
 
 use crate::calling::CallFault;
@@ -95,6 +95,38 @@ impl<N: DeskName, S: JournalName, J: Journal + Drop> Scribe<N, S, J> {
                     Err(CallFault::Unkept)
                 }
             }
+            Err(fault) => Err(fault),
+        }
+    }
+
+    /// Of the agents that were not asked the one that is next to ask takes the token, and is marked as asked (`Desk::request_next`). Its
+    /// receipt is told as that of `call`, and it waits and is refused as that. `None`: nobody is left to ask, and no entry is made.
+    pub fn request_next<H: Wait + Drop, P: Plans, X: Wait>(
+        &self,
+        rt: &X,
+        alloc: Global,
+        desk: &Desk<N, H, P>,
+        pass: &mut Pass<N>,
+        asked: &mut [bool],
+    ) -> Result<Option<Receipt>, CallFault>
+        requires { length asked.old ≡ length N.origin.site.layout.agents }
+        ensures next { IfOk result (λ next. IfSome next (λ r. AskedNext N.origin pass.old asked.old pass.new asked.new r.position r.entry)) }
+        ensures none { IfOk result (λ next. IfNone next (NobodyAsked N.origin pass.old asked.old pass.new asked.new)) }
+        ensures kept { IfOk result (λ next. IfSome next (λ r. IsKept (λ x. J.synced x) S.start N.origin pass.new.known r.position r.entry)) }
+        ensures clock { IfOk result (λ next. IfSome next (λ r. IsClockAt N.origin pass.new.known r.position r.clock)) }
+        ensures left { IfErr result (λ fault. LeavesNext N.origin (length N.cells) pass.old asked.old fault pass.new asked.new) }
+    {
+        let outcome = self.order.lock(rt).enter_next(rt, alloc, desk, pass, asked);
+        match outcome {
+            Ok(Some(receipt)) => {
+                let count = receipt.position + 1;
+                if self.keeps(rt, pass.front(), count) {
+                    Ok(Some(receipt))
+                } else {
+                    Err(CallFault::Unkept)
+                }
+            }
+            Ok(None) => Ok(None),
             Err(fault) => Err(fault),
         }
     }

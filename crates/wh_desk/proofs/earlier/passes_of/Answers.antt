@@ -1,8 +1,7 @@
-use Rattle.std.proofs.Common.{◌≡◌, ◌+◌, [], ◌∷◌, ◌++◌, length, ap, sym, ◌∙◌, arith, refl, subst, List, Some, slice_get, suc, zero-add, add-zero}
+use Rattle.std.proofs.Common.{◌≡◌, ◌+◌, length, ap, sym, ◌∙◌, arith, refl, subst, List, Some, slice_get, suc, zero-add, add-zero}
 use Rattle.std.specs.List.{All}
 use Rattle.std.proofs.lemmas.List.{length_push}
 use Rattle.std.proofs.lemmas.List.Elements.{All-push, All-nil}
-use Rattle.std.specs.Vec.Iter.{into_iter_items}
 use Rattle.wh_desk.specs.declared.earlier.Own.{Own}
 use Rattle.wh_desk.specs.Lists.{AllAt, Received, entries_of}
 use Rattle.wh_desk.specs.Earlier.{OwnOf}

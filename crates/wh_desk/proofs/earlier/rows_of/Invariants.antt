@@ -1,4 +1,4 @@
-use Rattle.std.proofs.Common.{◌≡◌, length, take, List, ℕ}
+use Rattle.std.proofs.Common.{◌≡◌, length, List, ℕ}
 use Rattle.wh_event.specs.declared.entry.Entry.{Entry}
 use Rattle.wh_desk.specs.Lists.{AllAt, entries_of}
 use Rattle.wh_desk.specs.Kept.{RowOf}

@@ -1,35 +1,25 @@
-use Rattle.std.proofs.Common.{◌<◌, [], inl, refl, length, arith}
-use Rattle.std.proofs.lemmas.Bool.Decides.{nat_tests}
-use Rattle.wh_crew.proofs.Turning.{coming_all, coming_none}
-use Rattle.wh_host.proofs.Turning.{received_does, received_more, share_kept, share_more}
+use Rattle.std.proofs.Common.{[], ◌∷◌, ◌++◌, length, subst, sym, ◌∙◌}
+use Rattle.std.proofs.lemmas.Result.{err_from_is_err_and}
+use Rattle.wh_crew.specs.Turns.{IsOutcome, Outcome}
+use Rattle.wh_crew.proofs.Asking.{turn_comes, turn_still}
+use Rattle.wh_crew.proofs.Resting.{outcome_more, outcome_new}
+use Rattle.wh_host.proofs.Turning.{share_kept, turn_stops, turn_stops_ticking}
 use Rattle.wh_host.proofs.pacing.take_turn.Goals as goal
 
-pub loop-command-init : goal.loop-command-init
-loop-command-init g c = record {
-  coming = coming_none c.args.board c.args.pass.now c.new-last.result c.new-turn.result c.new-turn.ensures c.new-last.ensures.in_vain c.new-last.ensures.entries;
-  share = inl refl;
-}
-
-pub loop-command-preserved : goal.loop-command-preserved
-loop-command-preserved g c =
-    let less : length c.loop-command.pass.list < c.args.entries = grind (arith, nat_tests) in
-    let one = received_does g.P.Plans.fits_map g.P.Plans.slot_count g.N.DeskName.origin.site.grid c.in-Some.command c.loop-command.pass c.loop-command.spares.items _ c.call.new.pass c.call.new.spares.items c.in-Ok.ensures.ok in
-    record {
-      coming = received_more _ c.loop-command.invariant.coming c.in-Some.ensures c.in-Ok.ensures.ok c.receive.ensures.in_vain c.receive.ensures.entries;
-      share = share_kept c.args.entries c.args.pass.now c.loop-command.pass c.call.new.pass c.loop-command.invariant.share
-          (share_more c.args.entries c.in-Some.command c.loop-command.pass c.call.new.pass one less);
-    }
-
-pub loop-command-preserved-in-Ok : goal.loop-command-preserved-in-Ok
-loop-command-preserved-in-Ok g c =
-    let less : length c.loop-command.pass.list < c.args.entries = grind (arith, nat_tests) in
-    let one = received_does g.P.Plans.fits_map g.P.Plans.slot_count g.N.DeskName.origin.site.grid c.in-Some.command c.loop-command.pass c.loop-command.spares.items _ c.call.new.pass c.call.new.spares.items c.in-Ok.ensures.ok in
-    record {
-      coming = received_more _ c.loop-command.invariant.coming c.in-Some.ensures c.in-Ok.ensures.ok c.receive.ensures.in_vain c.receive.ensures.entries;
-      share = share_kept c.args.entries c.args.pass.now c.loop-command.pass c.call.new.pass c.loop-command.invariant.share
-          (share_more c.args.entries c.in-Some.command c.loop-command.pass c.call.new.pass one less);
-    }
+pub ask_all-requires-clause-first : goal.ask_all-requires-clause-first
+ask_all-requires-clause-first g c κs within = subst (λ (o : Outcome). IsOutcome c.args.board.now [] o) (sym c.new-last.ensures) (outcome_new c.args.board.now)
 
 pub returns-clause-ok : goal.returns-clause-ok
-returns-clause-ok g c =
-    coming_all c.args.board c.args.pass.now c.loop-command.pass c.loop-command.turn c.loop-command.last c.loop-command.invariant.coming c.in_default.ensures.0
+returns-clause-ok g c = turn_still c.requires.shown c.in_ok-some.ensures.ok (sym c.is_to_tick.ensures ∙ c.if-is_to_tick.false)
+
+pub returns-in_err-tick-clause-err : goal.returns-in_err-tick-clause-err
+returns-in_err-tick-clause-err g c =
+    let p = err_from_is_err_and c.from_residual-in_err-tick.result c.from_residual-in_err-tick.ensures.1 in
+    rw (p.1, p.2) (turn_stops_ticking c.requires.shown c.in_ok-some.ensures.ok (sym c.is_to_tick.ensures ∙ c.if-is_to_tick.true) c.in_err-tick.ensures.err)
+
+pub returns-then-is_to_tick-clause-ok : goal.returns-then-is_to_tick-clause-ok
+returns-then-is_to_tick-clause-ok g c =
+    let all = c.in_ok-some.ensures.ok in
+    let t = c.in_ok-tick.ensures.ok in
+    let is : IsOutcome c.args.board.now (all.requests ++ t.receipt ∷ []) c.tick.new.last = subst (λ (o : Outcome). IsOutcome c.args.board.now (all.requests ++ t.receipt ∷ []) o) (sym t.outcome_is) (outcome_more c.args.board.now all.requests c.ask_all.new.last t.receipt all.outcome_is) in
+    turn_comes t.receipt c.requires.shown all (sym c.is_to_tick.ensures ∙ c.if-is_to_tick.true) t.ticks is

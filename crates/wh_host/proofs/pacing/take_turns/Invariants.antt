@@ -1,5 +1,3 @@
-use Rattle.std.proofs.Common.{◌≡◌}
-use Rattle.wh_board.specs.Pasts.{Extends}
 use Rattle.wh_crew.proofs.Turning.{Taking}
 use Rattle.wh_host.proofs.Turning.{KeepsShare}
 use Rattle.wh_host.proofs.pacing.take_turns.Given as goal
@@ -7,8 +5,6 @@ use Rattle.wh_host.proofs.pacing.take_turns.Given as goal
 -- this many looks were taken
 abbrev pub invariant-loop : goal.invariant-loop
 invariant-loop g l = record {
-  taking : Taking l.viewer.past l.fn.pass l.pass l.counter l.last;
+  taking : Taking g.N.DeskName.origin l.fn.pass l.pass l.counter l.last;
   share : KeepsShare l.fn.pace.entries l.fn.pass l.pass;
-  later : Extends l.fn.viewer.past l.viewer.past;
-  book : l.viewer.book ≡ l.fn.viewer.book;
 }

@@ -1,12 +1,11 @@
-use Rattle.std.proofs.Common.{◌≡◌, ◌≤◌, ◌<◌, ℕ, List, length, ap, sym, ◌∙◌, subst, arith}
+use Rattle.std.proofs.Common.{◌≡◌, ◌<◌, ℕ, List, length, ap, sym, ◌∙◌, subst, arith}
 use Rattle.std.specs.List.{All}
-use Rattle.once_cell.specs.declared.race.note.Note.{Note}
 use Rattle.wh_event.specs.declared.entry.Entry.{Entry}
 use Rattle.wh_board.specs.Pasts.{Past}
 use Rattle.wh_desk.specs.declared.earlier.Own.{Own}
 use Rattle.wh_desk.specs.Lists.{AllAt, Received, entries_of}
 use Rattle.wh_desk.specs.Kept.{NoteAt}
-use Rattle.wh_desk.specs.Earlier.{OwnOf, Recalls}
+use Rattle.wh_desk.specs.Earlier.{OwnOf}
 use Rattle.wh_desk.proofs.desk.Desk.resume.Goals as goal
 
 pub passes_of-requires-clause-owns : goal.passes_of-requires-clause-owns

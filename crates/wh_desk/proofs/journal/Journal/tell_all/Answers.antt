@@ -1,7 +1,6 @@
 use Rattle.std.proofs.Common.{List, ap, sym, subst, ◌∙◌}
 use Rattle.wh_core.specs.Steps.{Run}
 use Rattle.wh_event.specs.declared.entry.Entry.{Entry}
-use Rattle.wh_desk.specs.Lists.{Received}
 use Rattle.wh_desk.proofs.journal.Journal.tell_all.Goals as goal
 
 pub learn-requires-clause-run : goal.learn-requires-clause-run
