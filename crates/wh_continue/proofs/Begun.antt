@@ -1,6 +1,6 @@
 -- A log file that was begun, or ended.
-use Rattle.std.proofs.Common.{◌≡◌, inl, inr, ℕ, List, [], ◌∷◌, ◌++◌, length, take, drop, refl, sym, ap, ◌∙◌, subst, Option, None, Some, take-append-drop}
-use Rattle.std.specs.Prelude.{Bool, true, IfSome, MatchOption, OnErr, Result, Ok, Err, is_some, unwrap_or}
+use Rattle.std.proofs.Common.{◌≡◌, inl, inr, ℕ, zero, suc, List, [], ◌∷◌, ◌++◌, length, take, drop, refl, sym, ap, ◌∙◌, subst, Option, None, Some, take-append-drop}
+use Rattle.std.specs.Prelude.{Bool, true, false, IfSome, MatchOption, OnErr, Result, Ok, Err, is_some, unwrap_or}
 use Rattle.std.proofs.Math.Seq.{take-length}
 use Rattle.std.specs.Io.KnownBytes.{Appends}
 use Rattle.wh_words.specs.Lines.{text_of as lines_text}
@@ -21,7 +21,7 @@ use Rattle.wh_resume.specs.declared.recovery.Recovery.TheVariants as told
 use Rattle.wh_continue.specs.Starting.{Begins, BreaksAt, GoesOnFrom, StartsIn, first_lines}
 use Rattle.wh_continue.specs.declared.running.KeepFault.{KeepFault}
 use Rattle.wh_continue.specs.Renewing.{LeavesHalfRenewed, in_two, told_in_two}
-use Rattle.wh_continue.specs.Running.{IsStartOf, IsWholeLog, IsLeft, IsLeftAt, LeavesFront, Opens, from_opening, opening_lines, last_line}
+use Rattle.wh_continue.specs.Running.{ClosedLogsAreWhole, IsStartOf, IsKeptLog, IsLeft, IsLeftAt, LeavesFront, Opens, from_opening, opening_lines, closing, last_line}
 use Rattle.wh_continue.specs.Opening.{IsOpened}
 use Rattle.wh_continue.specs.declared.starting.Start.{Start}
 use Rattle.wh_continue.proofs.Closing.{holds_in_two, whole_is_log}
@@ -142,13 +142,30 @@ left_new (Some text) new start is left = (
   subst (λ (b : Option ℕ). IsLeftAt (record { book = start.book; bytes = b; version = start.version }) text left.0) (sym is) left.2,
 )
 
--- the log of the book and the end line are its whole log
-pub ended : (kept holds : Option (List ℕ)) (book : Seen) → IsLogOfBook kept book → Appends kept holds (last_line (length book.history)) → IsWholeLog holds book
-ended kept None book log ends = absurd (subst (λ (k : Option (List ℕ)). Appends k None (last_line (length book.history))) log ends)
+-- the log of the book and what ends it are the log that is kept
+pub ended : (kept holds : Option (List ℕ)) (book : Seen) → IsLogOfBook kept book → Appends kept holds (closing book.state.closed (length book.history)) → IsKeptLog holds book
+ended kept None book log ends = absurd (subst (λ (k : Option (List ℕ)). Appends k None (closing book.state.closed (length book.history))) log ends)
 ended kept (Some bytes) book log ends =
-    let is : bytes ≡ lines_text (begun_lines Two (told_by book)) ++ last_line (length book.history) =
-    subst (λ (k : Option (List ℕ)). Appends k (Some bytes) (last_line (length book.history))) log ends in
-    ap (λ (l : List ℕ). Some l) (is ∙ sym (text-append (begun_lines Two (told_by book)) (end_line (length book.history) ∷ [])))
+    ap (λ (l : List ℕ). Some l) (subst (λ (k : Option (List ℕ)). Appends k (Some bytes) (closing book.state.closed (length book.history))) log ends)
+
+pub closed_whole : ClosedLogsAreWhole
+closed_whole journal book kept closed =
+    kept
+    ∙ ap (λ (l : List ℕ). Some l)
+    (ap (λ (b : Bool). lines_text (begun_lines Two (told_by book)) ++ closing b (length book.history)) closed
+    ∙ sym (text-append (begun_lines Two (told_by book)) (end_line (length book.history) ∷ [])))
+
+abbrev no_bytes : List ℕ
+no_bytes = []
+
+none_taken : (n : ℕ) → take n no_bytes ≡ no_bytes
+none_taken zero = refl
+none_taken (suc n) = refl
+
+-- a front of what ends a log is a front of its last line
+pub closing_front : (closed : Bool) (entries : ℕ) (had has : Option (List ℕ)) → WritesFront had has (closing closed entries) → WritesFront had has (last_line entries)
+closing_front true entries had has front = front
+closing_front false entries had has front = record { count = 0; appends = subst (λ (bytes : List ℕ). Appends had has bytes) (none_taken front.count) front.appends }
 
 -- all was written: so a front of it was
 pub front_whole : (had has : Option (List ℕ)) (bytes : List ℕ) → Appends had has bytes → WritesFront had has bytes
@@ -170,7 +187,7 @@ bad_from site slots begun text line bytes said tells is same =
 
 -- through all: the file was begun, the script was served over it, and it was ended
 pub whole_log : (file begun kept holds : Option (List ℕ)) (old new : Seen) → StaysLog file begun old → StaysLog begun kept new
-    → Appends kept holds (last_line (length new.history)) → IfSome file (λ (_ : List ℕ). IsWholeLog holds new)
+    → Appends kept holds (closing new.state.closed (length new.history)) → IfSome file (λ (_ : List ℕ). IsKeptLog holds new)
 whole_log None begun kept holds old new first then ends = tt
 whole_log (Some text) begun kept holds old new first then ends =
     ended kept holds new (subst (λ (b : Option (List ℕ)). StaysLog b kept new) first then) ends

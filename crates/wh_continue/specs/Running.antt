@@ -1,5 +1,5 @@
--- a run over its log file, from what the file holds to the line that ends it
-use Rattle.std.specs.Prelude.{option_map, ◌≡◌, ◌⊎◌, ℕ, Bool, true, List, [], ◌∷◌, ◌++◌, length, drop, codes, decimal, Option, None, Some, IfSome, MatchOption}
+-- a run over its log file, from what the file holds to what ends it
+use Rattle.std.specs.Prelude.{cond, option_map, ◌≡◌, ◌⊎◌, ℕ, Bool, true, List, [], ◌∷◌, ◌++◌, length, drop, codes, decimal, Option, None, Some, IfSome, MatchOption}
 use Rattle.std.specs.Io.KnownBytes.{Appends, Keeps}
 use Rattle.wh_points.specs.Points.{Site}
 use Rattle.wh_grid.specs.Grids.{Floor}
@@ -11,6 +11,7 @@ use Rattle.wh_lines.specs.Input.{Input}
 use Rattle.wh_log.specs.declared.version.Version.{Version}
 use Rattle.wh_log.specs.declared.version.Version.TheVariants.{Two}
 use Rattle.wh_log.specs.Logs.{end_line, log_lines, head_line, start_line}
+use Rattle.wh_log.specs.Torn.{begun_lines}
 use Rattle.wh_resume.specs.Resuming.{IsFront}
 use Rattle.wh_journal.specs.Scripts.{WritesFront}
 use Rattle.wh_journal.specs.Journals.{ReplaysJournaled, lines_for}
@@ -31,6 +32,10 @@ count_line entries = codes "entries " ++ decimal entries ++ 10 ∷ []
 
 abbrev pub last_line : ℕ → List ℕ
 last_line entries = lines_text (end_line entries ∷ [])
+
+-- what ends the log of a run whose input has ended: its last line where the warehouse is closed, since nothing can follow; else nothing
+abbrev pub closing : Bool → ℕ → List ℕ
+closing closed entries = cond closed (last_line entries) []
 
 -- the lines of the entries of a history from this one on, where one is named, as the log has them
 abbrev pub told_again : Option ℕ → List Entry → List ℕ
@@ -59,9 +64,15 @@ pub record IsOpenedIn (text : List ℕ) (start : Start) : Type 0 where
 abbrev pub IsStartOf : Option (List ℕ) → Start → Type 0
 IsStartOf file start = IfSome file (λ text. ((site : Site) × (slots : List ℕ) × StartsIn site slots text start) ⊎ IsOpenedIn text start)
 
--- the journal is the log of the book's run, which the command `verify` takes
-abbrev pub IsWholeLog : Option (List ℕ) → Seen → Type 0
-IsWholeLog journal book = journal ≡ Some (lines_text (log_lines Two (told_by book)))
+-- The journal is the log of the book's run, with its last line where the warehouse is closed: the command `verify` takes it then, and
+-- without that line where it is asked to.
+abbrev pub IsKeptLog : Option (List ℕ) → Seen → Type 0
+IsKeptLog journal book = journal ≡ Some (lines_text (begun_lines Two (told_by book)) ++ closing book.state.closed (length book.history))
+
+-- The log of a closed warehouse is whole.
+abbrev pub ClosedLogsAreWhole : Type 0
+ClosedLogsAreWhole =
+    (journal : Option (List ℕ)) (book : Seen) → IsKeptLog journal book → book.state.closed ≡ true → journal ≡ Some (lines_text (log_lines Two (told_by book)))
 
 -- What is left of a file that was not begun: it is as it was; or, where the run goes on, it is of version 2 now, all of it or
 -- its whole lines; or, where it begins, a front of the first two lines.
@@ -96,10 +107,10 @@ abbrev pub BeginsShort : KeepFault → Start → (file holds : Option (List ℕ)
 BeginsShort NoMemory start file holds failed = holds ≡ file
 BeginsShort Unkept start file holds failed = (failed ≡ true) × IsLeft start file holds
 
--- Why it was not ended. What was synced stays so.
-abbrev pub EndsShort : KeepFault → ℕ → (file holds synced safe : Option (List ℕ)) → Bool → Type 0
-EndsShort NoMemory entries file holds synced safe failed = (holds ≡ file) × (safe ≡ synced)
-EndsShort Unkept entries file holds synced safe failed = WritesFront file holds (last_line entries) × Keeps synced safe × (failed ≡ true)
+-- Why it was not ended, where it was to end so. What was synced stays so.
+abbrev pub EndsShort : KeepFault → (ending : List ℕ) → (file holds synced safe : Option (List ℕ)) → Bool → Type 0
+EndsShort NoMemory ending file holds synced safe failed = (holds ≡ file) × (safe ≡ synced)
+EndsShort Unkept ending file holds synced safe failed = WritesFront file holds ending × Keeps synced safe × (failed ≡ true)
 
 -- The number of the entries so far was told, and those that were asked for again, and the file was made the log of the run so
 -- far. Again, here and below, says from which entry on they are told again, if they are.
@@ -108,7 +119,7 @@ pub record Counts (again : Option ℕ) (book : Seen) (had counted file begun : O
   pub begins : StaysLog file begun book
 
 -- That was told, the script was served to its end, and all was delivered behind it, where that was asked for, each reply told when its entry was
--- synced, and the file was given the line that ends the log: it is the log of the whole run. Deliver, here and below, says whether it was asked for.
+-- synced, and the file was given what ends the log: it is the log of the whole run. Deliver, here and below, says whether it was asked for.
 pub record RunsOn {X : Type 0} (fits : X → Floor → Bool) (count : X → ℕ) (asker : Asker) (again : Option ℕ) (deliver : Bool) (before after : Input) (book : Seen) (spares : List X) (new : Seen) (rest : List X)
     (had has file synced holds : Option (List ℕ)) : Type 0 where
   pub counted : Option (List ℕ)
@@ -122,9 +133,9 @@ pub record RunsOn {X : Type 0} (fits : X → Floor → Bool) (count : X → ℕ)
   pub sure : Option (List ℕ)
   pub full : Option (List ℕ)
   pub delivers : DeliversOver deliver asker served new answered has kept sure full
-  pub ends : Appends full holds (last_line (length new.history))
+  pub ends : Appends full holds (closing new.state.closed (length new.history))
   pub synced_is : synced ≡ holds
-  pub whole : IfSome file (λ _. IsWholeLog holds new)
+  pub whole : IfSome file (λ _. IsKeptLog holds new)
 
 -- Why a run was not brought to its end.
 abbrev pub StopsRun : {X : Type 0} → (X → Floor → Bool) → (X → ℕ) → Asker → (again : Option ℕ) → (deliver : Bool) → RunFault → (before after : Input) → Start → (planners spares rest : List X)
@@ -147,4 +158,4 @@ StopsRun fits count asker again deliver (End fault) before after start planners 
     × ReplaysJournaled fits count asker before after start.book spares served rest counted answered begun safe kept
     × ((new : Seen) × (sure : Option (List ℕ)) × (full : Option (List ℕ))
     × DeliversOver deliver asker served new answered has kept sure full
-    × EndsShort fault (length new.history) full holds sure synced failed))
+    × EndsShort fault (closing new.state.closed (length new.history)) full holds sure synced failed))

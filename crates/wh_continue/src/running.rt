@@ -9,7 +9,7 @@ ghost use Rattle.wh_journal.specs.Surviving.{HoldsLog, StaysLog};
 ghost use Rattle.wh_journal.specs.Scripts.{WritesFront};
 ghost use Rattle.wh_journal.specs.Cutting.{MayCut, MayPut, front_of};
 ghost use Rattle.wh_continue.specs.Renewing.{LeavesHalfRenewed, told_in_two};
-ghost use Rattle.wh_continue.specs.Running.{BeginsShort, EndsShort, IsStartOf, LeavesFront, Opens, OpensShort, RunsOn, StopsRun, count_line, last_line, opening_lines, told_again};
+ghost use Rattle.wh_continue.specs.Running.{BeginsShort, EndsShort, IsStartOf, LeavesFront, Opens, OpensShort, RunsOn, StopsRun, closing, count_line, opening_lines, told_again};
 ghost use Rattle.wh_journal.specs.Journals.{log_asker};
 
 use crate::continuing::{ContinueFault, continue_run};
@@ -167,13 +167,30 @@ pub fn begin_log<L: LogFile>(alloc: Global, file: &mut L, start: &Start) -> Resu
     }
 }
 
-/// Appends the line that ends a log of the given number of entries, and syncs.
-pub fn end_log<J: Journal>(alloc: Global, journal: &mut J, entries: u64) -> Result<(), KeepFault>
-    ensures ok { OnOk result (Appends (J.contents journal.old) (J.contents journal.new) (last_line entries)) }
-    ensures synced { OnOk result (J.synced journal.new ≡ J.contents journal.new) }
-    ensures fault { IfErr result (λ fault. EndsShort fault entries (J.contents journal.old) (J.contents journal.new) (J.synced journal.old) (J.synced journal.new) (J.failed journal.new)) }
+/// What ends the log of a run with so many entries.
+fn closing_text(alloc: Global, is_closed: bool, entries: u64) -> Result<Vec<u8>, NoMemory>
+    ensures { IfOk result (λ text. text.items ≡ closing is_closed entries) }
 {
-    let Ok(text) = end_text(alloc, entries) else {
+    if is_closed {
+        end_text(alloc, entries)
+    } else {
+        Ok(Vec::new(alloc))
+    }
+}
+
+/// Ends a log of the given number of entries, and syncs: where the warehouse is closed, so that nothing can follow, the log is given its
+/// last line. Else it ends with its entries, and the next start goes on from there.
+pub fn end_log<J: Journal>(
+    alloc: Global,
+    journal: &mut J,
+    is_closed: bool,
+    entries: u64,
+) -> Result<(), KeepFault>
+    ensures ok { OnOk result (Appends (J.contents journal.old) (J.contents journal.new) (closing is_closed entries)) }
+    ensures synced { OnOk result (J.synced journal.new ≡ J.contents journal.new) }
+    ensures fault { IfErr result (λ fault. EndsShort fault (closing is_closed entries) (J.contents journal.old) (J.contents journal.new) (J.synced journal.old) (J.synced journal.new) (J.failed journal.new)) }
+{
+    let Ok(text) = closing_text(alloc, is_closed, entries) else {
         return Err(KeepFault::NoMemory);
     };
     keep(journal, text.as_slice())
@@ -243,7 +260,7 @@ pub fn tell_first<W: Write>(writer: &mut W, entries: u64, text: &[u8]) -> Result
 /// Goes on from a start over the log file in which it was found, and serves the script that is left in the reader, to the
 /// reader's end. First the file is made the log of the run so far, and the line `entries N` tells how many entries that has.
 /// Where an entry is named, those from it on are told again after that line, as the log has them. Then the script is served
-/// as `continue_run` does; at its end all is delivered that can be, where that is asked for, and the file is given the line that ends the
+/// as `continue_run` does; at its end all is delivered that can be, where that is asked for, and the file is given what ends the
 /// log, so that it is the log of the whole run.
 pub fn run_on<R: Read, W: Write, L: LogFile, P: Planner>(
     lines: &mut Lines<R>,
@@ -289,7 +306,12 @@ pub fn run_on<R: Read, W: Write, L: LogFile, P: Planner>(
             return Err(RunFault::Deliver(fault));
         }
     }
-    match end_log(alloc, file, warehouse.history().len() as u64) {
+    match end_log(
+        alloc,
+        file,
+        warehouse.closed(),
+        warehouse.history().len() as u64,
+    ) {
         Ok(()) => Ok(warehouse),
         Err(fault) => Err(RunFault::End(fault)),
     }

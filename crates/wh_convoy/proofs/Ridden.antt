@@ -24,7 +24,7 @@ use Rattle.wh_journal.specs.Journals.{lines_for}
 use Rattle.wh_journal.specs.Surviving.{told_by, HoldsLog, StaysLog}
 use Rattle.wh_journal.specs.declared.rounds.Round.TheVariants.{Ended}
 use Rattle.wh_journal.proofs.Surviving.{begun_grown}
-use Rattle.wh_continue.specs.Running.{EndsShort, IsWholeLog, last_line}
+use Rattle.wh_continue.specs.Running.{EndsShort, IsKeptLog, closing}
 use Rattle.wh_continue.specs.declared.running.KeepFault.{KeepFault}
 use Rattle.wh_continue.proofs.Begun.{whole_log}
 use Rattle.wh_convoy.specs.Convoys.{Held, ConvoysLines, ConvoysFrom, ConvoysUntilFrom, depot}
@@ -59,7 +59,7 @@ module _ {X : Type 0} (fits : X → Floor → Bool) (count : X → ℕ) (asker :
       (each_script_happens fits count asker bound _ old new texts (kept_is_served fits count asker bound _ old new texts kept l.all)).opening
 
   pub whole_of : (before after : Input) (old : Seen) (spares : List X) (d : Drive) (new : Seen) (rest : List X) (crew : Crew) (had has file : Option (List ℕ)) (begun holds synced : Held) →
-      StaysLog file begun.log old → HoldsLog begun.log old → RidesToEnd fits count asker bound before after old spares d new rest crew had has begun holds synced → IfSome file (λ _. IsWholeLog holds.log new)
+      StaysLog file begun.log old → HoldsLog begun.log old → RidesToEnd fits count asker bound before after old spares d new rest crew had has begun holds synced → IfSome file (λ _. IsKeptLog holds.log new)
   whole_of before after old spares d new rest crew had has file begun holds synced first is r =
       let c = r.rides.convoys in
       let old_depot = depot old spares r.rides.set in
@@ -93,7 +93,7 @@ module _ {X : Type 0} (fits : X → Floor → Bool) (count : X → ℕ) (asker :
 
     -- with the line that ends the log
     pub to_end : (n : ℕ) → n ≡ bound → (before after : Input) (spares : List X) (new : Seen) (rest : List X) (last : Crew) (has : Option (List ℕ)) (begun kept safe : Held) (holds_log synced_log : Option (List ℕ)) →
-        ConvoysFrom fits count asker n Ended before after old spares next new rest last out has begun kept safe → Appends kept.log holds_log (last_line (length new.history)) → synced_log ≡ holds_log →
+        ConvoysFrom fits count asker n Ended before after old spares next new rest last out has begun kept safe → Appends kept.log holds_log (closing new.state.closed (length new.history)) → synced_log ≡ holds_log →
         RidesFrom fits count asker bound before after old spares crew.order new rest last had has begun (record { log = holds_log; arrivals = kept.arrivals }) (record { log = synced_log; arrivals = safe.arrivals })
     to_end n same before after spares new rest last has begun kept safe holds_log synced_log convoys ends is d m =
         let r = rides_from n same before after spares new rest last has begun kept safe convoys d m in
@@ -108,7 +108,7 @@ module _ {X : Type 0} (fits : X → Floor → Bool) (count : X → ℕ) (asker :
 
     -- or without it
     pub unended : (n : ℕ) → n ≡ bound → (fault : KeepFault) (before after : Input) (spares : List X) (new : Seen) (rest : List X) (last : Crew) (has : Option (List ℕ)) (begun kept safe : Held) (holds_log synced_log : Option (List ℕ)) (failed arrivals_failed : Bool) →
-        ConvoysFrom fits count asker n Ended before after old spares next new rest last out has begun kept safe → EndsShort fault (length new.history) kept.log holds_log safe.log synced_log failed →
+        ConvoysFrom fits count asker n Ended before after old spares next new rest last out has begun kept safe → EndsShort fault (closing new.state.closed (length new.history)) kept.log holds_log safe.log synced_log failed →
         StopsFrom fits count asker bound (End fault) before after old spares rest crew.order had has begun (record { log = holds_log; arrivals = kept.arrivals }) (record { log = synced_log; arrivals = safe.arrivals }) failed arrivals_failed
     unended n same fault before after spares new rest last has begun kept safe holds_log synced_log failed arrivals_failed convoys ends d m =
         let r = rides_from n same before after spares new rest last has begun kept safe convoys d m in
@@ -118,7 +118,7 @@ module _ {X : Type 0} (fits : X → Floor → Bool) (count : X → ℕ) (asker :
           crew = last;
           kept = kept;
           rides = subst (λ (s : Held). Rides fits count asker bound before after old spares d new rest last had has begun kept s) synced r;
-          ends = subst (λ (s : Option (List ℕ)). EndsShort fault (length new.history) kept.log holds_log s synced_log failed) (ap (λ (h : Held). h.log) synced) ends;
+          ends = subst (λ (s : Option (List ℕ)). EndsShort fault (closing new.state.closed (length new.history)) kept.log holds_log s synced_log failed) (ap (λ (h : Held). h.log) synced) ends;
           arrivals = refl;
           arrivals_synced = ap (λ (h : Held). h.arrivals) synced;
         }

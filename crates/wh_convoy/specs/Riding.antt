@@ -16,7 +16,7 @@ use Rattle.wh_dispatch.specs.declared.visits.Pending.{Pending}
 use Rattle.wh_journal.specs.Fleet.{RefusesToResume}
 use Rattle.wh_journal.specs.Surviving.{StaysLog}
 use Rattle.wh_journal.specs.declared.rounds.Round.TheVariants.{Ended}
-use Rattle.wh_continue.specs.Running.{BeginsShort, Counts, EndsShort, IsWholeLog, first_text, last_line}
+use Rattle.wh_continue.specs.Running.{BeginsShort, Counts, EndsShort, IsKeptLog, closing, first_text}
 use Rattle.wh_continue.specs.declared.starting.Start.{Start}
 use Rattle.wh_continue.specs.declared.running.KeepFault.{KeepFault}
 use Rattle.wh_continue.specs.declared.running.KeepFault.TheVariants.{Unkept}
@@ -69,12 +69,12 @@ pub record Rides {X : Type 0} (fits : X → Floor → Bool) (count : X → ℕ) 
   pub manned : IsManned new crew final
   pub convoys : ConvoysOn fits count asker bound Ended before after (depot old spares set) (depot new rest final) out has begun kept safe
 
--- And the log was given the line that ends it.
+-- And the log was given what ends it.
 pub record RidesToEnd {X : Type 0} (fits : X → Floor → Bool) (count : X → ℕ) (asker : Asker) (bound : ℕ) (before after : Input) (old : Seen) (spares : List X) (d : Drive)
     (new : Seen) (rest : List X) (crew : Crew) (had has : Option (List ℕ)) (begun holds synced : Held) : Type 0 where
   pub kept : Held
   pub rides : Rides fits count asker bound before after old spares d new rest crew had has begun kept kept
-  pub ends : Appends kept.log holds.log (last_line (length new.history))
+  pub ends : Appends kept.log holds.log (closing new.state.closed (length new.history))
   pub arrivals : holds.arrivals ≡ kept.arrivals
   pub synced_is : synced ≡ holds
 
@@ -106,7 +106,7 @@ pub record RidesUnended {X : Type 0} (fits : X → Floor → Bool) (count : X �
   pub crew : Crew
   pub kept : Held
   pub rides : Rides fits count asker bound before after old spares d new rest crew had has begun kept kept
-  pub ends : EndsShort fault (length new.history) kept.log holds.log kept.log synced.log log_failed
+  pub ends : EndsShort fault (closing new.state.closed (length new.history)) kept.log holds.log kept.log synced.log log_failed
   pub arrivals : holds.arrivals ≡ kept.arrivals
   pub arrivals_synced : synced.arrivals ≡ kept.arrivals
 
@@ -135,7 +135,7 @@ pub record RidesOn {X : Type 0} (fits : X → Floor → Bool) (count : X → ℕ
   pub begun : Held
   pub begins : BeginsBoth again book stood.bytes had counted files begun
   pub rides : RidesFrom fits count asker bound before after book spares stood.order new rest crew counted has begun holds synced
-  pub whole : IfSome files.log (λ _. IsWholeLog holds.log new)
+  pub whole : IfSome files.log (λ _. IsKeptLog holds.log new)
 
 -- Why a run was not brought to its end.
 abbrev pub StopsRide : {X : Type 0} → (X → Floor → Bool) → (X → ℕ) → Asker → (again : Option ℕ) → (bound : ℕ) → RideFault → (before after : Input) → Start → Stood → (planners spares rest : List X)

@@ -1,4 +1,4 @@
-//! A run with vehicles over its two files, from what these hold to the line that ends the log.
+//! A run with vehicles over its two files, from what these hold to what ends the log.
 #![tactic(auto)]
 
 ghost use Rattle.std.specs.Prelude.{◌≡◌, IfErr, IfOk, OnOk};
@@ -39,7 +39,7 @@ pub enum RideFault {
     SetOut(DispatchFault),
     /// The script was not served to its end.
     Script(ConvoyFault),
-    /// The line that ends the log was not kept. All else was, and was told.
+    /// What ends the log was not kept. All else was, and was told.
     End(KeepFault),
 }
 
@@ -134,7 +134,12 @@ fn ride<R: Read, W: Write, L: LogFile, P: Planner>(
         Ok(()) => {}
         Err(fault) => return Err(RideFault::Script(fault)),
     }
-    match end_log(alloc, log, warehouse.history().len() as u64) {
+    match end_log(
+        alloc,
+        log,
+        warehouse.closed(),
+        warehouse.history().len() as u64,
+    ) {
         Ok(()) => Ok(()),
         Err(fault) => Err(RideFault::End(fault)),
     }
@@ -144,7 +149,7 @@ fn ride<R: Read, W: Write, L: LogFile, P: Planner>(
 /// to the reader's end. First both files are made those of the run so far, and the line `entries N` tells how many entries that has.
 /// Where an entry is named, those from it on are told again after that line, as the log has them. Then the vehicles set out: all
 /// visits that they have made are told, and the steps that they are to make. Then the script is served as `convoy` does; at its end
-/// the log is given the line that ends it. The clock waits while a vehicle is `behind` steps or more behind.
+/// the log is given what ends it. The clock waits while a vehicle is `behind` steps or more behind.
 pub fn ride_on<R: Read, W: Write, L: LogFile, P: Planner>(
     lines: &mut Lines<R>,
     alloc: Global,

@@ -1,19 +1,28 @@
 -- what following a log says of runs from an opening
-use Rattle.std.proofs.Common.{◌≡◌, ℕ, zero, suc, ◌≤◌, List, [], ◌∷◌, length, refl, sym, ap, ◌∙◌, subst, arith, lit≤}
+use Rattle.std.proofs.Common.{◌≡◌, ℕ, zero, suc, ◌≤◌, true, List, [], ◌∷◌, ◌++◌, length, refl, sym, ap, ◌∙◌, subst, arith, lit≤, append-nil, Option, None, Some, false, inl, inr}
 use Rattle.std.specs.List.{AllByRecursion}
 use Rattle.wh_points.specs.Points.{Site, IsLayout}
 use Rattle.wh_core.specs.States.{State, opened}
 use Rattle.wh_core.specs.Steps.{Run}
 use Rattle.wh_event.specs.declared.entry.Entry.{Entry}
 use Rattle.wh_log.specs.declared.follow_log.Followed.TheVariants as followed
-use Rattle.wh_log.specs.Logs.{Content, IsSlots, IsLogText}
+use Rattle.wh_log.specs.Logs.{Content, IsSlots, IsLogText, end_line}
+use Rattle.wh_log.specs.Torn.{Holds, IsUnopened, begun_lines}
+use Rattle.wh_log.specs.FirstBad.{IsFirstBad, Begins}
+use Rattle.wh_log.specs.declared.version.Version.{Version}
+use Rattle.wh_log.proofs.Following.{one_more}
+use Rattle.wh_log.specs.Torn.{Recovers}
+use Rattle.wh_log.specs.declared.front_log.Front.{Front}
+use Rattle.wh_log.specs.declared.front_log.Front.TheVariants.{Whole, Unopened, Bad}
+use Rattle.wh_words.specs.Lines.{text_of}
 use Rattle.wh_log.specs.Judges.{RunOf, Leads, IsAccepted, CanOpen, Concludes}
 use Rattle.wh_log.proofs.LogLaws.{same_first_bad, no_log, one_content}
 use Rattle.wh_judge.specs.Judged.{Judged}
 use Rattle.wh_judge.specs.declared.verifier.Verified.{Verified}
 use Rattle.wh_judge.specs.declared.verifier.Verified.TheVariants as told
 use Rattle.wh_judge.specs.Following.{Opens, Steps}
-use Rattle.wh_judge.specs.Verifying.{Says, IsRunOf}
+use Rattle.wh_judge.specs.Verifying.{Says, SaysUnended, IsRunOf, told_front}
+use Rattle.wh_judge.specs.declared.verifier.VerifiedFront.{VerifiedFront}
 
 twos : ℕ → List ℕ
 twos zero = []
@@ -58,7 +67,7 @@ of_run site [] old new layout run = ap (λ (s : State). let j : Judged = record 
 of_run site (entry ∷ entries) old new layout run =
     (record { site = site; state = run.0 }, record { layout = layout; step = run.1; site = refl }, of_run site entries run.0 new layout run.2)
 
-leads_run : (site : Site) (first : Judged) (content : Content) (new : Judged) → IsLayout site.grid site.layout → first.site ≡ site → Leads Opens Steps first content new →
+pub leads_run : (site : Site) (first : Judged) (content : Content) (new : Judged) → IsLayout site.grid site.layout → first.site ≡ site → Leads Opens Steps first content new →
     IsRunOf site content
 leads_run site first content new layout is leads =
     let opens = leads.opened in
@@ -96,14 +105,32 @@ run_accepted site first content is history =
       };
     }
 
+-- what is refused of the judge's runs is refused of the warehouse's
+pub bad_run : (site : Site) (first : Judged) (text : List ℕ) (line : ℕ) → IsLayout site.grid site.layout → first.site ≡ site → IsFirstBad (IsAccepted Opens Steps first) text line → IsFirstBad (IsRunOf site) text line
+bad_run site first text line layout is bad =
+    same_first_bad (IsAccepted Opens Steps first) (IsRunOf site) text line (λ content a. leads_run site first content a.new layout is a.leads) (λ content r. run_accepted site first content is r) bad
+
 pub says_run : (site : Site) (first new : Judged) (text : List ℕ) (count : ℕ) → IsLayout site.grid site.layout → first.site ≡ site →
     Concludes Opens Steps text first new (followed.Whole count) → Says site text (told.Run count)
 says_run site first new text count layout is said = (said.0, said.1, leads_run site first said.0 new layout is said.2, said.3)
 
 pub says_bad : (site : Site) (first new : Judged) (text : List ℕ) (line : ℕ) → IsLayout site.grid site.layout → first.site ≡ site →
     Concludes Opens Steps text first new (followed.Bad line) → Says site text (told.Bad line)
-says_bad site first new text line layout is said =
-    same_first_bad (IsAccepted Opens Steps first) (IsRunOf site) text line (λ content a. leads_run site first content a.new layout is a.leads) (λ content r. run_accepted site first content is r) said
+says_bad site first new text line layout is said = bad_run site first text line layout is said
+
+-- with its last line it is a whole log
+pub ended_text : (version : Version) (content : Content) (text : List ℕ) (bytes : ℕ) → Holds version content true text bytes → IsLogText content text
+ended_text version content text bytes holds = record {
+  version = version;
+  fits = holds.fits;
+  text_is = holds.text_is ∙ ap (λ (rest : List ℕ). text_of (begun_lines version content) ++ rest) holds.rest_is
+      ∙ one_more (begun_lines version content) (end_line (length content.entries)) [] ∙ append-nil (text_of (begun_lines version content ++ end_line (length content.entries) ∷ []));
+}
+
+pub never_run : (site : Site) (first : Judged) (text : List ℕ) → first.site ≡ site → (Begins (IsAccepted Opens Steps first) text → ⊥) → Begins (IsRunOf site) text → ⊥
+never_run site first text is never begins =
+    let log = begins.whole in
+    never (record { more = begins.more; whole = record { content = log.content; is = log.is; holds = run_accepted site first log.content is log.holds } })
 
 -- what is said of a log whose entries are a run is that they are
 pub says_only : (site : Site) (text : List ℕ) (said : Verified) (content : Content) → Says site text said → IsLogText content text → IsRunOf site content →
@@ -112,3 +139,28 @@ says_only site text (told.Run entries) content says is history =
     ap (λ n. told.Run n) (sym says.3 ∙ ap (λ (c : Content). length c.entries) (one_content text says.0 content says.1 is))
 says_only site text (told.Bad line) content says is history =
     absurd (no_log (IsRunOf site) text line says (record { content = content; is = is; holds = history }))
+
+-- ---- a log that may lack its last line
+
+abbrev pub SaysTold : Site → List ℕ → Option VerifiedFront → Type 0
+SaysTold site text None = IsUnopened text
+SaysTold site text (Some said) = SaysUnended site text said.verified said.is_ended
+
+pub says_front : (site : Site) (first new : Judged) (text : List ℕ) (front : Front) → IsLayout site.grid site.layout → first.site ≡ site
+    → Recovers Opens Steps text first new front → SaysTold site text (told_front front)
+says_front site first new text (Whole version count bytes true) layout is said =
+    (said.0, ended_text version said.0 text bytes said.1, leads_run site first said.0 new layout is said.2, said.3)
+says_front site first new text (Whole version count bytes false) layout is said = record {
+  version = version;
+  content = said.0;
+  bytes = bytes;
+  holds = said.1;
+  is_run = leads_run site first said.0 new layout is said.2;
+  count = said.3;
+}
+says_front site first new text (Bad line bytes) layout is said = (bad_run site first text line layout is said.0, inl (never_run site first text is said.1))
+says_front site first new text (Unopened found) layout is said = said.0
+
+pub says_unopened : (site : Site) (text : List ℕ) (said : Verified) → IsUnopened text → Says site text said → SaysUnended site text said true
+says_unopened site text (told.Run entries) short says = says
+says_unopened site text (told.Bad line) short says = (says, inr short)

@@ -54,6 +54,14 @@ impl<'a> Instance<'a> {
         }
     }
 
+    /// The same instance once more.
+    pub(crate) fn again(&self) -> Instance<'a>
+        ensures { result ≡ self.now }
+    {
+        let _grid = self.grid();
+        Instance::with_homes(self.grid, self.points, self.homes)
+    }
+
     /// The grid.
     pub fn grid(&self) -> &Grid
         ensures value { result.now ≡ self.now.grid }

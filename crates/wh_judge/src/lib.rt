@@ -2,7 +2,7 @@
 //!
 //! Proved, whether paths end at the last stop or go on home: whether an entry is a step is decided exactly, from the state
 //! alone; a log is called a run exactly if it is of the format and its entries are a run from the opening that it names; of
-//! a text one thing can be said (`Judge::step`, `verify`, `verify_over`, `runs_are_logs`, `verdicts_are_one`).
+//! a text one thing can be said (`Judge::step`, `verify`, `verify_over`, `verify_unended`, `runs_are_logs`, `verdicts_are_one`).
 #![tactic(auto)]
 
 mod agents;
@@ -22,7 +22,7 @@ mod verifier;
 
 pub use instance::Instance;
 pub use judge::Judge;
-pub use verifier::{Verified, verify, verify_over};
+pub use verifier::{Verified, VerifiedFront, verify, verify_over, verify_unended};
 
 // handed on, for callers: what the items below take, return and speak of
 pub use wh_book::{Book, FleetState, Setting};

@@ -4,13 +4,13 @@
 ghost use Rattle.std.specs.Prelude.{◌≡◌, ◌≤◌, IfOk, length, false};
 ghost use Rattle.wh_points.specs.Points.{IsLayout};
 ghost use Rattle.wh_log.specs.Logs.{Content, IsLogText};
-ghost use Rattle.wh_judge.specs.Verifying.{Says, IsRunOf};
+ghost use Rattle.wh_judge.specs.Verifying.{Says, SaysUnended, IsRunOf, told_front};
 
 use crate::follower::Follower;
 use crate::instance::Instance;
 use std::alloc::Global;
 use wh_grid::Grid;
-use wh_log::{Followed, NoMemory, follow};
+use wh_log::{Followed, Front, NoMemory, follow, follow_front};
 use wh_points::Points;
 
 /// What a text is to a warehouse.
@@ -56,5 +56,70 @@ pub fn verify_over(alloc: Global, instance: Instance, log: &[u8]) -> Result<Veri
     match follow(alloc, &mut follower, log)? {
         Followed::Whole { entries } => Ok(Verified::Run { entries }),
         Followed::Bad { line } => Ok(Verified::Bad { line }),
+    }
+}
+
+/// What a text that may lack its last line is to a warehouse.
+#[derive(Clone, Copy, Debug, PartialEq, Eq)]
+pub struct VerifiedFront {
+    /// What it is.
+    pub verified: Verified,
+    /// Where it is the log of a run: whether its last line stands.
+    pub is_ended: bool,
+}
+
+/// What is told of a front that was followed. Nothing where fewer than two lines stand whole.
+fn told_of(front: &Front) -> Option<VerifiedFront>
+    ensures { result ≡ told_front front.now }
+{
+    match front {
+        Front::Whole {
+            entries,
+            is_ended,
+            ..
+        } => Some(VerifiedFront {
+            verified: Verified::Run { entries: *entries },
+            is_ended: *is_ended,
+        }),
+        Front::Unopened { .. } => None,
+        Front::Bad { line, .. } => Some(VerifiedFront {
+            verified: Verified::Bad { line: *line },
+            is_ended: false,
+        }),
+    }
+}
+
+/// The same of a log that may lack its last line: the log of a warehouse that is not closed. A part of a line behind its entries is not
+/// counted. It is read once, with memory for the state and one line.
+///
+/// Error: `NoMemory` when out of memory.
+pub fn verify_unended(
+    alloc: Global,
+    instance: Instance,
+    log: &[u8],
+) -> Result<VerifiedFront, NoMemory>
+    requires some { 1 ≤ length instance.layout.agents }
+    // What is said of the text is so.
+    ensures says { IfOk result (λ told. SaysUnended instance.entry log.now told.verified told.is_ended) }
+{
+    let _grid = instance.grid();
+    let _agents = instance.agents();
+    let mut follower = Follower::new(alloc, instance.again())?;
+    let mut source = log;
+    let Ok(front) = follow_front(alloc, &mut follower, &mut source) else {
+        return Err(NoMemory);
+    };
+    drop(follower);
+    let told = told_of(&front);
+    drop(front);
+    match told {
+        Some(told) => Ok(told),
+        None => {
+            let verified = verify_over(alloc, instance, log)?;
+            Ok(VerifiedFront {
+                verified,
+                is_ended: true,
+            })
+        }
     }
 }

@@ -1,5 +1,5 @@
 -- What a whole run of `verify` does.
-use Rattle.std.specs.Prelude.{◌≡◌, ◌⊎◌, ℕ, ◌≤◌, Bool, List, [], ◌∷◌, ◌++◌, codes, decimal, length, Option}
+use Rattle.std.specs.Prelude.{◌≡◌, ◌⊎◌, ℕ, ◌≤◌, Bool, true, false, List, [], ◌∷◌, ◌++◌, codes, decimal, length, Option}
 use Rattle.std.specs.Io.KnownBytes.{Appends, Keeps}
 use Rattle.wh_lines.specs.Input.{Input}
 use Rattle.wh_lines.specs.Output.{WritesFront}
@@ -10,14 +10,25 @@ use Rattle.wh_edge.specs.declared.trouble.Trouble.{Trouble}
 use Rattle.wh_edge.specs.declared.trouble.Trouble.TheVariants as trouble
 use Rattle.wh_edge.specs.declared.trouble.Status.{Status}
 use Rattle.wh_edge.specs.declared.trouble.Status.TheVariants as status
-use Rattle.wh_judge.specs.Verifying.{Says}
+use Rattle.wh_judge.specs.Verifying.{Says, SaysUnended}
+use Rattle.wh_options.specs.declared.chosen.VerifyOptions.{VerifyOptions}
 use Rattle.wh_judge.specs.declared.verifier.Verified.{Verified}
 use Rattle.wh_judge.specs.declared.verifier.Verified.TheVariants.{Run, Bad}
 
+-- what is told behind a log of a run that lacks its last line
+abbrev pub unended_text : (is_ended : Bool) → List ℕ
+unended_text true = []
+unended_text false = codes " unended"
+
 -- the line that tells what a text is
-unfoldable pub verified_text : Verified → List ℕ
-verified_text (Run entries) = codes "run " ++ decimal entries ++ 10 ∷ []
-verified_text (Bad line) = codes "bad " ++ decimal line ++ 10 ∷ []
+unfoldable pub verified_text : Verified → (is_ended : Bool) → List ℕ
+verified_text (Run entries) is_ended = codes "run " ++ decimal entries ++ unended_text is_ended ++ 10 ∷ []
+verified_text (Bad line) is_ended = codes "bad " ++ decimal line ++ 10 ∷ []
+
+-- What is said of a text: of a log that is to be whole, or of one that may lack its last line.
+abbrev pub IsVerdict : (unended : Bool) → Site → List ℕ → Verified → (is_ended : Bool) → Type 0
+IsVerdict true site log verified is_ended = SaysUnended site log verified is_ended
+IsVerdict false site log verified is_ended = Says site log verified × (is_ended ≡ true)
 
 -- a text that is no log of a run is told by status 1
 abbrev pub status_of_log : Verified → Status
@@ -32,23 +43,25 @@ pub record LogRead (homes : Bool) (old new : Input) (site : Site) (log : List �
   pub within : length log ≤ 268435456
 
 -- A site and a text were read, and the line that tells what the text is stands behind what was written.
-pub record Verifies (homes : Bool) (old new : Input) (had has : Option (List ℕ)) (ended : Status) : Type 0 where
+pub record Verifies (options : VerifyOptions) (old new : Input) (had has : Option (List ℕ)) (ended : Status) : Type 0 where
   pub site : Site
   pub log : List ℕ
-  pub log_read : LogRead homes old new site log
+  pub log_read : LogRead options.homes old new site log
   pub verified : Verified
-  pub says : Says site log verified
-  pub appends : Appends had has (verified_text verified)
+  pub is_ended : Bool
+  pub says : IsVerdict options.unended site log verified is_ended
+  pub appends : Appends had has (verified_text verified is_ended)
   pub ended_is : ended ≡ status_of_log verified
 
 -- a site and a text were read, and of the line that tells what the text is a front was written
-pub record VerifiesUnwritten (homes : Bool) (old new : Input) (had has : Option (List ℕ)) : Type 0 where
+pub record VerifiesUnwritten (options : VerifyOptions) (old new : Input) (had has : Option (List ℕ)) : Type 0 where
   pub site : Site
   pub log : List ℕ
-  pub log_read : LogRead homes old new site log
+  pub log_read : LogRead options.homes old new site log
   pub verified : Verified
-  pub says : Says site log verified
-  pub front : WritesFront had has (verified_text verified)
+  pub is_ended : Bool
+  pub says : IsVerdict options.unended site log verified is_ended
+  pub front : WritesFront had has (verified_text verified is_ended)
 
 -- why the section of the log was not read
 abbrev pub IsWhyNoLog : Trouble → Input → Input → Type 0
@@ -67,7 +80,7 @@ pub record LogFault (homes : Bool) (told : Trouble) (old new : Input) : Type 0 w
 
 -- Why nothing was told: there is no site, or behind it no log, or memory ran out, and nothing is written; or the line was
 -- not written to its end.
-abbrev pub IsWhyUnverified : (homes : Bool) → Trouble → Input → Input → Option (List ℕ) → Option (List ℕ) → Type 0
-IsWhyUnverified homes trouble.Unwritten old new had has = VerifiesUnwritten homes old new had has
-IsWhyUnverified homes trouble.NoMemory old new had has = Keeps had has
-IsWhyUnverified homes told old new had has = (SiteFault homes told old new ⊎ LogFault homes told old new) × Keeps had has
+abbrev pub IsWhyUnverified : VerifyOptions → Trouble → Input → Input → Option (List ℕ) → Option (List ℕ) → Type 0
+IsWhyUnverified options trouble.Unwritten old new had has = VerifiesUnwritten options old new had has
+IsWhyUnverified options trouble.NoMemory old new had has = Keeps had has
+IsWhyUnverified options told old new had has = (SiteFault options.homes told old new ⊎ LogFault options.homes told old new) × Keeps had has

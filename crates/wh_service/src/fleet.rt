@@ -57,8 +57,13 @@ fn member<P: Planner, F: Fn(PlannerParts) -> Result<P, AllocError>>(
 {
     let claim = claim(bank, seat, fleet.slots)?;
     let grid = Arc::try_clone(grid)?;
-    let kind = fleet.planner;
-    Ok(make(PlannerParts { kind, grid, claim })?)
+    let (kind, slack) = (fleet.planner, fleet.slack);
+    Ok(make(PlannerParts {
+        kind,
+        slack,
+        grid,
+        claim,
+    })?)
 }
 
 /// The given number of planners of the fleet, each with a claim of its own on the bank. The error tells why one of them got no

@@ -8,11 +8,13 @@ use wh_claims::Claim;
 use wh_grid::Grid;
 use wh_options::PlannerKind;
 
-/// What one planner is made of: its kind, the grid on which it plans, and a claim that has its slots, 2 to 64 of them.
+/// What one planner is made of: its kind, by how many steps its paths may be late where it searches, the grid on which it plans, and a claim that has its slots, 2 to 64 of them.
 #[derive(Drop)]
 pub struct PlannerParts {
     /// The kind of the planner.
     pub kind: PlannerKind,
+    /// By how many steps its paths may be late, where it searches.
+    pub slack: u32,
     /// The grid on which it plans.
     pub grid: Arc<Grid>,
     /// The claim that has its slots.

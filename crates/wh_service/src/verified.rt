@@ -2,7 +2,7 @@
 
 ghost use Rattle.std.specs.Prelude.{◌≡◌, ◌≤◌, IfErr, IfOk, length};
 ghost use Rattle.wh_lines.specs.Section.{Sectioned};
-ghost use Rattle.wh_service.specs.Verifies.{IsWhyNoLog, IsWhyUnverified, Verifies, status_of_log, verified_text};
+ghost use Rattle.wh_service.specs.Verifies.{IsVerdict, IsWhyNoLog, IsWhyUnverified, Verifies, status_of_log, verified_text};
 
 use crate::writing::write_text;
 use arrayvec::ArrayVec;
@@ -10,7 +10,7 @@ use std::alloc::Global;
 use std::io::{Read, Write};
 use wh_edge::{Site, Status, Trouble, read_site};
 use wh_event::{put, put_number};
-use wh_judge::{Instance, Verified, verify_over};
+use wh_judge::{Instance, Verified, VerifiedFront, verify_over, verify_unended};
 use wh_lines::{Lines, SectionFault};
 use wh_log::NoMemory;
 use wh_options::VerifyOptions;
@@ -35,16 +35,41 @@ fn log_section<R: Read>(lines: &mut Lines<R>, alloc: Global) -> Result<Vec<u8>, 
 
 /// The line that tells what a text is, with its line feed.
 #[tactic(auto, unfolding(crate::specs::Verifies::verified_text))]
-fn text(verified: Verified) -> ArrayVec<u8, 64>
-    ensures { result.items ≡ verified_text verified }
+fn text(front: VerifiedFront) -> ArrayVec<u8, 64>
+    ensures { result.items ≡ verified_text front.verified front.is_ended }
 {
     let mut line = ArrayVec::new();
-    match verified {
-        Verified::Run { entries } => put_number(&mut line, b"run ", u64::from(entries)),
+    match front.verified {
+        Verified::Run { entries } => {
+            put_number(&mut line, b"run ", u64::from(entries));
+            if !front.is_ended {
+                put(&mut line, b" unended");
+            }
+        }
         Verified::Bad { line: bad } => put_number(&mut line, b"bad ", bad),
     }
     put(&mut line, b"\n");
     line
+}
+
+/// What a text is that is to be a log over the instance, and may lack its last line where that is allowed.
+fn verdict(
+    alloc: Global,
+    instance: Instance,
+    unended: bool,
+    log: &[u8],
+) -> Result<VerifiedFront, NoMemory>
+    requires some { 1 ≤ length instance.layout.agents }
+    ensures { IfOk result (λ front. IsVerdict unended instance.entry log.now front.verified front.is_ended) }
+{
+    if unended {
+        return verify_unended(alloc, instance, log);
+    }
+    let verified = verify_over(alloc, instance, log)?;
+    Ok(VerifiedFront {
+        verified,
+        is_ended: true,
+    })
 }
 
 /// How the program ends after that: well only where the text is the log of a run.
@@ -59,7 +84,8 @@ fn status(verified: Verified) -> Status
 
 /// Reads a site and the section of a log, at most 268,435,456 bytes, and writes in one line `run N` where the log's N
 /// entries are a run over the site by the rule of the options, and else `bad L` with the first line with which no such log begins. What follows the
-/// log's section is ignored. Errors are reported in this order: the site, the section of the log, lack of
+/// log's section is ignored. Where the options allow that the log lacks its last line, it writes `run N unended` for such a one, and a part of
+/// a line behind its entries is not counted. Errors are reported in this order: the site, the section of the log, lack of
 /// memory, the writer. Before the writer fails nothing is written.
 pub fn verify<R: Read, W: Write>(
     alloc: Global,
@@ -67,8 +93,8 @@ pub fn verify<R: Read, W: Write>(
     output: &mut W,
     options: VerifyOptions,
 ) -> Result<Status, Trouble>
-    ensures ok { IfOk result (λ status. Verifies options.homes lines.old lines.new (W.contents output.old) (W.contents output.new) status) }
-    ensures fault { IfErr result (λ told. IsWhyUnverified options.homes told lines.old lines.new (W.contents output.old) (W.contents output.new)) }
+    ensures ok { IfOk result (λ status. Verifies options lines.old lines.new (W.contents output.old) (W.contents output.new) status) }
+    ensures fault { IfErr result (λ told. IsWhyUnverified options told lines.old lines.new (W.contents output.old) (W.contents output.new)) }
 {
     let Site {
         grid,
@@ -83,13 +109,13 @@ pub fn verify<R: Read, W: Write>(
         Err(trouble) => return Err(trouble),
     };
     let instance = Instance::with_homes(&grid, &points, homes);
-    let verified = match verify_over(alloc, instance, log.as_slice()) {
-        Ok(verified) => verified,
+    let front = match verdict(alloc, instance, options.unended, log.as_slice()) {
+        Ok(front) => front,
         Err(NoMemory) => return Err(Trouble::NoMemory),
     };
-    let line = text(verified);
+    let line = text(front);
     match write_text(output, line.as_slice()) {
-        Ok(()) => Ok(status(verified)),
+        Ok(()) => Ok(status(front.verified)),
         Err(trouble) => Err(trouble),
     }
 }

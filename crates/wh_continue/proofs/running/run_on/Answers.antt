@@ -1,7 +1,7 @@
-use Rattle.std.proofs.Common.{◌≡◌, ◌∙◌, ℕ, List, ◌++◌, length, ap, ap₂, subst}
+use Rattle.std.proofs.Common.{◌≡◌, ◌∙◌, ℕ, Bool, List, ◌++◌, length, ap, ap₂, subst}
 use Rattle.std.specs.Io.KnownBytes.{Appends}
 use Rattle.wh_event.specs.declared.entry.Entry.{Entry}
-use Rattle.wh_continue.specs.Running.{EndsShort, count_line, first_text, last_line, told_again}
+use Rattle.wh_continue.specs.Running.{EndsShort, closing, count_line, first_text, told_again}
 use Rattle.wh_continue.proofs.Begun.{whole_log}
 use Rattle.wh_continue.proofs.Delivered.{log_delivered}
 use Rattle.wh_continue.proofs.running.run_on.Goals as goal
@@ -17,8 +17,9 @@ returns-in-Ok-end_log-clause-runs g c =
     let holds = g.L.Journal.contents c.end_log.new.journal in
     let served = c.in-Ok-continue_run.warehouse.book in
     let new = c.deliver_over.new.warehouse.book in
-    let ends : Appends full holds (last_line (length new.history)) =
-    subst (λ (entries : List Entry). Appends full holds (last_line (length entries))) c.history-3.ensures.value c.in-Ok-end_log.ensures.ok in
+    let ending : closing c.closed.result (length c.history-3.result.now) ≡ closing new.state.closed (length new.history) =
+    ap₂ (λ (closed : Bool) (entries : List Entry). closing closed (length entries)) c.closed.ensures c.history-3.ensures.value in
+    let ends : Appends full holds (closing new.state.closed (length new.history)) = subst (λ (lines : List ℕ). Appends full holds lines) ending c.in-Ok-end_log.ensures.ok in
     let lines : c.as_slice.result.now ≡ told_again c.args.again c.args.start.book.history =
     c.as_slice.ensures.value ∙ c.in-Ok.ensures ∙ ap (told_again c.args.again) c.history.ensures.value in
     let text : count_line (length c.history-2.result.now) ++ c.as_slice.result.now ≡ first_text c.args.again c.args.start.book.history =
@@ -86,8 +87,10 @@ returns-in-Err-end_log-clause-fault g c =
     let ended = c.end_log.new.journal in
     let served = c.in-Ok-continue_run.warehouse.book in
     let new = c.deliver_over.new.warehouse.book in
-    let short : EndsShort c.in-Err-end_log.fault (length new.history) full (g.L.Journal.contents ended) sure (g.L.Journal.synced ended) (g.L.Journal.failed ended) =
-    subst (λ (entries : List Entry). EndsShort c.in-Err-end_log.fault (length entries) full (g.L.Journal.contents ended) sure (g.L.Journal.synced ended) (g.L.Journal.failed ended)) c.history-3.ensures.value c.in-Err-end_log.ensures.fault in
+    let ending : closing c.closed.result (length c.history-3.result.now) ≡ closing new.state.closed (length new.history) =
+    ap₂ (λ (closed : Bool) (entries : List Entry). closing closed (length entries)) c.closed.ensures c.history-3.ensures.value in
+    let short : EndsShort c.in-Err-end_log.fault (closing new.state.closed (length new.history)) full (g.L.Journal.contents ended) sure (g.L.Journal.synced ended) (g.L.Journal.failed ended) =
+    subst (λ (lines : List ℕ). EndsShort c.in-Err-end_log.fault lines full (g.L.Journal.contents ended) sure (g.L.Journal.synced ended) (g.L.Journal.failed ended)) ending c.in-Err-end_log.ensures.fault in
     let lines : c.as_slice.result.now ≡ told_again c.args.again c.args.start.book.history =
     c.as_slice.ensures.value ∙ c.in-Ok.ensures ∙ ap (told_again c.args.again) c.history.ensures.value in
     let text : count_line (length c.history-2.result.now) ++ c.as_slice.result.now ≡ first_text c.args.again c.args.start.book.history =

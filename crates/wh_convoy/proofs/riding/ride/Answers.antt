@@ -1,7 +1,7 @@
-use Rattle.std.proofs.Common.{List, length, subst}
+use Rattle.std.proofs.Common.{◌≡◌, ℕ, Bool, List, length, ap₂, subst}
 use Rattle.std.specs.Io.KnownBytes.{Appends}
 use Rattle.wh_event.specs.declared.entry.Entry.{Entry}
-use Rattle.wh_continue.specs.Running.{EndsShort, last_line}
+use Rattle.wh_continue.specs.Running.{EndsShort, closing}
 use Rattle.wh_convoy.specs.Convoys.{Held}
 use Rattle.wh_convoy.proofs.Standing.{both_synced}
 use Rattle.wh_convoy.proofs.Ridden.{manned_out, until_from, to_end, unended, unset}
@@ -36,8 +36,9 @@ returns-in-Ok-end_log-clause-ok g c =
     let safe : Held = record { log = g.L.Journal.synced c.convoy.new.log; arrivals = g.L.Journal.synced c.convoy.new.arrivals } in
     let holds = g.L.Journal.contents c.end_log.new.journal in
     let new = c.convoy.new.warehouse.book in
-    let ends : Appends kept.log holds (last_line (length new.history)) =
-    subst (λ (entries : List Entry). Appends kept.log holds (last_line (length entries))) c.history.ensures.value c.in-Ok-end_log.ensures.ok in
+    let ending : closing c.closed.result (length c.history.result.now) ≡ closing new.state.closed (length new.history) =
+    ap₂ (λ (closed : Bool) (entries : List Entry). closing closed (length entries)) c.closed.ensures c.history.ensures.value in
+    let ends : Appends kept.log holds (closing new.state.closed (length new.history)) = subst (λ (lines : List ℕ). Appends kept.log holds lines) ending c.in-Ok-end_log.ensures.ok in
     to_end _ _ _ _ c.args.warehouse.now.book c.args.vehicles.now c.set_out.new.vehicles _ _ c.in-Ok.ensures.ok c.set_out.new.vehicles.bound c.set_out.ensures.bound
     c.args.lines.now c.convoy.new.lines _ new _ c.convoy.new.vehicles _ begun kept safe holds (g.L.Journal.synced c.end_log.new.journal)
     c.in-Ok-convoy.ensures.ok ends c.in-Ok-end_log.ensures.synced
@@ -52,6 +53,8 @@ returns-in-Err-end_log-clause-fault g c =
     let failed = g.L.Journal.failed c.end_log.new.journal in
     let fault = c.in-Err-end_log.fault in
     let new = c.convoy.new.warehouse.book in
+    let ending : closing c.closed.result (length c.history.result.now) ≡ closing new.state.closed (length new.history) =
+    ap₂ (λ (closed : Bool) (entries : List Entry). closing closed (length entries)) c.closed.ensures c.history.ensures.value in
     unended _ _ _ _ c.args.warehouse.now.book c.args.vehicles.now c.set_out.new.vehicles _ _ c.in-Ok.ensures.ok c.set_out.new.vehicles.bound c.set_out.ensures.bound
     fault c.args.lines.now c.convoy.new.lines _ new _ c.convoy.new.vehicles _ begun kept safe holds synced failed (g.L.Journal.failed c.convoy.new.arrivals)
-    c.in-Ok-convoy.ensures.ok (subst (λ (entries : List Entry). EndsShort fault (length entries) kept.log holds safe.log synced failed) c.history.ensures.value c.in-Err-end_log.ensures.fault)
+    c.in-Ok-convoy.ensures.ok (subst (λ (lines : List ℕ). EndsShort fault lines kept.log holds safe.log synced failed) ending c.in-Err-end_log.ensures.fault)
