@@ -33,11 +33,16 @@ pub fn served<R: Read + Drop, W: Write>(
         ensures on_grid { IfOk result (λ b. fits_map b parts.grid.value ≡ true) }
         ensures has_slots { IfOk result (λ b. slot_count b ≡ claim_amount parts.claim) }
     {
-        let PlannerParts { kind, grid, claim } = parts;
+        let PlannerParts {
+            kind,
+            slack,
+            grid,
+            claim,
+        } = parts;
         match kind {
             PlannerKind::Near => {
                 let sharing = Sharing::new(alloc, grid, claim)?;
-                let planner: Box<dyn Planner> = Box::new(alloc, sharing)?;
+                let planner: Box<dyn Planner> = Box::new(alloc, sharing.with_slack(slack))?;
                 Ok(planner)
             }
             PlannerKind::Patient => {
@@ -48,6 +53,7 @@ pub fn served<R: Read + Drop, W: Write>(
     };
     let fleet = Fleet {
         planner: PlannerKind::Near,
+        slack: 0,
         slots: 4,
         bank: 1024,
         spares: 0,

@@ -57,8 +57,12 @@ fn member<P: Planner, F: Fn(PlannerParts) -> Result<P, AllocError>>(
     }
     let grid = Arc::new(alloc, Grid::read(alloc, map.as_bytes())?)?;
     let claim = claim(bank, seat, slots)?;
-    let kind = PlannerKind::Near;
-    Ok(make(PlannerParts { kind, grid, claim })?)
+    Ok(make(PlannerParts {
+        kind: PlannerKind::Near,
+        slack: 0,
+        grid,
+        claim,
+    })?)
 }
 
 /// Steps through the script. The last spare planner is handed in with a Replace, and goes back where it was not taken.

@@ -9,6 +9,7 @@ use wh_options::{
 
 const FLEET: Fleet = Fleet {
     planner: PlannerKind::Near,
+    slack: 0,
     slots: 4,
     bank: 1024,
     spares: 0,
@@ -34,7 +35,7 @@ const LEDGER: ReplayOptions<'static> = ReplayOptions {
 };
 
 /// Words after `warehouse replay`, and the options that they give.
-const REPLAYS: [(&[&str], ReplayOptions<'static>); 21] = [
+const REPLAYS: [(&[&str], ReplayOptions<'static>); 23] = [
     (&[], PLAIN),
     (&["--slots=8", "--tail=ledger", "--replies=full"], LEDGER),
     (
@@ -156,6 +157,17 @@ const REPLAYS: [(&[&str], ReplayOptions<'static>); 21] = [
         },
     ),
     (&["--planner=near"], PLAIN),
+    (
+        &["--planner=near", "--slack=1000"],
+        ReplayOptions {
+            fleet: Fleet {
+                slack: 1000,
+                ..FLEET
+            },
+            ..PLAIN
+        },
+    ),
+    (&["--slack", "0"], PLAIN),
     (&["--ends", "stops"], PLAIN),
     (
         &["--ends=homes", "--slots=4"],
@@ -170,7 +182,31 @@ const REPLAYS: [(&[&str], ReplayOptions<'static>); 21] = [
 ];
 
 /// Words that are refused, and the kind of the error.
-const MISTAKES: [(&[&str], ErrorKind); 70] = [
+const MISTAKES: [(&[&str], ErrorKind); 76] = [
+    (&["replay", "--slack=1001"], ErrorKind::ValueValidation),
+    (&["check", "--slack=1"], ErrorKind::UnknownArgument),
+    (
+        &["replay", "--slack=0", "--planner=patient"],
+        ErrorKind::ArgumentConflict,
+    ),
+    (
+        &["live", "--planner", "patient", "--slack", "4"],
+        ErrorKind::ArgumentConflict,
+    ),
+    (
+        &[
+            "serve",
+            "--log=x",
+            "--client=0=a",
+            "--planner=patient",
+            "--slack=4",
+        ],
+        ErrorKind::ArgumentConflict,
+    ),
+    (
+        &["serve", "--planner=patient", "--slack=4"],
+        ErrorKind::MissingRequiredArgument,
+    ),
     (
         &["replay", "--deliver", "--vehicles"],
         ErrorKind::ArgumentConflict,
@@ -333,6 +369,7 @@ const NO_RIGHTS: ClientRights = ClientRights {
     tick: false,
     replace: false,
     close: false,
+    stop: false,
 };
 
 const CLIENTS: [ClientOptions<'static>; 3] = [
@@ -350,6 +387,7 @@ const CLIENTS: [ClientOptions<'static>; 3] = [
         rights: ClientRights {
             token: true,
             tick: true,
+            stop: true,
             ..NO_RIGHTS
         },
     },
@@ -362,12 +400,13 @@ const CLIENTS: [ClientOptions<'static>; 3] = [
             tick: true,
             replace: true,
             close: true,
+            stop: false,
         },
     },
 ];
 
 /// Words for clients, after `warehouse serve --log=a`, that name none, or not each its own.
-const NO_CLIENTS: [&[&str]; 16] = [
+const NO_CLIENTS: [&[&str]; 18] = [
     &["--client="],
     &["--client", "c"],
     &["--client", "=c"],
@@ -381,6 +420,8 @@ const NO_CLIENTS: [&[&str]; 16] = [
     &["--client", "0=c:tick,"],
     &["--client", "0=c:tick,tick"],
     &["--client", "0=c:all,tick"],
+    &["--client", "0=c:all,stop"],
+    &["--client", "0=c:stop,stop"],
     &["--client=0=c", "--client=0=d"],
     &["--client=0=c", "--client=00=d"],
     &["--client=0=c", "--client=1=c:tick"],
@@ -429,10 +470,21 @@ fn other_subcommands(rt: HostRuntime) {
     let homes = Options::Check(CheckOptions { homes: true });
     assert!(rt; gives(alloc, &["warehouse", "check", "--"], stops));
     assert!(rt; gives(alloc, &["warehouse", "check", "--ends=homes"], homes));
-    let stops = Options::Verify(VerifyOptions { homes: false });
-    let homes = Options::Verify(VerifyOptions { homes: true });
+    let stops = Options::Verify(VerifyOptions {
+        homes: false,
+        unended: false,
+    });
+    let homes = Options::Verify(VerifyOptions {
+        homes: true,
+        unended: false,
+    });
     assert!(rt; gives(alloc, &["warehouse", "verify"], stops));
     assert!(rt; gives(alloc, &["warehouse", "verify", "--ends", "homes"], homes));
+    let unended = Options::Verify(VerifyOptions {
+        homes: false,
+        unended: true,
+    });
+    assert!(rt; gives(alloc, &["warehouse", "verify", "--unended"], unended));
     let live = LiveOptions {
         fleet: FLEET,
         turns: 64,
@@ -460,6 +512,7 @@ fn every_option_of_live(rt: HostRuntime) {
     let live = LiveOptions {
         fleet: Fleet {
             planner: PlannerKind::Patient,
+            slack: 0,
             slots: 64,
             bank: 65536,
             spares: 16,
@@ -479,7 +532,7 @@ fn every_option_of_serve(rt: HostRuntime) -> Result<(), Fail> {
         "--client",
         "61=pipes/a b=c",
         "--journal=500",
-        "--client=0=ticker:tick,token",
+        "--client=0=ticker:tick,stop,token",
         "--log",
         "a.log",
         "--replies=placed",

@@ -1,5 +1,5 @@
 -- What the whole call says.
-use Rattle.std.proofs.Common.{◌≡◌, ℕ, Bool, true, List, length, refl, sym, ap, ◌∙◌, subst, inl, inr, Option, Some, Result, Ok, Err}
+use Rattle.std.proofs.Common.{◌≡◌, ℕ, Bool, true, List, refl, sym, ap, ◌∙◌, subst, inl, inr, Option, Some, Result, Ok, Err}
 use Rattle.std.specs.Prelude.{IfErr, IfOk}
 use Rattle.std.specs.declared.alloc.AllocError.{AllocError}
 use Rattle.std.specs.Io.KnownBytes.{Appends}
@@ -18,7 +18,7 @@ use Rattle.wh_continue.specs.declared.running.KeepFault.{KeepFault}
 use Rattle.wh_continue.specs.declared.starting.Start.{Start}
 use Rattle.wh_continue.specs.declared.running.KeepFault.TheVariants as kept
 use Rattle.wh_continue.specs.Opening.{IsOpened, IsWhyNotBoth}
-use Rattle.wh_continue.specs.Running.{Opens, last_line}
+use Rattle.wh_continue.specs.Running.{Opens}
 use Rattle.wh_edge.specs.declared.trouble.Trouble.{Trouble}
 use Rattle.wh_edge.specs.declared.trouble.Trouble.TheVariants as trouble
 use Rattle.wh_options.specs.declared.chosen.ServeOptions.{ServeOptions}
@@ -29,7 +29,7 @@ use Rattle.wh_serve.specs.declared.threads.Client.{Client}
 use Rattle.wh_service.specs.Kept.{IsSet, Siding, first_slots, keep_trouble}
 use Rattle.wh_service.specs.declared.parts.PlannerParts.{PlannerParts}
 use Rattle.wh_service.proofs.Lasting.{start_site, told_before}
-use Rattle.wh_attend.specs.Attends.{Attends, HoldsRun, IsReady, IsUnbegun, IsWhyNoHistory, IsWhyUnattended, IsWhyUnbegun, IsWhyUnended, IsWhyUntold, LeavesRun, Serves, ServesClients, ShowsRun, log_of}
+use Rattle.wh_attend.specs.Attends.{Attends, HoldsRun, IsReady, IsUnbegun, IsWhyNoHistory, IsWhyUnattended, IsWhyUnbegun, IsWhyUnended, IsWhyUntold, LeavesRun, Serves, ServesClients, ShowsRun, ending_of, written_of}
 use Rattle.wh_attend.specs.Guests.{IsStaffed}
 use Rattle.wh_attend.specs.declared.ready.Ready.{Ready}
 use Rattle.wh_attend.proofs.Wholes.{run_left, whole_log}
@@ -82,8 +82,8 @@ module _ {R W X : Type 0} (fits : X → Floor → Bool) (count : X → ℕ) (rem
 
       -- the log was kept to its end and written, and the last board was shown
       pub attends : {A E : Type 0} (kept safe : A → Option (List ℕ)) (said : Result A E) (held begun now synced had has : Option (List ℕ)) (is_whole : Bool) → held ≡ file → StaysLog held begun run.start.book
-          → IsJournalOf (first_lines begun book) now synced final.history is_whole → IfOk said (λ (_ : A). is_whole ≡ true) → IfOk said (λ (f : A). Appends now (kept f) (last_line (length final.history)))
-          → IfOk said (λ (f : A). safe f ≡ kept f) → IfOk said (λ (_ : A). Appends had has (log_of final)) → IfOk said (λ (_ : A). last ≡ Ok tt)
+          → IsJournalOf (first_lines begun book) now synced final.history is_whole → IfOk said (λ (_ : A). is_whole ≡ true) → IfOk said (λ (f : A). Appends now (kept f) (ending_of final))
+          → IfOk said (λ (f : A). safe f ≡ kept f) → IfOk said (λ (_ : A). Appends had has (written_of final)) → IfOk said (λ (_ : A). last ≡ Ok tt)
           → IfOk said (λ (f : A). Attends fits count remaining contents gives options old new had has file (safe f) (kept f) beside showed shows)
       attends kept safe (Ok f) held begun now synced had has is_whole same stays journal whole ends synced_is tells all = record {
         site = site;
@@ -100,7 +100,7 @@ module _ {R W X : Type 0} (fits : X → Floor → Bool) (count : X → ℕ) (rem
       attends kept safe (Err e) held begun now synced had has is_whole same stays journal whole ends synced_is tells all = tt
 
       -- or was not
-      unended : (told : Trouble) (had has : Option (List ℕ)) (left : Option (Option (List ℕ))) → HoldsRun told file final left → IsWhyUnended last told (log_of final) had has → IsWhyUnattended fits count remaining contents gives options told old new had has file left beside showed shows
+      unended : (told : Trouble) (had has : Option (List ℕ)) (left : Option (Option (List ℕ))) → HoldsRun told file final left → IsWhyUnended last told (written_of final) had has → IsWhyUnattended fits count remaining contents gives options told old new had has file left beside showed shows
       unended told had has left holds (inl why) = inr (inr (inr (inl (record { site = site; run = run; ready = ready; is_set = set; final = final; serves = serves; why = why; holds = holds; last = last; boards = shown }))))
       unended told had has left holds (inr bad) = inr (inr (inr (inr (record {
         fault = bad.0;
@@ -117,7 +117,7 @@ module _ {R W X : Type 0} (fits : X → Floor → Bool) (count : X → ℕ) (rem
       }))))
 
       pub untold : {A E : Type 0} (told : E → Trouble) (left : E → Option (Option (List ℕ))) (said : Result A E) (held begun now synced had has : Option (List ℕ)) (is_whole : Bool) → held ≡ file → StaysLog held begun run.start.book
-          → IsJournalOf (first_lines begun book) now synced final.history is_whole → IfErr said (λ (e : E). LeavesRun is_whole (told e) (length final.history) now (left e)) → IfErr said (λ (e : E). IsWhyUnended last (told e) (log_of final) had has)
+          → IsJournalOf (first_lines begun book) now synced final.history is_whole → IfErr said (λ (e : E). LeavesRun is_whole (told e) (ending_of final) now (left e)) → IfErr said (λ (e : E). IsWhyUnended last (told e) (written_of final) had has)
           → IfErr said (λ (e : E). IsWhyUnattended fits count remaining contents gives options (told e) old new had has file (left e) beside showed shows)
       untold told left (Ok f) held begun now synced had has is_whole same stays journal leaves why = tt
       untold told left (Err e) held begun now synced had has is_whole same stays journal leaves why =

@@ -1,6 +1,6 @@
 -- The file is the log of the whole run.
-use Rattle.std.proofs.Common.{◌≡◌, ℕ, Bool, true, false, List, [], ◌∷◌, append-nil, map, length, inl, inr, refl, sym, ap, ◌∙◌, subst, Option, None, Some}
-use Rattle.std.specs.Prelude.{IfSome}
+use Rattle.std.proofs.Common.{◌≡◌, Bool, true, false, List, [], ◌∷◌, ℕ, append-nil, map, length, inl, inr, refl, sym, ap, ◌∙◌, subst, Option, None, Some, Result, Ok, Err}
+use Rattle.std.specs.Prelude.{IfErr, IfSome}
 use Rattle.std.specs.Io.KnownBytes.{Appends}
 use Rattle.wh_words.specs.Lines.{text_of as lines_text}
 use Rattle.wh_lines.specs.Output.{WritesFront}
@@ -13,22 +13,22 @@ use Rattle.wh_desk.specs.Drafts.{Seen}
 use Rattle.wh_desk.specs.Pasts.{Origin, origin_of}
 use Rattle.wh_journal.specs.Journals.{lines_for}
 use Rattle.wh_journal.specs.Surviving.{IsLogOfBook, StaysLog}
-use Rattle.wh_continue.specs.Running.{EndsShort, IsWholeLog, last_line}
+use Rattle.wh_continue.specs.Running.{EndsShort, IsKeptLog}
 use Rattle.wh_continue.specs.declared.running.KeepFault.{KeepFault}
 use Rattle.wh_continue.specs.declared.running.KeepFault.TheVariants as kept
 use Rattle.wh_continue.proofs.Begun.{ended, front_whole}
 use Rattle.wh_edge.specs.declared.trouble.Trouble.{Trouble}
 use Rattle.wh_host.specs.Runs.{IsJournalOf, first_lines}
-use Rattle.wh_attend.specs.Attends.{HoldsRun, LeavesRun}
+use Rattle.wh_attend.specs.Attends.{HoldsRun, LeavesRun, ending_of}
 
 begun_by : (now : Option (List ℕ)) (final : Seen) → Appends (Some (lines_text (head_line Two ∷ start_line final.opening.clock final.opening.slots ∷ []))) now (lines_for final.history) → IsLogOfBook now final
 begun_by None final wrote = absurd wrote
 begun_by (Some bytes) final wrote =
     ap (λ (l : List ℕ). Some l) (wrote ∙ sym (text-append (head_line Two ∷ start_line final.opening.clock final.opening.slots ∷ []) (map entry_line final.history)))
 
--- through all: the file was begun, the lines of the whole history were written behind its first two, and it was ended
+-- through all: the file was begun, the lines of the whole history were written behind its first two, and it was ended where the run is closed
 pub whole_log : (file begun now holds : Option (List ℕ)) (book final : Seen) → StaysLog file begun book → origin_of final ≡ origin_of book
-    → Appends (first_lines begun book) now (lines_for final.history) → Appends now holds (last_line (length final.history)) → IfSome file (λ (_ : List ℕ). IsWholeLog holds final)
+    → Appends (first_lines begun book) now (lines_for final.history) → Appends now holds (ending_of final) → IfSome file (λ (_ : List ℕ). IsKeptLog holds final)
 whole_log None begun now holds book final stays origin wrote ends = tt
 whole_log (Some text) begun now holds book final stays origin wrote ends =
     let at : Appends (Some (lines_text (head_line Two ∷ start_line book.opening.clock book.opening.slots ∷ []))) now (lines_for final.history) =
@@ -45,7 +45,7 @@ first_are text begun book final stays origin =
 
 -- what is left of the journal of a run is what is left of the run
 pub run_left : (told : Trouble) (file begun now synced : Option (List ℕ)) (left : Option (Option (List ℕ))) (book final : Seen) (is_whole : Bool) → StaysLog file begun book → origin_of final ≡ origin_of book
-    → IsJournalOf (first_lines begun book) now synced final.history is_whole → LeavesRun is_whole told (length final.history) now left → HoldsRun told file final left
+    → IsJournalOf (first_lines begun book) now synced final.history is_whole → LeavesRun is_whole told (ending_of final) now left → HoldsRun told file final left
 run_left told None begun now synced left book final is_whole stays origin journal leaves = tt
 run_left told (Some text) begun now synced left book final is_whole stays origin journal (holds, given, inl (whole, front)) =
     (holds, given, inl (now, begun_by now final (subst (λ (b : Option (List ℕ)). Appends b now (lines_for final.history)) (first_are text begun book final stays origin) (journal.whole whole)), front))
@@ -68,13 +68,17 @@ unwritten : (had : Option (List ℕ)) (bytes : List ℕ) → WritesFront had had
 unwritten None bytes = record { count = 0; appends = tt }
 unwritten (Some held) bytes = record { count = 0; appends = sym (append-nil held) }
 
-pub end_short : (fault : KeepFault) (entries : ℕ) (file holds synced safe : Option (List ℕ)) (failed : Bool) → EndsShort fault entries file holds synced safe failed → WritesFront file holds (last_line entries)
-end_short kept.NoMemory entries file holds synced safe failed short = subst (λ (h : Option (List ℕ)). WritesFront file h (last_line entries)) (sym short.0) (unwritten file (last_line entries))
-end_short kept.Unkept entries file holds synced safe failed short = short.0
+pub end_short : (fault : KeepFault) (ending : List ℕ) (file holds synced safe : Option (List ℕ)) (failed : Bool) → EndsShort fault ending file holds synced safe failed → WritesFront file holds ending
+end_short kept.NoMemory ending file holds synced safe failed short = subst (λ (h : Option (List ℕ)). WritesFront file h ending) (sym short.0) (unwritten file ending)
+end_short kept.Unkept ending file holds synced safe failed short = short.0
 
--- a journal that was whole goes back with a front of the last line, or all of it
-pub front_left : (told : Trouble) (entries many : ℕ) (is_whole : Bool) (journal holds : Option (List ℕ)) → is_whole ≡ true → many ≡ entries → WritesFront journal holds (last_line many) → LeavesRun is_whole told entries journal (Some holds)
-front_left told entries many is_whole journal holds whole same front = (holds, refl, inl (whole, subst (λ (n : ℕ). WritesFront journal holds (last_line n)) same front))
+pub if_err : {T E : Type 0} (r : Result T E) (P Q : E → Type 0) → IfErr r P → ((e : E) → P e → Q e) → IfErr r Q
+if_err (Ok x) P Q p f = tt
+if_err (Err e) P Q p f = f e p
 
-pub all_left : (told : Trouble) (entries many : ℕ) (is_whole : Bool) (journal holds : Option (List ℕ)) → is_whole ≡ true → many ≡ entries → Appends journal holds (last_line many) → LeavesRun is_whole told entries journal (Some holds)
-all_left told entries many is_whole journal holds whole same ends = front_left told entries many is_whole journal holds whole same (front_whole journal holds (last_line many) ends)
+-- a journal that was whole goes back with a front of what ends its log, or all of it
+pub front_left : (told : Trouble) (ending : List ℕ) (is_whole : Bool) (journal holds : Option (List ℕ)) → is_whole ≡ true → WritesFront journal holds ending → LeavesRun is_whole told ending journal (Some holds)
+front_left told ending is_whole journal holds whole front = (holds, refl, inl (whole, front))
+
+pub all_left : (told : Trouble) (ending : List ℕ) (is_whole : Bool) (journal holds : Option (List ℕ)) → is_whole ≡ true → Appends journal holds ending → LeavesRun is_whole told ending journal (Some holds)
+all_left told ending is_whole journal holds whole ends = front_left told ending is_whole journal holds whole (front_whole journal holds ending ends)

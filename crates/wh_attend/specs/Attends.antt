@@ -1,5 +1,5 @@
 -- What a whole run of `serve` does, from the site that is read to the log that is kept.
-use Rattle.std.specs.Prelude.{◌≡◌, ◌⊎◌, ◌+◌, ℕ, Bool, true, false, List, length, Option, None, Some, IfSome, Result, Ok, Err}
+use Rattle.std.specs.Prelude.{◌≡◌, ◌⊎◌, ◌+◌, ℕ, Bool, true, false, List, [], length, cond, Option, None, Some, IfSome, Result, Ok, Err}
 use Rattle.std.specs.declared.alloc.AllocError.{AllocError}
 use Rattle.std.specs.Io.KnownBytes.{Appends, Keeps}
 use Rattle.wh_lines.specs.Input.{Input}
@@ -14,7 +14,7 @@ use Rattle.wh_log.specs.declared.version.Version.TheVariants.{Two}
 use Rattle.wh_journal.specs.Surviving.{IsLogOfBook, StaysLog, told_by}
 use Rattle.wh_continue.specs.Besides.{StandsBeside}
 use Rattle.wh_continue.specs.Opening.{IsOpened, IsWhyNotBoth}
-use Rattle.wh_continue.specs.Running.{IsLeft, IsWholeLog, last_line}
+use Rattle.wh_continue.specs.Running.{IsLeft, IsKeptLog, closing}
 use Rattle.wh_continue.specs.declared.running.KeepFault.{KeepFault}
 use Rattle.wh_continue.specs.declared.starting.Start.{Start}
 use Rattle.wh_edge.specs.Site.{SiteFault, SiteKept}
@@ -40,6 +40,14 @@ use Rattle.wh_attend.specs.declared.ready.Ready.{Ready}
 -- the log of a book's run
 abbrev pub log_of : Seen → List ℕ
 log_of book = lines_text (log_lines Two (told_by book))
+
+-- the line that ends the log of a closed run, to which nothing can be added; a run that may go on has none
+abbrev pub ending_of : Seen → List ℕ
+ending_of final = closing final.state.closed (length final.history)
+
+-- what is written of a run: the log of a closed one
+abbrev pub written_of : Seen → List ℕ
+written_of final = cond final.state.closed (log_of final) []
 
 -- A run is ready. A site was read, and the input ended after it; its text stands beside the log, or a beginning of it does; by the log
 -- the run starts from this, with one planner for each agent, and with the clients and their spare planners.
@@ -74,8 +82,9 @@ pub record Serves {R W X : Type 0} (fits : X → Floor → Bool) (count : X → 
 abbrev pub ShowsRun : {X : Type 0} → Ready X → Seen → Result Unit ShowFault → (showed shows : Option (Option (List (List ℕ)))) → Type 0
 ShowsRun run final last showed shows = BoardsFrom (origin_of final) run.start.book.history final.history last showed shows
 
--- A run was ready, its site was kept beside the log, and its clients were served. The file is the log of the whole run now, old
--- and new entries, if it tells its bytes, and all of it is synced; that log was written, and the board of the whole run was shown.
+-- A run was ready, its site was kept beside the log, and its clients were served, until the run was closed or the service stopped. The
+-- file is the log of the whole run now, old and new entries, if it tells its bytes, and all of it is synced; the log of a closed run was
+-- written, and the board of the whole run was shown.
 pub record Attends {R W X : Type 0} (fits : X → Floor → Bool) (count : X → ℕ) (remaining : R → Option (List ℕ)) (contents : W → Option (List ℕ)) (gives : PlannerParts → Result X AllocError → Type 0) (options : ServeOptions)
     (old new : Input) (had has file synced holds : Option (List ℕ)) (beside : Siding) (showed shows : Option (Option (List (List ℕ)))) : Type 0 where
   pub site : Site
@@ -84,9 +93,9 @@ pub record Attends {R W X : Type 0} (fits : X → Floor → Bool) (count : X →
   pub is_set : IsSet beside run.text.items
   pub final : Seen
   pub serves : Serves fits count remaining contents options site run final
-  pub whole : IfSome file (λ _. IsWholeLog holds final)
+  pub whole : IfSome file (λ _. IsKeptLog holds final)
   pub synced_is : synced ≡ holds
-  pub tells : Appends had has (log_of final)
+  pub tells : Appends had has (written_of final)
   pub boards : ShowsRun run final (Ok tt) showed shows
 
 -- A site was read by the rule that was asked for, and more follows it.
@@ -159,16 +168,16 @@ IsWhyUnended last told log had has =
     IsWhyUntold told log had has
     ⊎ ((fault : ShowFault) × (last ≡ Err fault) × (told ≡ trouble_of_show fault) × Appends had has log)
 
--- What a journal holds at a fault behind a run, which is given back: what it held, where it was not whole; else a front of the line that
--- ends a log follows.
-abbrev pub LeavesRun : (is_whole : Bool) → Trouble → (entries : ℕ) → (journal : Option (List ℕ)) → (left : Option (Option (List ℕ))) → Type 0
-LeavesRun is_whole told entries journal left =
+-- What a journal holds at a fault behind a run, which is given back: what it held, where it was not whole; else a front of what ends its
+-- log follows.
+abbrev pub LeavesRun : (is_whole : Bool) → Trouble → (ending : List ℕ) → (journal : Option (List ℕ)) → (left : Option (Option (List ℕ))) → Type 0
+LeavesRun is_whole told ending journal left =
     (holds : Option (List ℕ)) × (left ≡ Some holds)
-    × (((is_whole ≡ true) × WritesFront journal holds (last_line entries)) ⊎ ((is_whole ≡ false) × (told ≡ trouble.Unkept) × (holds ≡ journal)))
+    × (((is_whole ≡ true) × WritesFront journal holds ending) ⊎ ((is_whole ≡ false) × (told ≡ trouble.Unkept) × (holds ≡ journal)))
 
--- all entries of a run stand in its log, and maybe a front of the line that ends it
+-- all entries of a run stand in its log, and maybe a front of what ends it
 abbrev pub HoldsAll : (holds : Option (List ℕ)) → Seen → Type 0
-HoldsAll holds final = (log : Option (List ℕ)) × IsLogOfBook log final × WritesFront log holds (last_line (length final.history))
+HoldsAll holds final = (log : Option (List ℕ)) × IsLogOfBook log final × WritesFront log holds (ending_of final)
 
 -- its first entries stand there, and maybe a front of the lines of the next ones
 abbrev pub HoldsFirst : (file holds : Option (List ℕ)) → Seen → Type 0
@@ -179,7 +188,8 @@ abbrev pub HoldsRun : Trouble → (file : Option (List ℕ)) → Seen → (left 
 HoldsRun told file final left =
     IfSome file (λ _. (holds : Option (List ℕ)) × (left ≡ Some holds) × (HoldsAll holds final ⊎ ((told ≡ trouble.Unkept) × HoldsFirst file holds final)))
 
--- The clients of a run were served, and boards were shown as far as may be; and its log was not kept to its end, or not written.
+-- The clients of a run were served, and boards were shown as far as may be; and its log was not kept to its end, or not written where
+-- the run is closed.
 pub record AttendsUntold {R W X : Type 0} (fits : X → Floor → Bool) (count : X → ℕ) (remaining : R → Option (List ℕ)) (contents : W → Option (List ℕ)) (gives : PlannerParts → Result X AllocError → Type 0) (options : ServeOptions)
     (told : Trouble) (old new : Input) (had has file : Option (List ℕ)) (left : Option (Option (List ℕ))) (beside : Siding) (showed shows : Option (Option (List (List ℕ)))) : Type 0 where
   pub site : Site
@@ -188,7 +198,7 @@ pub record AttendsUntold {R W X : Type 0} (fits : X → Floor → Bool) (count :
   pub is_set : IsSet beside run.text.items
   pub final : Seen
   pub serves : Serves fits count remaining contents options site run final
-  pub why : IsWhyUntold told (log_of final) had has
+  pub why : IsWhyUntold told (written_of final) had has
   pub holds : HoldsRun told file final left
   pub last : Result Unit ShowFault
   pub boards : ShowsRun run final last showed shows
@@ -205,7 +215,7 @@ pub record AttendsUnshown {R W X : Type 0} (fits : X → Floor → Bool) (count 
   pub final : Seen
   pub serves : Serves fits count remaining contents options site run final
   pub holds : HoldsRun told file final left
-  pub tells : Appends had has (log_of final)
+  pub tells : Appends had has (written_of final)
   pub boards : ShowsRun run final (Err fault) showed shows
 
 -- Why it ended otherwise, the earlier first. Before the run is ready the file of the log, which is given back, and the one beside it are as they

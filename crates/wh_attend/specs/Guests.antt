@@ -17,10 +17,10 @@ use Rattle.wh_service.specs.declared.parts.PlannerParts.{PlannerParts}
 
 -- the rights that a client's word gave it, and none
 abbrev pub rights_of : ClientRights → Rights
-rights_of r = record { submit = r.submit; token = r.token; tick = r.tick; replace = r.replace; close = r.close }
+rights_of r = record { submit = r.submit; token = r.token; tick = r.tick; replace = r.replace; close = r.close; stop = r.stop }
 
 abbrev pub no_rights : Rights
-no_rights = record { submit = false; token = false; tick = false; replace = false; close = false }
+no_rights = record { submit = false; token = false; tick = false; replace = false; close = false; stop = false }
 
 -- among how many the entries of the journal are shared: the named clients, and the worker for agents and clock, if there is one
 abbrev pub sharers : (every : Option ℕ) → (named : ℕ) → ℕ

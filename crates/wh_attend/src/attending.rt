@@ -60,9 +60,9 @@ fn begin<L: LogFile, P: Planner>(
 /// connect at the doors, over the log; a closed run serves nobody. Each has the rights that its word gave it, and may have
 /// as many more entries as the options name, or else its share of the journal's; a client that was not named may do nothing.
 /// Where the options name a worker, it takes turns for all agents and the clock, until the clients are through. Boards of the run
-/// are shown on the screen meanwhile, if there is one, which comes back once the clients were served. When all are through the file is
-/// given the line that ends the log, and the log of the whole run, old and new entries, is written. What is in the log
-/// survives a kill, and no reply is told before its entry was synced. `make` makes one planner of its parts, and fails only when out
+/// are shown on the screen meanwhile, if there is one, which comes back once the clients were served. When all are through, since the
+/// warehouse is closed, the file is given the line that ends the log, and the log of the whole run, old and new entries, is written; where
+/// the service was stopped a next start goes on from the file. What is in the log survives a kill, and no reply is told before its entry was synced. `make` makes one planner of its parts, and fails only when out
 /// of memory. Errors are reported in this order: the site, what follows it, the file beside the log, the log, the bank and the
 /// planners, a client without a way in, the log's first lines, what is written beside the log, the log's beginning, the first board, the run, the end of the log,
 /// the writer, the last board. Before the clients are served nothing is written to the output. The log's file is returned

@@ -31,6 +31,7 @@ fn rights_of(rights: ClientRights) -> Rights
         tick: rights.tick,
         replace: rights.replace,
         close: rights.close,
+        stop: rights.stop,
     }
 }
 

@@ -1,13 +1,14 @@
-//! The end of a run whose clients were served: its log is kept to its end, and written, and it is told whether its last board was shown.
+//! The end of a run whose clients were served: its log is kept to its end, that of a closed run is ended and written, and it is told
+//! whether its last board was shown.
 
-ghost use Rattle.std.specs.Prelude.{◌≡◌, true, IfErr, IfOk, Ok, length, option_map};
+ghost use Rattle.std.specs.Prelude.{◌≡◌, true, IfErr, IfOk, Ok, OnOk, option_map};
 ghost use Rattle.std.specs.Io.KnownBytes.{Appends};
-ghost use Rattle.wh_continue.specs.Running.{last_line};
-ghost use Rattle.wh_attend.specs.Attends.{IsWhyUnended, LeavesRun, log_of};
+ghost use Rattle.wh_lines.specs.Output.{WritesFront};
+ghost use Rattle.wh_attend.specs.Attends.{IsWhyUnended, LeavesRun, ending_of, written_of};
 
 use std::alloc::Global;
 use std::io::Write;
-use wh_continue::{LogFile, Warehouse, end_log};
+use wh_continue::{KeepFault, LogFile, Warehouse, end_log};
 use wh_edge::Trouble;
 use wh_host::{Ran, trouble_of_show};
 use wh_log::{NoMemory, log_text};
@@ -23,11 +24,14 @@ pub struct Unattended<L> {
     pub file: Option<L>,
 }
 
-/// The log of the warehouse's run. Fails when out of memory.
+/// What is written of the warehouse's run: its log, where it is closed. Fails when out of memory.
 fn text_of<P: Planner>(alloc: Global, warehouse: &Warehouse<P>) -> Result<Vec<u8>, Trouble>
-    ensures ok { IfOk result (λ text. text.items ≡ log_of warehouse.now.book) }
+    ensures ok { IfOk result (λ text. text.items ≡ written_of warehouse.now.book) }
     ensures fault { IfErr result (λ told. told ≡ Trouble.NoMemory) }
 {
+    if !warehouse.closed() {
+        return Ok(Vec::new(alloc));
+    }
     let clock = warehouse.start();
     match log_text(alloc, clock, warehouse.first_slots(), warehouse.history()) {
         Ok(text) => Ok(text),
@@ -35,8 +39,26 @@ fn text_of<P: Planner>(alloc: Global, warehouse: &Warehouse<P>) -> Result<Vec<u8
     }
 }
 
-/// Gives the screen back and the log its last line, writes all of the log, and then tells whether the last board was shown. Where the
-/// journal has failed the log is neither ended nor written. The journal goes back with a trouble.
+/// Gives the log of a closed warehouse its last line; a log that may be gone on with has none. All of it is synced.
+fn end_closed<L: LogFile, P: Planner>(
+    alloc: Global,
+    journal: &mut L,
+    warehouse: &Warehouse<P>,
+) -> Result<(), KeepFault>
+    ensures ok { OnOk result (Appends (L.contents journal.old) (L.contents journal.new) (ending_of warehouse.now.book)) }
+    ensures synced { OnOk result (L.synced journal.new ≡ L.contents journal.new) }
+    ensures front { IfErr result (λ _. WritesFront (L.contents journal.old) (L.contents journal.new) (ending_of warehouse.now.book)) }
+{
+    end_log(
+        alloc,
+        journal,
+        warehouse.closed(),
+        warehouse.history().len() as u64,
+    )
+}
+
+/// Gives the screen back and the log of a closed warehouse its last line, writes all of that log, and then tells whether the last board
+/// was shown. Where the journal has failed the log is neither ended nor written. The journal goes back with a trouble.
 pub(crate) fn end_run<L: LogFile + Drop, W: Write, P: Planner, V: Drop>(
     alloc: Global,
     output: &mut W,
@@ -45,12 +67,12 @@ pub(crate) fn end_run<L: LogFile + Drop, W: Write, P: Planner, V: Drop>(
 ) -> Result<L, Unattended<L>>
     ensures screen { screen.new ≡ ran.screen }
     ensures whole { IfOk result (λ _. ran.is_whole ≡ true) }
-    ensures ends { IfOk result (λ file. Appends (L.contents ran.journal) (L.contents file) (last_line (length ran.history.warehouse.book.history))) }
+    ensures ends { IfOk result (λ file. Appends (L.contents ran.journal) (L.contents file) (ending_of ran.history.warehouse.book)) }
     ensures synced { IfOk result (λ file. L.synced file ≡ L.contents file) }
-    ensures tells { IfOk result (λ _. Appends (W.contents output.old) (W.contents output.new) (log_of ran.history.warehouse.book)) }
+    ensures tells { IfOk result (λ _. Appends (W.contents output.old) (W.contents output.new) (written_of ran.history.warehouse.book)) }
     ensures shown { IfOk result (λ _. ran.last ≡ Ok tt) }
-    ensures fault { IfErr result (λ e. IsWhyUnended ran.last e.trouble (log_of ran.history.warehouse.book) (W.contents output.old) (W.contents output.new)) }
-    ensures left { IfErr result (λ e. LeavesRun ran.is_whole e.trouble (length ran.history.warehouse.book.history) (L.contents ran.journal) (option_map L.contents e.file)) }
+    ensures fault { IfErr result (λ e. IsWhyUnended ran.last e.trouble (written_of ran.history.warehouse.book) (W.contents output.old) (W.contents output.new)) }
+    ensures left { IfErr result (λ e. LeavesRun ran.is_whole e.trouble (ending_of ran.history.warehouse.book) (L.contents ran.journal) (option_map L.contents e.file)) }
 {
     let Ran {
         history,
@@ -68,7 +90,7 @@ pub(crate) fn end_run<L: LogFile + Drop, W: Write, P: Planner, V: Drop>(
         return Err(Unattended { trouble, file });
     }
     let warehouse = &history.warehouse;
-    match end_log(alloc, &mut journal, warehouse.history().len() as u64) {
+    match end_closed(alloc, &mut journal, warehouse) {
         Ok(()) => {}
         Err(fault) => {
             drop(history);

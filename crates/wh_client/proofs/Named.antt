@@ -29,6 +29,7 @@ pub record AreNamed (ws : List (Bor Text)) (rights : ClientRights) : Type 0 wher
   pub tick : rights.tick ≡ list_any (λ w. bytes_eq w.now (codes "tick")) ws
   pub replace : rights.replace ≡ list_any (λ w. bytes_eq w.now (codes "replace")) ws
   pub close : rights.close ≡ list_any (λ w. bytes_eq w.now (codes "close")) ws
+  pub stop : rights.stop ≡ list_any (λ w. bytes_eq w.now (codes "stop")) ws
 
 pub named : (ws : List (Bor Text)) (rights : ClientRights) → AreNamed ws rights → list_all (λ w. is_right w.now) ws ≡ true → length ws ≡ count_rights rights → NamesRights (shown ws) rights
 named ws rights are each single = record {
@@ -39,6 +40,7 @@ named ws rights are each single = record {
   tick = are.tick ∙ any_shown (λ w. bytes_eq w (codes "tick")) ws;
   replace = are.replace ∙ any_shown (λ w. bytes_eq w (codes "replace")) ws;
   close = are.close ∙ any_shown (λ w. bytes_eq w (codes "close")) ws;
+  stop = are.stop ∙ any_shown (λ w. bytes_eq w (codes "stop")) ws;
 }
 
 -- words name one set of rights
@@ -49,6 +51,7 @@ names_once words r s a b = λ i. record {
   tick = (a.tick ∙ sym b.tick) i;
   replace = (a.replace ∙ sym b.replace) i;
   close = (a.close ∙ sym b.close) i;
+  stop = (a.stop ∙ sym b.stop) i;
 }
 
 pub not_each : (ws : List (Bor Text)) → list_all (λ w. is_right w.now) ws ≡ false → (r : ClientRights) → NamesRights (shown ws) r → ⊥
@@ -62,6 +65,7 @@ are_same ws r s a b = λ i. record {
   tick = (a.tick ∙ sym (any_shown (λ w. bytes_eq w (codes "tick")) ws) ∙ sym b.tick) i;
   replace = (a.replace ∙ sym (any_shown (λ w. bytes_eq w (codes "replace")) ws) ∙ sym b.replace) i;
   close = (a.close ∙ sym (any_shown (λ w. bytes_eq w (codes "close")) ws) ∙ sym b.close) i;
+  stop = (a.stop ∙ sym (any_shown (λ w. bytes_eq w (codes "stop")) ws) ∙ sym b.stop) i;
 }
 
 pub not_single : (ws : List (Bor Text)) (rights : ClientRights) → AreNamed ws rights → (length ws ≡ count_rights rights → ⊥) → (r : ClientRights) → NamesRights (shown ws) r → ⊥

@@ -23,14 +23,14 @@ Has test text = position_or_len test text < length text
 
 -- the word names a right
 abbrev pub is_right : Text → Bool
-is_right word = list_any (bytes_eq word) (codes "submit" ∷ codes "token" ∷ codes "tick" ∷ codes "replace" ∷ codes "close" ∷ [])
+is_right word = list_any (bytes_eq word) (codes "submit" ∷ codes "token" ∷ codes "tick" ∷ codes "replace" ∷ codes "close" ∷ codes "stop" ∷ [])
 
 abbrev pub one_if : Bool → ℕ
 one_if true = 1
 one_if false = 0
 
 abbrev pub count_rights : ClientRights → ℕ
-count_rights r = one_if r.submit + one_if r.token + one_if r.tick + one_if r.replace + one_if r.close
+count_rights r = one_if r.submit + one_if r.token + one_if r.tick + one_if r.replace + one_if r.close + one_if r.stop
 
 -- one of the words is this one
 abbrev pub names : List Text → Text → Bool
@@ -45,12 +45,14 @@ pub record NamesRights (words : List Text) (rights : ClientRights) : Type 0 wher
   pub tick : rights.tick ≡ names words (codes "tick")
   pub replace : rights.replace ≡ names words (codes "replace")
   pub close : rights.close ≡ names words (codes "close")
+  pub stop : rights.stop ≡ names words (codes "stop")
 
+-- the right to every command of the warehouse, and not to stop its service
 abbrev pub all_rights : ClientRights
-all_rights = record { submit = true; token = true; tick = true; replace = true; close = true }
+all_rights = record { submit = true; token = true; tick = true; replace = true; close = true; stop = false }
 
 abbrev pub submit_alone : ClientRights
-submit_alone = record { submit = true; token = false; tick = false; replace = false; close = false }
+submit_alone = record { submit = true; token = false; tick = false; replace = false; close = false; stop = false }
 
 -- the text is `all`, or it is words by commas, and they name these rights
 abbrev pub SpellsRights : Text → ClientRights → Type 0

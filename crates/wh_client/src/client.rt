@@ -19,6 +19,8 @@ pub struct ClientRights {
     pub replace: bool,
     /// To close the warehouse.
     pub close: bool,
+    /// To stop the service.
+    pub stop: bool,
 }
 
 /// A running client. It keeps a text of the word that named it.
@@ -32,12 +34,14 @@ pub struct ClientOptions<'a> {
     pub rights: ClientRights,
 }
 
+// every command, and not the stop: who may do all of it to a warehouse need not end its service
 const ALL: ClientRights = ClientRights {
     submit: true,
     token: true,
     tick: true,
     replace: true,
     close: true,
+    stop: false,
 };
 
 const SUBMIT: ClientRights = ClientRights {
@@ -46,13 +50,19 @@ const SUBMIT: ClientRights = ClientRights {
     tick: false,
     replace: false,
     close: false,
+    stop: false,
 };
 
 /// Whether the word names a right.
 fn is_right(word: &str) -> bool
     ensures { result ≡ is_right word.now }
 {
-    word == "submit" || word == "token" || word == "tick" || word == "replace" || word == "close"
+    word == "submit"
+        || word == "token"
+        || word == "tick"
+        || word == "replace"
+        || word == "close"
+        || word == "stop"
 }
 
 /// Whether each word names a right.
@@ -76,6 +86,7 @@ fn count(rights: ClientRights) -> usize
         + usize::from(rights.tick)
         + usize::from(rights.replace)
         + usize::from(rights.close)
+        + usize::from(rights.stop)
 }
 
 /// The rights that the words name.
@@ -85,6 +96,7 @@ fn rights_named(words: &[&str]) -> ClientRights
     ensures tick { result.tick ≡ list_any (λ w. bytes_eq w.now (codes "tick")) words.now }
     ensures replace { result.replace ≡ list_any (λ w. bytes_eq w.now (codes "replace")) words.now }
     ensures close { result.close ≡ list_any (λ w. bytes_eq w.now (codes "close")) words.now }
+    ensures stop { result.stop ≡ list_any (λ w. bytes_eq w.now (codes "stop")) words.now }
 {
     ClientRights {
         submit: words.contains(&"submit"),
@@ -92,6 +104,7 @@ fn rights_named(words: &[&str]) -> ClientRights
         tick: words.contains(&"tick"),
         replace: words.contains(&"replace"),
         close: words.contains(&"close"),
+        stop: words.contains(&"stop"),
     }
 }
 
@@ -107,7 +120,7 @@ fn rights_of_words(words: &[&str]) -> Option<ClientRights>
     }
 }
 
-/// The rights that a text names: all of them, or some by commas.
+/// The rights that a text names: `all`, which are those to every command, or some by commas.
 fn rights_of(alloc: Global, text: &str) -> Result<Option<ClientRights>, AllocError>
     ensures { IfOk result (λ found. MatchOption found ((r : ClientRights) → ¬ SpellsRights text.now r) (SpellsRights text.now)) }
 {

@@ -273,7 +273,8 @@ fn shows_all(alloc: Global, ran: &Left) -> bool {
 /// Whether the client's two tasks were carried beside it, kept and shown, and it was told its replies.
 fn is_done(alloc: Global, ran: &Left, notes: &Notes) -> bool {
     let entries = ran.history.warehouse.history();
-    let told = b"entries 0\naccepted 0\naccepted 1\nentries 2\nclosed\n";
+    let told =
+        b"entries 0 0123456789abcdef\naccepted 0\naccepted 1\nentries 2 0123456789abcdef\nclosed\n";
     is_paced(entries)
         && carried(entries) == (2, 2)
         && ran.is_whole
@@ -290,7 +291,10 @@ fn is_done(alloc: Global, ran: &Left, notes: &Notes) -> bool {
 #[test]
 fn tasks_are_done_beside_a_client(rt: HostRuntime) -> Result<(), Fail> {
     let plan = Plan {
-        sends: &[b"submit x A B\nsubmit y C D\n", b"close\n"],
+        sends: &[
+            b"begin 0123456789abcdef\nsubmit x A B\nsubmit y C D\n",
+            b"begin 0123456789abcdef\nclose\n",
+        ],
         at_once: 1,
         ..PLAN
     };
@@ -298,9 +302,9 @@ fn tasks_are_done_beside_a_client(rt: HostRuntime) -> Result<(), Fail> {
     Ok(())
 }
 
-/// What a worker adds to it in two turns: at the first both agents ask, at the second nobody, as no task is open.
+/// What a worker adds to it in three turns: at the first the nearer agent asks, and nobody else, as no task is open then.
 const FOUR: &[u8] =
-    b"1 token 0 = took 0 path 0,1 1,1 1,0 1,1 2,1 3,1 3,0\n1 token 1 = rested\n1 tick = clock 1 picked 0 dropped 0\n1 tick = clock 2 picked 1 dropped 0\n";
+    b"1 token 0 = took 0 path 0,1 1,1 1,0 1,1 2,1 3,1 3,0\n1 tick = clock 1 picked 0 dropped 0\n1 tick = clock 2 picked 1 dropped 0\n1 tick = clock 3 picked 0 dropped 0\n";
 
 /// Whether the worker filled the journal, and the client was refused twice.
 fn is_filled(ran: &Left, notes: &Notes) -> bool {
@@ -313,14 +317,15 @@ fn is_filled(ran: &Left, notes: &Notes) -> bool {
         && ran.last.is_ok()
         && notes.ended == full
         && notes.fulls.as_slice() == twice.as_slice()
-        && notes.told.as_slice() == b"entries 1\nrefused E11\nrefused E11\n".as_slice()
+        && notes.told.as_slice()
+            == b"entries 1 0123456789abcdef\nrefused E11\nrefused E11\n".as_slice()
 }
 
 #[test]
 fn a_worker_fills_the_journal(rt: HostRuntime) -> Result<(), Fail> {
     let plan = Plan {
         before: ORDERED,
-        sends: &[b"tick\n# nothing\nclose\n"],
+        sends: &[b"begin 0123456789abcdef\ntick\n# nothing\nclose\n"],
         entries: 4,
         has_screen: false,
         ..PLAN
@@ -331,7 +336,7 @@ fn a_worker_fills_the_journal(rt: HostRuntime) -> Result<(), Fail> {
 
 /// What a worker that has two calls adds to it, and a client that closes.
 const TWO: &[u8] =
-    b"1 token 0 = took 0 path 0,1 1,1 1,0 1,1 2,1 3,1 3,0\n1 token 1 = rested\n0 close = closed\n";
+    b"1 token 0 = took 0 path 0,1 1,1 1,0 1,1 2,1 3,1 3,0\n1 tick = clock 1 picked 0 dropped 0\n0 close = closed\n";
 
 /// Whether the worker ended at its share, and the client closed behind it.
 fn leaves_a_share(ran: &Left, notes: &Notes) -> bool {
@@ -340,14 +345,14 @@ fn leaves_a_share(ran: &Left, notes: &Notes) -> bool {
         && ran.journal.held.as_slice().strip_prefix(ORDERED) == Some(TWO)
         && notes.ended == Some(WorkerEnd::ShareUsed)
         && notes.fulls.is_empty()
-        && notes.told.as_slice() == b"entries 1\nclosed\n".as_slice()
+        && notes.told.as_slice() == b"entries 1 0123456789abcdef\nclosed\n".as_slice()
 }
 
 #[test]
 fn a_worker_leaves_a_client_its_share(rt: HostRuntime) -> Result<(), Fail> {
     let plan = Plan {
         before: ORDERED,
-        sends: &[b"close\n"],
+        sends: &[b"begin 0123456789abcdef\nclose\n"],
         entries: 3,
         share: 2,
         worker: Some(2),
@@ -360,7 +365,7 @@ fn a_worker_leaves_a_client_its_share(rt: HostRuntime) -> Result<(), Fail> {
 
 /// Whether the client's second tick was refused, since its share was used.
 fn has_used_its_share(ran: &Left, notes: &Notes) -> bool {
-    let told = b"entries 0\nclock 1 picked 0 dropped 0\nrefused E11\n";
+    let told = b"entries 0 0123456789abcdef\nclock 1 picked 0 dropped 0\nrefused E11\n";
     notes.fulls.as_slice() == [(0, Full::Share)].as_slice()
         && notes.told.as_slice() == told.as_slice()
         && notes.ended.is_none()
@@ -371,7 +376,7 @@ fn has_used_its_share(ran: &Left, notes: &Notes) -> bool {
 #[test]
 fn a_share_is_used(rt: HostRuntime) -> Result<(), Fail> {
     let plan = Plan {
-        sends: &[b"tick\ntick\n"],
+        sends: &[b"begin 0123456789abcdef\ntick\ntick\n"],
         at_once: 2,
         entries: 2,
         share: 1,
@@ -403,7 +408,7 @@ fn stops_at_the_fault(ran: &Left, notes: &Notes, over: u64) -> bool {
         && ran.journal.held.as_slice() == ORDERED
         && notes.ended == unkept
         && notes.outcome == Some(Err(ServeFault::Unjournaled))
-        && notes.told.as_slice() == b"entries 1\n".as_slice()
+        && notes.told.as_slice() == b"entries 1 0123456789abcdef\n".as_slice()
         && over == 1
 }
 
@@ -411,7 +416,10 @@ fn stops_at_the_fault(ran: &Left, notes: &Notes, over: u64) -> bool {
 fn nothing_is_told_or_shown_behind_a_fault(rt: HostRuntime) -> Result<(), Fail> {
     let plan = Plan {
         before: ORDERED,
-        sends: &[b"submit x A B\n", b"tick\n"],
+        sends: &[
+            b"begin 0123456789abcdef\nsubmit x A B\n",
+            b"begin 0123456789abcdef\ntick\n",
+        ],
         has_failed: true,
         ..PLAN
     };

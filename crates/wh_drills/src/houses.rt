@@ -6,7 +6,12 @@ use std::alloc::Global;
 use std::sync::atomic::AtomicU64;
 use std::sync::atomic::Ordering::SeqCst;
 use std::sync::{Mutex, Wait};
-use wh_serve::{Connection, Doors, Full, ServeFault, Served, WorkerEnd};
+use wh_serve::{Connection, Doors, Full, Idle, ServeFault, Served, Tag, WorkerEnd};
+
+/// The tag of each connection. What a client sends begins with `begin 0123456789abcdef`.
+pub const TAG: Tag = Tag {
+    bytes: [0x01, 0x23, 0x45, 0x67, 0x89, 0xab, 0xcd, 0xef],
+};
 
 /// What the doors of the one client were told.
 #[derive(Drop)]
@@ -15,6 +20,7 @@ pub struct Notes {
     pub outcome: Option<Result<Served, ServeFault>>,
     pub fulls: Vec<(u32, Full)>,
     pub ended: Option<WorkerEnd>,
+    pub idle: Option<Idle>,
 }
 
 /// How often a connection was asked for, how often the service ended, and how often a limit was met.
@@ -62,6 +68,7 @@ impl<'a, X: Wait> House<'a, X> {
                 outcome: None,
                 fulls: Vec::new(alloc),
                 ended: None,
+                idle: None,
             }),
         }
     }
@@ -85,6 +92,7 @@ impl<'a, X: Wait + Sync> Doors<&'static [u8], Vec<u8>> for House<'a, X> {
         Some(Connection {
             reader,
             writer: Vec::new(self.alloc),
+            tag: TAG,
         })
     }
 
@@ -96,6 +104,12 @@ impl<'a, X: Wait + Sync> Doors<&'static [u8], Vec<u8>> for House<'a, X> {
         self.over.fetch_add(1, SeqCst);
     }
 
+    fn begins(&self, _client: u32) {}
+
+    fn is_dropped(&self, _client: u32) {
+        self.limits.fetch_add(1, SeqCst);
+    }
+
     fn is_full(&self, client: u32, what: Full) {
         if self.notes.lock(self.rt).fulls.push((client, what)).is_err() {
             self.limits.fetch_add(1, SeqCst);
@@ -105,6 +119,10 @@ impl<'a, X: Wait + Sync> Doors<&'static [u8], Vec<u8>> for House<'a, X> {
     fn worker_ends(&self, why: WorkerEnd) {
         self.notes.lock(self.rt).ended = Some(why);
         self.cues.fetch_add(1, SeqCst);
+    }
+
+    fn worker_idles(&self, why: Idle) {
+        self.notes.lock(self.rt).idle = Some(why);
     }
 
     fn leave(&self, _client: u32, outcome: &Result<Served, ServeFault>, writer: Vec<u8>) {

@@ -131,7 +131,7 @@ pub fn begun(
 /// How these runs are hosted: each has room for one entry more, and the client is alone.
 const ALONE: Plan = Plan {
     before: TWO,
-    sends: &[b"close\n"],
+    sends: &[b"begin 0123456789abcdef\nclose\n"],
     at_once: 2,
     entries: 1,
     share: 3,
@@ -147,7 +147,7 @@ fn is_odd(notes: &Notes) -> bool {
 
 /// Whether the client found the two entries and added its own, and the journal has all three.
 pub fn closes_it(ran: &Left, notes: &Notes) -> bool {
-    notes.told.as_slice() == b"entries 2\nclosed\n".as_slice()
+    notes.told.as_slice() == b"entries 2 0123456789abcdef\nclosed\n".as_slice()
         && !is_odd(notes)
         && ran.history.warehouse.history().len() == 3
         && ran.connections.as_slice() == [1].as_slice()

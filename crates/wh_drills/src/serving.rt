@@ -5,6 +5,7 @@ ghost use Rattle.std.specs.Prelude.{◌≡◌, [], IfOk, Some, length};
 ghost use Rattle.wh_board.specs.Pasts.{origin_of, past_of};
 
 use super::gates::hold;
+use super::houses::TAG;
 use super::parts::{Outfit, Parts, fit_out, staffed};
 use std::alloc::{AllocError, Global};
 use std::io::{Read, Write};
@@ -19,18 +20,53 @@ use wh_journal::MemoryJournal;
 use wh_planner::Planner;
 use wh_planners::Patient;
 use wh_serve::{
-    Allowance, Client, Connection, Doors, End, Form, Full, JournalName, Rights, Scribe, ServeFault,
-    Served, WorkerEnd, serve_clients,
+    Allowance, Client, Connection, Doors, End, Form, Full, Idle, JournalName, Rights, Scribe,
+    ServeFault, Served, WorkerEnd, serve_clients,
 };
 
 /// What client 0 sends first: the line that was begun is no command.
-const FIRST: &[u8] = b"submit x A B\ntoken 1";
+const FIRST: &[u8] = b"begin 0123456789abcdef\nsubmit x A B\ntoken 1";
 
-/// What client 1 sends, when client 0 has left for the first time. It has no right to tokens.
-const OTHER: &[u8] = b"submit y D C\n# nothing\n\ntoken 0\nsubmit\n";
+/// What client 1 sends, when client 0 has left for the first time: three lines before it begins, and an empty one, and then its own.
+/// It has no right to tokens, and may not begin once more.
+const OTHER: &[u8] =
+    b"submit y A B\nbegin 0123456789abcdee\nbegin 0123456789abcde\n\nbegin 0123456789abcdef\nsubmit y D C\n# nothing\n\ntoken 0\nbegin 0123456789abcdef\n";
 
-/// What client 0 sends when client 1 comes no more. After the close nothing is served.
-const SECOND: &[u8] = b"token 0\nclose\ntick\n";
+/// How client 0 ends the service.
+#[derive(Clone, Copy)]
+struct Case {
+    /// Whether it has the right to stop it.
+    may_stop: bool,
+    /// What it sends when client 1 comes no more. After the close, or the stop, nothing is served.
+    second: &'static [u8],
+    /// What it is told then.
+    told: &'static [u8],
+    replies: u64,
+    /// What the journal holds then.
+    kept: &'static [u8],
+    /// How often the doors are told to end.
+    over: u64,
+}
+
+/// By a close, and not by a stop to which it has no right.
+const CLOSES: Case = Case {
+    may_stop: false,
+    second: b"begin 0123456789abcdef\ntoken 0\nstop\nclose\ntick\n",
+    told: b"entries 1 0123456789abcdef\ntook 0 end 6\nrefused C3\nclosed\n",
+    replies: 3,
+    kept: b"0 submit x A B = accepted 0\n1 submit y D C = accepted 1\n0 token 0 = took 0 path 0,1 1,1 1,0 1,1 2,1 3,1 3,0\n0 close = closed\n",
+    over: 1,
+};
+
+/// By a stop, which is a line of that word alone: before all is synced, and when it was told.
+const STOPS: Case = Case {
+    may_stop: true,
+    second: b"begin 0123456789abcdef\ntoken 0\nstop now\n stop\t\ntick\n",
+    told: b"entries 1 0123456789abcdef\ntook 0 end 6\nrefused C1\nstopped\n",
+    replies: 3,
+    kept: b"0 submit x A B = accepted 0\n1 submit y D C = accepted 1\n0 token 0 = took 0 path 0,1 1,1 1,0 1,1 2,1 3,1 3,0\n",
+    over: 2,
+};
 
 /// A connection that was left.
 #[derive(Drop)]
@@ -45,10 +81,13 @@ struct Left {
 struct Bytes<'a, X: Wait> {
     rt: &'a X,
     alloc: Global,
+    case: Case,
     opened: AtomicU64,
     refused: AtomicU64,
     gone: AtomicU64,
     over: AtomicU64,
+    begun: AtomicU64,
+    dropped: AtomicU64,
     limits: AtomicU64,
     /// How often the doors were told what must not come here.
     odd: AtomicU64,
@@ -62,7 +101,7 @@ impl<'a, X: Wait> Bytes<'a, X> {
         match (client, opened) {
             (0, 0) => Some(FIRST),
             (1, 1) => Some(OTHER),
-            (0, 3) => Some(SECOND),
+            (0, 3) => Some(self.case.second),
             _ => None,
         }
     }
@@ -79,6 +118,7 @@ impl<'a, X: Wait + Sync> Doors<&'static [u8], Vec<u8>> for Bytes<'a, X> {
             Some(reader) => Some(Connection {
                 reader,
                 writer: Vec::new(self.alloc),
+                tag: TAG,
             }),
             None => {
                 self.refused.fetch_add(1, SeqCst);
@@ -95,11 +135,26 @@ impl<'a, X: Wait + Sync> Doors<&'static [u8], Vec<u8>> for Bytes<'a, X> {
         self.over.fetch_add(1, SeqCst);
     }
 
+    fn begins(&self, _client: u32) {
+        self.begun.fetch_add(1, SeqCst);
+    }
+
+    fn is_dropped(&self, client: u32) {
+        if client != 1 {
+            self.odd.fetch_add(1, SeqCst);
+        }
+        self.dropped.fetch_add(1, SeqCst);
+    }
+
     fn is_full(&self, _client: u32, _what: Full) {
         self.odd.fetch_add(1, SeqCst);
     }
 
     fn worker_ends(&self, _why: WorkerEnd) {
+        self.odd.fetch_add(1, SeqCst);
+    }
+
+    fn worker_idles(&self, _why: Idle) {
         self.odd.fetch_add(1, SeqCst);
     }
 
@@ -131,15 +186,19 @@ fn client<P: Planner>(alloc: Global, rights: Rights) -> Client<P> {
     }
 }
 
-fn clients<P: Planner>(alloc: Global) -> Result<Vec<Client<P>>, Fail>
+fn clients<P: Planner>(alloc: Global, may_stop: bool) -> Result<Vec<Client<P>>, Fail>
     ensures { IfOk result (λ r. length r.items ≡ 2) }
 {
+    let ends = Rights {
+        stop: may_stop,
+        ..Rights::all()
+    };
     let submits = Rights {
         submit: true,
         ..Rights::default()
     };
     let mut clients = Vec::new(alloc);
-    clients.push(client(alloc, Rights::all()))?;
+    clients.push(client(alloc, ends))?;
     clients.push(client(alloc, submits))?;
     Ok(clients)
 }
@@ -222,12 +281,19 @@ fn serve_made<
     R: Read + Send + Drop,
     W: Write + Send + Drop,
     D: Doors<R, W>,
->(rt: &X, alloc: Global, has_failed: bool, doors: &D, make: &F) -> Result<Option<Kept>, Fail>
+>(
+    rt: &X,
+    alloc: Global,
+    has_failed: bool,
+    may_stop: bool,
+    doors: &D,
+    make: &F,
+) -> Result<Option<Kept>, Fail>
     requires { F.IsAlwaysCallable make.now }
 {
     let warehouse = staffed(alloc, make)?;
     let outfit = fit_out(rt, alloc, warehouse, 10)?;
-    match clients(alloc) {
+    match clients(alloc, may_stop) {
         Ok(clients) => {
             let journal = bare_journal(alloc, has_failed);
             Ok(serve::<Brand, Brand, _, _, _, R, W, _>(rt, alloc, outfit, journal, clients, doors))
@@ -245,74 +311,86 @@ fn serve_two<
     R: Read + Send + Drop,
     W: Write + Send + Drop,
     D: Doors<R, W>,
->(rt: &X, alloc: Global, has_failed: bool, doors: &D) -> Result<Option<Kept>, Fail> {
+>(
+    rt: &X,
+    alloc: Global,
+    has_failed: bool,
+    may_stop: bool,
+    doors: &D,
+) -> Result<Option<Kept>, Fail> {
     let make = |parts: Parts| -> Result<Patient, AllocError> {
         Ok(Patient::new(parts.grid, parts.claim))
     };
-    serve_made::<_, _, _, R, W, _>(rt, alloc, has_failed, doors, &make)
+    serve_made::<_, _, _, R, W, _>(rt, alloc, has_failed, may_stop, doors, &make)
 }
 
-/// What is told over each connection, in the order in which they are left.
-const TOLD: [(u32, Served, &[u8]); 3] = [
-    (
-        0,
-        Served {
-            replies: 1,
-            end: End::Torn,
-        },
-        b"entries 0\naccepted 0\n",
-    ),
-    (
-        1,
-        Served {
-            replies: 3,
-            end: End::Input,
-        },
-        b"entries 0\naccepted 1\nrefused C3\nrefused C1\n",
-    ),
-    (
-        0,
-        Served {
-            replies: 2,
-            end: End::Over,
-        },
-        b"entries 1\ntook 0 end 6\nclosed\n",
-    ),
-];
+/// What is told over a connection: to whom, how it was served, and its bytes.
+type Tells = (u32, Served, &'static [u8]);
 
-/// What the journal holds at the end: each client's task, then client 0's token and its close.
-const KEPT: &[u8] =
-    b"0 submit x A B = accepted 0\n1 submit y D C = accepted 1\n0 token 0 = took 0 path 0,1 1,1 1,0 1,1 2,1 3,1 3,0\n0 close = closed\n";
+/// What is told over each connection, in the order in which they are left.
+fn tells(case: Case) -> [Tells; 3] {
+    [
+        (
+            0,
+            Served {
+                replies: 1,
+                end: End::Torn,
+            },
+            b"entries 0 0123456789abcdef\naccepted 0\n",
+        ),
+        (
+            1,
+            Served {
+                replies: 3,
+                end: End::Input,
+            },
+            b"entries 0 0123456789abcdef\naccepted 1\nrefused C3\nrefused C1\n",
+        ),
+        (
+            0,
+            Served {
+                replies: case.replies,
+                end: End::Over,
+            },
+            case.told,
+        ),
+    ]
+}
 
 /// Whether these were left as the table says.
-fn as_told(left: &[Left]) -> bool {
-    left.len() == TOLD.len()
-        && left.iter().zip(TOLD.iter()).all(|(left, told)| {
+fn as_told(left: &[Left], tells: &[Tells]) -> bool {
+    left.len() == tells.len()
+        && left.iter().zip(tells.iter()).all(|(left, told)| {
             left.client == told.0 && left.outcome == Ok(told.1) && left.told.as_slice() == told.2
         })
 }
 
 /// The doors before anybody has come.
-fn shut<'a, X: Wait>(rt: &'a X, alloc: Global) -> Bytes<'a, X> {
+fn shut<'a, X: Wait>(rt: &'a X, alloc: Global, case: Case) -> Bytes<'a, X> {
     Bytes {
         rt,
         alloc,
+        case,
         opened: AtomicU64::new(0),
         refused: AtomicU64::new(0),
         gone: AtomicU64::new(0),
         over: AtomicU64::new(0),
+        begun: AtomicU64::new(0),
+        dropped: AtomicU64::new(0),
         limits: AtomicU64::new(0),
         odd: AtomicU64::new(0),
         left: Mutex::new(Vec::new(alloc)),
     }
 }
 
-/// How often the doors were asked, were asked in vain, and were ended.
+/// How often the doors were asked, were asked in vain, and were ended; how many connections began, and how many lines were dropped.
 #[derive(Clone, Copy, PartialEq, Eq)]
 struct Counts {
     opened: u64,
     refused: u64,
     over: u64,
+    begun: u64,
+    dropped: u64,
 }
 
 impl<'a, X: Wait> Bytes<'a, X> {
@@ -325,26 +403,32 @@ impl<'a, X: Wait> Bytes<'a, X> {
             opened: self.opened.load(SeqCst),
             refused: self.refused.load(SeqCst),
             over: self.over.load(SeqCst),
+            begun: self.begun.load(SeqCst),
+            dropped: self.dropped.load(SeqCst),
         })
     }
 }
 
-/// Client 0 was asked for twice and client 1 twice, in vain once; and the close ended it, once.
-const FOUR_TIMES: Counts = Counts {
-    opened: 4,
-    refused: 1,
-    over: 1,
-};
+/// Client 0 was asked for twice and client 1 twice, in vain once. Each connection began.
+fn four_times(case: Case) -> Counts {
+    Counts {
+        opened: 4,
+        refused: 1,
+        over: case.over,
+        begun: 3,
+        dropped: 3,
+    }
+}
 
 /// Whether the two left what they were to leave.
-fn comes_again(kept: &Option<Kept>, left: &[Left], counts: Option<Counts>) -> bool {
+fn comes_again(case: Case, kept: &Option<Kept>, left: &[Left], counts: Option<Counts>) -> bool {
     match kept {
         Some(kept) => {
-            counts == Some(FOUR_TIMES)
-                && as_told(left)
+            counts == Some(four_times(case))
+                && as_told(left, tells(case).as_slice())
                 && kept.connections.as_slice() == [2, 1].as_slice()
-                && kept.journal.held.as_slice() == KEPT
-                && kept.journal.safe == KEPT.len()
+                && kept.journal.held.as_slice() == case.kept
+                && kept.journal.safe == case.kept.len()
         }
         None => false,
     }
@@ -352,10 +436,18 @@ fn comes_again(kept: &Option<Kept>, left: &[Left], counts: Option<Counts>) -> bo
 
 #[test]
 fn client_comes_again(rt: HostRuntime) -> Result<(), Fail> {
-    let doors = shut(&rt, rt.alloc());
-    let kept = serve_two::<_, &'static [u8], Vec<u8>, _>(&rt, rt.alloc(), false, &doors)?;
-    let left = doors.left.lock(&rt);
-    assert!(rt; comes_again(&kept, left.as_slice(), doors.counts()));
+    for case in [CLOSES, STOPS] {
+        let doors = shut(&rt, rt.alloc(), case);
+        let kept = serve_two::<_, &'static [u8], Vec<u8>, _>(
+            &rt,
+            rt.alloc(),
+            false,
+            case.may_stop,
+            &doors,
+        )?;
+        let left = doors.left.lock(&rt);
+        assert!(rt; comes_again(case, &kept, left.as_slice(), doors.counts()));
+    }
     Ok(())
 }
 
@@ -365,9 +457,8 @@ fn nobody_told(left: &[Left]) -> bool {
         left.client == 0 && left.outcome == Err(ServeFault::Unjournaled)
     });
     first
-        && left
-            .iter()
-            .all(|left| left.told.as_slice() == b"entries 0\n".as_slice())
+        && left.iter().all(|left| left.told.as_slice()
+            == b"entries 0 0123456789abcdef\n".as_slice())
 }
 
 /// Whether the service ended once, and nothing was told or kept.
@@ -382,8 +473,8 @@ fn tells_nothing(kept: &Option<Kept>, left: &[Left], counts: Option<Counts>) -> 
 
 #[test]
 fn journal_has_failed(rt: HostRuntime) -> Result<(), Fail> {
-    let doors = shut(&rt, rt.alloc());
-    let kept = serve_two::<_, &'static [u8], Vec<u8>, _>(&rt, rt.alloc(), true, &doors)?;
+    let doors = shut(&rt, rt.alloc(), CLOSES);
+    let kept = serve_two::<_, &'static [u8], Vec<u8>, _>(&rt, rt.alloc(), true, false, &doors)?;
     let left = doors.left.lock(&rt);
     assert!(rt; tells_nothing(&kept, left.as_slice(), doors.counts()));
     Ok(())

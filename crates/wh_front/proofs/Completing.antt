@@ -11,9 +11,9 @@ use Rattle.wh_front.specs.declared.line.Line.{Line}
 use Rattle.wh_front.specs.declared.line.Line.TheVariants as lines
 use Rattle.wh_front.specs.declared.stage.Stage.{Stage}
 use Rattle.wh_front.specs.declared.stage.Stage.TheVariants as stages
-use Rattle.wh_front.specs.declared.draft.Draft.{Draft}
 use Rattle.wh_front.specs.Ranges.{SeatFits, SubmissionFits, IsAgents, IsTasks}
 use Rattle.wh_front.specs.Fronts.{rules_lines, head_lines, seat_lines, task_lines, front_lines, Fits}
+use Rattle.wh_front.specs.Drafts.{Draft}
 use Rattle.wh_front.proofs.DraftLaws.{IsDraft, draft, lines_read, tasks_read, rest_of, nested}
 
 abbrev corner : Cell

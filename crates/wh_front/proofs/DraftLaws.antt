@@ -13,10 +13,9 @@ use Rattle.wh_front.specs.declared.line.Line.{Line}
 use Rattle.wh_front.specs.declared.line.Line.TheVariants as lines
 use Rattle.wh_front.specs.declared.stage.Stage.{Stage}
 use Rattle.wh_front.specs.declared.stage.Stage.TheVariants as stages
-use Rattle.wh_front.specs.declared.draft.Draft.{Draft}
 use Rattle.wh_front.specs.Ranges.{BeforeFits, RulesFit, CountsFit, SeatFits, SubmissionFits, IsAgents, IsTasks, LineFits, are_told}
 use Rattle.wh_front.specs.Fronts.{rules_lines, head_lines, seat_lines, task_lines, front_lines, Fits}
-use Rattle.wh_front.specs.Drafts.{nothing, expects, put}
+use Rattle.wh_front.specs.Drafts.{Draft, nothing, expects, put}
 
 -- the lines that tell as much as was read up to a stage
 abbrev pub seats_read : Draft → List Line

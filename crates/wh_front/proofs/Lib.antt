@@ -9,4 +9,6 @@ pub mod DraftLaws
 pub mod Completing
 pub mod Running
 pub mod Readings
+pub mod Standing
+pub mod Later
 pub mod NextLaws

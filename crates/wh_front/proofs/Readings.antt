@@ -10,19 +10,18 @@ use Rattle.wh_front.specs.declared.front.Front.{Front}
 use Rattle.wh_front.specs.declared.line.Line.{Line}
 use Rattle.wh_front.specs.declared.stage.Stage.{Stage}
 use Rattle.wh_front.specs.declared.stage.Stage.TheVariants as stages
-use Rattle.wh_front.specs.declared.draft.Draft.{Draft}
 use Rattle.wh_front.specs.Spelling.{front_line}
 use Rattle.wh_front.specs.Ranges.{LineFits}
 use Rattle.wh_front.specs.Fronts.{front_lines, front_text, Fits}
-use Rattle.wh_front.specs.Drafts.{nothing, expects, is_done, put, run}
-use Rattle.wh_front.specs.FirstBad.{HasNoFront, IsFirstBad, IsNext, IsNoNext}
+use Rattle.wh_front.specs.Drafts.{Draft, nothing, expects, is_done, put, run}
+use Rattle.wh_front.specs.FirstBad.{BeginsFront, HasNoFront, IsFirstBad, IsNext, IsNoNext}
 use Rattle.wh_front.proofs.Lines.{lines_text, lines_text-append}
 use Rattle.wh_front.proofs.RowLaws.{row_is_line, one_row}
 use Rattle.wh_front.proofs.DraftLaws.{draft, IsDraft, nothing_is, draft_stays, done_is}
 use Rattle.wh_front.proofs.Completing.{draft_continued}
 use Rattle.wh_front.proofs.Running.{run_step, run_more, ended, done_stage, run_front, front_fit}
 
-one_cons : (line : Line) (lines : List Line) (x : List ℕ) → lines_text (line ∷ lines) ++ x ≡ front_line line ++ 10 ∷ (lines_text lines ++ x)
+pub one_cons : (line : Line) (lines : List Line) (x : List ℕ) → lines_text (line ∷ lines) ++ x ≡ front_line line ++ 10 ∷ (lines_text lines ++ x)
 one_cons line lines x = one_text (front_line line) (map front_line lines) x
 
 -- two texts of whole fronts that are the same
@@ -76,19 +75,27 @@ shorter stage rest line behind next =
     let same : length rest ≡ length (front_line line ++ 10 ∷ behind) = ap (λ (t : List ℕ). length t) next.text_is in
     omega (arith, count, same)
 
-pub reading_goes : (text : List ℕ) (d : Draft) (rest : List ℕ) (number : ℕ) (line : Line) (behind : List ℕ) → IsReading text d rest number → IsNext d.stage rest line behind → IsReading text (put d line) behind (number + 1)
+-- one line more was read
+pub record Goes (text : List ℕ) (d : Draft) (behind : List ℕ) (number : ℕ) (taken : List Line) : Type 0 where
+  pub reading : IsReading text d behind number
+  pub taken_is : reading.taken ≡ taken
+
+pub reading_goes : (text : List ℕ) (d : Draft) (rest : List ℕ) (number : ℕ) (line : Line) (behind : List ℕ) (r : IsReading text d rest number) → IsNext d.stage rest line behind → Goes text (put d line) behind (number + 1) (r.taken ++ line ∷ [])
 reading_goes text d rest number line behind r next =
     let lt = shorter d.stage rest line behind next in
     let one : lines_text (line ∷ []) ++ behind ≡ front_line line ++ 10 ∷ behind = one_cons line [] behind in
     record {
-      taken = r.taken ++ line ∷ [];
-      is_draft = draft_stays d line r.taken r.is_draft next.fits next.may;
-      run_is = run_more nothing r.taken line d r.run_is next.may;
-      fit = all_append LineFits r.taken (line ∷ []) r.fit (next.fits, tt);
-      parts = r.parts ∙ ap (λ (t : List ℕ). lines_text r.taken ++ t) (next.text_is ∙ sym one)
-          ∙ sym (append_assoc (lines_text r.taken) (lines_text (line ∷ [])) behind) ∙ ap (λ (t : List ℕ). t ++ behind) (sym (lines_text-append r.taken (line ∷ [])));
-      place = (let longer : length (r.taken ++ line ∷ []) ≡ length r.taken + 1 = simp length-append (omega arith) in omega (arith, longer, r.place));
-      bound = omega (arith, r.bound, lt);
+      reading = record {
+        taken = r.taken ++ line ∷ [];
+        is_draft = draft_stays d line r.taken r.is_draft next.fits next.may;
+        run_is = run_more nothing r.taken line d r.run_is next.may;
+        fit = all_append LineFits r.taken (line ∷ []) r.fit (next.fits, tt);
+        parts = r.parts ∙ ap (λ (t : List ℕ). lines_text r.taken ++ t) (next.text_is ∙ sym one)
+            ∙ sym (append_assoc (lines_text r.taken) (lines_text (line ∷ [])) behind) ∙ ap (λ (t : List ℕ). t ++ behind) (sym (lines_text-append r.taken (line ∷ [])));
+        place = (let longer : length (r.taken ++ line ∷ []) ≡ length r.taken + 1 = simp length-append (omega arith) in omega (arith, longer, r.place));
+        bound = omega (arith, r.bound, lt);
+      };
+      taken_is = refl;
     }
 
 pub reading_done : (text : List ℕ) (d : Draft) (rest : List ℕ) (number : ℕ) → IsReading text d rest number → is_done d.stage ≡ true → Fits d.front × (text ≡ front_text d.front ++ rest)
@@ -121,23 +128,41 @@ count_lines : (lines : List Line) → length (map front_line lines) ≡ length l
 count_lines [] = refl
 count_lines (line ∷ lines) = let rest = count_lines lines in omega (arith, rest)
 
-pub reading_bad : (text : List ℕ) (d : Draft) (rest : List ℕ) (number : ℕ) → IsReading text d rest number → is_done d.stage ≡ false → IsNoNext d.stage rest → IsFirstBad text number
-reading_bad text d rest number r going lacks =
+-- some front has the lines that were read first
+pub reading_begins : (text : List ℕ) (d : Draft) (rest : List ℕ) (number : ℕ) (r : IsReading text d rest number) → BeginsFront (lines_text r.taken)
+reading_begins text d rest number r =
     let c = draft_continued d r.taken r.is_draft in
-    record {
-      none = reading_none text d rest number r going lacks;
-      before = map front_line r.taken;
-      rest = rest;
-      lines = lines_are r.taken r.fit;
-      parts = r.parts;
-      place = r.place ∙ ap (λ (k : ℕ). k + 1) (sym (count_lines r.taken));
-      begins = record { front = c.front; fits = c.fits; more = lines_text c.more; whole = ap lines_text c.lines_are ∙ lines_text-append r.taken c.more };
-      fault = λ line more is rest_is begins.
-          no_front text d rest number r going (line ++ 10 ∷ begins.more) (other line more is rest_is begins.more) begins.front [] begins.fits
-          (sym (append_assoc (lines_text r.taken) (line ++ 10 ∷ []) begins.more ∙ ap (λ (t : List ℕ). lines_text r.taken ++ t) (append_assoc line (10 ∷ []) begins.more)) ∙ sym begins.whole ∙ sym (append-nil (front_text begins.front)));
-    }
+    record { front = c.front; fits = c.fits; more = lines_text c.more; whole = ap lines_text c.lines_are ∙ lines_text-append r.taken c.more }
+
+-- and none has them and the line that stands next, where that is none that may come
+pub reading_ends : (text : List ℕ) (d : Draft) (rest : List ℕ) (number : ℕ) (r : IsReading text d rest number) → is_done d.stage ≡ false → IsNoNext d.stage rest
+    → (line more : List ℕ) → IsLine line → rest ≡ line ++ 10 ∷ more → BeginsFront (lines_text r.taken ++ (line ++ 10 ∷ [])) → ⊥
+reading_ends text d rest number r going lacks line more is rest_is begins =
+    no_front text d rest number r going (line ++ 10 ∷ begins.more) (other begins.more) begins.front [] begins.fits
+    (sym (append_assoc (lines_text r.taken) (line ++ 10 ∷ []) begins.more ∙ ap (λ (t : List ℕ). lines_text r.taken ++ t) (append_assoc line (10 ∷ []) begins.more)) ∙ sym begins.whole ∙ sym (append-nil (front_text begins.front)))
   where
-    other : (line more : List ℕ) → IsLine line → rest ≡ line ++ 10 ∷ more → (x : List ℕ) → IsNoNext d.stage (line ++ 10 ∷ x)
-    other line more is rest_is x m y next =
+    other : (x : List ℕ) → IsNoNext d.stage (line ++ 10 ∷ x)
+    other x m y next =
         let cut = one_line line (front_line m) x y is (row_is_line m next.fits) next.text_is in
         lacks m more (record { fits = next.fits; may = next.may; text_is = rest_is ∙ ap (λ (t : List ℕ). t ++ 10 ∷ more) cut.0 })
+
+pub reading_bad : (text : List ℕ) (d : Draft) (rest : List ℕ) (number : ℕ) → IsReading text d rest number → is_done d.stage ≡ false → IsNoNext d.stage rest → IsFirstBad text number
+reading_bad text d rest number r going lacks = record {
+  none = reading_none text d rest number r going lacks;
+  before = map front_line r.taken;
+  rest = rest;
+  lines = lines_are r.taken r.fit;
+  parts = r.parts;
+  place = r.place ∙ ap (λ (k : ℕ). k + 1) (sym (count_lines r.taken));
+  begins = reading_begins text d rest number r;
+  fault = reading_ends text d rest number r going lacks;
+}
+
+-- a text begins with one front at most
+pub one_front : (f g : Front) (x y : List ℕ) → Fits f → Fits g → front_text f ++ x ≡ front_text g ++ y → (f ≡ g) × (x ≡ y)
+one_front f g x y fits others e =
+    let one : Draft = draft f (length f.seats) (length f.tasks) stages.Done in
+    let two : Draft = draft g (length g.seats) (length g.tasks) stages.Done in
+    let same = same_lines nothing (front_lines f) (front_lines g) one two x y (front_fit f fits) (front_fit g others) (run_front f fits) (run_front g others) refl refl e in
+    let ran : one ≡ two = some_is one two (sym (run_front f fits) ∙ ap (run nothing) same.0 ∙ run_front g others) in
+    (ap (λ (s : Draft). s.front) ran, same.1)

@@ -7,7 +7,6 @@ use Rattle.wh_front.specs.declared.line.Line.{Line}
 use Rattle.wh_front.specs.declared.line.Line.TheVariants as lines
 use Rattle.wh_front.specs.declared.stage.Stage.{Stage}
 use Rattle.wh_front.specs.declared.stage.Stage.TheVariants as stages
-use Rattle.wh_front.specs.declared.draft.Draft.{Draft}
 
 -- the front of which nothing was read
 abbrev pub empty : Front
@@ -21,6 +20,23 @@ empty = record {
   seats = [];
   tasks = [];
 }
+
+-- a front with what a line tells
+abbrev pub with_line : Front → Line → Front
+with_line f (lines.Before before) = record f { before = before }
+with_line f (lines.Rules rules) = record f { rules = rules }
+with_line f (lines.State clock closed kind) = record f { clock = clock; closed = closed; kind = kind }
+with_line f (lines.Entries counts) = record f { counts = counts }
+with_line f (lines.Agent seat) = record f { seats = f.seats ++ seat ∷ [] }
+with_line f (lines.Task submission) = record f { tasks = f.tasks ++ submission ∷ [] }
+with_line f line = f
+
+-- a front as far as it was read, how many agents and tasks there are to be, and what comes next
+pub record Draft : Type 0 where
+  pub front : Front
+  pub agents : ℕ
+  pub tasks : ℕ
+  pub stage : Stage
 
 abbrev pub nothing : Draft
 nothing = record { front = empty; agents = 1; tasks = 0; stage = stages.Title }
@@ -53,18 +69,18 @@ behind_task count tasks = cond (nat_lt count tasks) stages.Submissions stages.Be
 -- the draft with what the line tells
 abbrev pub put : Draft → Line → Draft
 put d lines.Title = record d { stage = stages.Before }
-put d (lines.Before before) = record d { front = record d.front { before = before }; stage = stages.Rules }
-put d (lines.Rules rules) = record d { front = record d.front { rules = rules }; stage = stages.State }
-put d (lines.State clock closed kind) = record d { front = record d.front { clock = clock; closed = closed; kind = kind }; stage = stages.Entries }
-put d (lines.Entries counts) = record d { front = record d.front { counts = counts }; stage = stages.Agents }
+put d (lines.Before before) = record d { front = with_line d.front (lines.Before before); stage = stages.Rules }
+put d (lines.Rules rules) = record d { front = with_line d.front (lines.Rules rules); stage = stages.State }
+put d (lines.State clock closed kind) = record d { front = with_line d.front (lines.State clock closed kind); stage = stages.Entries }
+put d (lines.Entries counts) = record d { front = with_line d.front (lines.Entries counts); stage = stages.Agents }
 put d (lines.Agents count) = record d { agents = count; stage = stages.Seats }
 put d (lines.Agent seat) =
-    let seats = d.front.seats ++ seat ∷ [] in
-    record d { front = record d.front { seats = seats }; stage = behind_seat (length seats) d.agents }
+    let front = with_line d.front (lines.Agent seat) in
+    record d { front = front; stage = behind_seat (length front.seats) d.agents }
 put d (lines.Tasks count) = record d { tasks = count; stage = behind_task 0 count }
 put d (lines.Task submission) =
-    let tasks = d.front.tasks ++ submission ∷ [] in
-    record d { front = record d.front { tasks = tasks }; stage = behind_task (length tasks) d.tasks }
+    let front = with_line d.front (lines.Task submission) in
+    record d { front = front; stage = behind_task (length front.tasks) d.tasks }
 put d lines.Begin = record d { stage = stages.Done }
 
 -- the lines one after the other, where each may come next

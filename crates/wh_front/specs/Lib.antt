@@ -5,4 +5,5 @@ pub mod Fronts
 pub mod Reading
 pub mod ReadTasks
 pub mod Drafts
+pub mod Places
 pub mod FirstBad

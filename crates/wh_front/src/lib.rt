@@ -5,11 +5,11 @@
 #![tactic(auto)]
 
 mod before;
-mod draft;
 mod form_fault;
 mod front;
 mod line;
 mod one_line;
+mod place;
 mod read_lists;
 mod read_parts;
 mod read_task;
@@ -18,7 +18,7 @@ mod reader;
 mod rows;
 mod rules;
 mod stage;
-mod worked;
+mod taking;
 mod write;
 mod write_parts;
 mod write_task;
@@ -29,7 +29,7 @@ pub use form_fault::FormFault;
 pub use front::{Count, Front, Seat, Submission};
 pub use line::Line;
 pub use one_line::read_line;
-pub use reader::{FrontFault, Read, read_front};
+pub use reader::{FrontFault, FrontReader, NextFault, Read, read_front};
 pub use rows::Rows;
 pub use rules::{Kind, Rules};
 pub use write::{agent_text, front_text, line_text, task_text};

@@ -182,6 +182,7 @@ pub(crate) fn delivered_round(
         loc,
         &stops,
         &sights,
+        0,
     ))
 }
 
@@ -246,5 +247,5 @@ pub(crate) fn parked_in(
     if !grid.passable(loc) || !others.may_rest(loc, 0) {
         return Found::NoAnswer;
     }
-    outcome(park_in(alloc, memory, grid, others, loc, allowed))
+    outcome(park_in(alloc, memory, grid, others, loc, allowed, 0))
 }

@@ -14,10 +14,11 @@ use Rattle.clap.specs.Faults.{check_fault, fault_of}
 use Rattle.clap.specs.Simple.{App, Shape, built, filled}
 use Rattle.clap.specs.declared.builder.value_parser.ValueParser.TheVariants as vp
 use Rattle.wh_options.specs.Setting.{IsInPlace, IsLine, Setting, has_some, is_switch, may_repeat, single_names, spelled, value_of}
-use Rattle.wh_options.specs.Options.{EachGives, EachSays, GivesFleet, GivesFile, GivesHomes, GivesNumber, GivesPlanner, GivesReplay, GivesReplies, GivesRule, GivesTail, GivesLive, MayGive, IsWritten, SaysServe, WordsGive, ends_text, live_names, log_of, planner_text, replay_names, replies_text, rule_names, serve_names, tail_text}
+use Rattle.wh_options.specs.Options.{EachGives, EachSays, GivesFleet, GivesFile, GivesHomes, GivesNumber, GivesPlanner, GivesReplay, GivesReplies, GivesRule, GivesTail, GivesLive, GivesVerify, MayGive, IsWritten, SaysServe, WordsGive, ends_text, live_names, log_of, planner_text, replay_names, replies_text, rule_names, serve_names, tail_text, verify_names}
 use Rattle.wh_options.specs.Menu.{Choices, IsMenu, OtherChoices, choice_rule, ends_words, file_rule, many_rule, menu, number_rule, planner_words, replies_words, switch_rule, tail_words}
 use Rattle.wh_options.specs.declared.chosen.Options.{Options}
 use Rattle.wh_options.specs.declared.chosen.Options.TheVariants.{Check, Replay, Verify, Live, Serve}
+use Rattle.wh_options.specs.declared.chosen.VerifyOptions.{VerifyOptions}
 use Rattle.wh_options.specs.declared.chosen.Fleet.{Fleet}
 use Rattle.wh_options.specs.declared.chosen.LiveOptions.{LiveOptions}
 use Rattle.wh_options.specs.declared.chosen.ReplayOptions.{ReplayOptions}
@@ -34,7 +35,7 @@ use Rattle.wh_options.proofs.Words.{IsFine, self_same}
 use Rattle.wh_options.proofs.Singles.{choice_option, file_option, is_single, many_option, number_option, single_parts, switch_is}
 use Rattle.wh_options.proofs.Spells.{AllTaken, settings_fine}
 use Rattle.wh_options.proofs.Serving.{says_of_serve}
-use Rattle.wh_options.proofs.Menus.{MenuTexts, check_ruled, leaf_at, live_plain, menu_texts, replay_plain, serve_plain, verify_ruled}
+use Rattle.wh_options.proofs.Menus.{MenuTexts, check_ruled, leaf_at, live_plain, menu_texts, replay_plain, serve_plain, verify_plain}
 use Rattle.wh_options.proofs.Uses.{IsValid, once_parts, all_apart, valid_taken, none_fresh, level_fine, Enters, top_fine, check_enters, replay_enters, verify_enters, live_enters, serve_enters}
 
 -- ---- the value of each setting
@@ -221,21 +222,24 @@ abbrev Found : Shape → Text → ℕ → ℕ → Type 0
 Found s name least most = arg_by_long s.rules name ≡ Some (filled (number_rule name least most))
 
 fleet_valid : (s : Shape) (settings : List Setting) (choices ends : Choices) (fleet : Fleet) (others : List Text) → texts choices.now ≡ planner_words → texts ends.now ≡ ends_words → GivesFleet settings fleet
-    → arg_by_long s.rules (codes "planner") ≡ Some (filled (choice_rule (codes "planner") choices)) → Found s (codes "slots") 2 64 → Found s (codes "bank") 2 65536 → Found s (codes "spares") 0 16
+    → arg_by_long s.rules (codes "planner") ≡ Some (filled (choice_rule (codes "planner") choices)) → Found s (codes "slack") 0 1000 → Found s (codes "slots") 2 64 → Found s (codes "bank") 2 65536 → Found s (codes "spares") 0 16
     → arg_by_long s.rules (codes "ends") ≡ Some (filled (choice_rule (codes "ends") ends))
     → (x : Setting) → IsGiven settings x → (list_any (bytes_eq x.name) others ≡ true → IsValid s x)
-    → list_any (bytes_eq x.name) (codes "planner" ∷ codes "slots" ∷ codes "bank" ∷ codes "spares" ∷ codes "ends" ∷ others) ≡ true → IsValid s x
-fleet_valid s settings choices ends fleet others words ends_are gives planner slots bank spares found x value rest e = elim (either_true _ _ e) [
+    → list_any (bytes_eq x.name) (codes "planner" ∷ codes "slack" ∷ codes "slots" ∷ codes "bank" ∷ codes "spares" ∷ codes "ends" ∷ others) ≡ true → IsValid s x
+fleet_valid s settings choices ends fleet others words ends_are gives planner slack slots bank spares found x value rest e = elim (either_true _ _ e) [
   | inl is ↦ valid_planner s settings x choices fleet.planner (bytes_same _ _ is) value planner words gives.planner
-  | inr f ↦ elim (either_true _ _ f) [
-    | inl is ↦ valid_number s settings x (codes "slots") 2 64 4 fleet.slots (bytes_same _ _ is) value slots refl refl refl (lit< tt) gives.slots
-    | inr g ↦ elim (either_true _ _ g) [
-      | inl is ↦ valid_number s settings x (codes "bank") 2 65536 1024 fleet.bank (bytes_same _ _ is) value bank refl refl refl (lit< tt) gives.bank
-      | inr h ↦ elim (either_true _ _ h) [
-        | inl is ↦ valid_number s settings x (codes "spares") 0 16 0 fleet.spares (bytes_same _ _ is) value spares refl refl refl (lit< tt) gives.spares
-        | inr i ↦ elim (either_true _ _ i) [
-          | inl is ↦ valid_ends s settings x ends fleet.homes (bytes_same _ _ is) value found ends_are gives.ends
-          | inr j ↦ rest j
+  | inr a ↦ elim (either_true _ _ a) [
+    | inl is ↦ valid_number s settings x (codes "slack") 0 1000 0 fleet.slack (bytes_same _ _ is) value slack refl refl refl (lit< tt) gives.slack
+    | inr f ↦ elim (either_true _ _ f) [
+      | inl is ↦ valid_number s settings x (codes "slots") 2 64 4 fleet.slots (bytes_same _ _ is) value slots refl refl refl (lit< tt) gives.slots
+      | inr g ↦ elim (either_true _ _ g) [
+        | inl is ↦ valid_number s settings x (codes "bank") 2 65536 1024 fleet.bank (bytes_same _ _ is) value bank refl refl refl (lit< tt) gives.bank
+        | inr h ↦ elim (either_true _ _ h) [
+          | inl is ↦ valid_number s settings x (codes "spares") 0 16 0 fleet.spares (bytes_same _ _ is) value spares refl refl refl (lit< tt) gives.spares
+          | inr i ↦ elim (either_true _ _ i) [
+            | inl is ↦ valid_ends s settings x ends fleet.homes (bytes_same _ _ is) value found ends_are gives.ends
+            | inr j ↦ rest j
+          ]
         ]
       ]
     ]
@@ -243,7 +247,7 @@ fleet_valid s settings choices ends fleet others words ends_are gives planner sl
 ]
 
 vehicles_valid : (p t r : Choices) (q : OtherChoices) (settings : List Setting) (o : ReplayOptions) → GivesReplay settings o
-    → (x : Setting) → IsGiven settings x → list_any (bytes_eq x.name) (drop 10 replay_names) ≡ true → IsValid (leaf_at 1 p t r q) x
+    → (x : Setting) → IsGiven settings x → list_any (bytes_eq x.name) (drop 11 replay_names) ≡ true → IsValid (leaf_at 1 p t r q) x
 vehicles_valid p t r q settings o gives x value e = elim (either_true _ _ e) [
   | inl is ↦ valid_switch (leaf_at 1 p t r q) x (codes "vehicles") (bytes_same _ _ is) refl refl refl refl refl value.1
   | inr f ↦ elim (either_true _ _ f) [
@@ -261,7 +265,7 @@ vehicles_valid p t r q settings o gives x value e = elim (either_true _ _ e) [
 replay_valid : (p t r : Choices) (q : OtherChoices) (settings : List Setting) (o : ReplayOptions) → texts p.now ≡ planner_words → texts t.now ≡ tail_words → texts r.now ≡ replies_words → texts q.replay_ends.now ≡ ends_words → GivesReplay settings o
     → (x : Setting) → list_any (bytes_eq x.name) replay_names ≡ true → IsGiven settings x → IsValid (leaf_at 1 p t r q) x
 replay_valid p t r q settings o planners tails words ends gives x listed value =
-    fleet_valid (leaf_at 1 p t r q) settings p q.replay_ends o.fleet (drop 5 replay_names) planners ends gives.fleet refl refl refl refl refl x value
+    fleet_valid (leaf_at 1 p t r q) settings p q.replay_ends o.fleet (drop 6 replay_names) planners ends gives.fleet refl refl refl refl refl refl x value
     (λ e. elim (either_true _ _ e) [
       | inl is ↦ valid_tail (leaf_at 1 p t r q) settings x t o.tail (bytes_same _ _ is) value refl tails gives.tail
       | inr f ↦ elim (either_true _ _ f) [
@@ -284,7 +288,7 @@ valid_many : (s : Shape) (x : Setting) (name : Text) → x.name ≡ name → IsI
 valid_many s x name is stands found some plain no_switch many = valid_setting s x name (filled (many_rule name)) is found (many_option name many) some plain no_switch refl stands
 
 clients_valid : (p t r : Choices) (q : OtherChoices) (settings : List Setting) → texts q.replies.now ≡ replies_words → (says : SaysServe settings)
-    → (x : Setting) → IsGiven settings x → list_any (bytes_eq x.name) (drop 9 serve_names) ≡ true → IsValid (leaf_at 4 p t r q) x
+    → (x : Setting) → IsGiven settings x → list_any (bytes_eq x.name) (drop 10 serve_names) ≡ true → IsValid (leaf_at 4 p t r q) x
 clients_valid p t r q settings words says x value e = elim (either_true _ _ e) [
   | inl is ↦ valid_file (leaf_at 4 p t r q) settings x (codes "log") says.kept (bytes_same _ _ is) value refl refl refl refl says.log
   | inr s ↦ elim (either_true _ _ s) [
@@ -303,7 +307,7 @@ clients_valid p t r q settings words says x value e = elim (either_true _ _ e) [
 ]
 
 board_valid : (p t r : Choices) (q : OtherChoices) (settings : List Setting) → texts q.replies.now ≡ replies_words → (says : SaysServe settings)
-    → (x : Setting) → IsGiven settings x → list_any (bytes_eq x.name) (drop 7 serve_names) ≡ true → IsValid (leaf_at 4 p t r q) x
+    → (x : Setting) → IsGiven settings x → list_any (bytes_eq x.name) (drop 8 serve_names) ≡ true → IsValid (leaf_at 4 p t r q) x
 board_valid p t r q settings words says x value e = elim (either_true _ _ e) [
   | inl is ↦ valid_file (leaf_at 4 p t r q) settings x (codes "board") says.shown (bytes_same _ _ is) value refl refl refl refl says.board
   | inr f ↦ elim (either_true _ _ f) [
@@ -315,7 +319,7 @@ board_valid p t r q settings words says x value e = elim (either_true _ _ e) [
 live_valid : (p t r : Choices) (q : OtherChoices) (settings : List Setting) (o : LiveOptions) → texts q.live.now ≡ planner_words → texts q.live_ends.now ≡ ends_words → GivesLive settings o
     → (x : Setting) → list_any (bytes_eq x.name) live_names ≡ true → IsGiven settings x → IsValid (leaf_at 3 p t r q) x
 live_valid p t r q settings o planners ends gives x listed value =
-    fleet_valid (leaf_at 3 p t r q) settings q.live q.live_ends o.fleet (drop 5 live_names) planners ends gives.fleet refl refl refl refl refl x value
+    fleet_valid (leaf_at 3 p t r q) settings q.live q.live_ends o.fleet (drop 6 live_names) planners ends gives.fleet refl refl refl refl refl refl x value
     (λ e. elim (either_true _ _ e) [
       | inl is ↦ valid_number (leaf_at 3 p t r q) settings x (codes "turns") 1 100000 64 o.turns (bytes_same _ _ is) value refl refl refl refl (lit< tt) gives.turns
       | inr f ↦ elim (either_true _ _ f) [
@@ -327,7 +331,7 @@ live_valid p t r q settings o planners ends gives x listed value =
 serve_valid : (p t r : Choices) (q : OtherChoices) (settings : List Setting) → texts q.planners.now ≡ planner_words → texts q.replies.now ≡ replies_words → texts q.serve_ends.now ≡ ends_words → (says : SaysServe settings)
     → (x : Setting) → list_any (bytes_eq x.name) serve_names ≡ true → IsGiven settings x → IsValid (leaf_at 4 p t r q) x
 serve_valid p t r q settings planners words ends says x listed value =
-    fleet_valid (leaf_at 4 p t r q) settings q.planners q.serve_ends says.planners (drop 5 serve_names) planners ends says.fleet refl refl refl refl refl x value
+    fleet_valid (leaf_at 4 p t r q) settings q.planners q.serve_ends says.planners (drop 6 serve_names) planners ends says.fleet refl refl refl refl refl refl x value
     (λ e. elim (either_true _ _ e) [
       | inl is ↦ valid_number (leaf_at 4 p t r q) settings x (codes "journal") 1 1000000 1000000 says.entries (bytes_same _ _ is) value refl refl refl refl (lit< tt) says.journal
       | inr f ↦ elim (either_true _ _ f) [
@@ -342,6 +346,16 @@ ruled_valid : (s : Shape) (settings : List Setting) (ends : Choices) (homes : Bo
 ruled_valid s settings ends homes words found gives x listed value = elim (either_true _ _ listed) [
   | inl is ↦ valid_ends s settings x ends homes (bytes_same _ _ is) value found words gives.ends
   | inr none ↦ absurd (true≢false (sym none))
+]
+
+verify_valid : (p t r : Choices) (q : OtherChoices) (settings : List Setting) (o : VerifyOptions) → texts q.verify_ends.now ≡ ends_words → GivesVerify settings o
+    → (x : Setting) → list_any (bytes_eq x.name) verify_names ≡ true → IsGiven settings x → IsValid (leaf_at 2 p t r q) x
+verify_valid p t r q settings o words gives x listed value = elim (either_true _ _ listed) [
+  | inl is ↦ valid_ends (leaf_at 2 p t r q) settings x q.verify_ends o.homes (bytes_same _ _ is) value refl words gives.ends
+  | inr e ↦ elim (either_true _ _ e) [
+    | inl is ↦ valid_switch (leaf_at 2 p t r q) x (codes "unended") (bytes_same _ _ is) refl refl refl refl refl value.1
+    | inr none ↦ absurd (true≢false (sym none))
+  ]
 ]
 
 -- ---- the whole line
@@ -384,9 +398,9 @@ menu_fine p t r q words name settings (Check o) are line gives =
     line_fine p t r q words (codes "check") name settings (leaf_at 0 p t r q) gives.0 (check_enters p t r q) (check_ruled p t r q).0 (λ rows. refl)
     (valid_taken (leaf_at 0 p t r q) settings [] (check_ruled p t r q).0 refl valid (none_fresh settings) line.once) line
 menu_fine p t r q words name settings (Verify o) are line gives =
-    let valid = all_zip _ _ _ (ruled_valid (leaf_at 2 p t r q) settings q.verify_ends o.homes are.verify_ends refl gives.1) settings gives.1.only (each_given settings line.once line.spelling.in_place) in
-    line_fine p t r q words (codes "verify") name settings (leaf_at 2 p t r q) gives.0 (verify_enters p t r q) (verify_ruled p t r q).0 (λ rows. refl)
-    (valid_taken (leaf_at 2 p t r q) settings [] (verify_ruled p t r q).0 refl valid (none_fresh settings) line.once) line
+    let valid = all_zip _ _ _ (verify_valid p t r q settings o are.verify_ends gives.1) settings gives.1.only (each_given settings line.once line.spelling.in_place) in
+    line_fine p t r q words (codes "verify") name settings (leaf_at 2 p t r q) gives.0 (verify_enters p t r q) (verify_plain p t r q) (λ rows. refl)
+    (valid_taken (leaf_at 2 p t r q) settings [] (verify_plain p t r q) refl valid (none_fresh settings) line.once) line
 menu_fine p t r q words name settings (Replay o) are line gives =
     replay_fine p t r q words name settings o are.planners are.tails are.replies are.replay_ends gives.0 line gives.1
 menu_fine p t r q words name settings (Live o) are line gives =
@@ -398,7 +412,8 @@ menu_fine p t r q words name settings (Serve o) are line gives =
 menu_said : (p t r : Choices) (q : OtherChoices) (words : List Text) (name : Text) (settings : List Setting) → MenuTexts p t r q
     → IsLine words name settings → EachSays name settings → fault_of (menu p t r q) words ≡ []
 menu_said p t r q words name settings are line (inl said) = replay_fine p t r q words name settings said.1 are.planners are.tails are.replies are.replay_ends said.0 line said.2
-menu_said p t r q words name settings are line (inr said) = serve_fine p t r q words name settings are.serve are.told are.serve_ends said.0 line said.1
+menu_said p t r q words name settings are line (inr (inl said)) = serve_fine p t r q words name settings are.serve are.told are.serve_ends said.0 line said.1
+menu_said p t r q words name settings are line (inr (inr said)) = live_fine p t r q words name settings said.1 are.live are.live_ends said.0 line said.2
 
 -- words whose options each say something are not refused
 pub said_is_taken : (a : App) (words : List Text) (name : Text) (settings : List Setting) → IsMenu a → IsLine words name settings → EachSays name settings → fault_of a words ≡ []

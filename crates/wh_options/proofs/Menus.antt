@@ -7,13 +7,14 @@ use Rattle.clap.specs.Faults.{fault_of, is_simple_and_free, level_fault}
 use Rattle.clap.specs.Simple.{App, Shape, built, filled, help_rule, is_simple, label_of, new_shape, subcommand_of, version_rule}
 use Rattle.clap.specs.Walk.{Row, Rule, Text, action_of, answers_to, arg_by_long, first_of, nothing_held, rows_after, settled, texts, walk, has_long}
 use Rattle.wh_options.specs.Setting.{IsLine, IsSpelled, Setting, is_switch, may_repeat, single_names, value_of, values_of}
-use Rattle.wh_options.specs.Options.{CoversLog, DeliversByVehicles, GivesFleet, GivesLive, GivesRule, GivesServe, HasOnly, LacksAny, Means, ReplayLacks, ServeLacks, WordsGive, board_of, log_of, replay_names, rule_names, serve_names}
+use Rattle.wh_options.specs.Options.{GivesFleet, GivesLive, GivesRule, GivesServe, GivesVerify, HasOnly, LacksAny, Means, ReplayClashes, ReplayLacks, ServeClashes, ServeLacks, SlacksPatient, WordsGive, board_of, live_names, log_of, replay_names, rule_names, serve_names}
 use Rattle.wh_options.specs.Reads.{IsTold, Reads, ReadsFleet, ReadsLive, ReadsServe, clients_in, homes_of}
 use Rattle.wh_options.specs.Menu.{Choices, IsMenu, OtherChoices, choice_rule, ends_words, file_rule, many_rule, menu, number_rule, planner_words, replies_words, switch_rule, tail_words}
 use Rattle.clap.specs.declared.error.kind.ErrorKind.{ErrorKind}
 use Rattle.clap.specs.declared.builder.value_parser.ValueParser.TheVariants as vp
 use Rattle.wh_options.specs.declared.chosen.Options.{Options}
 use Rattle.wh_options.specs.declared.chosen.Options.TheVariants.{Check, Replay, Verify, Live, Serve}
+use Rattle.wh_options.specs.declared.chosen.VerifyOptions.{VerifyOptions}
 use Rattle.wh_options.specs.declared.chosen.LiveOptions.{LiveOptions}
 use Rattle.wh_options.specs.declared.chosen.ServeOptions.{ServeOptions}
 use Rattle.wh_client.specs.Clients.{GiveClients}
@@ -175,6 +176,7 @@ HasChoice c name choices = (r : Rule) × (arg_by_long c name ≡ Some r) × (r.i
 
 pub record HasFleet (c : List Rule) (choices endings : Choices) : Type 0 where
   pub planner : HasChoice c (codes "planner") choices
+  pub slack : HasNumber c (codes "slack") 0 1000
   pub slots : HasNumber c (codes "slots") 2 64
   pub bank : HasNumber c (codes "bank") 2 65536
   pub spares : HasNumber c (codes "spares") 0 16
@@ -184,6 +186,7 @@ fleet_given : (s : Shape) (rest : List Text) (choices ends : Choices) (fleet : F
     → ReadsFleet (λ id. first_of id (rows_after s.rules [] rest)) fleet → GivesFleet says.settings fleet
 fleet_given s rest choices ends fleet has words ends_are says reads = record {
   planner = planner_given s.rules says.settings fleet.planner says.taken choices words has.planner.0 has.planner.1 has.planner.2 has.planner.3 _ (says.first (codes "planner")) reads.planner;
+  slack = number_given s.rules says.settings (codes "slack") 0 1000 0 fleet.slack (lit< tt) says.taken has.slack.0 has.slack.1 has.slack.2 has.slack.3 _ (says.first (codes "slack")) reads.slack;
   slots = number_given s.rules says.settings (codes "slots") 2 64 4 fleet.slots (lit< tt) says.taken has.slots.0 has.slots.1 has.slots.2 has.slots.3 _ (says.first (codes "slots")) reads.slots;
   bank = number_given s.rules says.settings (codes "bank") 2 65536 1024 fleet.bank (lit< tt) says.taken has.bank.0 has.bank.1 has.bank.2 has.bank.3 _ (says.first (codes "bank")) reads.bank;
   spares = number_given s.rules says.settings (codes "spares") 0 16 0 fleet.spares (lit< tt) says.taken has.spares.0 has.spares.1 has.spares.2 has.spares.3 _ (says.first (codes "spares")) reads.spares;
@@ -193,6 +196,7 @@ fleet_given s rest choices ends fleet has words ends_are says reads = record {
 replay_fleet : (p t r : Choices) (q : OtherChoices) → HasFleet (leaf_at 1 p t r q).rules p q.replay_ends
 replay_fleet p t r q = record {
   planner = (filled (choice_rule (codes "planner") p), refl, refl, refl);
+  slack = (filled (number_rule (codes "slack") 0 1000), refl, refl, refl);
   slots = (filled (number_rule (codes "slots") 2 64), refl, refl, refl);
   bank = (filled (number_rule (codes "bank") 2 65536), refl, refl, refl);
   spares = (filled (number_rule (codes "spares") 0 16), refl, refl, refl);
@@ -202,6 +206,7 @@ replay_fleet p t r q = record {
 live_fleet : (p t r : Choices) (q : OtherChoices) → HasFleet (leaf_at 3 p t r q).rules q.live q.live_ends
 live_fleet p t r q = record {
   planner = (filled (choice_rule (codes "planner") q.live), refl, refl, refl);
+  slack = (filled (number_rule (codes "slack") 0 1000), refl, refl, refl);
   slots = (filled (number_rule (codes "slots") 2 64), refl, refl, refl);
   bank = (filled (number_rule (codes "bank") 2 65536), refl, refl, refl);
   spares = (filled (number_rule (codes "spares") 0 16), refl, refl, refl);
@@ -211,6 +216,7 @@ live_fleet p t r q = record {
 serve_fleet : (p t r : Choices) (q : OtherChoices) → HasFleet (leaf_at 4 p t r q).rules q.planners q.serve_ends
 serve_fleet p t r q = record {
   planner = (filled (choice_rule (codes "planner") q.planners), refl, refl, refl);
+  slack = (filled (number_rule (codes "slack") 0 1000), refl, refl, refl);
   slots = (filled (number_rule (codes "slots") 2 64), refl, refl, refl);
   bank = (filled (number_rule (codes "bank") 2 65536), refl, refl, refl);
   spares = (filled (number_rule (codes "spares") 0 16), refl, refl, refl);
@@ -265,8 +271,17 @@ ruled_given s rest ends homes ruled words says reads = record {
 pub check_ruled : (p t r : Choices) (q : OtherChoices) → IsRuled (leaf_at 0 p t r q) q.check_ends
 check_ruled p t r q = ((choice_plain (codes "ends") q.check_ends refl, asking_plain), refl, (filled (choice_rule (codes "ends") q.check_ends), refl, refl, refl))
 
-pub verify_ruled : (p t r : Choices) (q : OtherChoices) → IsRuled (leaf_at 2 p t r q) q.verify_ends
-verify_ruled p t r q = ((choice_plain (codes "ends") q.verify_ends refl, asking_plain), refl, (filled (choice_rule (codes "ends") q.verify_ends), refl, refl, refl))
+pub verify_plain : (p t r : Choices) (q : OtherChoices) → ArePlain (leaf_at 2 p t r q).rules
+verify_plain p t r q = (choice_plain (codes "ends") q.verify_ends refl, (switch_plain (codes "unended") refl refl, asking_plain))
+
+verify_given : (p t r : Choices) (q : OtherChoices) (rest : List Text) (o : VerifyOptions) (says : LeafSays (leaf_at 2 p t r q) rest) → texts q.verify_ends.now ≡ ends_words
+    → (o.homes ≡ homes_of (first_of (codes "ends") (rows_after (leaf_at 2 p t r q).rules [] rest))) × (o.unended ≡ is_some (first_of (codes "unended") (rows_after (leaf_at 2 p t r q).rules [] rest)))
+    → GivesVerify says.settings o
+verify_given p t r q rest o says words reads = record {
+  only = only_names (leaf_at 2 p t r q).rules says.settings (verify_plain p t r q) says.taken;
+  ends = ends_given (leaf_at 2 p t r q).rules says.settings o.homes says.taken q.verify_ends words (filled (choice_rule (codes "ends") q.verify_ends)) refl refl refl _ (says.first (codes "ends")) reads.0;
+  unended = reads.1 ∙ ap is_some (says.first (codes "unended"));
+}
 
 check_means : (p t r : Choices) (q : OtherChoices) (rest : List Text) (o : Options) (says : LeafSays (leaf_at 0 p t r q) rest) → texts q.check_ends.now ≡ ends_words
     → Reads (codes "check") (λ id. first_of id (rows_after (leaf_at 0 p t r q).rules [] rest)) (clients_in (rows_after (leaf_at 0 p t r q).rules [] rest)) o → Means (codes "check") says.settings o
@@ -282,7 +297,7 @@ verify_means : (p t r : Choices) (q : OtherChoices) (rest : List Text) (o : Opti
 verify_means p t r q rest (Check o) says ends reads = absurd (reads.3 refl)
 verify_means p t r q rest (Replay o) says ends reads = absurd (other_word (codes "verify") (codes "replay") refl reads.0)
 verify_means p t r q rest (Verify o) says ends reads =
-    ((refl, ruled_given (leaf_at 2 p t r q) rest q.verify_ends o.homes (verify_ruled p t r q) ends says reads.1), none_lacks (codes "verify") (λ id. value_of id says.settings) refl refl)
+    ((refl, verify_given p t r q rest o says ends (reads.1, reads.2)), none_lacks (codes "verify") (λ id. value_of id says.settings) refl refl)
 verify_means p t r q rest (Live o) says ends reads = absurd (other_word (codes "verify") (codes "live") refl reads.0)
 verify_means p t r q rest (Serve o) says ends reads = absurd (other_word (codes "verify") (codes "serve") refl reads.0)
 
@@ -293,13 +308,13 @@ vehicles_plain : (r : List Rule) → ArePlain r → ArePlain (filled (switch_rul
 vehicles_plain r rest = (switch_plain (codes "vehicles") refl refl, (number_plain (codes "behind") 1 1000 refl, (number_plain (codes "ahead") 1 1000 refl, rest)))
 
 pub replay_plain : (p t r : Choices) (q : OtherChoices) → ArePlain (leaf_at 1 p t r q).rules
-replay_plain p t r q = (choice_plain (codes "planner") p refl, (number_plain (codes "slots") 2 64 refl, (number_plain (codes "bank") 2 65536 refl, (number_plain (codes "spares") 0 16 refl, (choice_plain (codes "ends") q.replay_ends refl, (choice_plain (codes "tail") t refl, (choice_plain (codes "replies") r refl, (file_plain (codes "log") refl, (number_plain (codes "told") 0 999999999 refl, (switch_plain (codes "new") refl refl, vehicles_plain (filled (switch_rule (codes "deliver")) ∷ Flags) (switch_plain (codes "deliver") refl refl, asking_plain)))))))))))
+replay_plain p t r q = (choice_plain (codes "planner") p refl, (number_plain (codes "slack") 0 1000 refl, (number_plain (codes "slots") 2 64 refl, (number_plain (codes "bank") 2 65536 refl, (number_plain (codes "spares") 0 16 refl, (choice_plain (codes "ends") q.replay_ends refl, (choice_plain (codes "tail") t refl, (choice_plain (codes "replies") r refl, (file_plain (codes "log") refl, (number_plain (codes "told") 0 999999999 refl, (switch_plain (codes "new") refl refl, vehicles_plain (filled (switch_rule (codes "deliver")) ∷ Flags) (switch_plain (codes "deliver") refl refl, asking_plain))))))))))))
 
 pub live_plain : (p t r : Choices) (q : OtherChoices) → ArePlain (leaf_at 3 p t r q).rules
-live_plain p t r q = (choice_plain (codes "planner") q.live refl, (number_plain (codes "slots") 2 64 refl, (number_plain (codes "bank") 2 65536 refl, (number_plain (codes "spares") 0 16 refl, (choice_plain (codes "ends") q.live_ends refl, (number_plain (codes "turns") 1 100000 refl, (number_plain (codes "journal") 1 1000000 refl, asking_plain)))))))
+live_plain p t r q = (choice_plain (codes "planner") q.live refl, (number_plain (codes "slack") 0 1000 refl, (number_plain (codes "slots") 2 64 refl, (number_plain (codes "bank") 2 65536 refl, (number_plain (codes "spares") 0 16 refl, (choice_plain (codes "ends") q.live_ends refl, (number_plain (codes "turns") 1 100000 refl, (number_plain (codes "journal") 1 1000000 refl, asking_plain))))))))
 
 pub serve_plain : (p t r : Choices) (q : OtherChoices) → ArePlain (leaf_at 4 p t r q).rules
-serve_plain p t r q = (choice_plain (codes "planner") q.planners refl, (number_plain (codes "slots") 2 64 refl, (number_plain (codes "bank") 2 65536 refl, (number_plain (codes "spares") 0 16 refl, (choice_plain (codes "ends") q.serve_ends refl, (number_plain (codes "journal") 1 1000000 refl, (number_plain (codes "every") 1 60000 refl, (file_plain (codes "board") refl, (number_plain (codes "board-every") 1 60000 refl, clients_plain q)))))))))
+serve_plain p t r q = (choice_plain (codes "planner") q.planners refl, (number_plain (codes "slack") 0 1000 refl, (number_plain (codes "slots") 2 64 refl, (number_plain (codes "bank") 2 65536 refl, (number_plain (codes "spares") 0 16 refl, (choice_plain (codes "ends") q.serve_ends refl, (number_plain (codes "journal") 1 1000000 refl, (number_plain (codes "every") 1 60000 refl, (file_plain (codes "board") refl, (number_plain (codes "board-every") 1 60000 refl, clients_plain q))))))))))
 
 replay_means : (p t r : Choices) (q : OtherChoices) (rest : List Text) (o : Options) (says : LeafSays (leaf_at 1 p t r q) rest) → texts p.now ≡ planner_words → texts t.now ≡ tail_words → texts r.now ≡ replies_words → texts q.replay_ends.now ≡ ends_words
     → Reads (codes "replay") (λ id. first_of id (rows_after (leaf_at 1 p t r q).rules [] rest)) (clients_in (rows_after (leaf_at 1 p t r q).rules [] rest)) o → Means (codes "replay") says.settings o
@@ -324,7 +339,7 @@ replay_means p t r q rest (Replay o) says planners tails replies ends reads = (
           (λ id. first_of id (rows_after (leaf_at 1 p t r q).rules [] rest)) says.first reads.1.vehicles;
       deliver = reads.1.deliver ∙ ap is_some (says.first (codes "deliver"));
     },
-    λ both. reads.3 (lacks_as DeliversByVehicles (λ id. value_of id says.settings) (λ id. first_of id (rows_after (leaf_at 1 p t r q).rules [] rest)) (λ id. sym (says.first id)) both),
+    λ both. reads.3 (lacks_as ReplayClashes (λ id. value_of id says.settings) (λ id. first_of id (rows_after (leaf_at 1 p t r q).rules [] rest)) (λ id. sym (says.first id)) both),
   ),
   replay_lacks (λ id. value_of id says.settings) (λ id. first_of id (rows_after (leaf_at 1 p t r q).rules [] rest)) says.first reads.2,
 )
@@ -352,11 +367,18 @@ live_means : (p t r : Choices) (q : OtherChoices) (rest : List Text) (o : Option
 live_means p t r q rest (Check o) says planners ends reads = absurd (reads.1 refl)
 live_means p t r q rest (Replay o) says planners ends reads = absurd (other_word (codes "live") (codes "replay") refl reads.0)
 live_means p t r q rest (Verify o) says planners ends reads = absurd (other_word (codes "live") (codes "verify") refl reads.0)
-live_means p t r q rest (Live o) says planners ends reads = ((refl, live_given p t r q rest o says planners ends reads.1), none_lacks (codes "live") (λ id. value_of id says.settings) refl refl)
+live_means p t r q rest (Live o) says planners ends reads = (
+  (
+    refl,
+    live_given p t r q rest o says planners ends reads.1,
+    λ both. reads.2 (lacks_as SlacksPatient (λ id. value_of id says.settings) (λ id. first_of id (rows_after (leaf_at 3 p t r q).rules [] rest)) (λ id. sym (says.first id)) both),
+  ),
+  none_lacks (codes "live") (λ id. value_of id says.settings) refl refl,
+)
 live_means p t r q rest (Serve o) says planners ends reads = absurd (other_word (codes "live") (codes "serve") refl reads.0)
 
 serve_given : (p t r : Choices) (q : OtherChoices) (rest : List Text) (o : ServeOptions) (says : LeafSays (leaf_at 4 p t r q) rest) → texts q.planners.now ≡ planner_words → texts q.replies.now ≡ replies_words → texts q.serve_ends.now ≡ ends_words
-    → ReadsServe (λ id. first_of id (rows_after (leaf_at 4 p t r q).rules [] rest)) (clients_in (rows_after (leaf_at 4 p t r q).rules [] rest)) o → value_of (codes "client") says.settings ≢ None → (CoversLog (λ id. value_of id says.settings) → ⊥) → GivesServe says.settings o
+    → ReadsServe (λ id. first_of id (rows_after (leaf_at 4 p t r q).rules [] rest)) (clients_in (rows_after (leaf_at 4 p t r q).rules [] rest)) o → value_of (codes "client") says.settings ≢ None → (ServeClashes (λ id. value_of id says.settings) → ⊥) → GivesServe says.settings o
 serve_given p t r q rest o says planners replies ends reads client agree =
     let clients : GiveClients (values_of (codes "client") says.settings) o.clients.items = subst (λ ts. GiveClients ts o.clients.items) (clients_said (leaf_at 4 p t r q) rest says) reads.clients_are in
     record {
@@ -392,7 +414,7 @@ serve_means p t r q rest (Serve o) says planners replies ends reads =
     let given : Text → Option Text = λ id. value_of id says.settings in
     let found : Text → Option Text = (λ id. first_of id (rows_after (leaf_at 4 p t r q).rules [] rest)) in
     let never : ServeLacks given → ⊥ = λ lacks. reads.2 (lacks_as ServeLacks given found (λ id. sym (says.first id)) lacks) in
-    let apart : CoversLog given → ⊥ = λ covers. reads.3 (lacks_as CoversLog given found (λ id. sym (says.first id)) covers) in (
+    let apart : ServeClashes given → ⊥ = λ clash. reads.3 (lacks_as ServeClashes given found (λ id. sym (says.first id)) clash) in (
       (refl, serve_given p t r q rest o says planners replies ends reads.1 (has_client given never) apart),
       serve_lacks given found says.first reads.2,
     )
@@ -424,7 +446,7 @@ given_by p t r q words after rest program o leaf are whole first fine reads (inr
     let named : after ≡ codes "replay" ∷ rest = subst (λ (s : Shape). after ≡ s.name ∷ rest) (sym is) first in
     (codes "replay", says.settings, line_of words rest program (codes "replay") after (leaf_at 1 p t r q) says whole named, replay_means p t r q rest o says are.planners are.tails are.replies are.replay_ends read)
 given_by p t r q words after rest program o leaf are whole first fine reads (inr (inr (inl is))) =
-    let says = leaf_says (leaf_at 2 p t r q) rest (verify_ruled p t r q).0 refl (subst (λ (s : Shape). level_fault s [] nothing_held rest false [] ≡ []) (sym is) fine) in
+    let says = leaf_says (leaf_at 2 p t r q) rest (verify_plain p t r q) refl (subst (λ (s : Shape). level_fault s [] nothing_held rest false [] ≡ []) (sym is) fine) in
     let read : ReadsFrom (codes "verify") (leaf_at 2 p t r q) rest o = subst (λ (s : Shape). ReadsFrom s.name s rest o) (sym is) reads in
     let named : after ≡ codes "verify" ∷ rest = subst (λ (s : Shape). after ≡ s.name ∷ rest) (sym is) first in
     (codes "verify", says.settings, line_of words rest program (codes "verify") after (leaf_at 2 p t r q) says whole named, verify_means p t r q rest o says are.verify_ends read)
@@ -454,17 +476,18 @@ pub told_as : (kind : ErrorKind) (name : Text) (f g : Text → Option Text) (xs 
 told_as kind name f g xs ys same clients told =
     subst (λ zs. IsTold kind name g zs) clients (subst (λ (h : Text → Option Text). IsTold kind name h xs) (λ i id. same id i) told)
 
-none_told : (kind : ErrorKind) (word : Text) (given : Text → Option Text) (clients : List Text) → bytes_eq word (codes "replay") ≡ false → bytes_eq word (codes "serve") ≡ false → IsTold kind word given clients → ⊥
-none_told kind word given clients no_replay no_serve (inl lacks) = none_lacks word given no_replay no_serve lacks.0
-none_told kind word given clients no_replay no_serve (inr (inl (inl clash, kind_is))) = other_word word (codes "serve") no_serve clash.0
-none_told kind word given clients no_replay no_serve (inr (inl (inr clash, kind_is))) = other_word word (codes "replay") no_replay clash.0
-none_told kind word given clients no_replay no_serve (inr (inr none)) = other_word word (codes "serve") no_serve none.0.0
+none_told : (kind : ErrorKind) (word : Text) (given : Text → Option Text) (clients : List Text) → bytes_eq word (codes "replay") ≡ false → bytes_eq word (codes "serve") ≡ false → bytes_eq word (codes "live") ≡ false → IsTold kind word given clients → ⊥
+none_told kind word given clients no_replay no_serve no_live (inl lacks) = none_lacks word given no_replay no_serve lacks.0
+none_told kind word given clients no_replay no_serve no_live (inr (inl (inl clash, kind_is))) = other_word word (codes "serve") no_serve clash.0
+none_told kind word given clients no_replay no_serve no_live (inr (inl (inr (inl clash), kind_is))) = other_word word (codes "replay") no_replay clash.0
+none_told kind word given clients no_replay no_serve no_live (inr (inl (inr (inr clash), kind_is))) = other_word word (codes "live") no_live clash.0
+none_told kind word given clients no_replay no_serve no_live (inr (inr none)) = other_word word (codes "serve") no_serve none.0.0
 
--- a subcommand without options has none that do not go together
-never_wrong : (kind : ErrorKind) (s leaf : Shape) (rest : List Text) (word : Text) → s ≡ leaf → s.name ≡ word → bytes_eq word (codes "replay") ≡ false → bytes_eq word (codes "serve") ≡ false → FindsWrong kind leaf rest → ⊥
-never_wrong kind s leaf rest word is name no_replay no_serve wrong =
+-- a subcommand that is told where paths end alone has no options that do not go together
+never_wrong : (kind : ErrorKind) (s leaf : Shape) (rest : List Text) (word : Text) → s ≡ leaf → s.name ≡ word → bytes_eq word (codes "replay") ≡ false → bytes_eq word (codes "serve") ≡ false → bytes_eq word (codes "live") ≡ false → FindsWrong kind leaf rest → ⊥
+never_wrong kind s leaf rest word is name no_replay no_serve no_live wrong =
     let at : FindsWrong kind s rest = subst (λ (x : Shape). FindsWrong kind x rest) (sym is) wrong in
-    none_told kind word (λ id. first_of id (rows_after s.rules [] rest)) (clients_in (rows_after s.rules [] rest)) no_replay no_serve
+    none_told kind word (λ id. first_of id (rows_after s.rules [] rest)) (clients_in (rows_after s.rules [] rest)) no_replay no_serve no_live
     (subst (λ n. IsTold kind n (λ id. first_of id (rows_after s.rules [] rest)) (clients_in (rows_after s.rules [] rest))) name at)
 
 mistaken_at : (kind : ErrorKind) (words after rest : List Text) (program : Text) (s leaf : Shape) → s ≡ leaf → ArePlain s.rules → s.args_override_self ≡ false
@@ -485,9 +508,11 @@ mistaken_at kind words after rest program s leaf is plain never named whole firs
 
 mistaken_by : (kind : ErrorKind) (p t r : Choices) (q : OtherChoices) (words after rest : List Text) (program : Text) (leaf : Shape) → words ≡ program ∷ after → after ≡ leaf.name ∷ rest → level_fault leaf [] nothing_held rest false [] ≡ [] → FindsWrong kind leaf rest
     → IsLeaf p t r q leaf → Mistaken kind words
-mistaken_by kind p t r q words after rest program leaf whole first fine wrong (inl is) = absurd (never_wrong kind (leaf_at 0 p t r q) leaf rest (codes "check") is refl refl refl wrong)
-mistaken_by kind p t r q words after rest program leaf whole first fine wrong (inr (inr (inl is))) = absurd (never_wrong kind (leaf_at 2 p t r q) leaf rest (codes "verify") is refl refl refl wrong)
-mistaken_by kind p t r q words after rest program leaf whole first fine wrong (inr (inr (inr (inl is)))) = absurd (never_wrong kind (leaf_at 3 p t r q) leaf rest (codes "live") is refl refl refl wrong)
+mistaken_by kind p t r q words after rest program leaf whole first fine wrong (inl is) = absurd (never_wrong kind (leaf_at 0 p t r q) leaf rest (codes "check") is refl refl refl refl wrong)
+mistaken_by kind p t r q words after rest program leaf whole first fine wrong (inr (inr (inl is))) = absurd (never_wrong kind (leaf_at 2 p t r q) leaf rest (codes "verify") is refl refl refl refl wrong)
+mistaken_by kind p t r q words after rest program leaf whole first fine wrong (inr (inr (inr (inl is)))) =
+    mistaken_at kind words after rest program (leaf_at 3 p t r q) leaf is (live_plain p t r q) refl
+    (λ says. only_named live_names says.settings refl (only_names (leaf_at 3 p t r q).rules says.settings (live_plain p t r q) says.taken)) whole first fine wrong
 mistaken_by kind p t r q words after rest program leaf whole first fine wrong (inr (inl is)) =
     mistaken_at kind words after rest program (leaf_at 1 p t r q) leaf is (replay_plain p t r q) refl
     (λ says. only_named replay_names says.settings refl (only_names (leaf_at 1 p t r q).rules says.settings (replay_plain p t r q) says.taken)) whole first fine wrong

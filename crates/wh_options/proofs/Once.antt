@@ -5,9 +5,10 @@ use Rattle.std.specs.List.{AllByRecursion, AllZip, after_first, before_first, fl
 use Rattle.std.specs.Str.{bytes_eq}
 use Rattle.clap.specs.Lexer.{has_byte}
 use Rattle.wh_options.specs.Setting.{Closes, IsInPlace, IsLine, Setting, Spelling, StandsBy, Text, alone, apart, is_switch, joined, spelled, spelled_by, value_of, values_of}
-use Rattle.wh_options.specs.Options.{AreSame, EachGives, GivesFleet, GivesHomes, GivesLive, GivesNumber, GivesPlanner, GivesReplay, GivesReplies, GivesServe, GivesTail, MayGive, GivesVehicles, GivesRule, IsWritten, WordsGive, ends_text, planner_text, replies_text, tail_text}
+use Rattle.wh_options.specs.Options.{AreSame, EachGives, GivesFleet, GivesHomes, GivesLive, GivesNumber, GivesPlanner, GivesReplay, GivesReplies, GivesServe, GivesTail, MayGive, GivesVehicles, GivesRule, GivesVerify, IsWritten, WordsGive, ends_text, planner_text, replies_text, tail_text}
 use Rattle.wh_options.specs.declared.chosen.Options.{Options}
 use Rattle.wh_options.specs.declared.chosen.Options.TheVariants.{Check, Replay, Verify, Live, Serve}
+use Rattle.wh_options.specs.declared.chosen.VerifyOptions.{VerifyOptions}
 use Rattle.wh_options.specs.declared.chosen.ServeOptions.{ServeOptions}
 use Rattle.wh_options.specs.declared.chosen.LiveOptions.{LiveOptions}
 use Rattle.wh_options.specs.declared.chosen.ReplayOptions.{ReplayOptions}
@@ -243,14 +244,21 @@ vehicles_once xs ys a b agree p q =
 fleet_once : (xs ys : List Setting) (f g : Fleet) → Agree xs ys → GivesFleet xs f → GivesFleet ys g → f ≡ g
 fleet_once xs ys f g agree a b =
     let planner = planner_once xs ys f.planner g.planner agree a.planner b.planner in
+    let slack = number_once xs ys (codes "slack") 0 0 1000 f.slack g.slack agree a.slack b.slack in
     let slots = number_once xs ys (codes "slots") 4 2 64 f.slots g.slots agree a.slots b.slots in
     let bank = number_once xs ys (codes "bank") 1024 2 65536 f.bank g.bank agree a.bank b.bank in
     let spares = number_once xs ys (codes "spares") 0 0 16 f.spares g.spares agree a.spares b.spares in
     let homes = ends_once xs ys f.homes g.homes agree a.ends b.ends in
-    λ i. record { planner = planner i; slots = slots i; bank = bank i; spares = spares i; homes = homes i }
+    λ i. record { planner = planner i; slack = slack i; slots = slots i; bank = bank i; spares = spares i; homes = homes i }
 
 rule_once : (xs ys : List Setting) (p q : Bool) → AllAgree xs ys → GivesRule xs p → GivesRule ys q → p ≡ q
 rule_once xs ys p q all a b = ends_once xs ys p q (all_agree xs ys all) a.ends b.ends
+
+verify_once : (xs ys : List Setting) (o p : VerifyOptions) → Agree xs ys → GivesVerify xs o → GivesVerify ys p → o ≡ p
+verify_once xs ys o p agree m n =
+    let homes = ends_once xs ys o.homes p.homes agree m.ends n.ends in
+    let unended : o.unended ≡ p.unended = m.unended ∙ ap is_some (agree (codes "unended")) ∙ sym n.unended in
+    λ i. record { homes = homes i; unended = unended i }
 
 replay_once : (xs ys : List Setting) (o p : ReplayOptions) → Agree xs ys → GivesReplay xs o → GivesReplay ys p → AreSame (Replay o) (Replay p)
 replay_once xs ys o p agree m n =
@@ -307,7 +315,7 @@ gives_once name told xs ys (Replay o) (Live p) is all m n = absurd (apart_so nam
 gives_once name told xs ys (Replay o) (Serve p) is all m n = absurd (apart_so name told (codes "replay") (codes "serve") is refl m.0 n.0)
 gives_once name told xs ys (Verify o) (Check p) is all m n = absurd (apart_so name told (codes "verify") (codes "check") is refl m.0 n.0)
 gives_once name told xs ys (Verify o) (Replay p) is all m n = absurd (apart_so name told (codes "verify") (codes "replay") is refl m.0 n.0)
-gives_once name told xs ys (Verify o) (Verify p) is all m n = λ i. Verify (record { homes = rule_once xs ys o.homes p.homes all m.1 n.1 i })
+gives_once name told xs ys (Verify o) (Verify p) is all m n = ap Verify (verify_once xs ys o p (all_agree xs ys all) m.1 n.1)
 gives_once name told xs ys (Verify o) (Live p) is all m n = absurd (apart_so name told (codes "verify") (codes "live") is refl m.0 n.0)
 gives_once name told xs ys (Verify o) (Serve p) is all m n = absurd (apart_so name told (codes "verify") (codes "serve") is refl m.0 n.0)
 gives_once name told xs ys (Live o) (Check p) is all m n = absurd (apart_so name told (codes "live") (codes "check") is refl m.0 n.0)

@@ -78,10 +78,14 @@ with_ends_rule ends a = with_rule a (choice_rule (codes "ends") ends)
 abbrev pub ruled_app : Text → Choices → App
 ruled_app name ends = with_ends_rule ends (new_app name)
 
+-- the subcommand that is also told that a log may lack its last line
+abbrev pub verify_app : Choices → App
+verify_app ends = with_rule (ruled_app (codes "verify") ends) (switch_rule (codes "unended"))
+
 -- the options that say which planners there are, and where paths end
 abbrev pub fleet_app : Text → Choices → Choices → App
-fleet_app name planners ends = with_ends_rule ends (with_rule (with_rule (with_rule (with_rule (new_app name)
-    (choice_rule (codes "planner") planners)) (number_rule (codes "slots") 2 64))
+fleet_app name planners ends = with_ends_rule ends (with_rule (with_rule (with_rule (with_rule (with_rule (new_app name)
+    (choice_rule (codes "planner") planners)) (number_rule (codes "slack") 0 1000)) (number_rule (codes "slots") 2 64))
     (number_rule (codes "bank") 2 65536)) (number_rule (codes "spares") 0 16))
 
 -- the options that say how vehicles carry out the plan
@@ -146,7 +150,7 @@ menu planners tails replies others =
     with_subcommand (with_subcommand (with_subcommand (with_subcommand (with_subcommand
     (with_settings (new_app (codes "warehouse")))
     (ruled_app (codes "check") others.check_ends).top) (replay_app planners tails replies others.replay_ends).top)
-    (ruled_app (codes "verify") others.verify_ends).top) (live_app others.live others.live_ends).top)
+    (verify_app others.verify_ends).top) (live_app others.live others.live_ends).top)
     (serve_app others.planners others.replies others.serve_ends).top
 
 -- a command with this shape, and no argument that reaches below it
@@ -165,6 +169,11 @@ pub record IsRuledCommand (c : Command) (name : Text) : Type 0 where
   pub ends : Choices
   pub ends_texts : texts ends.now ≡ ends_words
   pub is : HasShape c (ruled_app name ends)
+
+pub record IsVerifyCommand (c : Command) : Type 0 where
+  pub ends : Choices
+  pub ends_texts : texts ends.now ≡ ends_words
+  pub is : HasShape c (verify_app ends)
 
 pub record IsReplayCommand (c : Command) : Type 0 where
   pub planners : Choices
@@ -198,6 +207,12 @@ pub record AddsRuled (name : Text) (b c : Command) : Type 0 where
   pub ends : Choices
   pub ends_texts : texts ends.now ≡ ends_words
   pub is : app_of c ≡ with_subcommand (app_of b) (ruled_app name ends).top
+
+-- a command that has the subcommand `verify` besides
+pub record AddsVerify (b c : Command) : Type 0 where
+  pub ends : Choices
+  pub ends_texts : texts ends.now ≡ ends_words
+  pub is : app_of c ≡ with_subcommand (app_of b) (verify_app ends).top
 
 -- a command that has the subcommand `replay` besides
 pub record AddsReplay (b c : Command) : Type 0 where

@@ -1,5 +1,5 @@
 -- Which options the words of a command line give.
-use Rattle.std.specs.Prelude.{◌≡◌, ◌≢◌, ◌≤◌, ◌⊎◌, ◌||◌, ℕ, Bool, List, [], ◌∷◌, ◌++◌, Option, Some, None, MatchOption, codes, is_some, option_map, false, true}
+use Rattle.std.specs.Prelude.{◌≡◌, ◌≢◌, ◌≤◌, ◌⊎◌, ◌&&◌, ◌||◌, ℕ, Bool, List, [], ◌∷◌, ◌++◌, Option, Some, None, MatchOption, codes, is_some, option_map, false, true}
 use Rattle.std.specs.List.{AllByRecursion, AllZip, list_any}
 use Rattle.std.specs.Str.{bytes_eq}
 use Rattle.std.specs.Str.Parse.{IsNumeral, digits_value, without_leading_plus}
@@ -19,6 +19,7 @@ use Rattle.wh_options.specs.declared.chosen.LiveOptions.{LiveOptions}
 use Rattle.wh_options.specs.declared.chosen.ServeOptions.{ServeOptions}
 use Rattle.wh_options.specs.declared.chosen.Options.{Options}
 use Rattle.wh_options.specs.declared.chosen.Options.TheVariants.{Check, Replay, Verify, Live, Serve}
+use Rattle.wh_options.specs.declared.chosen.VerifyOptions.{VerifyOptions}
 
 -- the text is n in decimal digits, perhaps after a plus
 abbrev pub IsWritten : ℕ → Text → Type 0
@@ -102,6 +103,7 @@ pub record GivesVehicles (settings : List Setting) (vehicles : Option VehicleOpt
 -- the settings give these planners, and this rule
 pub record GivesFleet (settings : List Setting) (fleet : Fleet) : Type 0 where
   pub planner : GivesPlanner settings fleet.planner
+  pub slack : GivesNumber settings (codes "slack") 0 0 1000 fleet.slack
   pub slots : GivesNumber settings (codes "slots") 4 2 64 fleet.slots
   pub bank : GivesNumber settings (codes "bank") 1024 2 65536 fleet.bank
   pub spares : GivesNumber settings (codes "spares") 0 0 16 fleet.spares
@@ -113,29 +115,38 @@ HasOnly names =
     AllByRecursion (λ (s : Setting). list_any (bytes_eq s.name) names ≡ true)
 
 abbrev pub fleet_names : List Text
-fleet_names = codes "planner" ∷ codes "slots" ∷ codes "bank" ∷ codes "spares" ∷ codes "ends" ∷ []
+fleet_names = codes "planner" ∷ codes "slack" ∷ codes "slots" ∷ codes "bank" ∷ codes "spares" ∷ codes "ends" ∷ []
 
 abbrev pub rule_names : List Text
 rule_names = codes "ends" ∷ []
 
+abbrev pub verify_names : List Text
+verify_names = codes "ends" ∷ codes "unended" ∷ []
+
 abbrev pub replay_names : List Text
-replay_names = codes "planner" ∷ codes "slots" ∷ codes "bank" ∷ codes "spares" ∷ codes "ends" ∷ codes "tail"
+replay_names = codes "planner" ∷ codes "slack" ∷ codes "slots" ∷ codes "bank" ∷ codes "spares" ∷ codes "ends" ∷ codes "tail"
     ∷ codes "replies" ∷ codes "log" ∷ codes "told" ∷ codes "new" ∷ codes "vehicles"
     ∷ codes "behind" ∷ codes "ahead" ∷ codes "deliver" ∷ []
 
 abbrev pub live_names : List Text
-live_names = codes "planner" ∷ codes "slots" ∷ codes "bank" ∷ codes "spares" ∷ codes "ends" ∷ codes "turns"
+live_names = codes "planner" ∷ codes "slack" ∷ codes "slots" ∷ codes "bank" ∷ codes "spares" ∷ codes "ends" ∷ codes "turns"
     ∷ codes "journal" ∷ []
 
 abbrev pub serve_names : List Text
-serve_names = codes "planner" ∷ codes "slots" ∷ codes "bank" ∷ codes "spares" ∷ codes "ends" ∷ codes "journal"
+serve_names = codes "planner" ∷ codes "slack" ∷ codes "slots" ∷ codes "bank" ∷ codes "spares" ∷ codes "ends" ∷ codes "journal"
     ∷ codes "every" ∷ codes "board" ∷ codes "board-every" ∷ codes "log" ∷ codes "new"
     ∷ codes "replies" ∷ codes "share" ∷ codes "client" ∷ []
 
--- what the settings of `check` or `verify` say
+-- what the settings of `check` say
 pub record GivesRule (settings : List Setting) (homes : Bool) : Type 0 where
   pub only : HasOnly rule_names settings
   pub ends : GivesHomes settings homes
+
+-- what the settings of `verify` say
+pub record GivesVerify (settings : List Setting) (o : VerifyOptions) : Type 0 where
+  pub only : HasOnly verify_names settings
+  pub ends : GivesHomes settings o.homes
+  pub unended : GivesSwitch settings (codes "unended") o.unended
 
 -- what each setting of `replay` says by itself
 pub record GivesReplay (settings : List Setting) (o : ReplayOptions) : Type 0 where
@@ -174,7 +185,23 @@ pub record CoversLog (given : Text → Option Text) : Type 0 where
   pub log_is : given (codes "log") ≡ Some log
   pub covered : covers board log ≡ true
 
--- what the settings of `serve` say: at least one client, a log, and a board in none of the log's files
+-- the planners are given as patient
+abbrev pub is_patient : Option Text → Bool
+is_patient None = false
+is_patient (Some text) = bytes_eq text (codes "patient")
+
+-- a slack is given, and to planners that are patient
+abbrev pub slacks_patient : (Text → Option Text) → Bool
+slacks_patient given = is_some (given (codes "slack")) && is_patient (given (codes "planner"))
+
+abbrev pub SlacksPatient : (Text → Option Text) → Type 0
+SlacksPatient given = slacks_patient given ≡ true
+
+-- what `serve` is given does not go together
+abbrev pub ServeClashes : (Text → Option Text) → Type 0
+ServeClashes given = CoversLog given ⊎ SlacksPatient given
+
+-- what the settings of `serve` say: at least one client, a log, a board in none of the log's files, and no slack of patient planners
 pub record GivesServe (settings : List Setting) (o : ServeOptions) : Type 0 where
   pub only : HasOnly serve_names settings
   pub fleet : GivesFleet settings o.fleet
@@ -188,18 +215,22 @@ pub record GivesServe (settings : List Setting) (o : ServeOptions) : Type 0 wher
   pub board_every : GivesNumber settings (codes "board-every") 100 1 60000 o.board_every
   pub clients : GiveClients (values_of (codes "client") settings) o.clients.items
   pub some : o.clients.items ≢ []
-  pub agree : ¬ CoversLog (λ id. value_of id settings)
+  pub agree : ¬ ServeClashes (λ id. value_of id settings)
 
 -- all is to be delivered behind the script, and by vehicles
 abbrev pub DeliversByVehicles : (Text → Option Text) → Type 0
 DeliversByVehicles given = (given (codes "deliver") ≢ None) × (given (codes "vehicles") ≢ None)
 
+-- what `replay` is given does not go together
+abbrev pub ReplayClashes : (Text → Option Text) → Type 0
+ReplayClashes given = DeliversByVehicles given ⊎ SlacksPatient given
+
 -- what each setting of a subcommand says by itself
 abbrev pub EachGives : Text → List Setting → Options → Type 0
 EachGives name settings (Check o) = (name ≡ codes "check") × GivesRule settings o.homes
-EachGives name settings (Replay o) = (name ≡ codes "replay") × GivesReplay settings o × (¬ DeliversByVehicles (λ id. value_of id settings))
-EachGives name settings (Verify o) = (name ≡ codes "verify") × GivesRule settings o.homes
-EachGives name settings (Live o) = (name ≡ codes "live") × GivesLive settings o
+EachGives name settings (Replay o) = (name ≡ codes "replay") × GivesReplay settings o × (¬ ReplayClashes (λ id. value_of id settings))
+EachGives name settings (Verify o) = (name ≡ codes "verify") × GivesVerify settings o
+EachGives name settings (Live o) = (name ≡ codes "live") × GivesLive settings o × (¬ SlacksPatient (λ id. value_of id settings))
 EachGives name settings (Serve o) = (name ≡ codes "serve") × GivesServe settings o
 
 -- an option of `replay` is given without the one that it belongs to
@@ -251,10 +282,11 @@ pub record SaysServe (settings : List Setting) : Type 0 where
   pub board : GivesFile settings (codes "board") shown
   pub board_every : GivesNumber settings (codes "board-every") 100 1 60000 looks
 
--- each setting of `replay` or `serve` says something by itself
+-- each setting of `replay`, `serve` or `live` says something by itself
 abbrev pub EachSays : Text → List Setting → Type 0
 EachSays name settings = ((name ≡ codes "replay") × (o : ReplayOptions) × GivesReplay settings o)
-    ⊎ ((name ≡ codes "serve") × SaysServe settings)
+    ⊎ (((name ≡ codes "serve") × SaysServe settings)
+    ⊎ ((name ≡ codes "live") × (o : LiveOptions) × GivesLive settings o))
 
 -- a way in which the settings of a subcommand, by what each name and `client` are given, do not go together
 abbrev pub Way : Type 1
@@ -264,14 +296,15 @@ Way = Text → (Text → Option Text) → List Text → Type 0
 abbrev pub IsLacking : Way
 IsLacking name given clients = LacksAny name given
 
--- nothing lacks, and the board of `serve` is given a file of the log, or `replay` is to deliver by vehicles
+-- nothing lacks, and what the subcommand is given does not go together
 abbrev pub IsClashing : Way
-IsClashing name given clients = ((name ≡ codes "serve") × (¬ ServeLacks given) × CoversLog given)
-    ⊎ ((name ≡ codes "replay") × (¬ ReplayLacks given) × DeliversByVehicles given)
+IsClashing name given clients = ((name ≡ codes "serve") × (¬ ServeLacks given) × ServeClashes given)
+    ⊎ (((name ≡ codes "replay") × (¬ ReplayLacks given) × ReplayClashes given)
+    ⊎ ((name ≡ codes "live") × SlacksPatient given))
 
 -- nothing lacks and nothing clashes, and the texts given for clients name none, or not each its own
 abbrev pub IsClientless : Way
-IsClientless name given clients = (name ≡ codes "serve") × (¬ ServeLacks given) × (¬ CoversLog given)
+IsClientless name given clients = (name ≡ codes "serve") × (¬ ServeLacks given) × (¬ ServeClashes given)
     × ((cs : List ClientOptions) → ¬ GiveClients clients cs)
 
 -- words whose settings each say something by itself, while they do not go together in this way

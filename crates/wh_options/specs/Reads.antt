@@ -7,9 +7,9 @@ use Rattle.clap.specs.Words.{Row, Text, all_of}
 use Rattle.clap.specs.declared.error.kind.ErrorKind.{ErrorKind}
 use Rattle.clap.specs.declared.error.kind.ErrorKind.TheVariants.{ArgumentConflict, MissingRequiredArgument, ValueValidation}
 use Rattle.wh_client.specs.Clients.{GiveClients}
-use Rattle.wh_options.specs.Options.{CoversLog, DeliversByVehicles, IsClashing, IsClientless, IsLacking, ReplayLacks, ServeLacks, Way, board_of, log_of}
+use Rattle.wh_options.specs.Options.{IsClashing, IsClientless, IsLacking, ReplayClashes, ReplayLacks, ServeClashes, ServeLacks, SlacksPatient, Way, board_of, log_of}
 use Rattle.wh_options.specs.declared.mistake.Mistake.{Mistake}
-use Rattle.wh_options.specs.declared.mistake.Mistake.TheVariants.{AheadWithoutVehicles, BehindWithoutVehicles, BoardCoversLog, DeliverWithVehicles, BoardEveryWithoutBoard, NewWithoutLog, NoClients, ServeWithoutClient, ServeWithoutLog, ToldWithoutLog}
+use Rattle.wh_options.specs.declared.mistake.Mistake.TheVariants.{AheadWithoutVehicles, BehindWithoutVehicles, BoardCoversLog, DeliverWithVehicles, BoardEveryWithoutBoard, NewWithoutLog, NoClients, ServeWithoutClient, ServeWithoutLog, SlackOfPatientLive, SlackOfPatientReplay, SlackOfPatientServe, ToldWithoutLog}
 use Rattle.wh_options.specs.declared.chosen.PlannerKind.{PlannerKind}
 use Rattle.wh_options.specs.declared.chosen.PlannerKind.TheVariants.{Near, Patient}
 use Rattle.wh_options.specs.declared.chosen.Tail.{Tail}
@@ -65,6 +65,7 @@ pub record ReadsVehicles (given : Text → Option Text) (vehicles : Option Vehic
 -- the planners and the rule, read from what was found
 pub record ReadsFleet (given : Text → Option Text) (fleet : Fleet) : Type 0 where
   pub planner : fleet.planner ≡ planner_of (given (codes "planner"))
+  pub slack : ReadsNumber (given (codes "slack")) 0 fleet.slack
   pub slots : ReadsNumber (given (codes "slots")) 4 fleet.slots
   pub bank : ReadsNumber (given (codes "bank")) 1024 fleet.bank
   pub spares : ReadsNumber (given (codes "spares")) 0 fleet.spares
@@ -102,11 +103,11 @@ pub record ReadsServe (given : Text → Option Text) (clients : List Text) (o : 
 abbrev pub Reads : Text → (Text → Option Text) → List Text → Options → Type 0
 Reads name given clients (Check o) = (name ≢ codes "replay") × (name ≢ codes "live") × (name ≢ codes "serve") × (name ≢ codes "verify")
     × (name ≡ codes "check" → o.homes ≡ homes_of (given (codes "ends")))
-Reads name given clients (Replay o) = (name ≡ codes "replay") × ReadsReplay given o × (¬ ReplayLacks given) × (¬ DeliversByVehicles given)
-Reads name given clients (Verify o) = (name ≡ codes "verify") × (o.homes ≡ homes_of (given (codes "ends")))
-Reads name given clients (Live o) = (name ≡ codes "live") × ReadsLive given o
+Reads name given clients (Replay o) = (name ≡ codes "replay") × ReadsReplay given o × (¬ ReplayLacks given) × (¬ ReplayClashes given)
+Reads name given clients (Verify o) = (name ≡ codes "verify") × (o.homes ≡ homes_of (given (codes "ends"))) × (o.unended ≡ is_some (given (codes "unended")))
+Reads name given clients (Live o) = (name ≡ codes "live") × ReadsLive given o × (¬ SlacksPatient given)
 Reads name given clients (Serve o) = (name ≡ codes "serve") × ReadsServe given clients o × (¬ ServeLacks given)
-    × (¬ CoversLog given)
+    × (¬ ServeClashes given)
 
 -- the kind of error that tells of a mistake
 abbrev pub kind_of_mistake : Mistake → ErrorKind
@@ -119,6 +120,9 @@ kind_of_mistake ServeWithoutLog = MissingRequiredArgument
 kind_of_mistake ServeWithoutClient = MissingRequiredArgument
 kind_of_mistake BoardCoversLog = ArgumentConflict
 kind_of_mistake DeliverWithVehicles = ArgumentConflict
+kind_of_mistake SlackOfPatientReplay = ArgumentConflict
+kind_of_mistake SlackOfPatientLive = ArgumentConflict
+kind_of_mistake SlackOfPatientServe = ArgumentConflict
 kind_of_mistake NoClients = ValueValidation
 
 -- the options do not go together, and an error of this kind tells so
@@ -133,15 +137,15 @@ Judges kind Wrong given found = MatchOption found (¬ Wrong given) (λ mistake. 
 
 -- nothing of this was found for `replay` that does not go together, or a mistake that says what does not
 abbrev pub JudgesReplay : (Text → Option Text) → Option Mistake → Type 0
-JudgesReplay given found = MatchOption found ((¬ ReplayLacks given) × (¬ DeliversByVehicles given))
+JudgesReplay given found = MatchOption found ((¬ ReplayLacks given) × (¬ ReplayClashes given))
     (λ mistake. (ReplayLacks given × (kind_of_mistake mistake ≡ MissingRequiredArgument))
-    ⊎ ((¬ ReplayLacks given) × DeliversByVehicles given × (kind_of_mistake mistake ≡ ArgumentConflict)))
+    ⊎ ((¬ ReplayLacks given) × ReplayClashes given × (kind_of_mistake mistake ≡ ArgumentConflict)))
 
 -- the name of the log's file, where what was found for `serve` goes together; else a mistake that says what does not
 abbrev pub JudgesServe : (Text → Option Text) → Result (Bor Text) Mistake → Type 0
-JudgesServe given (Ok log) = (Some log.now ≡ given (codes "log")) × (¬ ServeLacks given) × (¬ CoversLog given)
+JudgesServe given (Ok log) = (Some log.now ≡ given (codes "log")) × (¬ ServeLacks given) × (¬ ServeClashes given)
 JudgesServe given (Err mistake) = (ServeLacks given × (kind_of_mistake mistake ≡ MissingRequiredArgument))
-    ⊎ ((¬ ServeLacks given) × CoversLog given × (kind_of_mistake mistake ≡ ArgumentConflict))
+    ⊎ ((¬ ServeLacks given) × ServeClashes given × (kind_of_mistake mistake ≡ ArgumentConflict))
 
 -- all the texts that were found for `client`
 abbrev pub clients_in : List Row → List Text

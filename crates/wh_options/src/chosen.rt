@@ -4,7 +4,7 @@ use wh_client::ClientOptions;
 /// Which kind of planner drives the agents.
 #[derive(Clone, Copy, Debug, PartialEq, Eq)]
 pub enum PlannerKind {
-    /// Plans a path of least length among the others.
+    /// Plans a path of least length among the others, or one that is late by no more than a slack.
     Near,
     /// Waits until the others rest.
     Patient,
@@ -37,6 +37,8 @@ pub enum Replies {
 pub struct Fleet {
     /// The kind of each planner.
     pub planner: PlannerKind,
+    /// By how many steps a path of a planner that searches may be late, 0 to 1000.
+    pub slack: u32,
     /// How many distance fields each planner may keep, 2 to 64.
     pub slots: u32,
     /// How many slots the planners share in all, 2 to 65536.
@@ -59,6 +61,8 @@ pub struct CheckOptions {
 pub struct VerifyOptions {
     /// Whether the log is of a run whose paths end at homes.
     pub homes: bool,
+    /// Whether the log may lack its last line.
+    pub unended: bool,
 }
 
 /// How late vehicles may be, and how far ahead they are told.

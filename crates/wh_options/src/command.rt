@@ -1,7 +1,7 @@
 //! The command line as `clap` is told of it: the subcommands, their options and the help texts.
 ghost use Rattle.std.specs.Prelude.{◌≡◌, IfOk, codes, false};
 ghost use Rattle.clap.specs.Words.{App, app_of, new_app, rule_of, with_rule, with_subcommand};
-ghost use Rattle.wh_options.specs.Menu.{AddsLive, AddsReplay, AddsRuled, AddsServe, choice_rule, file_rule, many_rule, number_rule, switch_rule, HasShape, IsFleetCommand, IsLiveCommand, IsMenu, IsReplayCommand, IsRuledCommand, IsServeCommand, with_board_rules, with_client_rules, with_deliver_rule, with_ends_rule, with_log_rules, with_settings, with_telling_rules, with_vehicle_rules};
+ghost use Rattle.wh_options.specs.Menu.{AddsLive, AddsReplay, AddsRuled, AddsServe, AddsVerify, choice_rule, file_rule, many_rule, number_rule, switch_rule, HasShape, IsFleetCommand, IsLiveCommand, IsMenu, IsReplayCommand, IsRuledCommand, IsServeCommand, IsVerifyCommand, with_board_rules, with_client_rules, with_deliver_rule, with_ends_rule, with_log_rules, with_settings, with_telling_rules, with_vehicle_rules};
 
 use clap::builder::ValueParser;
 use clap::{Arg, ArgAction, Command};
@@ -183,6 +183,8 @@ fn fleet_command<'a>(
     let command = plain_command(alloc, name, about);
     let help = "Kind of each planner [default: near]";
     let command = with_choice(alloc, command, "planner", PLANNERS.as_slice(), help)?;
+    let help = "Steps by which a path of near may be late, 0 to 1000 [default: 0]";
+    let command = with_number(alloc, command, "slack", 0, 1000, help)?;
     let help = "Distance fields that each planner may keep, 2 to 64 [default: 4]";
     let command = with_number(alloc, command, "slots", 2, 64, help)?;
     let help = "Slots that all planners share, 2 to 65536 [default: 1024]";
@@ -258,8 +260,8 @@ pub(crate) fn replay_command<'a>(alloc: Global) -> Result<Command<'a>, AllocErro
     with_deliver(alloc, command)
 }
 
-// The subcommand `live`.
-fn live_command<'a>(alloc: Global) -> Result<Command<'a>, AllocError>
+/// The subcommand `live`.
+pub(crate) fn live_command<'a>(alloc: Global) -> Result<Command<'a>, AllocError>
     ensures { IfOk result IsLiveCommand }
 {
     let about =
@@ -303,7 +305,7 @@ fn with_clients<'a>(
         "Entries more that each client may have, 1 to 1000000 [default: an equal part of --journal]";
     let command = with_number(alloc, command, "share", 1, MOST_ROOM, help)?;
     let help =
-        "A running client: N=FOLDER or N=FOLDER:RIGHTS, with two named pipes in FOLDER, `in` and `out`; N is 0 to 61; RIGHTS are words of submit,token,tick,replace,close by commas, or all [default: submit]; once at least, many times";
+        "A running client: N=FOLDER or N=FOLDER:RIGHTS, with two named pipes in FOLDER, `in` and `out`; N is 0 to 61; RIGHTS are words of submit,token,tick,replace,close,stop by commas, or all of them but stop [default: submit]; once at least, many times";
     with_many(alloc, command, "client", "CLIENT", help)
 }
 
@@ -345,6 +347,26 @@ fn with_ruled<'a>(
 {
     let ruled = ruled_command(alloc, name, about)?;
     command.subcommand(ruled)
+}
+
+// The subcommand `verify`.
+fn verify_command<'a>(alloc: Global) -> Result<Command<'a>, AllocError>
+    ensures { IfOk result IsVerifyCommand }
+{
+    let about =
+        "For an audit: says whether a log is a run of the warehouse (input: map, points, log)";
+    let command = ruled_command(alloc, "verify", about)?;
+    let help =
+        "Takes a log without its last line too, which comes when the warehouse is closed: `run N unended`";
+    with_switch(alloc, command, "unended", help)
+}
+
+// The command with the subcommand `verify`.
+fn with_verify<'a>(alloc: Global, command: Command<'a>) -> Result<Command<'a>, AllocError>
+    ensures { IfOk result (AddsVerify command.entry) }
+{
+    let verify = verify_command(alloc)?;
+    command.subcommand(verify)
 }
 
 // The command with the subcommand `replay`.
@@ -393,9 +415,7 @@ pub(crate) fn warehouse_command<'a>(alloc: Global) -> Result<Command<'a>, AllocE
     let about = "For a new map: says whether the warehouse is well-formed (input: map, points)";
     let command = with_ruled(alloc, bare_command(alloc), "check", about)?;
     let command = with_replay(alloc, command)?;
-    let about =
-        "For an audit: says whether a log is a run of the warehouse (input: map, points, log)";
-    let command = with_ruled(alloc, command, "verify", about)?;
+    let command = with_verify(alloc, command)?;
     let command = with_live(alloc, command)?;
     with_serve(alloc, command)
 }

@@ -2,10 +2,10 @@
 ghost use Rattle.std.specs.Prelude.{◌≡◌, ◌++◌, IfOk, MatchBool, codes, is_some};
 ghost use Rattle.std.specs.Str.{bytes_eq};
 ghost use Rattle.clap.specs.Words.{first_value, found_of, kind_of};
-ghost use Rattle.wh_options.specs.Options.{ReplayLacks, covers};
+ghost use Rattle.wh_options.specs.Options.{ReplayClashes, ReplayLacks, SlacksPatient, covers, slacks_patient};
 ghost use Rattle.wh_options.specs.Reads.{Judges, JudgesReplay, JudgesServe, kind_of_mistake};
 
-use crate::command::{replay_command, serve_command};
+use crate::command::{live_command, replay_command, serve_command};
 use clap::error::ErrorKind;
 use clap::{ArgMatches, Command, Error};
 use std::alloc::{AllocError, Global};
@@ -31,6 +31,12 @@ pub(crate) enum Mistake {
     BoardCoversLog,
     /// All is to be delivered behind the script, and by vehicles.
     DeliverWithVehicles,
+    /// Paths of a replay may be late, and its planners are patient.
+    SlackOfPatientReplay,
+    /// The same of the threads of `live`.
+    SlackOfPatientLive,
+    /// The same of a service.
+    SlackOfPatientServe,
     /// Texts that do not name clients, each by a number and a folder of its own.
     NoClients,
 }
@@ -53,6 +59,11 @@ impl Mistake {
             Mistake::DeliverWithVehicles => {
                 "the argument '--deliver' cannot be used with '--vehicles'"
             }
+            Mistake::SlackOfPatientReplay
+            | Mistake::SlackOfPatientLive
+            | Mistake::SlackOfPatientServe => {
+                "the argument '--slack <N>' cannot be used with '--planner patient'"
+            }
             Mistake::NoClients => {
                 "invalid value for '--client <CLIENT>': each wants N=FOLDER or N=FOLDER:RIGHTS, with a number from 0 to 61 and a folder of its own"
             }
@@ -70,7 +81,11 @@ impl Mistake {
             | Mistake::BoardEveryWithoutBoard
             | Mistake::ServeWithoutLog
             | Mistake::ServeWithoutClient => ErrorKind::MissingRequiredArgument,
-            Mistake::BoardCoversLog | Mistake::DeliverWithVehicles => ErrorKind::ArgumentConflict,
+            Mistake::BoardCoversLog
+            | Mistake::DeliverWithVehicles
+            | Mistake::SlackOfPatientReplay
+            | Mistake::SlackOfPatientLive
+            | Mistake::SlackOfPatientServe => ErrorKind::ArgumentConflict,
             Mistake::NoClients => ErrorKind::ValueValidation,
         }
     }
@@ -82,7 +97,11 @@ impl Mistake {
             | Mistake::NewWithoutLog
             | Mistake::BehindWithoutVehicles
             | Mistake::AheadWithoutVehicles
-            | Mistake::DeliverWithVehicles => replay_command(alloc)?.bin_name("warehouse replay"),
+            | Mistake::DeliverWithVehicles
+            | Mistake::SlackOfPatientReplay => {
+                replay_command(alloc)?.bin_name("warehouse replay")
+            }
+            Mistake::SlackOfPatientLive => live_command(alloc)?.bin_name("warehouse live"),
             _ => serve_command(alloc)?.bin_name("warehouse serve"),
         }
     }
@@ -123,16 +142,46 @@ fn lack_of_replay(replay: &ArgMatches<'_>) -> Option<Mistake>
     None
 }
 
+/// Whether a slack is given, and to planners that are patient.
+fn slacks_patient(matches: &ArgMatches<'_>) -> bool
+    ensures { result ≡ slacks_patient (first_value (found_of matches.now)) }
+{
+    match matches.get_str("planner") {
+        Some(text) => is_given(matches, "slack") && text == "patient",
+        None => false,
+    }
+}
+
+/// What of the options of `live` does not go together, if something does not.
+pub(crate) fn mistake_of_live(live: &ArgMatches<'_>) -> Option<Mistake>
+    ensures { Judges ErrorKind.ArgumentConflict SlacksPatient (first_value (found_of live.now)) result }
+{
+    if slacks_patient(live) {
+        return Some(Mistake::SlackOfPatientLive);
+    }
+    None
+}
+
+/// What `replay` is given beside what it does not go with, if something is.
+fn clash_of_replay(replay: &ArgMatches<'_>) -> Option<Mistake>
+    ensures { Judges ErrorKind.ArgumentConflict ReplayClashes (first_value (found_of replay.now)) result }
+{
+    if is_given(replay, "deliver") && is_given(replay, "vehicles") {
+        return Some(Mistake::DeliverWithVehicles);
+    }
+    if slacks_patient(replay) {
+        return Some(Mistake::SlackOfPatientReplay);
+    }
+    None
+}
+
 /// What of the options of `replay` does not go together, if something does not.
 pub(crate) fn mistake_of_replay(replay: &ArgMatches<'_>) -> Option<Mistake>
     ensures { JudgesReplay (first_value (found_of replay.now)) result }
 {
     match lack_of_replay(replay) {
         Some(mistake) => Some(mistake),
-        None if is_given(replay, "deliver") && is_given(replay, "vehicles") => {
-            Some(Mistake::DeliverWithVehicles)
-        }
-        None => None,
+        None => clash_of_replay(replay),
     }
 }
 
@@ -171,6 +220,7 @@ pub(crate) fn log_of_serve<'a>(serve: &ArgMatches<'a>) -> Result<&'a str, Mistak
     }
     match serve.get_str("board") {
         Some(board) if covers(board, log) => Err(Mistake::BoardCoversLog),
+        _ if slacks_patient(serve) => Err(Mistake::SlackOfPatientServe),
         _ => Ok(log),
     }
 }

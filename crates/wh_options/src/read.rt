@@ -12,7 +12,7 @@ use crate::chosen::{
     Tail, VehicleOptions, VerifyOptions,
 };
 use crate::command::warehouse_command;
-use crate::mistake::{Mistake, is_given, log_of_serve, mistake_of_replay};
+use crate::mistake::{Mistake, is_given, log_of_serve, mistake_of_live, mistake_of_replay};
 use clap::error::ErrorKind;
 use clap::{ArgMatches, Error};
 use std::alloc::{AllocError, Global};
@@ -120,6 +120,7 @@ fn fleet(matches: &ArgMatches<'_>) -> Fleet
 {
     Fleet {
         planner: planner(matches),
+        slack: number(matches, "slack", 0),
         slots: number(matches, "slots", 4),
         bank: number(matches, "bank", 1024),
         spares: number(matches, "spares", 0),
@@ -240,14 +241,19 @@ fn read_options<'a>(
         };
     }
     if let Some(live) = matches.subcommand_matches("live") {
-        return Ok(Ok(Options::Live(live_options(live))));
+        return match mistake_of_live(live) {
+            Some(mistake) => Ok(Err(mistake)),
+            None => Ok(Ok(Options::Live(live_options(live)))),
+        };
     }
     if let Some(serve) = matches.subcommand_matches("serve") {
         return read_serve(alloc, serve);
     }
     if let Some(verify) = matches.subcommand_matches("verify") {
-        let homes = homes(verify);
-        return Ok(Ok(Options::Verify(VerifyOptions { homes })));
+        return Ok(Ok(Options::Verify(VerifyOptions {
+            homes: homes(verify),
+            unended: is_given(verify, "unended"),
+        })));
     }
     Ok(Ok(Options::Check(check_options(matches))))
 }

@@ -58,8 +58,8 @@ Checked o (Err told) old new had has = IsWhyUnjudged o.homes told old new had ha
 
 -- `verify` came to this
 abbrev pub Verified : VerifyOptions → Result Status Trouble → Input → Input → Option (List ℕ) → Option (List ℕ) → Type 0
-Verified o (Ok status) old new had has = Verifies o.homes old new had has status
-Verified o (Err told) old new had has = IsWhyUnverified o.homes told old new had has
+Verified o (Ok status) old new had has = Verifies o old new had has status
+Verified o (Err told) old new had has = IsWhyUnverified o told old new had has
 
 -- `live` came to this. Here and below fits and count say what a planner returns, and gives what makes it.
 abbrev pub Lived : {X : Type 0} → (X → Floor → Bool) → (X → ℕ) → (PlannerParts → Result X AllocError → Type 0) → LiveOptions → Result Status Trouble

@@ -80,8 +80,13 @@ pub fn planner<R: Print, P: Planner, F: Fn(PlannerParts) -> Result<P, AllocError
         let free = bank.free(seat);
         let claim = claim(bank, seat, slots)?;
         let grid = Arc::try_clone(grid)?;
-        let kind = PlannerKind::Near;
-        match make(PlannerParts { kind, grid, claim }) {
+        let parts = PlannerParts {
+            kind: PlannerKind::Near,
+            slack: 0,
+            grid,
+            claim,
+        };
+        match make(parts) {
             Ok(planner) => return Ok(planner),
             Err(AllocError) => refused(rt, bank.free(seat) == free)?,
         }

@@ -14,7 +14,7 @@ use Rattle.wh_replay.proofs.Placing.{run_clock}
 use Rattle.wh_serve.specs.Texts.{InEach, clock_at, receipt_text}
 use Rattle.wh_serve.specs.Tellings.{own_text, texts}
 use Rattle.wh_serve.specs.declared.told.Told.{Told}
-use Rattle.wh_serve.specs.declared.told.Told.TheVariants.{Nothing, NoCommand, Without, Received}
+use Rattle.wh_serve.specs.declared.told.Told.TheVariants.{Nothing, NoCommand, Without, Received, Stopped}
 
 take_begin : {A : Type 0} (xs ys : List A) (k : ℕ) → IsPrefix xs ys → k ≤ length xs → take k xs ≡ take k ys
 take_begin xs ys k p le = sym (take-append-le k xs p.0 le) ∙ ap (take k) p.1
@@ -38,3 +38,4 @@ texts_few form Nothing = omega arith
 texts_few form (NoCommand fault) = omega arith
 texts_few form (Without why) = omega arith
 texts_few form (Received receipt) = omega arith
+texts_few form Stopped = omega arith

@@ -15,13 +15,10 @@ use Rattle.wh_grid.specs.Grids.{Floor}
 use Rattle.wh_board.proofs.Fronts.{prefix_self, prefix_trans}
 use Rattle.wh_desk.specs.Lists.{Received}
 use Rattle.wh_desk.specs.Pasts.{Origin}
-use Rattle.wh_event.specs.declared.event.Command.{Command}
 use Rattle.wh_event.specs.declared.entry.Entry.{Entry}
-use Rattle.wh_event.specs.declared.fault.LineFault.{LineFault}
-use Rattle.wh_replay.specs.Answers.{asked, said, text_of}
+use Rattle.wh_replay.specs.Answers.{text_of}
 use Rattle.wh_replay.specs.Scripts.{WritesToLast}
 use Rattle.wh_replay.specs.declared.script.ReplayFault.TheVariants as replay
-use Rattle.wh_replay.proofs.Returns.{said_is}
 use Rattle.wh_session.specs.Machines.{Records, ServesAll as AllServed}
 use Rattle.wh_session.specs.Sessions.{round_of, Serves, Stops as Stopped, LeavesOff, HaltsAt}
 use Rattle.wh_session.specs.declared.machine.Halt.TheVariants as kinds
@@ -34,13 +31,16 @@ use Rattle.wh_serve.specs.declared.served.ServeFault.{ServeFault}
 use Rattle.wh_serve.specs.declared.served.ServeFault.TheVariants.{Cut, Unjournaled}
 use Rattle.wh_serve.specs.declared.call.Lost.{Lost}
 use Rattle.wh_serve.specs.declared.call.Lost.TheVariants as lost
-use Rattle.wh_serve.specs.Texts.{InEach, receipt_text}
+use Rattle.wh_serve.specs.Texts.{InEach, receipt_text, begin_text}
+use Rattle.wh_serve.specs.Beginnings.{behind_begin}
+use Rattle.wh_serve.specs.Sayings.{asked, said}
 use Rattle.wh_serve.specs.Outcomes.{Gives, IsOutputOf, answers}
 use Rattle.wh_serve.specs.Losses.{Loses}
 use Rattle.wh_serve.specs.Machines.{Standing, IsSameClient}
 use Rattle.wh_serve.specs.Sessions.{IsUnserved, IsReadTo, ServesAll, Stops, IsLost, WritesUntil, WritesButLast, HasCause, end_of, fault_of}
+use Rattle.wh_serve.proofs.Beginnings.{heard}
 use Rattle.wh_serve.proofs.Giving.{output_one}
-use Rattle.wh_serve.proofs.Serving.{Answered, same_both, serves_so, halts_so, output_then, all_grow, all_answered, all_same}
+use Rattle.wh_serve.proofs.Serving.{Answered, same_both, still_short, serves_so, halts_so, output_then, all_grow, all_answered, all_same}
 
 -- no line was served
 no_lines : {S : Type 0} (serves : S → Option (List ℕ) → List ℕ → Records → S → Type 0) (bytes : List ℕ) (x y : S) (told : List ℕ) (kept : Records) → bytes ≡ [] → AllServed serves (lines_of bytes) x told kept y → y ≡ x
@@ -56,14 +56,19 @@ but_none : (had has : Option (List ℕ)) (replies : List (List ℕ)) → Appends
 but_none had has replies wrote = record { told = replies; last = []; replies_are = sym (append-nil replies); few = omega arith; whole = wrote }
 
 module _ {X : Type 0} (cells : ℕ) (fits : X → Floor → Bool) (count : X → ℕ) (origin : Origin) where
-  module _ {H : Type 0} (keeps leaves : H → Records → H → Type 0) (i j : Input) (s e : Standing X) (had has : Option (List ℕ)) (stood holds : H) where
+  module _ {H : Type 0} (keeps leaves : H → Records → H → Type 0) (i j : Input) (s e : Standing X) (had has : Option (List ℕ)) (stood holds : H) (fresh : s.begun ≡ false) (short : length (begin_text s.tag) ≤ 256) where
+    -- the output of what is served, where the connection begins with these lines
+    output_behind : (history : List Entry) (lines : List (List ℕ)) (to : Received) (left : List X) (replies : List (List ℕ)) → IsOutputOf s.may cells fits count origin.site.grid (receipt_text s.form origin history) (heard s.begun s.tag lines) s.pass s.spares to left replies
+        → IsOutputOf s.may cells fits count origin.site.grid (receipt_text s.form origin history) (behind_begin s.tag lines) s.pass s.spares to left replies
+    output_behind history lines to left replies o = subst (λ (b : Bool). IsOutputOf s.may cells fits count origin.site.grid (receipt_text s.form origin history) (heard b s.tag lines) s.pass s.spares to left replies) fresh o
+
     -- ---- without a fault
 
     served_with : (end : SessionEnd) → s.replies ≡ 0 → (r : Serves (serves_so cells fits count origin) keeps false true (2 ^ 64 - 1) (round_of end) i j s e had has stood holds)
         → EndsLine r.lines.read → IsUnserved (end_of end) r.lines.begun → IsReadTo (end_of end) j
-        → InEach e.pass.known (λ history. ServesAll s.may cells fits count origin.site.grid (receipt_text s.form origin history) i j s.pass s.spares e.pass e.spares had has e.replies (end_of end))
+        → InEach e.pass.known (λ history. ServesAll s.may cells fits count origin.site.grid (receipt_text s.form origin history) s.tag i j s.pass s.spares e.pass e.spares had has e.replies (end_of end))
     served_with end zero r whole unserved read_to history begins =
-        let a = all_answered cells fits count origin history (lines_of r.lines.read) s r.told r.kept e r.lines.all begins in
+        let a = all_answered cells fits count origin history (lines_of r.lines.read) s r.told r.kept e short r.lines.all begins in
         let few = r.few refl in
         let counted = a.counted (omega (arith, zero, few, a.few)) in
         record {
@@ -74,13 +79,13 @@ module _ {X : Type 0} (cells : ℕ) (fits : X → Floor → Bool) (count : X →
           unserved = unserved;
           read_to = read_to;
           replies = a.replies;
-          output = a.output;
+          output = output_behind history (lines_of r.lines.read) e.pass e.spares a.replies a.output;
           appends = subst (λ (t : List ℕ). Appends had has t) a.told_is r.wrote;
           written_is = omega (arith, zero, counted);
         }
 
     served_to : (end : SessionEnd) → s.replies ≡ 0 → Serves (serves_so cells fits count origin) keeps false true (2 ^ 64 - 1) (round_of end) i j s e had has stood holds
-        → InEach e.pass.known (λ history. ServesAll s.may cells fits count origin.site.grid (receipt_text s.form origin history) i j s.pass s.spares e.pass e.spares had has e.replies (end_of end))
+        → InEach e.pass.known (λ history. ServesAll s.may cells fits count origin.site.grid (receipt_text s.form origin history) s.tag i j s.pass s.spares e.pass e.spares had has e.replies (end_of end))
     served_to session.Input zero r = served_with session.Input zero r r.lines.whole r.lines.ends.0 r.lines.ends.1
     served_to session.Torn zero r = served_with session.Torn zero r r.lines.whole (r.lines.ends.0, r.lines.ends.1) r.lines.ends.2
     served_to session.Over zero r = served_with session.Over zero r r.lines.whole r.lines.ends tt
@@ -88,14 +93,14 @@ module _ {X : Type 0} (cells : ℕ) (fits : X → Floor → Bool) (count : X →
     -- ---- after a fault
 
     abbrev StopsBy : ServeFault → List Entry → Type 0
-    StopsBy fault history = Stops s.may cells fits count origin.site.grid (receipt_text s.form origin history) fault i j s.pass s.spares e.pass e.spares had has
+    StopsBy fault history = Stops s.may cells fits count origin.site.grid (receipt_text s.form origin history) s.tag fault i j s.pass s.spares e.pass e.spares had has
 
     -- lines were served and told, and no more was told
     module _ (read begun told : List ℕ) (kept : Records) (x : Standing X) (whole : EndsLine read) (takes : Takes i j (read ++ begun)) (all : AllServed (serves_so cells fits count origin) (lines_of read) s told kept x)
         (wrote : Appends had has told) where
       module _ (history : List Entry) (begins : IsPrefix x.pass.known history) where
         abbrev answered : Answered cells fits count origin history (lines_of read) told s x
-        answered = all_answered cells fits count origin history (lines_of read) s told kept x all begins
+        answered = all_answered cells fits count origin history (lines_of read) s told kept x short all begins
 
         wrote_replies : Appends had has (text_of answered.replies)
         wrote_replies = subst (λ (t : List ℕ). Appends had has t) answered.told_is wrote
@@ -111,22 +116,25 @@ module _ {X : Type 0} (cells : ℕ) (fits : X → Floor → Bool) (count : X →
           whole = whole;
           replies = answered.replies;
           output =
-              subst (λ (p : Received). IsOutputOf s.may cells fits count origin.site.grid (receipt_text s.form origin history) (lines_of read) s.pass s.spares p e.spares answered.replies) (sym pass)
-              (subst (λ (xs : List X). IsOutputOf s.may cells fits count origin.site.grid (receipt_text s.form origin history) (lines_of read) s.pass s.spares x.pass xs answered.replies) (sym spares) answered.output);
+              output_behind history (lines_of read) e.pass e.spares answered.replies
+              (subst (λ (p : Received). IsOutputOf s.may cells fits count origin.site.grid (receipt_text s.form origin history) (heard s.begun s.tag (lines_of read)) s.pass s.spares p e.spares answered.replies) (sym pass)
+              (subst (λ (xs : List X). IsOutputOf s.may cells fits count origin.site.grid (receipt_text s.form origin history) (heard s.begun s.tag (lines_of read)) s.pass s.spares x.pass xs answered.replies) (sym spares) answered.output));
           writes = writes answered.replies wrote_replies;
           cause = cause;
         }
 
         -- one line more was served
-        stops_untold : (raw : List ℕ) → IsLine raw → begun ≡ raw ++ 10 ∷ [] → (replies : List (List ℕ))
-            → Gives x.may cells fits count origin.site.grid (asked (said (short_line raw))) (answers (receipt_text x.form origin history) (said (short_line raw))) x.pass x.spares e.pass e.spares replies
+        stops_untold : (raw : List ℕ) → x.begun ≡ true → IsLine raw → begun ≡ raw ++ 10 ∷ [] → (replies : List (List ℕ))
+            → Gives x.may cells fits count origin.site.grid (asked (said (short_line raw))) (answers x.may.rights (receipt_text x.form origin history) (said (short_line raw))) x.pass x.spares e.pass e.spares replies
             → length replies ≤ 1 → StopsBy Unjournaled history
-        stops_untold raw plain is replies gives few =
+        stops_untold raw live plain is replies gives few =
             let text = receipt_text x.form origin history in
-            let line = output_one x.may cells fits count origin.site.grid text (without_cr raw) x.pass x.spares e.pass e.spares replies
-            (subst (λ (kind : Result (Option Command) LineFault). Gives x.may cells fits count origin.site.grid (asked kind) (answers text kind) x.pass x.spares e.pass e.spares replies) (said_is raw) gives) in
+            let line = output_one x.may cells fits count origin.site.grid text (without_cr raw) x.pass x.spares e.pass e.spares replies gives in
             let lines : lines_of (read ++ begun) ≡ lines_of read ++ (without_cr raw ∷ []) =
             whole begun ∙ ap (λ (l : List (List ℕ)). lines_of read ++ l) (ap (λ (l : List ℕ). lines_of l) is ∙ lines-feed raw [] plain) in
+            let last : heard x.begun x.tag (without_cr raw ∷ []) ≡ without_cr raw ∷ [] = ap (λ (b : Bool). heard b x.tag (without_cr raw ∷ [])) live in
+            let served : heard s.begun s.tag (lines_of (read ++ begun)) ≡ heard s.begun s.tag (lines_of read) ++ (without_cr raw ∷ []) =
+            ap (λ (ls : List (List ℕ)). heard s.begun s.tag ls) lines ∙ answered.goes_on (without_cr raw ∷ []) ∙ ap (λ (ls : List (List ℕ)). heard s.begun s.tag (lines_of read) ++ ls) last in
             record {
               read = read ++ begun;
               behind = [];
@@ -134,19 +142,20 @@ module _ {X : Type 0} (cells : ℕ) (fits : X → Floor → Bool) (count : X →
               lost = inl refl;
               whole = subst (λ (l : List ℕ). EndsLine (read ++ l)) (sym is) (whole_next read raw whole plain);
               replies = answered.replies ++ replies;
-              output = subst (λ (ls : List (List ℕ)). IsOutputOf s.may cells fits count origin.site.grid (receipt_text s.form origin history) ls s.pass s.spares e.pass e.spares (answered.replies ++ replies)) (sym lines)
-                  (output_then cells fits count origin history (lines_of read) (without_cr raw ∷ []) s x e answered.replies replies answered.same answered.output line);
+              output = output_behind history (lines_of (read ++ begun)) e.pass e.spares (answered.replies ++ replies)
+                  (subst (λ (ls : List (List ℕ)). IsOutputOf s.may cells fits count origin.site.grid (receipt_text s.form origin history) ls s.pass s.spares e.pass e.spares (answered.replies ++ replies)) (sym served)
+                  (output_then cells fits count origin history (heard s.begun s.tag (lines_of read)) (without_cr raw ∷ []) s x e answered.replies replies answered.same answered.output line));
               writes = record { told = answered.replies; last = replies; replies_are = refl; few = few; whole = wrote_replies };
               cause = tt;
             }
 
       -- the journal has failed at a line
-      stops_lost : (raw : List ℕ) → IsLine raw → begun ≡ raw ++ 10 ∷ [] → (history : List Entry) → IsPrefix e.pass.known history → (why : Lost)
+      stops_lost : (raw : List ℕ) → x.begun ≡ true → IsLine raw → begun ≡ raw ++ 10 ∷ [] → (history : List Entry) → IsPrefix e.pass.known history → (why : Lost)
           → Loses x.may cells fits count origin.site.grid (receipt_text x.form origin history) (said (short_line raw)) x.pass x.spares e.pass e.spares why → StopsBy Unjournaled history
-      stops_lost raw plain is history begins lost.Failed loses =
+      stops_lost raw live plain is history begins lost.Failed loses =
           stops_told history (subst (λ (p : Received). IsPrefix p.known history) loses.0 begins) Unjournaled loses.0 loses.1 (inr (raw, plain, is)) (λ replies w. but_none had has replies w) tt
-      stops_lost raw plain is history begins lost.Unkept loses =
-          stops_untold history (prefix_trans x.pass.known e.pass.known history loses.1.known begins) raw plain is loses.0 loses.1 loses.2
+      stops_lost raw live plain is history begins lost.Unkept loses =
+          stops_untold history (prefix_trans x.pass.known e.pass.known history loses.1.known begins) raw live plain is loses.0 loses.1 loses.2
 
     module _ (none_leaves : (a : H) (r : Records) (b : H) → leaves a r b → ⊥) where
       module _ (fault : SessionFault) (r : Stopped (serves_so cells fits count origin) (halts_so cells fits count origin) keeps leaves false true true fault i j s e had has stood holds) where
@@ -203,16 +212,17 @@ module _ {X : Type 0} (cells : ℕ) (fits : X → Floor → Bool) (count : X →
                 | inr line ↦ line
               ] in
               let l = h.halted history begins in
-              stops_lost r.read r.begun r.told r.kept r.reached r.whole takes_begun all_reached (wrote_all other) h.raw h.plain is history begins l.why l.loses
+              stops_lost r.read r.begun r.told r.kept r.reached r.whole takes_begun all_reached (wrote_all other) h.raw l.begun h.plain is history begins l.why l.loses
 
         -- the reply of the last line was not written to its end, or no more could be read since the writer failed
         module _ (history : List Entry) (begins : IsPrefix r.reached.pass.known history) where
           abbrev first : Answered cells fits count origin history (lines_of r.read) r.told s r.mid
-          first = all_answered cells fits count origin history (lines_of r.read) s r.told r.kept r.mid r.all
+          first = all_answered cells fits count origin history (lines_of r.read) s r.told r.kept r.mid short r.all
               (prefix_trans r.mid.pass.known r.reached.pass.known history (all_grow cells fits count origin (lines_of r.last) r.mid r.last_told r.last_kept r.reached r.last_all) begins)
 
           abbrev last : Answered cells fits count origin history (lines_of r.last) r.last_told r.mid r.reached
-          last = all_answered cells fits count origin history (lines_of r.last) r.mid r.last_told r.last_kept r.reached r.last_all begins
+          last = all_answered cells fits count origin history (lines_of r.last) r.mid r.last_told r.last_kept r.reached
+              (still_short cells fits count origin s r.mid (all_same cells fits count origin (lines_of r.read) s r.told r.kept r.mid r.all) short) r.last_all begins
 
           last_front : WritesFront r.between has (text_of last.replies)
           last_front = subst (λ (t : List ℕ). WritesFront r.between has t) last.told_is (elim r.left_so [
@@ -240,10 +250,10 @@ module _ {X : Type 0} (cells : ℕ) (fits : X → Floor → Bool) (count : X →
             lost = part;
             whole = ends_both r.read r.last r.whole last_whole;
             replies = first.replies ++ last.replies;
-            output =
-                subst (λ (ls : List (List ℕ)). IsOutputOf s.may cells fits count origin.site.grid (receipt_text s.form origin history) ls s.pass s.spares e.pass e.spares (first.replies ++ last.replies)) (sym (r.whole r.last))
-                (subst (λ (x : Standing X). IsOutputOf s.may cells fits count origin.site.grid (receipt_text s.form origin history) (lines_of r.read ++ lines_of r.last) s.pass s.spares x.pass x.spares (first.replies ++ last.replies)) (sym same)
-                (output_then cells fits count origin history (lines_of r.read) (lines_of r.last) s r.mid r.reached first.replies last.replies first.same first.output last.output));
+            output = output_behind history (lines_of (r.read ++ r.last)) e.pass e.spares (first.replies ++ last.replies)
+                (subst (λ (ls : List (List ℕ)). IsOutputOf s.may cells fits count origin.site.grid (receipt_text s.form origin history) ls s.pass s.spares e.pass e.spares (first.replies ++ last.replies)) (sym (ap (λ (ls : List (List ℕ)). heard s.begun s.tag ls) (r.whole r.last) ∙ first.goes_on (lines_of r.last)))
+                (subst (λ (x : Standing X). IsOutputOf s.may cells fits count origin.site.grid (receipt_text s.form origin history) (heard s.begun s.tag (lines_of r.read) ++ heard r.mid.begun r.mid.tag (lines_of r.last)) s.pass s.spares x.pass x.spares (first.replies ++ last.replies)) (sym same)
+                (output_then cells fits count origin history (heard s.begun s.tag (lines_of r.read)) (heard r.mid.begun r.mid.tag (lines_of r.last)) s r.mid r.reached first.replies last.replies first.same first.output last.output)));
             writes = to_last;
             cause = tt;
           }
@@ -291,15 +301,15 @@ module _ {X : Type 0} (cells : ℕ) (fits : X → Floor → Bool) (count : X →
       stopped_same faults.NoMemory r = absurd (left_off faults.NoMemory r).halted
 
 -- the same of a machine that stood so, and stands so
-module _ {X : Type 0} (cells : ℕ) (fits : X → Floor → Bool) (count : X → ℕ) (origin : Origin) (s e : Standing X) {H : Type 0} (keeps leaves : H → Records → H → Type 0) (i j : Input) (had has : Option (List ℕ)) (stood holds : H) where
+module _ {X : Type 0} (cells : ℕ) (fits : X → Floor → Bool) (count : X → ℕ) (origin : Origin) (s e : Standing X) {H : Type 0} (keeps leaves : H → Records → H → Type 0) (i j : Input) (had has : Option (List ℕ)) (stood holds : H) (fresh : s.begun ≡ false) (short : length (begin_text s.tag) ≤ 256) where
   module _ (end : SessionEnd) (f : (a : Standing X) → s ≡ a → (b : Standing X) × (e ≡ b) × Serves (serves_so cells fits count origin) keeps false true (2 ^ 64 - 1) (round_of end) i j a b had has stood holds) where
     served : Serves (serves_so cells fits count origin) keeps false true (2 ^ 64 - 1) (round_of end) i j s e had has stood holds
     served =
         let t = f s refl in
         subst (λ (x : Standing X). Serves (serves_so cells fits count origin) keeps false true (2 ^ 64 - 1) (round_of end) i j s x had has stood holds) (sym t.1) t.2
 
-    pub served_so : s.replies ≡ 0 → InEach e.pass.known (λ history. ServesAll s.may cells fits count origin.site.grid (receipt_text s.form origin history) i j s.pass s.spares e.pass e.spares had has e.replies (end_of end))
-    served_so zero = served_to cells fits count origin keeps leaves i j s e had has stood holds end zero served
+    pub served_so : s.replies ≡ 0 → InEach e.pass.known (λ history. ServesAll s.may cells fits count origin.site.grid (receipt_text s.form origin history) s.tag i j s.pass s.spares e.pass e.spares had has e.replies (end_of end))
+    served_so zero = served_to cells fits count origin keeps leaves i j s e had has stood holds fresh short end zero served
 
     pub served_same : IsSameClient s e
     served_same = all_same cells fits count origin (lines_of served.lines.read) s served.told served.kept e served.lines.all
@@ -311,8 +321,8 @@ module _ {X : Type 0} (cells : ℕ) (fits : X → Floor → Bool) (count : X →
         let t = f s refl in
         subst (λ (x : Standing X). Stopped (serves_so cells fits count origin) (halts_so cells fits count origin) keeps leaves false true true fault i j s x had has stood holds) (sym t.1) t.2
 
-    pub stopped_so : InEach e.pass.known (λ history. Stops s.may cells fits count origin.site.grid (receipt_text s.form origin history) (fault_of fault) i j s.pass s.spares e.pass e.spares had has)
-    stopped_so = stopped cells fits count origin keeps leaves i j s e had has stood holds none_leaves fault left
+    pub stopped_so : InEach e.pass.known (λ history. Stops s.may cells fits count origin.site.grid (receipt_text s.form origin history) s.tag (fault_of fault) i j s.pass s.spares e.pass e.spares had has)
+    stopped_so = stopped cells fits count origin keeps leaves i j s e had has stood holds fresh short none_leaves fault left
 
     pub stopped_as : IsSameClient s e
-    stopped_as = stopped_same cells fits count origin keeps leaves i j s e had has stood holds none_leaves fault left
+    stopped_as = stopped_same cells fits count origin keeps leaves i j s e had has stood holds fresh short none_leaves fault left

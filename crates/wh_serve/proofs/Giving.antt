@@ -1,7 +1,6 @@
 -- What calls give, one after another.
-use Rattle.std.proofs.Common.{◌≡◌, ◌+◌, ◌≤◌, ◌⊎◌, ℕ, inl, inr, true, false, List, [], ◌∷◌, ◌++◌, length, drop, refl, sym, ap, ◌∙◌, arith, subst, Option, None, Some, Result, Ok, Err, append_assoc, append-nil, Bool, suc}
+use Rattle.std.proofs.Common.{◌≡◌, ◌+◌, ◌≤◌, ◌⊎◌, ℕ, inl, inr, true, false, List, [], ◌∷◌, ◌++◌, length, drop, refl, sym, ap, ◌∙◌, arith, subst, Ok, Err, append_assoc, append-nil, Bool, suc}
 use Rattle.wh_grid.specs.Grids.{Floor}
-use Rattle.wh_event.specs.CommandLines.{command_of}
 use Rattle.wh_event.specs.declared.event.Command.{Command}
 use Rattle.wh_event.specs.declared.entry.Entry.{Entry}
 use Rattle.wh_event.specs.declared.fault.LineFault.{LineFault}
@@ -10,14 +9,17 @@ use Rattle.wh_desk.specs.declared.answer.DeskFault.TheVariants as faults
 use Rattle.wh_desk.specs.Lists.{Received}
 use Rattle.wh_board.proofs.Fronts.{prefix_self, prefix_trans, prefix_length}
 use Rattle.wh_desk.proofs.Telling.{refused_keeps}
-use Rattle.wh_replay.specs.Answers.{asked, commands_of}
 use Rattle.std.proofs.lemmas.List.{length-append}
 use Rattle.wh_serve.specs.Allowances.{MayCall, IsWhyNone}
+use Rattle.wh_serve.specs.Sayings.{asked, commands_of, says}
 use Rattle.wh_serve.specs.declared.allowance.Allowance.{Allowance}
+use Rattle.wh_serve.specs.declared.allowance.Rights.{Rights}
+use Rattle.wh_serve.specs.declared.said.Said.{Said}
+use Rattle.wh_serve.specs.declared.said.Said.TheVariants.{Nothing, Asks, Stop, NoCommand}
 use Rattle.wh_serve.specs.declared.call.NoReceipt.{NoReceipt}
 use Rattle.wh_serve.specs.declared.call.NoReceipt.TheVariants as without
 use Rattle.wh_serve.specs.Texts.{without_text}
-use Rattle.wh_serve.specs.Outcomes.{Outcome, receipts_of, line_text, answers, replies_to, Made, Gives, IsOutputOf, HasFull}
+use Rattle.wh_serve.specs.Outcomes.{Outcome, receipts_of, line_text, stop_text, answers, replies_to, Made, Gives, IsOutputOf, HasFull}
 use Rattle.wh_scribe.specs.Calls.{Receives}
 use Rattle.wh_serve.specs.Calls.{Leaves}
 
@@ -85,23 +87,24 @@ made_length may fits count grid held (c ∷ cs) [] spares rest p = absurd p
 
 commands_both : (lines more : List (List ℕ)) → commands_of (lines ++ more) ≡ commands_of lines ++ commands_of more
 commands_both [] more = refl
-commands_both (l ∷ lines) more = ap (λ cs. asked (command_of l) ++ cs) (commands_both lines more) ∙ sym (append_assoc (asked (command_of l)) (commands_of lines) (commands_of more))
+commands_both (l ∷ lines) more = ap (λ cs. asked (says l) ++ cs) (commands_both lines more) ∙ sym (append_assoc (asked (says l)) (commands_of lines) (commands_of more))
 
 -- one line more in front, whatever it says
-replies_by : (text : ℕ × Entry → List ℕ) (kind : Result (Option Command) LineFault) (lines more : List (List ℕ)) (os ps : List Outcome) (told : List (List ℕ))
-    → ((ns : List Outcome) → length ns ≡ length (commands_of lines) → replies_to text (lines ++ more) (ns ++ ps) ≡ replies_to text lines ns ++ told)
+replies_by : (rights : Rights) (text : ℕ × Entry → List ℕ) (kind : Said) (lines more : List (List ℕ)) (os ps : List Outcome) (told : List (List ℕ))
+    → ((ns : List Outcome) → length ns ≡ length (commands_of lines) → replies_to rights text (lines ++ more) (ns ++ ps) ≡ replies_to rights text lines ns ++ told)
     → length os ≡ length (asked kind ++ commands_of lines)
-    → answers text kind (os ++ ps) ++ replies_to text (lines ++ more) (drop (length (asked kind)) (os ++ ps)) ≡ (answers text kind os ++ replies_to text lines (drop (length (asked kind)) os)) ++ told
-replies_by text (Ok None) lines more os ps told further e = further os e
-replies_by text (Err fault) lines more os ps told further e = ap (λ rs. line_text fault ∷ rs) (further os e)
-replies_by text (Ok (Some command)) lines more [] ps told further e = absurd (omega (arith, e))
-replies_by text (Ok (Some command)) lines more (o ∷ os) ps told further e = ap (λ rs. answers text (Ok (Some command)) (o ∷ os) ++ rs) (further os (omega (arith, e)))
+    → answers rights text kind (os ++ ps) ++ replies_to rights text (lines ++ more) (drop (length (asked kind)) (os ++ ps)) ≡ (answers rights text kind os ++ replies_to rights text lines (drop (length (asked kind)) os)) ++ told
+replies_by rights text Nothing lines more os ps told further e = further os e
+replies_by rights text (NoCommand fault) lines more os ps told further e = ap (λ rs. line_text fault ∷ rs) (further os e)
+replies_by rights text Stop lines more os ps told further e = ap (λ rs. stop_text rights ∷ rs) (further os e)
+replies_by rights text (Asks command) lines more [] ps told further e = absurd (omega (arith, e))
+replies_by rights text (Asks command) lines more (o ∷ os) ps told further e = ap (λ rs. answers rights text (Asks command) (o ∷ os) ++ rs) (further os (omega (arith, e)))
 
-replies_both : (text : ℕ × Entry → List ℕ) (lines more : List (List ℕ)) (os ps : List Outcome) → length os ≡ length (commands_of lines)
-    → replies_to text (lines ++ more) (os ++ ps) ≡ replies_to text lines os ++ replies_to text more ps
-replies_both text [] more [] ps e = refl
-replies_both text [] more (o ∷ os) ps e = absurd (omega (arith, e))
-replies_both text (l ∷ lines) more os ps e = replies_by text (command_of l) lines more os ps (replies_to text more ps) (λ ns d. replies_both text lines more ns ps d) e
+replies_both : (rights : Rights) (text : ℕ × Entry → List ℕ) (lines more : List (List ℕ)) (os ps : List Outcome) → length os ≡ length (commands_of lines)
+    → replies_to rights text (lines ++ more) (os ++ ps) ≡ replies_to rights text lines os ++ replies_to rights text more ps
+replies_both rights text [] more [] ps e = refl
+replies_both rights text [] more (o ∷ os) ps e = absurd (omega (arith, e))
+replies_both rights text (l ∷ lines) more os ps e = replies_by rights text (says l) lines more os ps (replies_to rights text more ps) (λ ns d. replies_both rights text lines more ns ps d) e
 
 -- ---- what is given
 
@@ -141,11 +144,11 @@ full_then cells os ps mid new more p q full = full_of cells os ps mid new more p
 
 -- the output of one line
 pub output_one : {X : Type 0} (may : Allowance) (cells : ℕ) (fits : X → Floor → Bool) (count : X → ℕ) (grid : Floor) (text : ℕ × Entry → List ℕ) (line : List ℕ) (old : Received) (spares : List X) (new : Received) (rest : List X) (replies : List (List ℕ))
-    → Gives may cells fits count grid (asked (command_of line)) (answers text (command_of line)) old spares new rest replies → IsOutputOf may cells fits count grid text (line ∷ []) old spares new rest replies
+    → Gives may cells fits count grid (asked (says line)) (answers may.rights text (says line)) old spares new rest replies → IsOutputOf may cells fits count grid text (line ∷ []) old spares new rest replies
 output_one may cells fits count grid text line old spares new rest replies g = record {
   outcomes = g.outcomes;
-  replies_are = g.replies_are ∙ sym (append-nil (answers text (command_of line) g.outcomes));
-  made = subst (λ cs. Made may fits count grid (length old.list) cs g.outcomes spares rest) (sym (append-nil (asked (command_of line)))) g.made;
+  replies_are = g.replies_are ∙ sym (append-nil (answers may.rights text (says line) g.outcomes));
+  made = subst (λ cs. Made may fits count grid (length old.list) cs g.outcomes spares rest) (sym (append-nil (asked (says line)))) g.made;
   caller_is = g.caller_is;
   gained = g.gained;
   known = g.known;
@@ -160,7 +163,7 @@ output_both may cells fits count grid text lines more old spares mid left new re
     let long = made_length may fits count grid (length old.list) (commands_of lines) p.outcomes spares left p.made in
     record {
       outcomes = p.outcomes ++ q.outcomes;
-      replies_are = ap (λ rs. rs ++ has) p.replies_are ∙ ap (λ rs. replies_to text lines p.outcomes ++ rs) q.replies_are ∙ sym (replies_both text lines more p.outcomes q.outcomes long);
+      replies_are = ap (λ rs. rs ++ has) p.replies_are ∙ ap (λ rs. replies_to may.rights text lines p.outcomes ++ rs) q.replies_are ∙ sym (replies_both may.rights text lines more p.outcomes q.outcomes long);
       made = subst (λ cs. Made may fits count grid (length old.list) cs (p.outcomes ++ q.outcomes) spares rest) (sym (commands_both lines more))
           (made_append may fits count grid (length old.list) (commands_of lines) p.outcomes (commands_of more) q.outcomes spares left rest p.made
           (subst (λ n. Made may fits count grid n (commands_of more) q.outcomes left rest) (ap length p.gained ∙ length-append old.list (receipts_of p.outcomes)) q.made));
@@ -172,28 +175,34 @@ output_both may cells fits count grid text lines more old spares mid left new re
 
 -- ---- one line
 
-module _ {X : Type 0} (may : Allowance) (cells : ℕ) (fits : X → Floor → Bool) (count : X → ℕ) (grid : Floor) (text : ℕ × Entry → List ℕ) (line : Result (Option Command) LineFault) where
-  pub answered_nothing : (old : Received) (spares : List X) → Ok None ≡ line → Gives may cells fits count grid (asked line) (answers text line) old spares old spares []
+module _ {X : Type 0} (may : Allowance) (cells : ℕ) (fits : X → Floor → Bool) (count : X → ℕ) (grid : Floor) (text : ℕ × Entry → List ℕ) (line : Said) where
+  pub answered_nothing : (old : Received) (spares : List X) → Nothing ≡ line → Gives may cells fits count grid (asked line) (answers may.rights text line) old spares old spares []
   answered_nothing old spares e =
-      subst (λ (k : Result (Option Command) LineFault). Gives may cells fits count grid (asked k) (answers text k) old spares old spares []) e
-      (gives_nothing may cells fits count grid (answers text (Ok None)) old spares)
+      subst (λ (k : Said). Gives may cells fits count grid (asked k) (answers may.rights text k) old spares old spares []) e
+      (gives_nothing may cells fits count grid (answers may.rights text Nothing) old spares)
 
-  pub answered_fault : (old : Received) (spares : List X) (fault : LineFault) → Err fault ≡ line → Gives may cells fits count grid (asked line) (answers text line) old spares old spares (line_text fault ∷ [])
+  pub answered_fault : (old : Received) (spares : List X) (fault : LineFault) → NoCommand fault ≡ line → Gives may cells fits count grid (asked line) (answers may.rights text line) old spares old spares (line_text fault ∷ [])
   answered_fault old spares fault e =
-      subst (λ (k : Result (Option Command) LineFault). Gives may cells fits count grid (asked k) (answers text k) old spares old spares (line_text fault ∷ [])) e
-      (gives_nothing may cells fits count grid (answers text (Err fault)) old spares)
+      subst (λ (k : Said). Gives may cells fits count grid (asked k) (answers may.rights text k) old spares old spares (line_text fault ∷ [])) e
+      (gives_nothing may cells fits count grid (answers may.rights text (NoCommand fault)) old spares)
+
+  pub answered_stop : (old : Received) (spares : List X) (replies : List (List ℕ)) → replies ≡ stop_text may.rights ∷ [] → Stop ≡ line → Gives may cells fits count grid (asked line) (answers may.rights text line) old spares old spares replies
+  answered_stop old spares replies is e =
+      subst (λ (k : Said). Gives may cells fits count grid (asked k) (answers may.rights text k) old spares old spares replies) e
+      (subst (λ (rs : List (List ℕ)). Gives may cells fits count grid [] (answers may.rights text Stop) old spares old spares rs) (sym is)
+      (gives_nothing may cells fits count grid (answers may.rights text Stop) old spares))
 
   pub answered_receipt : (old : Received) (spares : List X) (command : Command) (receipt : ℕ × Entry) (new : Received) (rest : List X) (told : List ℕ) → told ≡ text receipt
-      → Ok (Some command) ≡ line → MayCall may (length old.list) command → Receives fits count grid command old spares receipt new rest → Gives may cells fits count grid (asked line) (answers text line) old spares new rest (told ∷ [])
+      → Asks command ≡ line → MayCall may (length old.list) command → Receives fits count grid command old spares receipt new rest → Gives may cells fits count grid (asked line) (answers may.rights text line) old spares new rest (told ∷ [])
   answered_receipt old spares command receipt new rest told is e fine r =
-      subst (λ (k : Result (Option Command) LineFault). Gives may cells fits count grid (asked k) (answers text k) old spares new rest (told ∷ [])) e
+      subst (λ (k : Said). Gives may cells fits count grid (asked k) (answers may.rights text k) old spares new rest (told ∷ [])) e
       (record { outcomes = Ok receipt ∷ []; replies_are = ap (λ (t : List ℕ). t ∷ []) is; made = (rest, (fine, r.answers, r.takes), refl); caller_is = r.caller_is; gained = r.gained; known = r.known; filled = λ full. absurd (no_full receipt full) })
 
   pub answered_without : (old : Received) (spares : List X) (command : Command) (why : NoReceipt) (new : Received) (rest : List X)
-      → Ok (Some command) ≡ line → IsWhyNone may (length old.list) command why → Leaves cells old why new → rest ≡ spares → Gives may cells fits count grid (asked line) (answers text line) old spares new rest (without_text why ∷ [])
+      → Asks command ≡ line → IsWhyNone may (length old.list) command why → Leaves cells old why new → rest ≡ spares → Gives may cells fits count grid (asked line) (answers may.rights text line) old spares new rest (without_text why ∷ [])
   answered_without old spares command why new rest e is_why left kept =
       let keeps = left_caller cells old why new left in
-      subst (λ (k : Result (Option Command) LineFault). Gives may cells fits count grid (asked k) (answers text k) old spares new rest (without_text why ∷ [])) e
+      subst (λ (k : Said). Gives may cells fits count grid (asked k) (answers may.rights text k) old spares new rest (without_text why ∷ [])) e
       (record {
         outcomes = Err why ∷ [];
         replies_are = refl;
@@ -206,7 +215,7 @@ module _ {X : Type 0} (may : Allowance) (cells : ℕ) (fits : X → Floor → Bo
 
   -- the receipt of a call that is told to nobody
   pub answered_untold : (old : Received) (spares : List X) (command : Command) (new : Received) (rest : List X)
-      → Ok (Some command) ≡ line → MayCall may (length old.list) command → (receipt : ℕ × Entry) × Receives fits count grid command old spares receipt new rest
-      → (replies : List (List ℕ)) × Gives may cells fits count grid (asked line) (answers text line) old spares new rest replies × (length replies ≤ 1)
+      → Asks command ≡ line → MayCall may (length old.list) command → (receipt : ℕ × Entry) × Receives fits count grid command old spares receipt new rest
+      → (replies : List (List ℕ)) × Gives may cells fits count grid (asked line) (answers may.rights text line) old spares new rest replies × (length replies ≤ 1)
   answered_untold old spares command new rest e fine r =
       (text r.0 ∷ [], answered_receipt old spares command r.0 new rest (text r.0) refl e fine r.1, omega arith)

@@ -1,8 +1,7 @@
 -- what came of the commands of lines, and how the lines are answered
-use Rattle.std.specs.Prelude.{◌≡◌, ◌+◌, ◌≤◌, ◌⊎◌, ℕ, Bool, List, [], ◌∷◌, ◌++◌, length, drop, codes, Option, Some, None, Result, Ok, Err}
+use Rattle.std.specs.Prelude.{◌≡◌, ◌+◌, ◌≤◌, ◌⊎◌, ℕ, Bool, List, [], ◌∷◌, ◌++◌, length, drop, codes, cond, Result, Ok, Err}
 use mathlib.Core.List.{IsPrefix}
 use Rattle.wh_grid.specs.Grids.{Floor}
-use Rattle.wh_event.specs.CommandLines.{command_of}
 use Rattle.wh_event.specs.declared.event.Command.{Command}
 use Rattle.wh_event.specs.declared.entry.Entry.{Entry}
 use Rattle.wh_event.specs.declared.fault.LineFault.{LineFault}
@@ -10,11 +9,14 @@ use Rattle.wh_event.specs.declared.fault.LineFault.TheVariants.{Form, TooLong}
 use Rattle.wh_desk.specs.Lists.{Received}
 use Rattle.wh_crew.specs.Work.{Takes}
 use Rattle.wh_crew.specs.Work as work
-use Rattle.wh_replay.specs.Answers.{asked, commands_of}
 use Rattle.wh_serve.specs.Allowances.{MayCall, IsWhyNone}
+use Rattle.wh_serve.specs.Sayings.{asked, commands_of, says}
 use Rattle.wh_serve.specs.declared.allowance.Allowance.{Allowance}
+use Rattle.wh_serve.specs.declared.allowance.Rights.{Rights}
 use Rattle.wh_serve.specs.declared.call.NoReceipt.{NoReceipt}
 use Rattle.wh_serve.specs.declared.call.NoReceipt.TheVariants as without
+use Rattle.wh_serve.specs.declared.said.Said.{Said}
+use Rattle.wh_serve.specs.declared.said.Said.TheVariants.{Nothing, Asks, Stop, NoCommand}
 use Rattle.wh_desk.specs.declared.answer.DeskFault.TheVariants as fault
 use Rattle.wh_serve.specs.Texts as texts
 
@@ -37,19 +39,24 @@ abbrev pub line_text : LineFault → List ℕ
 line_text Form = codes "refused C1"
 line_text TooLong = codes "refused C2"
 
--- What a line is answered. A line that asks for nothing is answered nothing, and one that is no command its fault; for a
--- command it is told by the first outcome.
-abbrev pub answers : (ℕ × Entry → List ℕ) → Result (Option Command) LineFault → List Outcome → List (List ℕ)
-answers text (Ok None) outcomes = []
-answers text (Err fault) outcomes = line_text fault ∷ []
-answers text (Ok (Some command)) [] = []
-answers text (Ok (Some command)) (outcome ∷ outcomes) = outcome_text text outcome ∷ []
+-- what `stop` is answered, by whether the client has the right to it
+abbrev pub stop_text : Rights → List ℕ
+stop_text rights = cond rights.stop (codes "stopped") (texts.without_text without.Barred)
+
+-- What a line is answered. A line that asks for nothing is answered nothing, and one that is no command its fault; `stop` by the
+-- right to it; for a command it is told by the first outcome.
+abbrev pub answers : Rights → (ℕ × Entry → List ℕ) → Said → List Outcome → List (List ℕ)
+answers rights text Nothing outcomes = []
+answers rights text (NoCommand fault) outcomes = line_text fault ∷ []
+answers rights text Stop outcomes = stop_text rights ∷ []
+answers rights text (Asks command) [] = []
+answers rights text (Asks command) (outcome ∷ outcomes) = outcome_text text outcome ∷ []
 
 -- the replies to lines, line by line, where their commands have these outcomes
-abbrev pub replies_to : (ℕ × Entry → List ℕ) → List (List ℕ) → List Outcome → List (List ℕ)
-replies_to text [] outcomes = []
-replies_to text (line ∷ lines) outcomes =
-    answers text (command_of line) outcomes ++ replies_to text lines (drop (length (asked (command_of line))) outcomes)
+abbrev pub replies_to : Rights → (ℕ × Entry → List ℕ) → List (List ℕ) → List Outcome → List (List ℕ)
+replies_to rights text [] outcomes = []
+replies_to rights text (line ∷ lines) outcomes =
+    answers rights text (says line) outcomes ++ replies_to rights text lines (drop (length (asked (says line))) outcomes)
 
 -- What came of a command of a client with a given number of entries. A receipt answers the command, and takes the spare that its event
 -- tells; without one no spare is taken, and it is told why.
@@ -86,7 +93,7 @@ pub record Gives {X : Type 0} (may : Allowance) (cells : ℕ) (fits : X → Floo
   pub known : IsPrefix old.known new.known
   pub filled : HasFull outcomes → cells ≤ length new.known
 
--- the output of lines: line by line nothing for one that is skipped, its fault for one that is no command, and for a
--- command what its call was answered
+-- the output of lines: line by line nothing for one that is skipped, its fault for one that is no command, what the right gives for
+-- `stop`, and for a command what its call was answered
 abbrev pub IsOutputOf : {X : Type 0} → Allowance → ℕ → (X → Floor → Bool) → (X → ℕ) → Floor → (ℕ × Entry → List ℕ) → List (List ℕ) → Received → List X → Received → List X → List (List ℕ) → Type 0
-IsOutputOf may cells fits count grid text lines old spares new rest replies = Gives may cells fits count grid (commands_of lines) (replies_to text lines) old spares new rest replies
+IsOutputOf may cells fits count grid text lines old spares new rest replies = Gives may cells fits count grid (commands_of lines) (replies_to may.rights text lines) old spares new rest replies

@@ -1,6 +1,7 @@
 -- what a client is served, and what a beginning of it is
 use Rattle.std.specs.Prelude.{◌≡◌, ◌≤◌, ◌<◌, ◌⊎◌, ℕ, Bool, List, [], ◌++◌, length, Option}
 use Rattle.std.specs.Io.KnownBytes.{Appends, IsAtEnd}
+use mathlib.Core.List.{IsPrefix}
 use Rattle.wh_text.specs.Lines.{lines_of, IsLine}
 use Rattle.wh_lines.specs.Text.{EndsLine}
 use Rattle.wh_lines.specs.Input.{Input, left, Takes}
@@ -20,6 +21,8 @@ use Rattle.wh_serve.specs.declared.served.End.TheVariants as ended
 use Rattle.wh_serve.specs.declared.served.ServeFault.{ServeFault}
 use Rattle.wh_serve.specs.declared.served.ServeFault.TheVariants.{Cut, Unjournaled}
 use Rattle.wh_serve.specs.declared.allowance.Allowance.{Allowance}
+use Rattle.wh_serve.specs.declared.doors.Tag.{Tag}
+use Rattle.wh_serve.specs.Beginnings.{behind_begin}
 use Rattle.wh_serve.specs.Outcomes.{IsOutputOf}
 
 -- What was taken and not served where the connection ended: nothing, part of a line that nobody ended, or one line, which had come
@@ -35,9 +38,9 @@ IsReadTo ended.Input after = IsAtEnd (left after)
 IsReadTo ended.Torn after = IsAtEnd (left after)
 IsReadTo ended.Over after = Unit {0}
 
--- Whole lines were read and served, and what was written is their output, in this many lines. No more was served, and no more was
--- taken than one line or part of one.
-pub record ServesAll {X : Type 0} (may : Allowance) (cells : ℕ) (fits : X → Floor → Bool) (count : X → ℕ) (grid : Floor) (text : ℕ × Entry → List ℕ) (before after : Input)
+-- Whole lines were read, those behind `begin TAG` were served, and what was written is their output, in this many lines. No more was
+-- served, and no more was taken than one line or part of one.
+pub record ServesAll {X : Type 0} (may : Allowance) (cells : ℕ) (fits : X → Floor → Bool) (count : X → ℕ) (grid : Floor) (text : ℕ × Entry → List ℕ) (tag : Tag) (before after : Input)
     (old : Received) (spares : List X) (new : Received) (rest : List X) (had has : Option (List ℕ)) (written : ℕ) (end : End) : Type 0 where
   pub read : List ℕ
   pub behind : List ℕ
@@ -46,7 +49,7 @@ pub record ServesAll {X : Type 0} (may : Allowance) (cells : ℕ) (fits : X → 
   pub unserved : IsUnserved end behind
   pub read_to : IsReadTo end after
   pub replies : List (List ℕ)
-  pub output : IsOutputOf may cells fits count grid text (lines_of read) old spares new rest replies
+  pub output : IsOutputOf may cells fits count grid text (behind_begin tag (lines_of read)) old spares new rest replies
   pub appends : Appends had has (text_of replies)
   pub written_is : written ≡ length replies
 
@@ -57,8 +60,8 @@ StandsBehind ended.Input bytes = IsUnserved ended.Input bytes
 StandsBehind ended.Torn bytes = IsUnserved ended.Torn bytes
 StandsBehind ended.Over bytes = (line : List ℕ) × (more : List ℕ) × IsUnserved ended.Over line × (bytes ≡ line ++ more)
 
--- of these bytes the whole lines were served, all of them, or the first of them where the service was over before
-pub record Outputs {X : Type 0} (may : Allowance) (cells : ℕ) (fits : X → Floor → Bool) (count : X → ℕ) (grid : Floor) (text : ℕ × Entry → List ℕ) (script : List ℕ)
+-- of these bytes the whole lines behind `begin TAG` were served, all of them, or the first of them where the service was over before
+pub record Outputs {X : Type 0} (may : Allowance) (cells : ℕ) (fits : X → Floor → Bool) (count : X → ℕ) (grid : Floor) (text : ℕ × Entry → List ℕ) (tag : Tag) (script : List ℕ)
     (old : Received) (spares : List X) (new : Received) (rest : List X) (had has : Option (List ℕ)) (written : ℕ) (end : End) : Type 0 where
   pub read : List ℕ
   pub behind : List ℕ
@@ -66,7 +69,7 @@ pub record Outputs {X : Type 0} (may : Allowance) (cells : ℕ) (fits : X → Fl
   pub whole : EndsLine read
   pub stands : StandsBehind end behind
   pub replies : List (List ℕ)
-  pub output : IsOutputOf may cells fits count grid text (lines_of read) old spares new rest replies
+  pub output : IsOutputOf may cells fits count grid text (behind_begin tag (lines_of read)) old spares new rest replies
   pub appends : Appends had has (text_of replies)
   pub written_is : written ≡ length replies
 
@@ -93,9 +96,9 @@ abbrev pub HasCause : ServeFault → Input → Input → ℕ → Type 0
 HasCause (Cut fault) before after lines = script.HasCause fault before after lines
 HasCause Unjournaled before after lines = Unit {0}
 
--- A beginning of what came was served, and no line behind it: the receipts of its commands stand, also the last one, whose
+-- A beginning of what came was read, its lines behind `begin TAG` were served, and no line behind it: the receipts of its commands stand, also the last one, whose
 -- reply may not have been written to the end. Of what came behind it no more was taken than one line or part of one.
-pub record Stops {X : Type 0} (may : Allowance) (cells : ℕ) (fits : X → Floor → Bool) (count : X → ℕ) (grid : Floor) (text : ℕ × Entry → List ℕ) (fault : ServeFault) (before after : Input)
+pub record Stops {X : Type 0} (may : Allowance) (cells : ℕ) (fits : X → Floor → Bool) (count : X → ℕ) (grid : Floor) (text : ℕ × Entry → List ℕ) (tag : Tag) (fault : ServeFault) (before after : Input)
     (old : Received) (spares : List X) (new : Received) (rest : List X) (had has : Option (List ℕ)) : Type 0 where
   pub read : List ℕ
   pub behind : List ℕ
@@ -103,9 +106,17 @@ pub record Stops {X : Type 0} (may : Allowance) (cells : ℕ) (fits : X → Floo
   pub lost : IsLost fault behind
   pub whole : EndsLine read
   pub replies : List (List ℕ)
-  pub output : IsOutputOf may cells fits count grid text (lines_of read) old spares new rest replies
+  pub output : IsOutputOf may cells fits count grid text (behind_begin tag (lines_of read)) old spares new rest replies
   pub writes : WritesUntil fault had has replies
   pub cause : HasCause fault before after (length (lines_of read))
+
+-- Of these bytes the first lines were served, and nothing else: the receipts of their commands are what was gained, and tell the replies.
+pub record ServesFirst {X : Type 0} (may : Allowance) (cells : ℕ) (fits : X → Floor → Bool) (count : X → ℕ) (grid : Floor) (text : ℕ × Entry → List ℕ) (bytes : List ℕ)
+    (old : Received) (spares : List X) (new : Received) (rest : List X) : Type 0 where
+  pub lines : List (List ℕ)
+  pub first : IsPrefix lines (lines_of bytes)
+  pub replies : List (List ℕ)
+  pub output : IsOutputOf may cells fits count grid text lines old spares new rest replies
 
 -- how a connection ended, and why it did not, by how its session did
 abbrev pub end_of : SessionEnd → End

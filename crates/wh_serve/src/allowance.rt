@@ -5,7 +5,7 @@ ghost use Rattle.wh_serve.specs.Allowances.{allows};
 
 use wh_event::Command;
 
-/// The commands that a client has a right to.
+/// What a client has a right to: the commands, and to stop the service.
 #[derive(Clone, Copy, Debug, PartialEq, Eq, Default)]
 pub struct Rights {
     pub submit: bool,
@@ -13,10 +13,11 @@ pub struct Rights {
     pub tick: bool,
     pub replace: bool,
     pub close: bool,
+    pub stop: bool,
 }
 
 impl Rights {
-    /// The right to every command.
+    /// The right to every command, and not to stop the service.
     pub fn all() -> Rights
         ensures { (command : _) → allows result command ≡ true }
     {
@@ -26,6 +27,7 @@ impl Rights {
             tick: true,
             replace: true,
             close: true,
+            stop: false,
         }
     }
 

@@ -1,13 +1,15 @@
 //! A client that is served over one connection, to its input's end, until the service is over, or until a fault.
 
-ghost use Rattle.std.specs.Prelude.{◌≡◌, IfOk, IfSome, IfErr, OnErr, true, Err, length};
+ghost use Rattle.std.specs.Prelude.{◌≡◌, ◌≤◌, ◌++◌, ℕ, List, Some, false, IfOk, IfSome, IfErr, OnErr, true, Err, length};
 ghost use Rattle.std.specs.Io.KnownBytes.{Keeps};
 ghost use Rattle.wh_lines.specs.Input.{left};
-ghost use Rattle.wh_serve.specs.Texts.{InEach, receipt_text};
-ghost use Rattle.wh_serve.specs.Sessions.{ServesAll, Outputs, Stops, end_of, fault_of};
+ghost use Rattle.wh_serve.specs.Texts.{InEach, begin_text, receipt_text};
+ghost use Rattle.wh_serve.specs.Beginnings.{StandsBefore, sent_with};
+ghost use Rattle.wh_serve.specs.Sessions.{ServesAll, ServesFirst, Outputs, Stops, end_of, fault_of};
 
 use crate::allowance::Allowance;
-use crate::doors::Doors;
+use crate::beginning::begin_is_short;
+use crate::doors::{Doors, Tag};
 use crate::machine::Caller;
 use crate::served::{End, ServeFault, Served};
 use crate::told::Told;
@@ -66,12 +68,14 @@ fn attend<
     writer: &mut W,
     caller: &mut Caller<'_, N, S, J, H, P, X, R, W, D>,
 ) -> Result<Served, ServeFault>
-    requires { caller.old.replies ≡ 0 }
+    requires replies { caller.old.replies ≡ 0 }
+    requires begun { caller.old.begun ≡ false }
+    requires tag { length (begin_text caller.old.tag) ≤ 256 }
     ensures seat { caller.new.pass.ghost_name ≡ caller.old.pass.ghost_name }
     ensures room { caller.new.spares.ghost_name ≡ caller.old.spares.ghost_name }
-    ensures ok { IfOk result (λ r. InEach caller.new.pass.now.known (λ history. ServesAll caller.old.may (length N.cells) P.fits_map P.slot_count N.origin.site.grid (receipt_text caller.old.form N.origin history) lines.old lines.new caller.old.pass.now caller.old.spares.now.items caller.new.pass.now caller.new.spares.now.items (W.contents writer.old) (W.contents writer.new) r.replies r.end)) }
-    ensures output { IfOk result (λ r. InEach caller.new.pass.now.known (λ history. IfSome (left lines.old) (λ script. Outputs caller.old.may (length N.cells) P.fits_map P.slot_count N.origin.site.grid (receipt_text caller.old.form N.origin history) script caller.old.pass.now caller.old.spares.now.items caller.new.pass.now caller.new.spares.now.items (W.contents writer.old) (W.contents writer.new) r.replies r.end))) }
-    ensures fault { IfErr result (λ fault. InEach caller.new.pass.now.known (λ history. Stops caller.old.may (length N.cells) P.fits_map P.slot_count N.origin.site.grid (receipt_text caller.old.form N.origin history) fault lines.old lines.new caller.old.pass.now caller.old.spares.now.items caller.new.pass.now caller.new.spares.now.items (W.contents writer.old) (W.contents writer.new))) }
+    ensures ok { IfOk result (λ r. InEach caller.new.pass.now.known (λ history. ServesAll caller.old.may (length N.cells) P.fits_map P.slot_count N.origin.site.grid (receipt_text caller.old.form N.origin history) caller.old.tag lines.old lines.new caller.old.pass.now caller.old.spares.now.items caller.new.pass.now caller.new.spares.now.items (W.contents writer.old) (W.contents writer.new) r.replies r.end)) }
+    ensures output { IfOk result (λ r. InEach caller.new.pass.now.known (λ history. IfSome (left lines.old) (λ script. Outputs caller.old.may (length N.cells) P.fits_map P.slot_count N.origin.site.grid (receipt_text caller.old.form N.origin history) caller.old.tag script caller.old.pass.now caller.old.spares.now.items caller.new.pass.now caller.new.spares.now.items (W.contents writer.old) (W.contents writer.new) r.replies r.end))) }
+    ensures fault { IfErr result (λ fault. InEach caller.new.pass.now.known (λ history. Stops caller.old.may (length N.cells) P.fits_map P.slot_count N.origin.site.grid (receipt_text caller.old.form N.origin history) caller.old.tag fault lines.old lines.new caller.old.pass.now caller.old.spares.now.items caller.new.pass.now caller.new.spares.now.items (W.contents writer.old) (W.contents writer.new))) }
     ensures failed { OnErr result (lines.new.failed ≡ true) }
     ensures again { lines.old.failed ≡ true → (result ≡ Err (ServeFault.Cut ReplayFault.Broken)) × (lines.new ≡ lines.old) × (caller.new.pass.now ≡ caller.old.pass.now) × (caller.new.spares.now.items ≡ caller.old.spares.now.items) × Keeps (W.contents writer.old) (W.contents writer.new) }
 {
@@ -109,14 +113,16 @@ fn serve_in<
     spares: &'a mut Vec<P>,
     doors: &'a D,
     number: u32,
+    tag: Tag,
     told: &'a mut Told,
 ) -> Result<Served, ServeFault>
-    ensures ok { IfOk result (λ r. InEach pass.new.known (λ history. ServesAll may (length N.cells) P.fits_map P.slot_count N.origin.site.grid (receipt_text form N.origin history) lines.old lines.new pass.old spares.old.items pass.new spares.new.items (W.contents writer.old) (W.contents writer.new) r.replies r.end)) }
-    ensures output { IfOk result (λ r. InEach pass.new.known (λ history. IfSome (left lines.old) (λ script. Outputs may (length N.cells) P.fits_map P.slot_count N.origin.site.grid (receipt_text form N.origin history) script pass.old spares.old.items pass.new spares.new.items (W.contents writer.old) (W.contents writer.new) r.replies r.end))) }
-    ensures fault { IfErr result (λ fault. InEach pass.new.known (λ history. Stops may (length N.cells) P.fits_map P.slot_count N.origin.site.grid (receipt_text form N.origin history) fault lines.old lines.new pass.old spares.old.items pass.new spares.new.items (W.contents writer.old) (W.contents writer.new))) }
+    ensures ok { IfOk result (λ r. InEach pass.new.known (λ history. ServesAll may (length N.cells) P.fits_map P.slot_count N.origin.site.grid (receipt_text form N.origin history) tag lines.old lines.new pass.old spares.old.items pass.new spares.new.items (W.contents writer.old) (W.contents writer.new) r.replies r.end)) }
+    ensures output { IfOk result (λ r. InEach pass.new.known (λ history. IfSome (left lines.old) (λ script. Outputs may (length N.cells) P.fits_map P.slot_count N.origin.site.grid (receipt_text form N.origin history) tag script pass.old spares.old.items pass.new spares.new.items (W.contents writer.old) (W.contents writer.new) r.replies r.end))) }
+    ensures fault { IfErr result (λ fault. InEach pass.new.known (λ history. Stops may (length N.cells) P.fits_map P.slot_count N.origin.site.grid (receipt_text form N.origin history) tag fault lines.old lines.new pass.old spares.old.items pass.new spares.new.items (W.contents writer.old) (W.contents writer.new))) }
     ensures failed { OnErr result (lines.new.failed ≡ true) }
     ensures again { lines.old.failed ≡ true → (result ≡ Err (ServeFault.Cut ReplayFault.Broken)) × (lines.new ≡ lines.old) × (pass.new ≡ pass.old) × (spares.new.items ≡ spares.old.items) × Keeps (W.contents writer.old) (W.contents writer.new) }
 {
+    begin_is_short(tag);
     let mut caller = Caller {
         rt,
         alloc,
@@ -128,6 +134,8 @@ fn serve_in<
         spares,
         doors,
         number,
+        tag,
+        begun: false,
         told,
         replies: 0,
         over: PhantomData,
@@ -136,12 +144,16 @@ fn serve_in<
 }
 
 /// Serves a client to its reader's end, or until the service is over: before each line is served that is asked, and a line that
-/// had come then is not served. Where a client is told that the warehouse is closed, the service ends. Each line that is a command
-/// is one call of the desk with the client's pass, and is answered by its receipt, or by why the desk refused. A command that the
-/// client has no right to is answered `refused C3`, and one beyond its share of the entries `refused E11`, both without a call. A
-/// line that is not a command is answered `refused C1` or `refused C2`, and an empty line and a comment get no reply. What follows
-/// the last line feed is not a line: a client or a network that was cut leaves part of one, which may read as another command. A
-/// Replace takes the last spare. Each reply is a line; the writer is flushed before each read, which may wait.
+/// had come then is not served. The lines up to the first `begin TAG` are answered nothing, and have no effect. Where a client is told
+/// that the warehouse is closed, the service ends. Each line that is a command is one call of the desk with the client's pass, and is
+/// answered by its receipt, or by why the desk refused. A command that the client has no right to is answered `refused C3`, and one
+/// beyond its share of the entries `refused E11`, both without a call. A line that is not a command is answered `refused C1` or
+/// `refused C2`, and an empty line and a comment get no reply. What follows the last line feed is not a line: a client or a network
+/// that was cut leaves part of one, which may read as another command. A Replace takes the last spare. Each reply is a line; the
+/// writer is flushed before each read, which may wait.
+///
+/// `stop` is no call either: by the right to it the service ends, and the client is told `stopped`, once all entries are synced whose
+/// calls had come back by then; without it, it is answered `refused C3`. The warehouse stays open.
 ///
 /// A receipt is told once the journal keeps its entry. Where the journal has failed the client is told nothing more, and the service
 /// ends. Each command that came to E11 is told to the doors too, with the client's number.
@@ -173,20 +185,25 @@ pub fn serve_client<
     spares: &mut Vec<P>,
     doors: &D,
     number: u32,
+    tag: Tag,
 ) -> Result<Served, ServeFault>
-    // What was written is the output of the whole lines that were read, told by the receipts that the pass gained, in order.
-    ensures ok { IfOk result (λ r. InEach pass.new.known (λ history. ServesAll may (length N.cells) P.fits_map P.slot_count N.origin.site.grid (receipt_text form N.origin history) lines.old lines.new pass.old spares.old.items pass.new spares.new.items (W.contents writer.old) (W.contents writer.new) r.replies r.end)) }
+    // What was written is the output of the whole lines that were read behind `begin TAG`, told by the receipts that the pass gained,
+    // in order.
+    ensures ok { IfOk result (λ r. InEach pass.new.known (λ history. ServesAll may (length N.cells) P.fits_map P.slot_count N.origin.site.grid (receipt_text form N.origin history) tag lines.old lines.new pass.old spares.old.items pass.new spares.new.items (W.contents writer.old) (W.contents writer.new) r.replies r.end)) }
     // Where the reader tells its bytes, these are what was read, to the last line feed.
-    ensures output { IfOk result (λ r. InEach pass.new.known (λ history. IfSome (left lines.old) (λ script. Outputs may (length N.cells) P.fits_map P.slot_count N.origin.site.grid (receipt_text form N.origin history) script pass.old spares.old.items pass.new spares.new.items (W.contents writer.old) (W.contents writer.new) r.replies r.end))) }
+    ensures output { IfOk result (λ r. InEach pass.new.known (λ history. IfSome (left lines.old) (λ script. Outputs may (length N.cells) P.fits_map P.slot_count N.origin.site.grid (receipt_text form N.origin history) tag script pass.old spares.old.items pass.new spares.new.items (W.contents writer.old) (W.contents writer.new) r.replies r.end))) }
     // On a fault this holds of a beginning of what came, of whole lines: all replies but the last were written, and the cause is a
     // true one.
-    ensures fault { IfErr result (λ fault. InEach pass.new.known (λ history. Stops may (length N.cells) P.fits_map P.slot_count N.origin.site.grid (receipt_text form N.origin history) fault lines.old lines.new pass.old spares.old.items pass.new spares.new.items (W.contents writer.old) (W.contents writer.new))) }
+    ensures fault { IfErr result (λ fault. InEach pass.new.known (λ history. Stops may (length N.cells) P.fits_map P.slot_count N.origin.site.grid (receipt_text form N.origin history) tag fault lines.old lines.new pass.old spares.old.items pass.new spares.new.items (W.contents writer.old) (W.contents writer.new))) }
+    // Whatever stood in front of `begin TAG`, the lines that were served are the first that its client sent behind it.
+    ensures own { (stale own : List ℕ) → StandsBefore tag stale → left lines.old ≡ Some (stale ++ sent_with tag own) → InEach pass.new.known (λ history. ServesFirst may (length N.cells) P.fits_map P.slot_count N.origin.site.grid (receipt_text form N.origin history) own pass.old spares.old.items pass.new spares.new.items) }
     // After a fault there is nothing more.
     ensures failed { OnErr result (lines.new.failed ≡ true) }
     ensures again { lines.old.failed ≡ true → (result ≡ Err (ServeFault.Cut ReplayFault.Broken)) × (lines.new ≡ lines.old) × (pass.new ≡ pass.old) × (spares.new.items ≡ spares.old.items) × Keeps (W.contents writer.old) (W.contents writer.new) }
 {
     let mut told = Told::Nothing;
     serve_in(
-        rt, alloc, form, may, lines, writer, desk, scribe, pass, spares, doors, number, &mut told,
+        rt, alloc, form, may, lines, writer, desk, scribe, pass, spares, doors, number, tag,
+        &mut told,
     )
 }

@@ -7,8 +7,10 @@ ghost use Rattle.wh_serve.specs.Tellings.{texts};
 ghost use Rattle.wh_serve.specs.Machines.{Standing, standing, ServesSo, HaltsSo};
 
 use crate::allowance::Allowance;
-use crate::doors::{Connection, Doors};
-use crate::told::{Told, answer, closes, count_of, full_of, pass_on};
+use crate::beginning::begins_at;
+use crate::doors::{Connection, Doors, Tag};
+use crate::said::asks_stop;
+use crate::told::{Told, answer, count_of, full_of, is_last, pass_on};
 use std::alloc::Global;
 use std::io::{Read, Write};
 use std::marker::PhantomData;
@@ -22,7 +24,7 @@ use wh_scribe::{JournalName, Scribe};
 use wh_session::{Halt, KeepFault, Keeper, Machine};
 
 /// A client over one connection: the desk and the scribe that it calls, its pass and its spares, what it may do, the doors and its
-/// number, how many replies there were, and a room for what its last line is answered.
+/// number, the connection's tag and whether it has begun, how many replies there were, and a room for what its last line is answered.
 #[derive(Drop)]
 pub(crate) struct Caller<
     'a,
@@ -46,6 +48,8 @@ pub(crate) struct Caller<
     pub spares: &'a mut Vec<P>,
     pub doors: &'a D,
     pub number: u32,
+    pub tag: Tag,
+    pub begun: bool,
     pub told: &'a mut Told,
     pub replies: u64,
     pub over: PhantomData<Connection<R, W>>,
@@ -65,7 +69,7 @@ impl<
 > Machine for Caller<'a, N, S, J, H, P, X, R, W, D> {
     ghost State = { Standing P };
 
-    ghost stands = { λ m s. standing m.pass.ghost_name m.spares.ghost_name m.pass.now m.spares.now.items m.may m.form m.replies ≡ s };
+    ghost stands = { λ m s. standing m.pass.ghost_name m.spares.ghost_name m.pass.now m.spares.now.items m.may m.form m.tag m.begun m.replies ≡ s };
 
     ghost says = { λ m s. text_of (texts m.form m.told.now) };
 
@@ -102,8 +106,22 @@ impl<
         *self.told = Told::Nothing;
     }
 
-    /// Where a command was not carried out since something is full, the operator is told, before the client is.
+    /// A line before the connection has begun is dropped, and `begin TAG` begins it. Where a command was not carried out since
+    /// something is full, the operator is told, before the client is.
     fn serve(&mut self, line: &CommandLine) -> Result<(), Halt> {
+        if !self.begun {
+            self.begun = begins_at(self.tag, line);
+            if self.begun {
+                self.doors.begins(self.number);
+            } else if !line.bytes().is_empty() {
+                self.doors.is_dropped(self.number);
+            }
+            return Ok(());
+        }
+        if self.may.rights.stop && asks_stop(line) {
+            // from here on nobody is served a further line: what is synced before the reply is all but what is served now
+            self.doors.end();
+        }
         match answer(
             self.rt,
             self.alloc,
@@ -135,10 +153,10 @@ impl<
         Ok(())
     }
 
-    /// Where the client was told that the warehouse is closed, the service ends, once that was flushed.
+    /// Where the client was told that the warehouse is closed, or the service stopped, the service ends, once that was flushed.
     fn tell<V: Write>(&self, writer: &mut V) -> Result<(), WriteFault> {
         let written = pass_on(self.form, writer, self.told);
-        if closes(self.told) {
+        if is_last(self.told) {
             self.doors.end();
         }
         written

@@ -3,22 +3,25 @@
 ghost use Rattle.std.specs.Prelude.{◌≡◌, ◌++◌, ◌∷◌, [], IfOk, IfErr, OnOk, OnErr, length, MatchResult};
 ghost use Rattle.std.specs.Io.KnownBytes.{Appends, Keeps};
 ghost use Rattle.wh_lines.specs.Text.{short_line};
-ghost use Rattle.wh_replay.specs.Answers.{asked, said, text_of};
+ghost use Rattle.wh_replay.specs.Answers.{text_of};
 ghost use Rattle.wh_replay.specs.Scripts.{WritesFront};
-ghost use Rattle.wh_serve.specs.Texts.{InEach, entries_text, fault_text, receipt_text, without_text};
-ghost use Rattle.wh_serve.specs.Outcomes.{Gives, answers, line_text};
+ghost use Rattle.wh_serve.specs.Texts.{InEach, fault_text, greeting_text, receipt_text, without_text};
+ghost use Rattle.wh_serve.specs.Outcomes.{Gives, answers, line_text, stop_text};
+ghost use Rattle.wh_serve.specs.Sayings.{asked, said};
 ghost use Rattle.wh_serve.specs.Losses.{Loses};
-ghost use Rattle.wh_serve.specs.Tellings.{closes, full_of, own_text, texts};
+ghost use Rattle.wh_serve.specs.Tellings.{full_of, is_last, own_text, texts};
 
 use crate::allowance::Allowance;
+use crate::beginning::digits_of;
 use crate::call::{Came, Lost, NoReceipt, call_allowed};
-use crate::doors::Full;
+use crate::doors::{Full, Tag};
+use crate::said::{Said, said_by};
 use arrayvec::ArrayVec;
 use std::alloc::Global;
 use std::io::Write;
 use std::sync::Wait;
 use wh_desk::{Desk, DeskFault, DeskName, Pass, Receipt};
-use wh_event::{Command, LineFault, Reply, put_number, read_line};
+use wh_event::{LineFault, Reply, put, put_number};
 use wh_journal::Journal;
 use wh_lines::CommandLine;
 use wh_log::{Form, tell};
@@ -37,14 +40,17 @@ pub(crate) enum Told {
     Without(NoReceipt),
     /// The receipt of the call.
     Received(Receipt),
+    /// The service is stopped.
+    Stopped,
 }
 
-/// Whether it tells that the warehouse was closed.
-pub(crate) fn closes(told: &Told) -> bool
-    ensures { result ≡ closes told.now }
+/// Whether the service ends with it: it tells that the warehouse was closed, or the service stopped.
+pub(crate) fn is_last(told: &Told) -> bool
+    ensures { result ≡ is_last told.now }
 {
     match told {
         Told::Received(receipt) => matches!(receipt.entry.reply, Reply::Closed),
+        Told::Stopped => true,
         Told::Nothing | Told::NoCommand(_) | Told::Without(_) => false,
     }
 }
@@ -66,17 +72,26 @@ pub(crate) fn count_of(told: &Told) -> u64
 {
     match told {
         Told::Nothing => 0,
-        Told::NoCommand(_) | Told::Without(_) | Told::Received(_) => 1,
+        Told::NoCommand(_) | Told::Without(_) | Told::Received(_) | Told::Stopped => 1,
     }
 }
 
-/// What a line says, of which only a front is kept.
-fn read_kept(line: &CommandLine) -> Result<Option<Command>, LineFault>
-    ensures { result ≡ said (short_line line.now) }
+/// Answers `stop`. Where the client has the right to it all entries whose calls had come back by then are synced before it is told.
+fn answer_stop<N: DeskName, S: JournalName, J: Journal + Drop, X: Wait>(
+    rt: &X,
+    may: Allowance,
+    scribe: &Scribe<N, S, J>,
+) -> Result<Told, Lost>
+    ensures ok { IfOk result (λ told. (form : Form) → texts form told ≡ stop_text may.rights ∷ []) }
+    ensures lost { IfErr result (λ lost. lost ≡ Lost.Failed) }
 {
-    match line.text() {
-        Some(text) => read_line(text),
-        None => Err(LineFault::TooLong),
+    if !may.rights.stop {
+        return Ok(Told::Without(NoReceipt::Barred));
+    }
+    if scribe.keeps_all(rt) {
+        Ok(Told::Stopped)
+    } else {
+        Err(Lost::Failed)
     }
 }
 
@@ -99,19 +114,20 @@ pub(crate) fn answer<
     pass: &mut Pass<N>,
     spares: &mut Vec<P>,
 ) -> Result<Told, Lost>
-    ensures ok { IfOk result (λ told. InEach pass.new.known (λ history. Gives may (length N.cells) P.fits_map P.slot_count N.origin.site.grid (asked (said (short_line line.now))) (answers (receipt_text form N.origin history) (said (short_line line.now))) pass.old spares.old.items pass.new spares.new.items (texts form told))) }
+    ensures ok { IfOk result (λ told. InEach pass.new.known (λ history. Gives may (length N.cells) P.fits_map P.slot_count N.origin.site.grid (asked (said (short_line line.now))) (answers may.rights (receipt_text form N.origin history) (said (short_line line.now))) pass.old spares.old.items pass.new spares.new.items (texts form told))) }
     ensures lost { IfErr result (λ lost. InEach pass.new.known (λ history. Loses may (length N.cells) P.fits_map P.slot_count N.origin.site.grid (receipt_text form N.origin history) (said (short_line line.now)) pass.old spares.old.items pass.new spares.new.items lost)) }
 {
-    match read_kept(line) {
-        Ok(None) => Ok(Told::Nothing),
-        Ok(Some(command)) => {
+    match said_by(line) {
+        Said::Nothing => Ok(Told::Nothing),
+        Said::Stop => answer_stop(rt, may, scribe),
+        Said::Asks(command) => {
             match call_allowed(rt, alloc, may, desk, scribe, pass, command, spares) {
                 Came::Receipt(receipt) => Ok(Told::Received(receipt)),
                 Came::Without(why) => Ok(Told::Without(why)),
                 Came::Lost(lost) => Err(lost),
             }
         }
-        Err(fault) => Ok(Told::NoCommand(fault)),
+        Said::NoCommand(fault) => Ok(Told::NoCommand(fault)),
     }
 }
 
@@ -163,13 +179,19 @@ fn write_line<W: Write>(writer: &mut W, reply: &[u8]) -> Result<(), WriteFault>
     }
 }
 
-/// Writes how many entries a client has, with a line feed.
-pub(crate) fn write_entries<W: Write>(writer: &mut W, count: u64) -> Result<(), WriteFault>
-    ensures ok { OnOk result (Appends (W.contents writer.old) (W.contents writer.new) (text_of (entries_text count ∷ []))) }
-    ensures err { OnErr result (WritesFront (W.contents writer.old) (W.contents writer.new) (text_of (entries_text count ∷ []))) }
+/// Writes how many entries a client has and the tag of its connection, with a line feed.
+pub(crate) fn write_greeting<W: Write>(
+    writer: &mut W,
+    count: u64,
+    tag: Tag,
+) -> Result<(), WriteFault>
+    ensures ok { OnOk result (Appends (W.contents writer.old) (W.contents writer.new) (text_of (greeting_text count tag ∷ []))) }
+    ensures err { OnErr result (WritesFront (W.contents writer.old) (W.contents writer.new) (text_of (greeting_text count tag ∷ []))) }
 {
     let mut line = ArrayVec::new();
     put_number(&mut line, b"entries ", count);
+    put(&mut line, b" ");
+    put(&mut line, &digits_of(tag));
     match write_line(writer, line.as_slice()) {
         Ok(()) => Ok(()),
         Err(fault) => Err(fault),
@@ -216,20 +238,24 @@ fn write_told<W: Write>(form: Form, writer: &mut W, told: &Told) -> Result<(), W
             Ok(()) => Ok(()),
             Err(fault) => Err(fault),
         },
+        Told::Stopped => match write_line(writer, b"stopped") {
+            Ok(()) => Ok(()),
+            Err(fault) => Err(fault),
+        },
     }
 }
 
-/// Where it tells that the warehouse is closed, it is flushed.
-fn flush_closed<W: Write>(writer: &mut W, told: &Told)
+/// Where the service ends with it, it is flushed.
+fn flush_last<W: Write>(writer: &mut W, told: &Told)
     ensures { Keeps (W.contents writer.old) (W.contents writer.new) }
 {
-    if closes(told) {
+    if is_last(told) {
         // If it could not be flushed, the next read tells so.
         let _ = writer.flush();
     }
 }
 
-/// Writes what a line is answered, and flushes it where it tells that the warehouse is closed.
+/// Writes what a line is answered, and flushes it where the service ends with it.
 #[tactic(auto, using(crate::proofs::Fronts::told_still, crate::proofs::Fronts::front_still))]
 pub(crate) fn pass_on<W: Write>(form: Form, writer: &mut W, told: &Told) -> Result<(), WriteFault>
     ensures ok { OnOk result (Appends (W.contents writer.old) (W.contents writer.new) (text_of (texts form told.now))) }
@@ -237,11 +263,11 @@ pub(crate) fn pass_on<W: Write>(form: Form, writer: &mut W, told: &Told) -> Resu
 {
     match write_told(form, writer, told) {
         Ok(()) => {
-            flush_closed(writer, told);
+            flush_last(writer, told);
             Ok(())
         }
         Err(fault) => {
-            flush_closed(writer, told);
+            flush_last(writer, told);
             Err(fault)
         }
     }

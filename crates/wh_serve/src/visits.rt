@@ -8,7 +8,7 @@ use crate::allowance::Allowance;
 use crate::client::serve_client;
 use crate::doors::{Connection, Doors};
 use crate::served::{ServeFault, Served};
-use crate::told::write_entries;
+use crate::told::write_greeting;
 use std::alloc::Global;
 use std::io::{Read, Write};
 use std::sync::Wait;
@@ -27,7 +27,7 @@ struct Visited<W> {
 }
 
 /// Serves one connection: its first line is how many entries the client has, so that a client that comes again knows whether its
-/// last command stands.
+/// last command stands, and the tag, at which it begins.
 fn serve_connection<
     N: DeskName,
     S: JournalName,
@@ -51,10 +51,14 @@ fn serve_connection<
     doors: &D,
     number: u32,
 ) -> Visited<W>
-    ensures { InEach pass.new.known (λ history. Session may (length N.cells) P.fits_map P.slot_count N.origin.site.grid (receipt_text form N.origin history) (λ x. R.remaining x) (λ x. W.contents x) connection.reader connection.writer result.outcome result.writer pass.old spares.old.items pass.new spares.new.items) }
+    ensures { InEach pass.new.known (λ history. Session may (length N.cells) P.fits_map P.slot_count N.origin.site.grid (receipt_text form N.origin history) (λ x. R.remaining x) (λ x. W.contents x) connection.reader connection.writer connection.tag result.outcome result.writer pass.old spares.old.items pass.new spares.new.items) }
 {
-    let Connection { reader, mut writer } = connection;
-    match write_entries(&mut writer, pass.len()) {
+    let Connection {
+        reader,
+        mut writer,
+        tag,
+    } = connection;
+    match write_greeting(&mut writer, pass.len(), tag) {
         Ok(()) => {
             let mut lines = Lines::new(reader);
             let outcome = serve_client(
@@ -70,6 +74,7 @@ fn serve_connection<
                 spares,
                 doors,
                 number,
+                tag,
             );
             Visited { outcome, writer }
         }

@@ -197,6 +197,8 @@ fn has_a_bad_line(alloc: Global, script: &[u8], line: u64) -> bool {
 #[test]
 fn scripts_with_a_bad_line(rt: HostRuntime) {
     assert!(rt; has_a_bad_line(rt.alloc(), b"tick\nmove\n", 2));
+    // a word of `serve` alone
+    assert!(rt; has_a_bad_line(rt.alloc(), b"tick\ntick\nstop\n", 3));
 }
 
 /// Whether the work of agent 3 is four requests.

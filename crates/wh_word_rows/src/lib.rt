@@ -1,10 +1,12 @@
-//! Tests of the libraries of texts, lines, words, events, logs and the edge, a file for each.
+//! Tests of the libraries of texts, lines, words, events, logs, states and the edge, a file for each.
 #![tactic(auto)]
 
 #[cfg(test)]
 mod edge;
 #[cfg(test)]
 mod event;
+#[cfg(test)]
+mod front;
 #[cfg(test)]
 mod lines;
 #[cfg(test)]

@@ -1,7 +1,7 @@
-use Rattle.std.proofs.Common.{ℕ, List, ◌∙◌, ap, inl, inr, length, subst}
+use Rattle.std.proofs.Common.{ℕ, List, ◌∙◌, inl, inr, subst}
 use Rattle.std.specs.Io.KnownBytes.{Appends}
 use Rattle.wh_attend.proofs.Attended.{no_memory, unkept, written_short}
-use Rattle.wh_attend.proofs.Wholes.{all_left, end_short, front_left}
+use Rattle.wh_attend.proofs.Wholes.{all_left, front_left}
 use Rattle.wh_attend.proofs.ending.end_run.Goals as goal
 
 pub returns-in-Err-clause-fault : goal.returns-in-Err-clause-fault
@@ -24,13 +24,13 @@ pub returns-in-Err-text_of-clause-fault : goal.returns-in-Err-text_of-clause-fau
 returns-in-Err-text_of-clause-fault g c = inl (no_memory _ _ _ c.in-Err-text_of.ensures.fault)
 
 pub returns-in-Err-clause-left : goal.returns-in-Err-clause-left
-returns-in-Err-clause-left g c = front_left _ _ _ _ _ _ (search) (ap length c.history.ensures.value) (end_short c.in-Err.fault _ _ _ _ _ _ c.in-Err.ensures.fault)
+returns-in-Err-clause-left g c = front_left _ _ _ _ _ (search) c.in-Err.ensures.front
 
 pub returns-in-Err-text_of-clause-left : goal.returns-in-Err-text_of-clause-left
-returns-in-Err-text_of-clause-left g c = all_left _ _ _ _ _ _ (search) (ap length c.history.ensures.value) c.in-Ok.ensures.ok
+returns-in-Err-text_of-clause-left g c = all_left _ _ _ _ _ (search) c.in-Ok.ensures.ok
 
 pub returns-in-Err-written-clause-left : goal.returns-in-Err-written-clause-left
-returns-in-Err-written-clause-left g c = all_left _ _ _ _ _ _ (search) (ap length c.history.ensures.value) c.in-Ok.ensures.ok
+returns-in-Err-written-clause-left g c = all_left _ _ _ _ _ (search) c.in-Ok.ensures.ok
 
 pub returns-clause-left : goal.returns-clause-left
-returns-clause-left g c = all_left _ _ _ _ _ _ (search) (ap length c.history.ensures.value) c.in-Ok.ensures.ok
+returns-clause-left g c = all_left _ _ _ _ _ (search) c.in-Ok.ensures.ok

@@ -13,6 +13,7 @@ returns-then-words-count c =
       tick = c.rights_named-rights.ensures.tick;
       replace = c.rights_named-rights.ensures.replace;
       close = c.rights_named-rights.ensures.close;
+      stop = c.rights_named-rights.ensures.stop;
     } in
     let single : length c.args.words.now ≡ count_rights c.rights_named-rights.result = c.if-words-count.true ∙ c.count.ensures in
     named c.args.words.now c.rights_named-rights.result are (sym c.are_rights.ensures ∙ c.if-are_rights.true) single
@@ -25,6 +26,7 @@ returns-else-are_rights c =
       tick = c.rights_named-rights.ensures.tick;
       replace = c.rights_named-rights.ensures.replace;
       close = c.rights_named-rights.ensures.close;
+      stop = c.rights_named-rights.ensures.stop;
     } in
     elim c.else-are_rights.branch [
       | else-are_rights-via-then-are_rights+else-words-count w ↦

@@ -2,7 +2,7 @@
 use Rattle.std.proofs.Common.{◌≡◌, ◌∙◌, ap, codes}
 use Rattle.std.proofs.lemmas.Result.{IfOk-weaker}
 use Rattle.clap.specs.Words.{app_of, new_app, with_subcommand}
-use Rattle.wh_options.specs.Menu.{live_app, replay_app, ruled_app, serve_app, with_settings}
+use Rattle.wh_options.specs.Menu.{live_app, replay_app, ruled_app, serve_app, verify_app, with_settings}
 use Rattle.wh_options.proofs.command.warehouse_command.Goals as goal
 
 pub returns : goal.returns
@@ -15,7 +15,7 @@ returns c =
     ∙ ap (λ a. with_subcommand a (replay_app replay.planners replay.tails replay.replies replay.ends).top) check_in in
     let verify = c.in_ok-command-3.ensures in
     let verify_in = verify.is
-    ∙ ap (λ a. with_subcommand a (ruled_app (codes "verify") verify.ends).top) replay_in in
+    ∙ ap (λ a. with_subcommand a (verify_app verify.ends).top) replay_in in
     let live = c.in_ok-command-4.ensures in
     let live_in = live.is
     ∙ ap (λ a. with_subcommand a (live_app live.planners live.ends).top) verify_in in

@@ -1,10 +1,10 @@
 -- What the entered subcommand's rows say is what its reader reads.
 use Rattle.std.proofs.Common.{◌≡◌, ◌∙◌, List, Option, Some, Result, Ok, Err, sym, ap, refl, subst, codes, option_map, inl, inr}
-use Rattle.std.specs.Prelude.{IfErr, IfOk}
+use Rattle.std.specs.Prelude.{IfErr, IfOk, is_some}
 use Rattle.std.proofs.lemmas.Result.{IfOk-weaker}
 use Rattle.clap.specs.Words.{Row, Text, first_of, first_value, found_of, rows_of, subcommand_name_of, subcommand_rows_of}
 use Rattle.clap.specs.declared.parser.matches.ArgMatches.{ArgMatches}
-use Rattle.wh_options.specs.Options.{DeliversByVehicles, ReplayLacks}
+use Rattle.wh_options.specs.Options.{ReplayClashes, ReplayLacks, SlacksPatient}
 use Rattle.wh_options.specs.Reads.{IsTold, Reads, ReadsLine, ReadsLive, ReadsReplay, clients_in, homes_of, kind_of_mistake}
 use Rattle.wh_options.specs.declared.chosen.Options.{Options}
 use Rattle.wh_options.specs.declared.mistake.Mistake.{Mistake}
@@ -39,11 +39,11 @@ returns-in-Some-mistake_of_replay-clause-mistaken c = λ name rows e.
     elim c.in-Some-mistake_of_replay.ensures [
       | inl lacks ↦ inl (inl (named, subst (λ (f : Text → Option Text). ReplayLacks f) (λ i id. same id i) lacks.0), lacks.1)
       | inr clash ↦ inr (inl (
-        inr (
+        inr (inl (
           named,
           subst (λ (f : Text → Option Text). ReplayLacks f → ⊥) (λ i id. same id i) clash.0,
-          subst (λ (f : Text → Option Text). DeliversByVehicles f) (λ i id. same id i) clash.1,
-        ),
+          subst (λ (f : Text → Option Text). ReplayClashes f) (λ i id. same id i) clash.1,
+        )),
         clash.2,
       ))
     ]
@@ -54,15 +54,24 @@ returns-in-None-clause-read c = λ name rows e.
       is_named c.args.matches.now name (codes "replay") rows e (c.in-Some.ensures.found.0 refl),
       subst (λ (f : Text → Option Text). ReadsReplay f c.replay_options.result) (λ i id. same id i) c.replay_options.ensures,
       subst (λ (f : Text → Option Text). ReplayLacks f → ⊥) (λ i id. same id i) c.in-None.ensures.0,
-      subst (λ (f : Text → Option Text). DeliversByVehicles f → ⊥) (λ i id. same id i) c.in-None.ensures.1,
+      subst (λ (f : Text → Option Text). ReplayClashes f → ⊥) (λ i id. same id i) c.in-None.ensures.1,
     )
 
-pub returns-in-Some-subcommand_matches-clause-read : goal.returns-in-Some-subcommand_matches-clause-read
-returns-in-Some-subcommand_matches-clause-read c = λ name rows e.
+pub returns-in-Some-mistake_of_live-clause-mistaken : goal.returns-in-Some-mistake_of_live-clause-mistaken
+returns-in-Some-mistake_of_live-clause-mistaken c = λ name rows e.
+    let live = c.in-Some-subcommand_matches in
+    let same = given_are c.args.matches.now live.live.now name rows e live.ensures.rows in
+    let named = is_named c.args.matches.now name (codes "live") rows e (live.ensures.found.0 refl) in
+    let clash = c.in-Some-mistake_of_live.ensures in
+    inr (inl (inr (inr (named, subst (λ (f : Text → Option Text). SlacksPatient f) (λ i id. same id i) clash.0)), clash.1))
+
+pub returns-in-None-mistake_of_live-clause-read : goal.returns-in-None-mistake_of_live-clause-read
+returns-in-None-mistake_of_live-clause-read c = λ name rows e.
     let live = c.in-Some-subcommand_matches in
     let same = given_are c.args.matches.now live.live.now name rows e live.ensures.rows in (
       is_named c.args.matches.now name (codes "live") rows e (live.ensures.found.0 refl),
       subst (λ (f : Text → Option Text). ReadsLive f c.live_options.result) (λ i id. same id i) c.live_options.ensures,
+      subst (λ (f : Text → Option Text). SlacksPatient f → ⊥) (λ i id. same id i) c.in-None-mistake_of_live.ensures,
     )
 
 pub returns-in-Some-subcommand_matches-2-clause-read : goal.returns-in-Some-subcommand_matches-2-clause-read
@@ -80,5 +89,6 @@ returns-in-Some-subcommand_matches-3-clause-read c = λ name rows e.
     let verify = c.in-Some-subcommand_matches-3 in
     let same = given_are c.args.matches.now verify.verify.now name rows e verify.ensures.rows in (
       is_named c.args.matches.now name (codes "verify") rows e (verify.ensures.found.0 refl),
-      c.homes-homes.ensures ∙ ap homes_of (same (codes "ends")),
+      c.homes.ensures ∙ ap homes_of (same (codes "ends")),
+      c.is_given.ensures ∙ ap is_some (same (codes "unended")),
     )

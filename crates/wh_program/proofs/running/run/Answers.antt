@@ -1,9 +1,12 @@
-use Rattle.std.proofs.Common.{inl, inr, map, refl, subst}
+use Rattle.std.proofs.Common.{◌≤◌, Option, inl, inr, map, refl, subst}
+use Rattle.std.specs.Prelude.{IfSome}
 use Rattle.std.proofs.KnownBytes.{Keeps-refl}
 use Rattle.wh_options.specs.Options.{WordsGive}
 use Rattle.wh_options.specs.declared.chosen.Options.{Options}
+use Rattle.wh_options.specs.declared.chosen.Options.TheVariants.{Replay}
+use Rattle.wh_options.specs.declared.chosen.VehicleOptions.{VehicleOptions}
 use Rattle.wh_program.specs.Barring.{Begins}
-use Rattle.wh_program.specs.Programs.{pace_of}
+use Rattle.wh_program.specs.Programs.{HasRange, pace_of}
 use Rattle.wh_program.proofs.Whole.{declines, in_range}
 use Rattle.wh_program.proofs.running.run.Goals as goal
 
@@ -43,3 +46,8 @@ returns g c =
 
 pub obey_by_name-came-requires-clause-range : goal.obey_by_name-came-requires-clause-range
 obey_by_name-came-requires-clause-range g c κs within = in_range (map g.A.AsStr.text c.args.words.now) _ c.in-Ok.ensures.ok
+
+pub drive_by_name-came-requires-clause-ahead : goal.drive_by_name-came-requires-clause-ahead
+drive_by_name-came-requires-clause-ahead g c κs within =
+    let range : HasRange (Replay c.in-Some.replay) = subst HasRange c.in-Some.ensures.0 (in_range (map g.A.AsStr.text c.args.words.now) _ c.in-Ok.ensures.ok) in
+    subst (λ (o : Option VehicleOptions). IfSome o (λ pace. 1 ≤ pace.ahead)) c.in-Some.ensures.1 range.1

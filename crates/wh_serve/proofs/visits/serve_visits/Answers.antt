@@ -12,10 +12,10 @@ loop-connections-init g c = λ history begins.
 pub loop-connections-preserved : goal.loop-connections-preserved
 loop-connections-preserved g c =
     let after = c.serve_connection-visited.new.pass.known in
-    let grown = session_known c.args.may (length g.N.DeskName.cells) g.P.Plans.fits_map g.P.Plans.slot_count g.N.DeskName.origin.site.grid (receipt_text c.args.form g.N.DeskName.origin after) (λ x. g.R.Read.remaining x) (λ x. g.W.Write.contents x) _ _ _ _ c.loop-connections.pass _ c.serve_connection-visited.new.pass _
+    let grown = session_known c.args.may (length g.N.DeskName.cells) g.P.Plans.fits_map g.P.Plans.slot_count g.N.DeskName.origin.site.grid (receipt_text c.args.form g.N.DeskName.origin after) (λ x. g.R.Read.remaining x) (λ x. g.W.Write.contents x) _ _ _ _ _ c.loop-connections.pass _ c.serve_connection-visited.new.pass _
     (c.serve_connection-visited.ensures after (prefix_self after)) in
     λ history begins.
-    one_more c.args.may (length g.N.DeskName.cells) g.P.Plans.fits_map g.P.Plans.slot_count g.N.DeskName.origin.site.grid (receipt_text c.args.form g.N.DeskName.origin history) (λ x. g.R.Read.remaining x) (λ x. g.W.Write.contents x) _ _ _ _ c.args.pass.now c.args.spares.now.items
+    one_more c.args.may (length g.N.DeskName.cells) g.P.Plans.fits_map g.P.Plans.slot_count g.N.DeskName.origin.site.grid (receipt_text c.args.form g.N.DeskName.origin history) (λ x. g.R.Read.remaining x) (λ x. g.W.Write.contents x) _ _ _ _ _ c.args.pass.now c.args.spares.now.items
     c.loop-connections.pass c.loop-connections.spares.items c.serve_connection-visited.new.pass c.serve_connection-visited.new.spares.items c.loop-connections.connections
     (c.loop-connections.invariant history (prefix_trans c.loop-connections.pass.known after history grown begins)) (c.serve_connection-visited.ensures history begins)
 

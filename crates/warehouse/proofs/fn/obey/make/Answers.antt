@@ -11,7 +11,7 @@ pub returns-in_ok-new-in-Near : goal.returns-in_ok-new-in-Near
 returns-in_ok-new-in-Near g c =
     let has = hides.has-1-1 g.dyn-1.0 g.dyn-1-has in
     let made = c.into_dyn_box.ensures.1 in
-    let inner = c.in_ok-new-in-Near.ensures.ok in
+    let inner = c.in_ok-new-in-Near.ensures.ok ∙ c.with_slack.ensures in
     record {
       on_grid =
           read_made (dyn-1-ghosts g.dyn-1).0 _ (has.at tt) (has.same tt) Bool (λ j v. j.1.Plans.fits_map v c.args.parts.grid.value) _ _ _ made

@@ -4,7 +4,7 @@ use Rattle.wh_grid.specs.declared.cell.Cell.{Cell}
 use Rattle.wh_path.specs.Paths.{path_of, IsFree, AllFree}
 use Rattle.wh_path.proofs.Freedom.{free-sym, free-resting}
 use Rattle.wh_core.proofs.Opening.{walk-one}
-use Rattle.wh_work_rows.proofs.planners.a_path_by_shared_fields_is_shortest.Goals as goal
+use Rattle.wh_work_rows.proofs.planners.planned_late.Goals as goal
 
 pair : (p q : List Cell) → IsFree true p q → (i j : ℕ) → i < 2 → j < 2 → i ≢ j →
     IsFree true (path_of (p ∷ q ∷ []) i) (path_of (p ∷ q ∷ []) j)
@@ -21,11 +21,11 @@ all_free-resting : (c d : Cell) → (c ≡ d → ⊥) → (p q : List Cell) → 
 all_free-resting c d ne p q pc qd = rw (pc, qd) (record { pair = pair _ _ (free-resting true c d ne) })
 
 pub plan-requires-clause-free : goal.plan-requires-clause-free
-plan-requires-clause-free g c =
+plan-requires-clause-free c =
     let ne : record { x = 0; y = 5 } ≡ record { x = 5; y = 5 } → ⊥ = λ e. let x : 0 ≡ 5 = ap (λ cell. cell.x) e in absurd (omega (arith, x)) in
     rw c.in_ok-all.ensures (all_free-resting _ _ ne _ _ c.in_ok-one.ensures c.in_ok-one-2.ensures)
 
 pub plan-requires-clause-walk : goal.plan-requires-clause-walk
-plan-requires-clause-walk g c =
+plan-requires-clause-walk c =
     let here = rw c.deref.ensures at (c.passable.ensures.0 c.if-not-passable.false) in
     rw (c.in_ok-all.ensures, c.in_ok-one.ensures, c.deref-4.ensures) (walk-one _ _ here)

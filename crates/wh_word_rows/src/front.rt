@@ -1,8 +1,8 @@
 //! Worked fronts, from outside.
 
-use crate::reader::{FrontFault, read_front};
-use crate::write::front_text;
 use std::alloc::Global;
+use std::test::*;
+use wh_front::{FrontFault, front_text, read_front};
 
 const FRONT: &[u8] =
     b"wlog 3\nafter 1 805 4be10123456789abcdef0123456789abcdef0123456789abcdef0123456789ab\nrules ends homes age 600\nstate 11 closed edited\nentries 0:12 63:400\nagents 2\nagent slots 4 path 3,1\nagent slots 4294967295 path 65535,0 65535,1\ntasks 4\ntask 0 x 0 agent 0 visits 5 9 stops 1,0 7,0\ntask 63 x-Y_1 0 open stops 4,0 3,2\ntask 5 x 1000000000 agent 999999999 stops 1,1 1,1\ntask 5 x 1 agent 1 visits 1 stops 0,0 1,0 2,0 3,0 4,0 5,0 6,0 7,0\nbegin\n";

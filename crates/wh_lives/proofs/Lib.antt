@@ -1,0 +1,6 @@
+mod Asked
+mod OneLog
+mod Runs
+mod Finding
+mod Living
+mod Twice
