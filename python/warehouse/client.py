@@ -3,12 +3,12 @@
     client FOLDER                       sends the lines of standard input, and prints the replies
     client FOLDER --wait 10             the same, and ends with status 1 where it waits so many seconds for the service
 
-The service is `serve --log FILE --client N=FOLDER`. The client opens FOLDER/out and reads to the line `entries N`: so many
-entries of the history are its own. Only then it opens FOLDER/in. Each line is sent behind the reply to the one before; empty
+The service is `serve --log FILE --client N=FOLDER`. The client opens FOLDER/out and reads to the line `entries N TAG`: so many
+entries of the history are its own. Only then it opens FOLDER/in, and sends `begin TAG`. Each line is sent behind the reply to the one before; empty
 lines and comments, which have no reply, are left out. It prints `entries N`, and each reply, and ends with its input, or
-at the reply `closed`.
+at the reply `closed` or `stopped`.
 
-Where the connection breaks, because the service was killed, say, it comes again when the service does. The new `entries N`
+Where the connection breaks, because the service was killed, say, it comes again when the service does. The new N
 then says whether the line without a reply was served: if it is one more, it was, and `lost: LINE` is printed in place of
 its reply, which is in the service's log; else the line is sent again.
 
@@ -46,7 +46,7 @@ def run(options: argparse.Namespace) -> int:
             if not is_skipped(line):
                 reply = folder.answer(line)
                 tell(reply)
-                if unplaced(reply)[2] == 'closed':
+                if unplaced(reply)[2] in ('closed', 'stopped'):
                     break
     finally:
         folder.drop()

@@ -6,13 +6,13 @@ import os
 import re
 import select
 import time
-from typing import Callable, Sequence
+from typing import Callable, NamedTuple, Sequence
 
 from .process import PIECE, SessionError
 from .replies import Told, is_entry, unplaced
 
 # a reply that was cut may stand before it, where nobody read the connection before to its end
-GREETING = re.compile(rb'entries (\d+)\n\Z')
+GREETING = re.compile(rb'entries (\d+) ([0-9a-f]{16})\n\Z')
 PAUSE = 0.02    # seconds between two tries to open a pipe
 
 
@@ -20,33 +20,54 @@ class Broken(Exception):
     """The connection is over."""
 
 
+class Greeting(NamedTuple):
+    """What a service says first: how many entries the client has, and the tag at which the connection begins."""
+    entries: int
+    tag: bytes
+
+    @staticmethod
+    def of(line: bytes) -> Greeting | None:
+        found = GREETING.search(line)
+        return Greeting(int(found[1]), found[2]) if found else None
+
+
 class Connection:
     """One connection over the pipes of a folder: `entries`, how many entries the client has.
 
-    The pipe of replies is opened first and read to its greeting; only then the other one, as the service wants it.
+    The pipe of replies is opened first and read to its greeting; only then the other one, as the service wants it, and
+    `begin TAG` is sent: what a connection before left in the pipe stands in front of that, and is not served.
     Raises SessionError where nobody serves within `wait` seconds (0: ever).
     """
 
     def __init__(self, folder: str, wait: float = 0):
         self.folder = folder
         self.commands = self.replies = -1
-        self.greeting: int | None = None    # of the next connection, where it came behind this one's end
+        self.greeting: Greeting | None = None    # of the next connection, where it came behind this one's end
         self.open(wait)
 
     def open(self, wait: float) -> None:
         """Opens both pipes; where the next greeting has come already, over the pipe of replies that is open."""
         self.until = time.monotonic() + wait if wait else None
+        while True:
+            try:
+                return self.begin()
+            except Broken:
+                pass    # the service was gone before it could be told
+
+    def begin(self) -> None:
         self.close(self.greeting is None)
         if self.greeting is None:
             self.came = b''
             self.replies, self.greeting = self.greeted(os.path.join(self.folder, 'out'))
-        self.entries, self.greeting = self.greeting, None
+        (self.entries, tag), self.greeting = self.greeting, None
         try:
             self.commands = self.opened(os.path.join(self.folder, 'in'), os.O_WRONLY)
+            os.set_blocking(self.commands, True)
+            # the line feed ends what stands in the pipe of a line that was torn
+            self.send(b'\nbegin ' + tag + b'\n')
         except BaseException:
             self.close()
             raise
-        os.set_blocking(self.commands, True)
 
     def left(self) -> float | None:
         """Seconds that may be waited still."""
@@ -68,16 +89,15 @@ class Connection:
             self.left()
             time.sleep(PAUSE)
 
-    def greeted(self, path: str) -> tuple[int, int]:
-        """The pipe of replies behind its line `entries N`, and that N. What comes before it was meant for the connection
+    def greeted(self, path: str) -> tuple[int, Greeting]:
+        """The pipe of replies behind its greeting, and that. What comes before it was meant for the connection
         before; where the pipe ends without it, it is opened again."""
         while True:
             pipe = self.opened(path, os.O_RDONLY)
             try:
                 while True:
-                    line = self.line_of(pipe, self.left)
-                    if found := GREETING.search(line):
-                        return pipe, int(found[1])
+                    if found := Greeting.of(self.line_of(pipe, self.left)):
+                        return pipe, found
             except Broken:
                 os.close(pipe)
                 self.came = b''
@@ -110,8 +130,8 @@ class Connection:
     def read(self) -> bytes:
         """The next line. A greeting begins another connection, which `open` goes on with."""
         line = self.line_of(self.replies, lambda: None)
-        if found := GREETING.search(line):
-            self.greeting = int(found[1])
+        if found := Greeting.of(line):
+            self.greeting = found
             raise Broken
         return line
 

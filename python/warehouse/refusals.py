@@ -20,7 +20,7 @@ SENTENCES = {
     'P10': 'A line `rule nofollow` stands earlier.',
     'C1': 'This line is no command: `submit CLIENT S1 .. Sn` with 2 to 8 stops, `token AGENT`, `tick`, `replace AGENT`, `close`. A name has 1 to 16 bytes, each a letter A to Z or a to z, a digit, _ or -; a number has at most 9 digits. In `replay` nothing changes, and it is no entry of the history.',
     'C2': 'This line is longer than 256 bytes, and that is refused also where it is a comment. In `replay` nothing changes, and it is no entry of the history.',
-    'C3': 'This client of `serve` has no right to the command: --client N=FOLDER:RIGHTS names its rights. Nothing changes, and it is no entry of the history.',
+    'C3': 'This client of `serve` has no right to the command, or to `stop`: --client N=FOLDER:RIGHTS names its rights. Nothing changes, and it is no entry of the history.',
     'E1': 'The task is refused: no point has this name.',
     'E2': 'The task is refused: this point is a parking, and tasks stop at stations alone.',
     'E3': 'The task is refused: the run has had 1,000,000 tasks, and takes no more.',

@@ -107,6 +107,12 @@ class Closed(Text):
 
 
 @dataclass(frozen=True)
+class Stopped(Text):
+    """To stop: the service takes no command any more, what it took is kept, and a next start goes on from it."""
+    FORM = 'stopped'
+
+
+@dataclass(frozen=True)
 class Refused:
     """Nothing has changed. `words` are what the refusal names: numbers of E4, E5 and V1 to V3, a name of E1 and E2."""
     code: str
@@ -148,7 +154,7 @@ class Visited(Text):
     visit: int
 
 
-Reply = Union[Accepted, Took, Parked, Rested, Clock, Arrived, Replaced, Closed, Refused, Lost]
+Reply = Union[Accepted, Took, Parked, Rested, Clock, Arrived, Replaced, Closed, Stopped, Refused, Lost]
 Told = Union[Go, Visited]
 
 
@@ -164,7 +170,7 @@ class Entry:
 def is_entry(text: str) -> bool:
     """Whether a reply, without place and clock, is that of an entry of the history."""
     words = text.split(' ', 2)
-    return words[0] != 'arrived' and not (words[0] == 'refused' and words[1:2] and words[1] in WITHOUT_ENTRY)
+    return words[0] not in ('arrived', 'stopped') and not (words[0] == 'refused' and words[1:2] and words[1] in WITHOUT_ENTRY)
 
 
 def unplaced(text: str) -> tuple[int | None, int | None, str]:
@@ -210,6 +216,7 @@ READERS: dict[str, Callable[[list[str]], Reply]] = {
     'arrived': lambda words: Arrived(*map(number, words)),
     'replaced': lambda words: Replaced(*map(number, words)),
     'closed': lambda words: Closed(*words),
+    'stopped': lambda words: Stopped(*words),
     'refused': refusal,
 }
 

@@ -148,6 +148,10 @@ class Session:
         """Nothing changes any more. Answered Closed or Refused. It ends no program: `end` does."""
         return self.ask('close')
 
+    def stop(self) -> Reply:
+        """Over a folder, by the right `stop`: the service ends, and a next start goes on. Answered Stopped, or Refused C3."""
+        return self.ask('stop')
+
     def ask(self, line: str) -> Reply:
         """The reply to one line."""
         return self.ask_all([line])[0]

@@ -17,7 +17,7 @@ It refuses, with one line on standard error, status 1 and nothing on standard ou
     where a task is under way (assigned or carried), or an agent has steps left: it says how many ticks more, with no
     request, bring all agents to rest (docs/OPERATIONS.md says how to end a shift)
     where an agent rests at no point, or two at one
-    where LOG has no end line, is no log, or does not fit INSTANCE: its agents, stations, paths, or counts of visits
+    where LOG is cut, is no log, or does not fit INSTANCE: its agents, stations, paths, or counts of visits
 
 More of LOG is not judged: `./warehouse verify` does that (`log-input`).
 """
@@ -39,7 +39,7 @@ def steps_left(run: Run, agent: int) -> int:
 def judge_counts(name: str, run: Run) -> None:
     """Refuses a log that is cut, or counts visits that its paths do not make on this instance."""
     if run.cut:
-        raise Fault('the log has no end line, and what came then is not known', name)
+        raise Fault('the log is cut, and what came then is not known', name)
     for clock, told, found in run.differences()[:1]:
         raise Fault(f'at clock {clock} it counts {told[0]} picked and {told[1]} dropped, its paths give '
                     f'{found[0]} and {found[1]}; {OTHER_PAIR}', name)

@@ -6,7 +6,7 @@
 INSTANCE has the sections map and points; LOG is a log, or the output of `replay --tail log`, where what stands before
 the log is skipped; `-` is the standard input. Without LOG the agents stand at their starts. The page needs no network, and
 shows where agents wait (key h: waits of the plan, as `stats` counts them, up to the moment shown);
-a log without its end line is played as far as it goes, and marked CUT.
+a log that is cut is played as far as it goes, and marked CUT.
 
 When a stop is visited no log says: it is redone from the paths and compared with the counts `picked P dropped Q` of
 each tick. Where they differ the page has a red banner. A visit made as a path is taken stands in no tick's counts.
@@ -19,7 +19,7 @@ way to the first stop), carried, done.
     --animate           the whole run as an SVG that moves by itself; for a few hundred ticks
     --check [T ..]      no picture: a line `clock T cells X,Y .. phases LETTERS` for each of the clocks, or for all: the
                         cell of each agent, and o, a, c or d for each task (`-` where there is none); then whether the
-                        counts agree, and `cut` where the log has no end. Status 1 where they do not agree.
+                        counts agree, and `cut` where the log is cut in a line, or before the end of a run that was closed. Status 1 where they do not agree.
 
     --beside INSTANCE2 LOG2
                         the page plays a second run beside the first, by one clock, which is counted from each run's first
@@ -86,7 +86,7 @@ def check(run: Run, clocks: list[int], vehicles: Execution | None) -> int:
 def verdict(program: str, run: Run, log: bytes) -> str:
     """What the program's `verify` says of the log of a run, under that run's rule of where paths end."""
     try:
-        done = subprocess.run([program, 'verify', *ends_words('homes' if run.homes else 'stops')], input=run.instance.text + log, capture_output=True)
+        done = subprocess.run([program, 'verify', '--unended', *ends_words('homes' if run.homes else 'stops')], input=run.instance.text + log, capture_output=True)
     except OSError as error:
         raise Fault(f'{program}: {error.strerror}') from None
     answer = done.stdout.decode('latin-1').strip()

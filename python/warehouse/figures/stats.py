@@ -20,7 +20,7 @@ output of `replay --tail log`; what stands before it is skipped. `-` is the stan
     parkings        requests for the token answered `parked`: a way to a point where the agent is in no one's way
     e6              requests for the token refused for lack of a path
     ticks           how far the log's clock went
-    cut             1 where the log has no end line, else 0
+    cut             1 where the log is cut in a line, or before the last line of a run that was closed, else 0
 
 A cell is empty where no task is done, and per100 also where the makespan is 0. Where fewer tasks are done than came in,
 makespan and service times are those of the tasks done. Steps are counted that were made by the log's last clock.

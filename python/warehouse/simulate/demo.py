@@ -260,9 +260,9 @@ def watch(demo: Demo) -> str:
         demo.took = demo.second
 
 
-def answer(options: argparse.Namespace, subcommand: str, text: bytes) -> str:
+def answer(options: argparse.Namespace, text: bytes, *subcommand: str) -> str:
     """What the program says of a text."""
-    words = [options.program, subcommand, *([] if options.around else ['--ends', 'homes'])]
+    words = [options.program, *subcommand, *([] if options.around else ['--ends', 'homes'])]
     return subprocess.run(words, input=text, stdout=subprocess.PIPE).stdout.decode('latin-1').strip()
 
 
@@ -270,14 +270,14 @@ def verify(options: argparse.Namespace, instance: Instance, log: str) -> list[st
     """What the program says of the log of each run."""
     runs, found = Runs(instance, '', log, AHEAD), []
     for floor in [runs.follower(), *runs.each()]:
-        found.append(answer(options, 'verify', floor.instance.text + read_file(floor.name)))
+        found.append(answer(options, floor.instance.text + read_file(floor.name), 'verify', '--unended'))
     return found
 
 
 def play(options: argparse.Namespace, folder: str) -> int:
     """The demo in that folder."""
     instance = write_floor(options, folder)
-    if (verdict := answer(options, 'check', instance.text)) != 'formed':    # where the program is to be built first, it is now
+    if (verdict := answer(options, instance.text, 'check')) != 'formed':    # where the program is to be built first, it is now
         raise Fault(f'the program says of the floor: {verdict or "nothing"}')
     why = '--pipes' if options.pipes else missing()
     starts = [instance.points[start].cell for start in instance.starts]

@@ -189,7 +189,7 @@ def judged_log(fleet: Fleet, log: bytes, name: str, whole: bool) -> Run | None:
     for clock, told, found in read.differences()[:1]:
         raise Fault(f'at clock {clock} it counts {told[0]} picked and {told[1]} dropped, its paths give {found[0]} and {found[1]}', name)
     if whole and (read.cut or (len(read.tasks), read.clock) != (len(fleet.tasks), fleet.clock)):
-        raise Fault(f'{"it has no end line" if read.cut else "it is not of this run"}, with {len(read.tasks)} '
+        raise Fault(f'{"it is cut" if read.cut else "it is not of this run"}, with {len(read.tasks)} '
                     f'tasks and clock {read.clock}; the replies told {len(fleet.tasks)} and {fleet.clock}', name)
     if whole and isinstance(fleet.judge, Whereabouts) and read.paths != fleet.judge.run.paths:
         raise Fault('it is not of this run, since its paths are not those that the replies told', name)
@@ -212,7 +212,7 @@ def run_fleet(fleet: Fleet, process: Process, kept: str | None = None, most: int
     """Drives a fleet to its end: the log, why the run ended before its end, and the status."""
     try:
         if fleet.core.place:
-            fleet.core.end()    # the program writes the end line that it has cut off
+            fleet.core.end()    # the program ends the log again
             raise Stop(f'{kept} holds an earlier run ({fleet.core.place} entries), which this script cannot go on with: '
                        f'remove {kept} and {kept}.site, or name another file, or use --save')
         early = fleet.run(most, shift)

@@ -87,7 +87,8 @@ class Run:
     events: list[tuple[Any, ...]] = field(default_factory=list)    # (clock, caller, kind, ..), without what is only counted
     answers: collections.Counter[str] = field(default_factory=collections.Counter)    # requests for the token by answer
     entries: int = 0
-    cut: bool = False
+    closed: bool = False
+    cut: bool = False    # a piece of a line follows, or behind `close` the last line lacks
     homes: bool | None = None    # whether paths go on home; None where no path of a task tells
 
     def path_at(self, agent: int, clock: int) -> Path:
@@ -347,13 +348,14 @@ class Reader:
         if reply[0] == 'refused':
             self.note(caller, 'refused', 'close', ' '.join(reply[1:]))
         else:
+            self.run.closed = True
             self.note(caller, 'closed')
         return True
 
     def finish(self, torn: bool) -> Run:
         """The run, once its last line was read; torn where a piece of a line follows."""
         run = self.run
-        run.cut = torn or not self.ended
+        run.cut = torn or run.closed and not self.ended    # a run that is not closed has no last line yet
         for i, task in enumerate(run.tasks):
             del task.visits[bisect.bisect_right(task.visits, run.clock):]
             # at a clock the tick's visits come first

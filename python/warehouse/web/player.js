@@ -352,7 +352,7 @@ function player(root) {
     const spans = [], fact = (text, cls = '') => spans.push(Object.assign(document.createElement('span'), {textContent: text, className: cls}));
     $('name').textContent = R.title;
     if (R.verified) fact('verify: ' + R.verified, R.verified.startsWith('run ') ? 'tag' : 'tag bad');
-    if (R.cut && !R.live) fact('CUT: the log has no end line', 'tag bad');
+    if (R.cut && !R.live) fact('CUT: the log has not its end', 'tag bad');
     fact(`${R.width} × ${R.height}`); fact(`${N} agents`); if (!R.live) figures(fact);
     if (R.nofollow) fact('rule nofollow');
     fact(`${R.entries} entries: ${['rested', 'E5', 'E6'].map(k => `${k} ${R.answers[k] || 0}`).join(', ')}`);
