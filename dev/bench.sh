@@ -3,8 +3,9 @@
 # Markdown: the machine, its load, then a table of the least of several runs. docs/PERFORMANCE.md keeps what it printed.
 # Where there is a g++, the unproved peer in dev/peer runs the three warehouses and the queue too.
 #
-#   dev/bench.sh [all|parts|instructions|runs|floods|queue]        RUNS=5 dev/bench.sh runs
+#   dev/bench.sh [all|parts|instructions|runs|pairs|floods|queue|slack]        RUNS=5 dev/bench.sh runs
 #
+# `pairs` is dev/bench_pairs.py: the program and the peer by turns, ten times each, and the table that the page has of it.
 # The parts and the instructions want valgrind, and each of their runs is made once. It builds what is not built. Run it on a machine that does
 # nothing else, the queue on a core of its own (`taskset`); instructions do not depend on that.
 set -eu
@@ -276,12 +277,61 @@ queue() {
     done
 }
 
+# The program and the peer by turns.
+pairs() {
+    command -v g++ > /dev/null || { echo 'bench.sh: no g++, so no pairs' >&2; return 0; }
+    built
+    "$root/dev/bench_pairs.py" --warehouse "$program" --runs "${RUNS:-10}"
+}
+
+# Floors without a slack and with one: what all searches of the peer, which are the program's, expand, and one of them at most; the
+# program's seconds; and the mean service time, the mean of three seeds.
+slack() {
+    built
+    peer_built || { echo 'bench.sh: no g++, so no counts' >&2; return 0; }
+    echo
+    echo '| Instance | Expanded | With 4 | By one search at most | With 4 | Processor seconds | With 4 | Mean service time | With 4 |'
+    echo '|---|---|---|---|---|---|---|---|---|'
+    local name words seed
+    while IFS='|' read -r name words; do
+        for seed in 7 8 9; do
+            # shellcheck disable=SC2086
+            python3 "$root/tools/make_instance.py" --every 1 --seed $seed $words > "$folder/slack$seed"
+        done
+        echo "| $name | $(paste -d ' ' <(slack_figures 0) <(slack_figures 4) | tr '\n' ' ' | sed 's/ / | /g; s/ | $//') |"
+    done << 'FLOORS'
+35 x 21, 50 agents|--columns 35 --rows 21 --agents 50 --tasks 500 --ticks 1500
+81 x 81, 250 agents|--columns 81 --rows 81 --agents 250 --tasks 1000 --ticks 1500
+255 x 255, 256 agents|--columns 255 --rows 255 --agents 256 --tasks 1000 --ticks 2500
+open, 512 x 512, 100 agents|--columns 512 --rows 512 --open --agents 100 --tasks 300 --ticks 3000
+open, 512 x 512, 8 stops|--columns 512 --rows 512 --open --agents 100 --tasks 200 --ticks 6000 --stops 8
+FLOORS
+}
+
+# The figures of three instances at one slack, each on a line.
+#   slack_figures STEPS
+slack_figures() {
+    local steps=$1 seed
+    for seed in 7 8 9; do
+        "$folder/peer" counts slack "$steps" < "$folder/slack$seed" 2>&1 > /dev/null
+        timed "$folder/slack$seed" "$folder/output" "$program" replay --tail log --slack "$steps"
+        python3 "$root/tools/stats.py" --no-header "$folder/slack$seed" "$folder/output"
+    done | python3 -c '
+import sys
+lines = [line.split() for line in sys.stdin]
+counts, times, runs = lines[0::3], lines[1::3], [line[0].split(",") for line in lines[2::3]]
+print(sum(int(line[1]) for line in counts), max(int(line[3]) for line in counts), sep="\n")
+print(f"{sum(float(line[0]) for line in times):.3f}\n{sum(float(run[5]) for run in runs) / len(runs):.1f}")'
+}
+
 case $what in
-    all) machine; parts; instructions; whole_runs; floods; queue ;;
+    all) machine; parts; instructions; whole_runs; pairs; floods; queue; slack ;;
+    pairs) pairs ;;
     parts) machine; parts ;;
     instructions) machine; instructions ;;
     runs) machine; whole_runs ;;
     floods) machine; floods ;;
     queue) machine; queue ;;
-    *) echo "bench.sh: all, parts, instructions, runs, floods or queue" >&2; exit 2 ;;
+    slack) machine; slack ;;
+    *) echo "bench.sh: all, parts, instructions, runs, pairs, floods, queue or slack" >&2; exit 2 ;;
 esac

@@ -17,6 +17,9 @@ Families, and their numbers:
   beside N LEGS      agent 0 walks LEGS stops to and fro on an open map and ends beside agent 1, whose way is straight on
   shut N             an open map of N by N, cut by a wall, in whose only door an agent is at rest; another is to make way, and the
                      nearest cell where it may park is close, but beyond the door, and the next one is far
+  sides N K          an open map of N by N; the last of K stops (2 to 8), behind far corners, has agents at rest on its near sides
+  soon N FAR         an open map of N by N, cut by a wall with a door at each end; agent 0 comes to rest in the one, through which
+                     agent 1, from the wall or, where FAR is 1, from far away, would have the shorter way
   blocked T A        A agents, T open tasks, none of which can be done for where an agent rests
   rests T A N        the same tasks, and then N requests by turns, which all find that nothing can be done
   wide N A           an open map of N by N, A agents, one far task each: distance fields of whole maps
@@ -172,6 +175,24 @@ def shut(n):
     put(rows, points, script + ['submit c AWAY C', 'submit c AWAY HERE', 'token 0'])
 
 
+def sides(n, k):
+    m = n // 2
+    points = ['parking P0 1 0', f'station A {n - 1} {n - 1}', 'station B 0 0', f'station L {m} {m}', f'parking P1 {m + 1} {m}',
+              f'parking P2 {m} {m + 1}', 'agent P0', 'agent P1', 'agent P2']
+    put(open_rows(n, n), points, ['submit x ' + ' '.join([*(['B', 'A'] * 4)[9 - k:], 'L']), 'token 0'])
+
+
+def soon(n, far):
+    rows, wall, door = open_rows(n, n), n // 2, n - 3
+    for y in range(1, n):
+        if y != door:
+            rows[y][wall] = '@'
+    start = f'0 {n - 1}' if far else f'{wall - 2} {door}'
+    points = [f'parking P0 {wall - 1} {n - 1}', f'parking P1 {start}', f'station A {wall - 1} {door + 1}', f'station D {wall} {door}',
+              f'station S 1 {door}', f'station T {wall + 2} {door}', 'agent P0', 'agent P1']
+    put(rows, points, ['submit x A D', 'token 0', 'submit y S T', 'token 1'])
+
+
 def blocked(tasks, agents, asks=None):
     n = 2 * agents + 4
     points = [f'station H{i} {2 * i} 0' for i in range(agents)] + [f'station G {n - 1} 4', f'station F {n - 1} 6']
@@ -234,7 +255,7 @@ def queue(n, agents, rule):
 
 
 FAMILIES = {'stops': (stops, 3), 'unreachable': (lambda n, k: stops(n, k, 0, True), 2), 'ring': (ring, 2), 'door': (door, 2),
-            'hall': (hall, 2), 'late': (late, 3), 'beside': (beside, 2), 'shut': (shut, 1), 'blocked': (blocked, 2),
+            'hall': (hall, 2), 'late': (late, 3), 'beside': (beside, 2), 'shut': (shut, 1), 'sides': (sides, 2), 'soon': (soon, 2), 'blocked': (blocked, 2),
             'rests': (blocked, 3), 'wide': (wide, 2), 'maze': (maze, 3), 'queue': (queue, 3)}
 
 

@@ -28,6 +28,7 @@ struct PathCheck {
     const std::vector<uint32_t>& path;    // empty where none was found
     const Tour* tour;    // null: a parking is sought, where the field is 0
     const uint32_t* field;
+    uint32_t slack;    // the path may be so many steps late
 
     // How far an agent has come: the leg, and how long it has been at the leg's stop.
     struct Come {
@@ -53,7 +54,7 @@ struct PathCheck {
         demand(come.leg + 1 == legs() && is_goal(path.back()), "the path serves not its errand");
         // more would take minutes
         if (size_t(site.grid.passable) * timetable.agents() <= 50000)
-            demand(plain_length(horizon, uint32_t(path.size())) + 1 == path.size(), "the path is not least");
+            demand(plain_length(horizon, uint32_t(path.size())) + 1 + slack >= path.size(), "the path is late");
     }
 
     // No path was found. From the horizon on each leg is a walk on a still map.

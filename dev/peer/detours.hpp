@@ -1,5 +1,6 @@
-// Detours round those that stay: the map without their places, and the fields over it of those stops to which the way is
-// barred by places that are taken, at which somebody is at each time from now on. They are made for one search.
+// Detours round those that stay or come to rest in time: the map without their places, and the fields over it of those stops to
+// which the way is barred by places that are closed, at which somebody is at each time from which on the agent can be there: it
+// takes a step for each column and row from where it is. They are made for one search.
 #pragma once
 
 #include "errand.hpp"
@@ -20,14 +21,14 @@ public:
                     const Bounded* fields) const {
         uint32_t legs = 0;
         for (uint32_t leg = 0; leg < count; ++leg)
-            if (is_barred(others, leg == 0 ? start : stops[leg - 1], fields[leg].table)) legs |= 1u << leg;
+            if (is_barred(others, start, leg == 0 ? start : stops[leg - 1], fields[leg].table)) legs |= 1u << leg;
         return legs;
     }
 
     // Makes the map, and the fields of these legs, each filled as those that are shared.
     void make(const Reservations& others, uint32_t start, const uint32_t* stops, uint32_t count, uint32_t legs,
               Bounded* fields) {
-        bar(others);
+        bar(others, start);
         if (!queue_) queue_.reset(new uint32_t[grid_.size()]);
         for (uint32_t leg = 0; leg < count; ++leg) {
             if (!(legs >> leg & 1)) continue;
@@ -37,22 +38,27 @@ public:
     }
 
 private:
-    bool is_barred(const Reservations& others, uint32_t cell, const uint32_t* table) const {
+    bool is_closed(const Reservations& others, uint32_t start, uint32_t cell) const {
+        return others.is_taken(cell, grid_.apart(start, cell));
+    }
+
+    bool is_barred(const Reservations& others, uint32_t start, uint32_t cell, const uint32_t* table) const {
         for (uint32_t left = table[cell]; left > 0; --left) {
             uint32_t nexts[MOVES];
             list_moves(cell, grid_.stride, nexts);
             uint32_t move = 1;
-            while (move < MOVES && (table[nexts[move]] >= left || others.is_taken(nexts[move]))) ++move;
+            while (move < MOVES && (table[nexts[move]] >= left || is_closed(others, start, nexts[move]))) ++move;
             if (move == MOVES) return true;
             cell = nexts[move];
         }
         return false;
     }
 
-    void bar(const Reservations& others) {
+    void bar(const Reservations& others, uint32_t start) {
         places_ = grid_.places;
         passable_ = grid_.passable;
-        others.for_each_at_rest([&](uint32_t cell) {
+        others.for_each_end([&](uint32_t cell) {
+            if (!is_closed(others, start, cell)) return;
             places_[cell] = BLOCKED;
             --passable_;
         });

@@ -33,6 +33,7 @@ class Intervals {
     std::vector<uint64_t> slots_;    // the upper half of a hash and an index plus 1; 0 is free
     size_t size_ = 0;
     uint32_t base_ = 0;
+    uint64_t expanded_ = 0, most_ = 0;    // in all searches, and in one at most
 
     static uint64_t hash_of(uint32_t cell, uint32_t leg, uint32_t until) {
         return ((uint64_t(until) << 32) ^ (uint64_t(leg) << 28) ^ cell) * 0x9E3779B97F4A7C15ull;
@@ -77,8 +78,19 @@ class Intervals {
 public:
     explicit Intervals(const Grid& grid) : grid_(grid) {}
 
-    // No path ends before the base.
+    uint64_t expanded() const { return expanded_; }
+    uint64_t most() const { return most_; }
+
+    // All that may lead to an end by the base is alike.
     bool find(const Errand& errand, uint32_t start, uint32_t first, uint32_t base, std::vector<uint32_t>& path) {
+        const uint64_t before = expanded_;
+        const bool found = search(errand, start, first, base, path);
+        most_ = std::max(most_, expanded_ - before);
+        return found;
+    }
+
+private:
+    bool search(const Errand& errand, uint32_t start, uint32_t first, uint32_t base, std::vector<uint32_t>& path) {
         base_ = base;
         nodes_.clear();
         waiting_.clear();
@@ -98,11 +110,11 @@ public:
             const uint32_t last = since == NONE ? node.until : since - 1;
             since = node.time;
             expand(errand, number, last);
+            ++expanded_;
         }
         return false;
     }
 
-private:
     void push(const Entry& entry) {
         waiting_.push_back(entry);
         std::push_heap(waiting_.begin(), waiting_.end());

@@ -1,6 +1,8 @@
 // The peer: a plain, unproved program that replays a warehouse script and prints byte for byte what the product's
-// `replay` prints, without its options; with the word `log`, what `replay --tail log` prints, and with the word `homes` what
-// `replay --ends homes` does. It is a yardstick for the product's speed and an oracle for tests/peer.py.
+// `replay` prints, without its options; with the word `log`, what `replay --tail log` prints, with the word `homes` what
+// `replay --ends homes` does, and with the words `slack N` what `replay --slack N` does. With the word `counts` standard
+// error tells how many arrivals the searches over intervals expanded, and how many one of them at most. It is a yardstick
+// for the product's speed and an oracle for tests/peer.py.
 //
 // With the word `stays` it is a prototype of docs/STAYS.md: orders have stays at stops and may be urgent, and replies tell
 // each cell of a path.
@@ -28,15 +30,17 @@
 //   at which nobody else is there (under the rule, nor was just before; where there is none it is not waited for); nor ends before
 //   one may rest at the last stop (under the rule, one later).
 // - Straight pass: unless no path is so short, a walk of just as many steps as are estimated at
-//   the start is sought depth first, by those moves alone by which the estimate falls, of the moves the last one first.
+//   the start is sought depth first, by those moves alone by which the estimate falls, of the moves the last one first. It
+//   is given up where more than 32 times as many places as it has steps lead nowhere.
 // - Where that finds none, the way to each stop is walked down its field from the stop before, always to the first place
-//   beside that is nearer and not taken: at which not somebody else is at each time from now on. Where on the way to some
-//   stop none is left, all is sought anew as from the start, by the rules above and below, on the map without the places
-//   of those that have no steps left, and with the field over that map of each such stop.
+//   beside that is nearer and not closed: at which not somebody else is at each time from which on the agent can be there, as
+//   it takes a step for each column and row from where it starts. Where on the way to some stop none is left, all is sought
+//   anew as from the start, by the rules above and below, on the map without the closed places at which others end, and
+//   with the field over that map of each such stop.
 // - Over intervals: an arrival is a place, a number of stops behind, a time, and until when nobody else comes there, or
 //   the last time at which anything is sought. Of those that wait one of the least bound comes first, by time and
 //   estimate; all bounds up to the least that a path may have (as above, and one more
-//   than the straight pass looked for) are equal. Among equal ones that with the least estimate comes first, then the
+//   than the straight pass looked for, unless it was given up), and by the slack beyond it, are equal. Among equal ones that with the least estimate comes first, then the
 //   earliest, and then the last put in.
 // - An arrival meets the next ones in the order of moves but the first: to each place beside, the first arrival in each
 //   of its intervals, in the order of their times. Where an interval is expanded from a time on, an earlier arrival in
@@ -111,13 +115,21 @@ static bool is_given(int count, char** words, const char* word) {
     return std::any_of(words + 1, words + count, [&](const char* other) { return strcmp(other, word) == 0; });
 }
 
+// The number behind a word; 0 where the word is not given.
+static uint32_t number_given(int count, char** words, const char* word) {
+    const auto found = std::find_if(words + 1, words + count, [&](const char* other) { return strcmp(other, word) == 0; });
+    uint32_t number = 0;
+    if (found + 1 < words + count && !read_number({found[1], found[1] + strlen(found[1])}, number)) die("no number");
+    return number;
+}
+
 int main(int count, char** words) {
     static Output output;
     static Input input(output);
     Site site(read_map(input));
     read_points(input, site);
     const bool stays = is_given(count, words, "stays");
-    Warehouse warehouse(std::move(site), output, is_given(count, words, "homes"), stays);
+    Warehouse warehouse(std::move(site), output, is_given(count, words, "homes"), stays, number_given(count, words, "slack"));
     for (Text line; input.line(line);) {
         if (UNLIKELY(line.size() > LONGEST_LINE))
             output.line("refused C2");
@@ -129,5 +141,6 @@ int main(int count, char** words) {
         warehouse.write_log();
     }
     output.flush();
+    if (is_given(count, words, "counts")) warehouse.tell_counts();
     return 0;
 }

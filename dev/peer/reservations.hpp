@@ -68,8 +68,8 @@ public:
         }
     }
 
-    // Whether somebody is at a cell at each time, as one that stays there is.
-    bool is_taken(uint32_t cell) const { return next_free(cell, 0) == NONE; }
+    // Whether somebody is at a cell at each time from this one on.
+    bool is_taken(uint32_t cell, uint32_t time) const { return next_free(cell, time) == NONE; }
 
     // From when on nobody else is at a cell where no other ends.
     uint32_t rest_from(uint32_t cell) const {
@@ -82,11 +82,11 @@ public:
         return free - timetable_.now();
     }
 
-    // Calls with the cell of each other that has no steps left.
+    // Calls with the cell at which each other comes to rest.
     template <typename Call>
-    void for_each_at_rest(Call call) const {
+    void for_each_end(Call call) const {
         for (uint32_t agent = 0; agent < timetable_.agents(); ++agent)
-            if (agent != self_ && timetable_.left(agent) == 0) call(timetable_.at(agent, timetable_.now()));
+            if (agent != self_) call(timetable_.at(agent, timetable_.end(agent)));
     }
 
 private:

@@ -12,6 +12,7 @@
 class Search {
     const Site& site_;
     const Timetable& timetable_;
+    const uint32_t slack_;    // a path may be so many steps late
     Reservations reservations_;
     Errand errand_;
     Unguided unguided_;
@@ -19,14 +20,19 @@ class Search {
     Intervals intervals_;
     Detours detours_;
 
+    static constexpr uint64_t TIMES = 32;    // as many states as the way has steps may lead nowhere
     static constexpr uint32_t LONG = 128;    // steps; a field costs up to their square, a look some times as many
 
 public:
     std::vector<uint32_t> path;    // the last that was found
 
-    Search(const Site& site, const Timetable& timetable)
-        : site_(site), timetable_(timetable), reservations_(timetable, site.nofollow), errand_(reservations_),
+    Search(const Site& site, const Timetable& timetable, uint32_t slack)
+        : site_(site), timetable_(timetable), slack_(slack), reservations_(timetable, site.nofollow), errand_(reservations_),
           unguided_(site.grid, reservations_), straight_(site.grid), intervals_(site.grid), detours_(site.grid) {}
+
+    void tell_counts() const {
+        fprintf(stderr, "expanded %llu most %llu\n", (unsigned long long)intervals_.expanded(), (unsigned long long)intervals_.most());
+    }
 
     // A least path through the stops that is as long as they are apart by columns and rows, where that is far.
     bool deliver_unguided(uint32_t self, uint32_t start, const Tour& tour) {
@@ -36,8 +42,8 @@ public:
         const uint32_t first = unguided_.arrive(0, start);
         const uint32_t whole = unguided_.estimate(first, start);
         if (whole < LONG || whole < least_of(unguided_, first, start)) return false;
-        if (!straight_.find(unguided_, start, first, whole, whole, path)) return false;
-        CHECK_PATH(site_, timetable_, self, path, &tour, nullptr);
+        if (straight_.find(unguided_, start, first, whole, whole, path) != Looked::FOUND) return false;
+        CHECK_PATH(site_, timetable_, self, path, &tour, nullptr, slack_);
         return true;
     }
 
@@ -47,7 +53,7 @@ public:
         errand_.deliver(tour, fields, site_.grid.passable);
         const bool found = run(start, &tour, fields);
         if (!found) path.clear();
-        CHECK_PATH(site_, timetable_, self, path, &tour, nullptr);
+        CHECK_PATH(site_, timetable_, self, path, &tour, nullptr, slack_);
         return found;
     }
 
@@ -59,13 +65,13 @@ public:
         const uint32_t whole = field.table[start];
         errand_.park({field.table, whole == UNSEEN ? UNSEEN : whole + 1}, site_.grid.passable);
         bool found = whole <= errand_.limit();
-        if (found && !straight_.find(errand_, start, 0, whole, NONE, path)) {
+        if (found && straight_.find(errand_, start, 0, whole, NONE, path) != Looked::FOUND) {
             field.rest();
             errand_.park({field.table, UNSEEN}, site_.grid.passable);
-            found = intervals_.find(errand_, start, 0, whole + 1, path);
+            found = intervals_.find(errand_, start, 0, whole + 1 + slack_, path);
         }
         if (!found) path.clear();
-        CHECK_PATH(site_, timetable_, self, path, nullptr, field.table);
+        CHECK_PATH(site_, timetable_, self, path, nullptr, field.table, slack_);
         return found;
     }
 
@@ -87,15 +93,16 @@ private:
         const uint32_t first = errand_.arrive(0, start);
         const uint32_t whole = errand_.estimate(first, start);
         if (whole > errand_.limit()) return false;
-        uint32_t least = least_of(errand_, first, start);
-        if (whole >= least) {
-            if (straight_.find(errand_, start, first, whole, NONE, path)) return true;
-            least = whole + 1;
+        uint32_t least = std::max(least_of(errand_, first, start), whole);
+        if (whole == least) {
+            const Looked looked = straight_.find(errand_, start, first, whole, TIMES * uint64_t(whole), path);
+            if (looked == Looked::FOUND) return true;
+            if (looked == Looked::LONGER) least = whole + 1;
         }
         if (fields)
             if (const uint32_t legs = detours_.barred(reservations_, start, tour->stops, tour->count, fields))
                 return detour(start, *tour, legs, fields);
-        return intervals_.find(errand_, start, first, std::max(least, whole + 1), path);
+        return intervals_.find(errand_, start, first, least + slack_, path);
     }
 
     bool detour(uint32_t start, const Tour& tour, uint32_t legs, const Bounded* fields) {

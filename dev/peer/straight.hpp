@@ -6,6 +6,8 @@
 
 #include "unguided.hpp"
 
+enum class Looked { FOUND, LONGER, GIVEN_UP };
+
 class Straight {
     struct Stand {
         uint32_t cell, leg, move;
@@ -21,10 +23,10 @@ public:
     explicit Straight(const Grid& grid) : grid_(grid) {}
 
     template <typename Guide>
-    bool find(const Guide& errand, uint32_t start, uint32_t first, uint32_t whole, uint32_t most,
-              std::vector<uint32_t>& path) {
+    Looked find(const Guide& errand, uint32_t start, uint32_t first, uint32_t whole, uint64_t most,
+                std::vector<uint32_t>& path) {
         any_hopeless_ = false;
-        uint32_t hopeless = 0;
+        uint64_t hopeless = 0;
         way_.assign(1, {start, first, 0, 0});
         for (uint32_t untried = MOVES;;) {
             const Stand here = way_.back();
@@ -32,13 +34,14 @@ public:
             if (time == whole && errand.is_end(here.leg, here.cell, time)) {
                 path.clear();
                 for (const Stand& stand : way_) path.push_back(stand.cell);
-                return true;
+                return Looked::FOUND;
             }
             if (time < whole && (go_on(errand, here, time, whole - time, untried) || (untried == MOVES && stay_on(errand, here, time)))) {
                 untried = MOVES;
                 continue;
             }
-            if (time == 0 || ++hopeless > most) return false;
+            if (time == 0) return Looked::LONGER;
+            if (++hopeless > most) return Looked::GIVEN_UP;
             note_hopeless(errand, here);
             way_.pop_back();
             untried = here.move;

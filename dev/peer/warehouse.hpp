@@ -33,11 +33,11 @@ class Warehouse {
     History history_;
 
 public:
-    Warehouse(Site&& site, Output& output, bool homes, bool full)
+    Warehouse(Site&& site, Output& output, bool homes, bool full, uint32_t slack)
         : site_(std::move(site)), output_(output), homes_(homes), full_(full), agents_(site_.starts.size()),
           timetable_(site_.starts, site_.grid.size()), tasks_(site_.grid.size()),
           ends_{std::vector<uint16_t>(site_.grid.size(), NOBODY)}, queue_(site_.grid.size()),
-          fields_(site_.grid, queue_, agents_.size()), nearest_(site_.grid, queue_), search_(site_, timetable_) {
+          fields_(site_.grid, queue_, agents_.size()), nearest_(site_.grid, queue_), search_(site_, timetable_, slack) {
         for (uint32_t agent = 0; agent < agents_.size(); ++agent) {
             const uint32_t start = site_.starts[agent];
             if (ends_.agents[start] != NOBODY) die("two agents start at one point");
@@ -46,6 +46,8 @@ public:
             agents_[agent].here = start;
         }
     }
+
+    void tell_counts() const { search_.tell_counts(); }
 
     void submit(const Submission& submission) {
         const uint32_t kept = history_.keep_submission(submission);
