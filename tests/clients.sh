@@ -90,6 +90,16 @@ judge_log() {
     judge "$1: the same log told" "$(cmp -- "$scratch/log" "$scratch/told" 2>&1)" ''
 }
 
+# Waits until the log has so many such lines, 20 seconds at most.
+#   log_has COUNT PATTERN
+log_has() {
+    local k
+    for ((k = 0; k < 400; k++)); do
+        [[ -e $scratch/log ]] && (($(grep -c -- "$2" "$scratch/log") >= $1)) && return
+        sleep 0.05
+    done
+}
+
 # The replies of a caller's entries in the log.
 #   replies CALLER
 replies() {
@@ -156,6 +166,24 @@ judge 'beside one that never reads' "$(client c0 'submit x A B' close)" 'entries
 ended 8
 judge_log 'one that never reads' 2
 wait
+
+# pipes that are gone are tried again, which is told once, and hold the end up for nobody
+gone() {
+    peer "$1" "c.ask(b'submit x A B'); os.remove(c.folder + '/in'); os.remove(c.folder + '/out')"
+}
+afresh c0 c1
+begin --client "0=$scratch/c0:all" --client "1=$scratch/c1"
+gone c1
+sleep 2.5
+judge 'pipes that are gone' "$(< "$scratch/errors")" 'client 1: its pipes cannot be opened'
+mkfifo -m 600 -- "$scratch/c1/in" "$scratch/c1/out"
+judge 'pipes that are there again' "$(client c1 'submit x A B')" 'entries 1;accepted 1;'
+judge 'pipes that are told of' "$(sed 's/[1-9] tries/K tries/' "$scratch/errors")" \
+    $'client 1: its pipes cannot be opened\nclient 1: its pipes are open again, K tries failed'
+gone c1
+client c0 close > /dev/null
+ended 5
+judge_log 'pipes that are gone' 4
 
 # without a right, and beyond its share: no entry
 afresh c0 c1
@@ -233,6 +261,91 @@ judge 'entries of all lives' "$(client c0 close)" 'entries 1000;closed;'
 ended 5
 judge_log 'three kills' 3001
 
+# A service that was stopped: its status, that it says nothing more (but of a client that went away as it was greeted again), and that its log
+# has no last line and only grew.
+#   judge_stop NAME ENTRIES BEFORE
+judge_stop() {
+    judge "$1: status" "$how" 0
+    judge "$1: nothing else told" "$(cat -- "$scratch/told" "$scratch/errors" | grep -v '^client [0-9]*: refused X3$')" ''
+    judge "$1: no last line" "$(tail -n 1 -- "$scratch/log" | grep -c '^end')" 0
+    judge "$1: log" "$({ cat -- "$scratch/log"; echo "end $2"; } > "$scratch/whole"; verified "$scratch/whole")" "run $2"
+    judge "$1: it grew" "$(cmp -n "$(wc -c < "$3")" -- "$3" "$scratch/log" 2>&1)" ''
+}
+
+# stopped again and again while its clients are at work: what was taken is answered, nothing is lost and nothing doubled
+afresh c0 c1 c2 c3
+words=(--client "0=$scratch/c0:all" --client "1=$scratch/c1" --client "2=$scratch/c2" --client "3=$scratch/c3:stop")
+: > "$scratch/before"
+at_work=0
+begin "${words[@]}"
+workers=()
+for k in 0 1 2; do
+    timeout 60 ../tools/client.py "$scratch/c$k" --wait 20 < "$scratch/lines$k" > "$scratch/told$k" &
+    workers+=($!)
+done
+# Waits until each of the three has so many entries, and asks for the stop.
+stop_behind() {
+    local k
+    for k in 0 1 2; do
+        log_has "$1" "^$k "
+    done
+    echo stop
+}
+for lines in 20 200 500; do
+    # who stops is there before
+    said=$(stop_behind "$lines" | timeout 60 ../tools/client.py "$scratch/c3" --wait 20 | tr '\n' ';')
+    judge "stopped behind $lines" "$said" 'entries 0;stopped;'
+    ended 5
+    judge_stop "stopped behind $lines" "$(grep -c ' = ' "$scratch/log")" "$scratch/before"
+    cp -- "$scratch/log" "$scratch/before"
+    at_work=$((at_work + ($(grep -c ' = ' "$scratch/log") < 3000)))
+    begin "${words[@]}"
+done
+wait "${workers[@]}"
+judge 'stopped while they were at work' "$((at_work > 0))" 1
+for k in 0 1 2; do
+    judge "client $k of a service that was stopped" "$(told_as_kept "$k" "$scratch/lines$k" "$scratch/told$k" | cut -d ' ' -f 1,2)" '1000 1000'
+    judge "client $k: each line that was taken is answered" "$(grep -c '^lost' "$scratch/told$k")" 0
+done
+judge 'entries of all stopped lives' "$(client c0 close)" 'entries 1000;closed;'
+ended 5
+judge_log 'three stops' 3001
+
+# by its right alone, and it is no entry; lines behind it, and those of others from then on, are not served
+afresh c0 c1 c2
+words=(--client "0=$scratch/c0:all" --client "1=$scratch/c1" --client "2=$scratch/c2:tick,stop")
+begin "${words[@]}"
+judge 'no right to stop' "$(client c1 'submit x A B' 'stop' 'stop now')" 'entries 0;accepted 0;refused C3;refused C1;'
+judge 'all is no right to stop' "$(client c0 'stop' 'tick')" 'entries 0;refused C3;clock 1 picked 0 dropped 0;'
+judge 'what stands behind a stop' "$(peer c2 "
+c.send(b'tick\n \t stop \ntick\n')
+try:
+    while True:
+        print(c.read().decode().rstrip(), end=';')
+except Broken:
+    pass")" 'clock 2 picked 0 dropped 0;stopped;'
+ended 5
+judge_stop 'a stop by its right' 3 /dev/null
+begin "${words[@]}"
+judge 'behind a stop' "$(client c1 'submit x A B')" 'entries 1;accepted 1;'
+judge 'a stop of the next' "$(client c2 'tick' 'stop')" 'entries 1;clock 3 picked 0 dropped 0;stopped;'
+ended 5
+judge_stop 'a stop of the next' 5 /dev/null
+# one that never reads and one that never sends hold it up for nobody
+begin "${words[@]}"
+peer c0 "
+try:
+    while True:
+        c.send(b'token 0\n' * 1000)
+except Broken:
+    pass" &
+peer c1 "c.read()" 2> /dev/null &
+sleep 1
+judge 'a stop beside one that never reads' "$(client c2 'stop')" 'entries 2;stopped;'
+ended 8
+judge 'a stop beside one that never reads: status' "$how" 0
+wait
+
 # a disk that is full: nothing is told that is not kept, the service ends, and goes on where there is room
 afresh c0 c1
 words=(--client "0=$scratch/c0:all" --client "1=$scratch/c1")
@@ -283,15 +396,6 @@ board_says() {
     echo "the board never said '$1'"
     false
 }
-# Waits until the log has so many such lines, 20 seconds at most.
-#   log_has COUNT PATTERN
-log_has() {
-    local k
-    for ((k = 0; k < 400; k++)); do
-        [[ -e $scratch/log ]] && (($(grep -c -- "$2" "$scratch/log") >= $1)) && return
-        sleep 0.05
-    done
-}
 afresh c0 c1
 words=(--every 2 --board "$scratch/board" --board-every 2 --client "0=$scratch/c0:close" --client "1=$scratch/c1")
 begin "${words[@]}"
@@ -334,27 +438,41 @@ judge 'an idle service makes no entry' "$(grep -c ' = ' "$scratch/log")" 0
 judge 'an order for an idle service' "$(client c1 'submit x A B')" 'entries 0;accepted 0;'
 log_has 1 'dropped 1$'
 sleep 1
-judge 'nobody asks where no task is open' "$(grep -c '^63 token' "$scratch/log")" 2
+judge 'nobody asks who would rest' "$(grep -c '^63 token' "$scratch/log")" 1
 judge 'the clock stands behind the last delivery' "$(sed -n '/dropped 1$/,$p' "$scratch/log" | grep -c ' = ')" 1
 client c0 close > /dev/null
 ended 5
+judge 'idle with no order open' "$(cat -- "$scratch/errors")" ''
 judge_log 'idle' "$(grep -c ' = ' "$scratch/log")"
-# an order that nobody can take, as the agents stand at its stops: each is asked once, and again once there is another order
+# an order that nobody can take, as the agents stand at its stops: nobody is asked, as each would rest, before there is another order
 afresh c0 c1
 mv -- "$scratch/site" "$scratch/both"
 sed 's/^agent P0/agent A/; s/^agent P1/agent C/' "$scratch/both" > "$scratch/site"
 begin --every 1 --client "0=$scratch/c0:close" --client "1=$scratch/c1"
 judge 'an order that nobody can take' "$(client c1 'submit x A C D')" 'entries 0;accepted 0;'
-log_has 1 '^63 tick'
 sleep 1
-judge 'nobody is asked again in vain' \
-    "$(sed -n 's/^63 \([a-z]*\) .*= \([a-z]*\).*/\1 \2/p' "$scratch/log" | sort | uniq -c | tr -s ' \n' ' ')" ' 1 tick clock 2 token rested '
+judge 'nobody is asked in vain' "$(grep -c '^63 ' "$scratch/log")" 0
+judge 'why the worker is idle' "$(cat -- "$scratch/errors")" 'agents and clock: idle standstill'
 judge 'another order' "$(client c1 'submit x B D')" 'entries 1;accepted 1;'
 log_has 2 'dropped 1$'
 judge 'who rested is asked again' "$(grep -c 'dropped 1$' "$scratch/log")" 2
 client c0 close > /dev/null
 ended 5
 judge_log 'in vain' "$(grep -c ' = ' "$scratch/log")"
+mv -- "$scratch/both" "$scratch/site"
+# an order to a stop that no way leads to: its agent is refused a path once, and the worker says so
+afresh c0 c1
+mv -- "$scratch/site" "$scratch/both"
+awk '/^%%\r?$/ && ++cut == 2 { exit } { print }' replay/deliver_no_way > "$scratch/site"
+begin --every 1 --client "0=$scratch/c0:close" --client "1=$scratch/c1"
+judge 'an order that no way leads to' "$(client c1 'submit x N T')" 'entries 0;accepted 0;'
+sleep 1
+judge 'who is refused a path is asked once' "$(grep '^63 ' "$scratch/log")" '63 token 0 = refused E6
+63 tick = clock 1 picked 0 dropped 0'
+judge 'why the worker is idle behind it' "$(cat -- "$scratch/errors")" 'agents and clock: idle E6'
+client c0 close > /dev/null
+ended 5
+judge_log 'no way' 4
 mv -- "$scratch/both" "$scratch/site"
 # where paths go on home an agent is asked as soon as it has no order: it is home at clock 10, and takes the other before
 afresh c0
@@ -400,6 +518,28 @@ while time.time() < limit:
 print("many" if shown > 10 else shown)
 END
 }
+# stopped while a worker is at work, which goes on behind it: its turn ends, and all orders are delivered by the two
+afresh c0 c1 c2
+words=(--every 1 --board "$scratch/board" --board-every 2 --client "0=$scratch/c0:close" --client "1=$scratch/c1" --client "2=$scratch/c2:stop")
+begin "${words[@]}"
+judge 'orders beside a worker' "$(client c1 'submit x A B' 'submit y C D' 'submit x B C')" 'entries 0;accepted 0;accepted 1;accepted 2;'
+log_has 3 '^63 tick'
+judge 'stopped beside a worker' "$(client c2 stop)" 'entries 0;stopped;'
+ended 5
+entries=$(grep -c ' = ' "$scratch/log")
+judge_stop 'stopped beside a worker' "$entries" /dev/null
+judge 'the board behind a stop' "$(sed -n '2p' "$scratch/board")" "entries $entries"
+cp -- "$scratch/log" "$scratch/before"
+begin "${words[@]}"
+judge 'the worker goes on behind a stop' "$(board_says 'done 3')" ''
+judge 'closed behind a stop' "$(client c0 close)" 'entries 0;closed;'
+ended 5
+judge_log 'a worker that was stopped' "$(grep -c ' = ' "$scratch/log")"
+judge 'behind a stop the log goes on' "$(cmp -n "$(wc -c < "$scratch/before")" -- "$scratch/before" "$scratch/log" 2>&1)" ''
+rm -f -- "$scratch/board"
+# it is no word of the other modes
+judge 'stop in replay' "$({ cat -- "$scratch/site"; printf '%%%%\nstop\n'; } | "$warehouse" replay)" 'refused C1'
+
 # 20 agents, and 200 tasks from three clients at once
 cp -- "$scratch/site" "$scratch/small"
 awk '/^%%\r?$/ && ++cut == 2 { exit } { print }' ../examples/shelves > "$scratch/site"

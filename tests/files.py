@@ -27,7 +27,7 @@ sys.path.insert(0, os.path.join(os.path.dirname(os.path.dirname(os.path.abspath(
 
 import counting
 from lives import PROGRAM, ROOT, Life, Whole, Wrong, demand, read_file, write_file
-from warehouse.folder import Broken, Connection
+from warehouse.folder import Broken, Connection, Greeting
 
 SCRATCH = tempfile.TemporaryDirectory()
 CROSS = Whole(read_file(os.path.join(ROOT, 'examples/deliveries')), (), PROGRAM)
@@ -206,7 +206,7 @@ def test_each_of_the_streams_may_be_closed() -> None:
             same((shell, read_file(file)), (shell, CROSS.head))
         else:
             same((shell, said, errors, status), (shell, *whole))
-            same((shell, read_file(file)), (shell, log + b'end 2\n'))
+            same((shell, read_file(file)), (shell, log))
         # what belongs to a stream stands in no file, and the run can be gone on with
         same((shell, read_file(file + '.site')), (shell, CROSS.beside()))
         entries = 0 if closed & 2 else 2
@@ -222,17 +222,18 @@ def test_closed_streams_without_files() -> None:
         same((shell, said), (shell, b'' if wanted else TICKED % 1))
 
 
-def greeted(folder: str, greeting: bytes) -> BinaryIO:
-    """The pipe of replies, once a connection has greeted. Where the one before still had it open, it ends without a byte, and is opened again."""
-    until = time.monotonic() + WAIT
+def greeted(folder: str, entries: int) -> tuple[BinaryIO, bytes]:
+    """The pipe of replies, once a connection has greeted with so many entries, and its tag. Where the one before still had it open, it ends without a byte, and is opened again."""
+    until, size = time.monotonic() + WAIT, len(f'entries {entries} {16 * "0"}\n')
     while time.monotonic() < until:
         replies = open(folder + '/out', 'rb', 0)
         found = b''
-        while len(found) < len(greeting) and (piece := replies.read(len(greeting) - len(found))):
+        while len(found) < size and (piece := replies.read(size - len(found))):
             found += piece
         if found:
-            same(found, greeting)
-            return replies
+            greeting = Greeting.of(found)
+            demand(greeting and greeting.entries == entries, repr(found))
+            return replies, greeting.tag
         replies.close()
     raise Wrong('no greeting')
 
@@ -246,8 +247,9 @@ def test_a_service_with_its_standard_error_closed() -> None:
     try:
         # a line that is cut off, of which standard error would tell
         same(ask(room + 'c0', 'tick'), b'entries 0\n' + TICKED % 1)
-        with greeted(room + 'c0', b'entries 1\n'), open(room + 'c0/in', 'wb', 0) as commands:
-            commands.write(b'tic')
+        replies, tag = greeted(room + 'c0', 1)
+        with replies, open(room + 'c0/in', 'wb', 0) as commands:
+            commands.write(b'begin ' + tag + b'\ntic')
         same(ask(room + 'c0', 'tick', 'close'), b'entries 1\n' + TICKED % 2 + b'closed\n')
         same(running.wait(WAIT), 0)
     finally:
@@ -318,7 +320,7 @@ def test_a_stream_that_is_a_file_of_the_run() -> None:
 # ------------------------------------------------------------------------------------------------- a lost log
 
 def test_a_lost_log_is_no_new_run() -> None:
-    begun = CROSS.head + b'62 tick = clock 1 picked 0 dropped 0\nend 1\n'
+    begun = CROSS.head + b'62 tick = clock 1 picked 0 dropped 0\n'
     for text in (None, *(CROSS.head[:length] for length in (0, 1, 6, 7, 8, len(CROSS.head) - 1))):
         file = afresh() + 'run.log'
         same(replay(SITE + b'tick\n', '--log', file), (b'entries 0\n' + TICKED % 1, b'', 0))
@@ -473,6 +475,43 @@ def test_what_is_no_folder() -> None:
             same(ended(running, room), (b'refused X5 0\n', 3))
 
 
+def test_lines_before_a_connection_begins() -> None:
+    room, tags = afresh('c0'), set()
+    told = b'client 0: 6 lines before begin dropped\n'
+    with service(room, '--client', f'0={room}c0:all') as running:
+        for clock in (1, 2):
+            replies, tag = greeted(room + 'c0', clock - 1)
+            tags.add(tag)
+            with replies, open(room + 'c0/in', 'wb', 0) as commands:
+                for line in (b'tick', b'begin ' + 16 * b'0', b'begin ' + tag[:-1], b'begin ' + tag + b' ', b'#begin ' + tag, 300 * b'x', b'', b'begin ' + tag):
+                    commands.write(line + b'\n')
+                # behind it lines are served as ever, and a connection begins once
+                commands.write(b'tick\nbegin ' + tag + (b'\nclose\n' if clock == 2 else b'\n'))
+                wanted = TICKED % clock + b'refused C1\n' + b'closed\n' * (clock == 2)
+                found = b''
+                while len(found) < len(wanted) and (piece := replies.read(len(wanted) - len(found))):
+                    found += piece
+                same((clock, found), (clock, wanted))
+        same(ended(running, room), (told, 0))
+    same(len(tags), 2)
+
+
+def test_a_connection_that_does_not_begin() -> None:
+    room = afresh('c0')
+    with service(room, '--client', f'0={room}c0:all'):
+        replies, tag = greeted(room + 'c0', 0)
+        with replies, open(room + 'c0/in', 'wb', 0) as commands:
+            commands.write(b'tick\n')
+            time.sleep(4)
+            same(read_file(room + 'errors'), b'')
+            time.sleep(8)
+            same(read_file(room + 'errors'), b'client 0: waits for begin\n')
+            commands.write(b'begin ' + tag + b'\ntick\n')
+            same(replies.read(len(TICKED % 1)), TICKED % 1)
+        same(ask(room + 'c0', 'tick'), b'entries 1\n' + TICKED % 2)
+        same(read_file(room + 'errors'), b'client 0: waits for begin\nclient 0: 1 lines before begin dropped\n')
+
+
 def test_a_number_of_a_client_has_one_spelling() -> None:
     for number in ('00', '01', '+1', '061', '-0', '62', ' 1', '1 ', '0x1', ''):
         room = afresh('c0')
@@ -510,7 +549,7 @@ def shown(room: str, **how: object) -> tuple[bytes, int]:
                     greeting = os.read(replies, 99)
             if greeting:
                 with open(room + 'c0/in', 'wb') as commands:
-                    commands.write(b'tick\nclose\n')
+                    commands.write(b'begin ' + Greeting.of(greeting).tag + b'\ntick\nclose\n')
             return ended(running, room)
         finally:
             os.close(replies)

@@ -124,11 +124,14 @@ def fleet_words(chance):
                          ('bank', ['2', '7', '16', '1024', '65536'])]:
         if chance.random() < 0.4:
             words.append(f'--{name}={chance.choice(values)}')
+    if '--planner=patient' not in words and chance.random() < 0.3:
+        words.append(f'--slack={chance.choice([0, 1, 4, 1000])}')
     return words
 
 
 def wrong_words(chance):
-    return chance.choice([[], ['go'], ['replay', '--slots', '1'], ['replay', '--slots=65'], ['replay', 'x'],
+    return chance.choice([[], ['go'], ['replay', '--slots', '1'], ['replay', '--slots=65'], ['replay', '--slack=1001'], ['replay', 'x'],
+                          ['live', '--planner=patient', '--slack=4'],
                           ['check', '--slots', '4'], ['replay', '--slots', '4', '--slots', '4'],
                           ['verify', '--tail', 'log'], ['live', '--turns', '0'], ['replay', '--bank', '-0'],
                           ['replay', '--replies', 'long'], ['live', '--replies=full'], ['replay', '--told', '0'],
@@ -187,7 +190,7 @@ def file_fault(program, text, file, before, status, limit):
         after = kept.read()
     if status in (1, 2):
         return None if after == before else f'the log file was {before[-200:]!r}, and is {after[-200:]!r}'
-    verdict = subprocess.run([program, 'verify'], input=site_of(text) + after, capture_output=True, timeout=limit).stdout
+    verdict = subprocess.run([program, 'verify', '--unended'], input=site_of(text) + after, capture_output=True, timeout=limit).stdout
     return None if verdict.startswith(b'run ') else f'{verdict!r} of the log file {after[-200:]!r}'
 
 

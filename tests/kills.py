@@ -12,8 +12,8 @@ grown for so many times, so that it is being written or synced. Some lives are h
 within a line.
 
 After each life: what it told first is how many entries the file had; each reply is that of the script at one go; every
-reply that any life told stands in the file at its place, and the file is a front of the log of the script at one go (of a
-life that was hung up on, such a front with its end line). At the end of a run the file is that log, byte for byte, and
+reply that any life told stands in the file at its place, and the file is a front of the log of the script at one go (with
+its end line where the script's `close` was served). At the end of a run the file is that log, byte for byte, and
 `verify` says how many entries it has. The program is that of WAREHOUSE, else the one of crates/warehouse. A signal leaves
 what was written, synced or not: whether it was synced is for tests/order.py.
 """
@@ -162,7 +162,7 @@ def run(chance: random.Random, whole: Whole, file: str, kills: int, seen: collec
         kept = whole.kept(text, told)
         note(seen, end, life, text, kept, told)
         if end == 'hung up':
-            demand(text == whole.text(kept, True), 'hung up on, it has no end line')
+            demand(text == whole.left(kept), 'hung up on, it is not as the end of its input leaves it')
         before = kept
         if end == 'done':
             break

@@ -18,11 +18,12 @@ site() {
 # What `verify` says of the log of one run, and how often a request was refused for want of a path.
 #   run SITE SCRIPTS WORDS..
 run() {
-    local site=$1 scripts=$2
+    local site=$1 scripts=$2 rule=()
     shift 2
+    [[ "$*" != *homes* ]] || rule=(--ends homes)
     cat -- "$site" "$scripts" | "$warehouse" live "$@" > "$scratch/log" 2> "$scratch/errors"
     [[ -s $scratch/errors ]] && cat -- "$scratch/errors"
-    echo "$(cat -- "$site" "$scratch/log" | "$warehouse" verify) $(grep -c 'refused E6$' "$scratch/log")"
+    echo "$(cat -- "$site" "$scratch/log" | "$warehouse" verify "${rule[@]}") $(grep -c 'refused E6$' "$scratch/log")"
 }
 
 # What is printed where `live` does not begin: standard output, standard error, status.
@@ -57,6 +58,7 @@ for ((k = 0; k < runs; k++)); do
     judge 'two clients, patient' "$(run "$scratch/small" "$scratch/two" --turns 8 --planner patient)" 'run 27 0'
     # 200 tasks, 60 requests of each of 20 agents, 60 ticks
     judge 'shelves' "$(run "$scratch/shelves" "$scratch/three" --turns 60)" 'run 1460 0'
+    judge 'shelves, homes' "$(run "$scratch/shelves" "$scratch/three" --turns 60 --ends homes)" 'run 1460 0'
 done
 judge 'a separator at the end begins an empty client' "$(run "$scratch/small" /dev/null --turns 8)" 'run 24 0'
 empty_clients 61 > "$scratch/many"

@@ -63,12 +63,16 @@ class Whole:
     def run(self, *words: str, text: bytes) -> subprocess.CompletedProcess:
         return subprocess.run([self.program, *words], input=text, capture_output=True, timeout=NO_END)
 
-    def verify(self, log: bytes) -> bytes:
-        return self.run('verify', *self.ends, text=self.site + log).stdout
+    def verify(self, log: bytes, *words: str) -> bytes:
+        return self.run('verify', *self.ends, *words, text=self.site + log).stdout
 
     def text(self, count: int, ended: bool = False) -> bytes:
         """The log's text with so many entries."""
         return self.head + b''.join(entry + b'\n' for entry in self.entries[:count]) + (b'end %d\n' % count if ended else b'')
+
+    def left(self, count: int) -> bytes:
+        """What a run of so many entries leaves at the end of its input: the last line comes behind `close` alone."""
+        return self.text(count, any(entry.endswith(b' close = closed') for entry in self.entries[:count]))
 
     def beside(self) -> bytes:
         """What stands beside the file of a log."""
@@ -78,7 +82,7 @@ class Whole:
 
     def kept(self, text: bytes | None, told: int) -> int:
         """How many entries stand whole in what a life left of the file: a front of the log, and all that were told. A
-        life that came to the end of what it was sent has an end line too."""
+        life that was closed, and came to the end of what it was sent, has an end line too."""
         text = text or b''
         if text.startswith(b'wlog 1\n'):    # not gone on with yet: its lines are those of version 2
             text = b'wlog 2' + text[6:]
@@ -189,4 +193,4 @@ def go_on(whole: Whole, file: str, before: int, words: tuple[str, ...] = ()) -> 
     status = life.end()
     demand((status, life.errors) == (0, b''), f'going on: status {status}, {life.errors!r}')
     judge(whole, life, before)
-    demand(read_file(file) == whole.log, 'gone on from, the file is not the log of the script at one go')
+    demand(read_file(file) == whole.left(len(whole.entries)), 'gone on from, the file is not the log of the script at one go')

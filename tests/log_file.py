@@ -91,9 +91,9 @@ def test_with_short_replies() -> None:
     text = CROSS.site + b'\n'.join(CROSS.commands[:6]) + b'\n'
     plain = CROSS.run('replay', text=text).stdout
     same(replay(text, file), (b'entries 0\n' + plain, b'', 0))
-    same(read_file(file), CROSS.text(6, True))
+    same(read_file(file), CROSS.left(6))
     same(replay(CROSS.site, file, '--tail', 'log'), (b'entries 6\n%%\n' + CROSS.text(6, True), b'', 0))
-    same(read_file(file), CROSS.text(6, True))
+    same(read_file(file), CROSS.left(6))
 
 
 def test_a_run_that_was_closed() -> None:
@@ -110,7 +110,7 @@ def test_entries_of_caller_0_stand() -> None:
     kept = CROSS.text(5).replace(b'\n62 ', b'\n0 ')
     file = path('log', kept)
     same(replay(script('tick'), file), (b'entries 5\nclock 2 picked 2 dropped 0\n', b'', 0))
-    same(read_file(file), kept + b'62 tick = clock 2 picked 2 dropped 0\nend 6\n')
+    same(read_file(file), kept + b'62 tick = clock 2 picked 2 dropped 0\n')
 
 
 def test_a_log_of_threads() -> None:
@@ -129,9 +129,9 @@ def test_planners_have_the_slots_of_the_state() -> None:
     same(replay(script('replace 1', 'replace 0'), file, '--spares', '1', '--slots', '2')[0], b'entries 2\nreplaced 2\nrefused E10\n')
     lines = [b'62 tick = clock 1 picked 0 dropped 0', b'62 replace 0 fits 8 = replaced 8', b'62 replace 1 fits 2 = replaced 2',
              b'62 replace 0 none = refused E10']
-    text = b'wlog 2\nstart 0 slots 8 8\n' + b'\n'.join(lines) + b'\nend 4\n'
+    text = b'wlog 2\nstart 0 slots 8 8\n' + b'\n'.join(lines) + b'\n'
     same(read_file(file), text)
-    same(CROSS.verify(text), b'run 4\n')
+    same(CROSS.verify(text, '--unended'), b'run 4 unended\n')
     # they want 8 and 2, and a spare one 4
     is_left(file, replay(CROSS.site, file, '--bank', '9'), b'refused B1 free 1\n', 1, text)
     same(replay(CROSS.site, file, '--bank', '10')[::2], (b'entries 4\n', 0))
@@ -148,7 +148,7 @@ def test_told_again() -> None:
             file = path('log', text)
             told = b'entries 5\n' + b''.join(lines[first:])
             same(replay(CROSS.site, file, '--told', str(first)), (told, b'', 0))
-            same(read_file(file), CROSS.text(5, True))
+            same(read_file(file), CROSS.left(5))
     # the replies follow, in their own form
     file = path('log', CROSS.text(5))
     same(replay(script('close'), file, '--told', '4', '--tail', 'log')[0],
@@ -197,14 +197,14 @@ def test_delivered_behind_the_script() -> None:
     file = path()
     told = b'entries 0\n' + b''.join(reply + b'\n' for _, reply in entries)
     same(replay(script('submit x A B'), file, '--deliver', '--replies', 'full'), (told, b'', 0))
-    same(read_file(file), log_text(entries) + b'end %d\n' % len(entries))
-    same(CROSS.verify(read_file(file)), b'run %d\n' % len(entries))
+    same(read_file(file), log_text(entries))
+    same(CROSS.verify(read_file(file), '--unended'), b'run %d unended\n' % len(entries))
     # without the option nothing is done, and with it the run goes on from there
     file = path()
     same(replay(script('submit x A B'), file), (b'entries 0\naccepted 0\n', b'', 0))
     told = b'entries 1\n' + b''.join(reply + b'\n' for _, reply in DELIVERED)
     same(replay(CROSS.site, file, '--deliver', '--replies', 'full'), (told, b'', 0))
-    same(read_file(file), log_text(entries) + b'end %d\n' % len(entries))
+    same(read_file(file), log_text(entries))
 
 
 def test_killed_while_it_delivers() -> None:
@@ -218,7 +218,7 @@ def test_killed_while_it_delivers() -> None:
         same((errors, status, told.split(b'%%\n')[1]), (b'', 0, b'x submitted 1 open 0 assigned 0 carried 0 done 1 time 6\n'))
         made = read_file(file)
         demand(made.startswith(front[:front.rindex(b'\n') + 1]), 'an entry is lost')
-        same(CROSS.verify(made), b'run %d\n' % (made.count(b'\n') - 3))
+        same(CROSS.verify(made, '--unended'), b'run %d unended\n' % (made.count(b'\n') - 2))
 
 
 def test_delivered_up_to_the_last_clock() -> None:
@@ -228,7 +228,7 @@ def test_delivered_up_to_the_last_clock() -> None:
         entries = [(b'submit x A B', b'accepted 0'), *ticks]
         told = b'entries 0\n' + b''.join(reply + b'\n' for _, reply in entries)
         same(replay(script('submit x A B'), file, '--deliver', '--replies', 'full'), (told, b'orders open: 1\n', 0))
-        same(read_file(file), log_text(entries, first) + b'end %d\n' % len(entries))
+        same(read_file(file), log_text(entries, first))
 
 
 # --------------------------------------------------------------------------------- what stands beside the file
@@ -249,7 +249,7 @@ def test_the_site_is_kept() -> None:
         file = path('log', CROSS.text(5))
         write_file(file + '.site', whole[:length])
         same(replay(CROSS.site, file), (b'entries 5\n', b'', 0))
-        same((read_file(file), read_file(file + '.site')), (CROSS.text(5, True), whole))
+        same((read_file(file), read_file(file + '.site')), (CROSS.left(5), whole))
     # behind the log, which cannot be made here
     file = path()
     os.symlink('none/there', file)
@@ -323,16 +323,16 @@ def test_a_line_that_was_cut() -> None:
     file = path()
     told = b'entries 0\naccepted 0\n'
     same(replay(script('submit x A B') + b'token 0', file), (told, b'', 0))
-    same(read_file(file), CROSS.text(1, True))
+    same(read_file(file), CROSS.left(1))
     same(replay(CROSS.site + b'submit x A', file)[0], b'entries 1\n')
-    same(read_file(file), CROSS.text(1, True))
+    same(read_file(file), CROSS.left(1))
 
 
 def test_lines_without_an_entry() -> None:
     file = path()
     lines = ['# note', 'go', '', 'submit x A B', 'x' * 257, '  ', 'tick 1']
     same(replay(script(*lines), file), (b'entries 0\nrefused C1\naccepted 0\nrefused C2\nrefused C1\n', b'', 0))
-    same(read_file(file), CROSS.text(1, True))
+    same(read_file(file), CROSS.left(1))
 
 
 def test_the_first_line_comes_before_the_script() -> None:
@@ -342,7 +342,7 @@ def test_the_first_line_comes_before_the_script() -> None:
         life.send(CROSS.site)
         demand(life.await_lines(1), 'it ended')
         same((bytes(life.said), read_file(file)), (b'entries %d\n' % count, CROSS.text(count)))
-        same((life.end(), read_file(file)), (0, CROSS.text(count, True)))
+        same((life.end(), read_file(file)), (0, CROSS.left(count)))
 
 
 # ------------------------------------------------------------------------------------------- what is refused
@@ -370,7 +370,7 @@ def test_two_programs_that_begin() -> None:
         first, second = lives if lives[0].lines else lives[::-1]
         same((second.end(), second.errors, bytes(second.said)), (3, b'refused X5\n', b''))
         same((bytes(first.said), read_file(file)), (b'entries 0\n', CROSS.head))
-        same((first.end(), first.errors, read_file(file)), (0, b'', CROSS.text(0, True)))
+        same((first.end(), first.errors, read_file(file)), (0, b'', CROSS.left(0)))
 
 
 def test_no_regular_file() -> None:
@@ -402,7 +402,7 @@ def test_another_text() -> None:
         if line:
             is_left(file, outcome, b'refused L1 line %d\n' % line, 1, text)
         else:
-            same((outcome, read_file(file)), ((b'entries 0\n', b'', 0), head + b'end 0\n'))
+            same((outcome, read_file(file)), ((b'entries 0\n', b'', 0), head))
 
 
 def test_other_slots_than_were_begun() -> None:
@@ -413,7 +413,7 @@ def test_other_slots_than_were_begun() -> None:
     # the same lines whole are the beginning of a run, with the slots that they tell
     file = path('log', CROSS.head)
     same(replay(CROSS.site, file, '--slots', '8')[::2], (b'entries 0\n', 0))
-    same(read_file(file), CROSS.text(0, True))
+    same(read_file(file), CROSS.left(0))
 
 
 def test_version_1() -> None:
@@ -426,11 +426,11 @@ def test_version_1() -> None:
         # what is told again are lines of it
         file = path('log', text)
         same(replay(CROSS.site, file, '--told', '0'), (b'entries %d\n' % count + b''.join(CROSS.text(count).splitlines(True)[2:]), b'', 0))
-        same(read_file(file), CROSS.text(count, True))
+        same(read_file(file), CROSS.left(count))
     # a line that is added may have more stops than version 1 has
     file = path('log', in_version_1(CROSS.text(0)))
     same(replay(script('submit x A B C'), file), (b'entries 0\naccepted 0\n', b'', 0))
-    same(read_file(file), CROSS.head + b'62 submit x A B C = accepted 0\nend 1\n')
+    same(read_file(file), CROSS.head + b'62 submit x A B C = accepted 0\n')
 
 
 def test_version_1_that_is_refused() -> None:
@@ -455,7 +455,7 @@ def test_a_planner_that_no_planner_can_take_the_place_of() -> None:
         file = path('log', text)
         outcome = replay(CROSS.site, file)
         if good:
-            same((outcome, read_file(file)), ((b'entries 2\n', b'', 0), text))
+            same((outcome, read_file(file)), ((b'entries 2\n', b'', 0), text[:-len('end 2\n')]))
         else:
             is_left(file, outcome, b'refused L1 line 4\n', 1, text)
 

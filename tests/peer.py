@@ -8,7 +8,7 @@ The peer, dev/peer, is built by g++ into a temporary folder; with --check it che
 an instance by tools/make_instance.py from its seed: mostly a small site, with shelves or without. Most lose stations
 and cells, and have agents that start at stations, so that agents stand in each other's way; then some tokens are left
 out, others change their order, and odd lines come in. Each second run is under `--ends homes`, where all agents start at
-parkings; --ends names one rule for all. A run whose outputs differ is printed with its seed and the first
+parkings; --ends names one rule for all. Three runs in seven have a `--slack`; --slack names one for all. A run whose outputs differ is printed with its seed and the first
 line that differs, and its input is kept in a file. Before the last line stands how many replies of each kind came, and
 how many cells the paths have.
 """
@@ -21,6 +21,7 @@ import subprocess
 import sys
 import tempfile
 
+SLACKS = (0, 4, 0, 1, 0, 30, 0)    # by turns
 KIND = re.compile(r'^refused \w+|^\w+', re.MULTILINE)
 ROOT = os.path.dirname(os.path.dirname(os.path.abspath(__file__)))
 ODD = ['', '  ', '# note', '#' + 'y' * 300, 'go', 'x' * 257, 'token', 'token x', 'token 0 0', 'token 99', '\ttoken  0 ',
@@ -154,6 +155,7 @@ def main():
     parser.add_argument('--check', action='store_true', help='the peer checks its own paths too, which takes longer')
     parser.add_argument('--lanes', action='store_true', help='all maps are long lanes, where agents make way far')
     parser.add_argument('--ends', choices=('stops', 'homes', 'both'), default='both', help='where paths end (%(default)s: by turns)')
+    parser.add_argument('--slack', type=int, help='by how many steps paths may be late (if not given: by turns)')
     options = parser.parse_args()
     counts, failed = collections.Counter(), 0
     with tempfile.TemporaryDirectory() as scratch:
@@ -162,10 +164,11 @@ def main():
         subprocess.run(build + ['-o', peer, os.path.join(ROOT, 'dev/peer/main.cpp')], check=True)
         for seed in range(options.seed, options.seed + options.runs):
             homes = seed % 2 == 0 if options.ends == 'both' else options.ends == 'homes'
+            slack = SLACKS[seed % len(SLACKS)] if options.slack is None else options.slack
             text = instance(random.Random(seed), options.lanes, homes)
             done = [replayed(words, text, options.seconds)
-                    for words in ([options.program, 'replay', '--tail', 'log'] + ['--ends', 'homes'] * homes,
-                                  [peer, 'log'] + ['homes'] * homes)]
+                    for words in ([options.program, 'replay', '--tail', 'log'] + ['--ends', 'homes'] * homes + ['--slack', str(slack)],
+                                  [peer, 'log', 'slack', str(slack)] + ['homes'] * homes)]
             counts.update(counted(done[0].stdout))
             wrong = difference(*done)
             if wrong:

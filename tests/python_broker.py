@@ -57,7 +57,7 @@ def judged(cast: Cast, found: dict) -> None:
         log = read_file(cast.log)
         same(log.count(b' = accepted '), found['orders'] if runs == 1 else log.count(b' = accepted '))
         site = read_instance('i', read_file(cast.instance)).with_nofollow().text
-        has(subprocess.run([PROGRAM, 'verify'], input=site + log, stdout=subprocess.PIPE).stdout.decode(), 'run ')
+        has(subprocess.run([PROGRAM, 'verify', '--unended'], input=site + log, stdout=subprocess.PIPE).stdout.decode(), 'run ')
     except AssertionError:
         print(said[-3000:])
         raise

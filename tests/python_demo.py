@@ -108,7 +108,7 @@ def around() -> None:
     has(get(url, '/health')[1], f'vehicle {lost} is out of use')
     demo.line('the adapter: run 3 begins; out of use: none; ')
     told = demo.end()
-    assert re.search(r'\n8 of 8 orders were delivered in .*\n.* 8 were picked up, 8 put down\nverify: run [0-9]+, run [0-9]+, run [0-9]+ \(', told), told
+    assert re.search(r'\n8 of 8 orders were delivered in .*\n.* 8 were picked up, 8 put down\nverify: run [0-9]+ unended, run [0-9]+ unended, run [0-9]+ unended \(', told), told
     same((demo.process.returncode, 'Traceback' in told), (0, False))
 
 

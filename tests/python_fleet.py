@@ -12,6 +12,7 @@ from collections import deque
 
 import counting
 from tools_drive import MAP, ONE, PROGRAM, ROOT, SCRATCH, TWO, are_lawful, file, has, same, text_of, tool
+from tools_measure import hall, replayed
 
 sys.path.insert(0, os.path.join(ROOT, 'python'))
 sys.dont_write_bytecode = True
@@ -178,6 +179,24 @@ def test_the_nearest_and_not_the_lowest_agent() -> None:
     for policy, wanted in ((by_number, 25), (nearest_first, 7)):
         _, tasks, why = run_of(ENDS, orders('0 x S9 S8'), policy)
         same((why, tasks[0]['visits'][-1]), ('', wanted))
+
+
+def test_nearest_first_asks_as_deliver_does() -> None:
+    """On formed floors, by both rules, with standstills: the same requests and ticks in the same order, and the same paths. Not where all
+    stops of an order are one cell: who has taken it there and is due at once may be asked again at that clock, and by `--deliver` at the next."""
+    requests = stood = 0
+    for seed in range(1, 21):
+        chance, homes = random.Random(seed), seed % 2 == 0
+        text, drawn = hall(chance, homes, crowded=seed % 4 == 1)
+        lines = [line for line in drawn if len(set(line.split()[2:])) > 1]
+        with session(text, options=['--tail', 'log'], ends='homes' if homes else 'stops') as core:
+            fleet = Fleet(core, [Order(0, line) for line in lines], nearest_first)
+            stood += fleet.run(5000) != ''
+            core.end()
+        wanted = replayed((text + ''.join(f'{line}\n' for line in lines)).encode(), ['--deliver'], homes)
+        same((seed, core.tail.decode().split('%%\n')[1].split('\n')[2:-2]), (seed, wanted))
+        requests += fleet.requests
+    assert requests > 60 and stood >= 2, (requests, stood)
 
 
 def test_hold() -> None:

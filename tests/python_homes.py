@@ -334,6 +334,8 @@ def test_one_that_waits_at_a_cut_is_told_to_end_its_order() -> None:
 
 def is_run(text: str, log: str) -> None:
     """By the judge of definitions, and by `verify`."""
+    if not log.splitlines()[-1].startswith('end '):    # the run is not closed
+        log += f'end {log.count(chr(10)) - 2}\n'
     same((ends.judged(ends.Floor(text), log, True)[0], warehouse(text + log, 'verify', *HOMES).strip()), (f'run {log.count(chr(10)) - 3}',) * 2)
 
 

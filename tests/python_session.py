@@ -18,7 +18,8 @@ sys.path.insert(0, os.path.join(ROOT, 'python'))
 sys.dont_write_bytecode = True
 
 from warehouse import (Accepted, Arrived, Clock, Closed, CoreDied, Fault, Go, Lost, Parked, Refused, Rested, Session, SessionError,    # noqa: E402
-                       Took, Vehicles, Visited, WrongReply, read_instance)
+                       Stopped, Took, Vehicles, Visited, WrongReply, read_instance)
+from warehouse.folder import Broken, Connection    # noqa: E402
 from warehouse.process import Process    # noqa: E402
 
 RULED = TWO.replace('%%\nparking', '%%\nrule nofollow\nparking')
@@ -233,13 +234,13 @@ def test_vehicles_over_kills() -> None:
 class Service:
     """`serve` over a log, with one client's folder."""
 
-    def __init__(self, log: str, replies: str = 'full'):
+    def __init__(self, log: str, replies: str = 'full', rights: str = 'all'):
         self.folder = os.path.join(SCRATCH.name, 'desk')
         if not os.path.exists(self.folder):
             os.mkdir(self.folder, 0o700)
             for pipe in ('in', 'out'):
                 os.mkfifo(os.path.join(self.folder, pipe), 0o600)
-        self.words = [PROGRAM, 'serve', '--log', log, '--replies', replies, '--client', f'3={self.folder}:all']
+        self.words = [PROGRAM, 'serve', '--log', log, '--replies', replies, '--client', f'3={self.folder}:{rights}']
         self.start()
 
     def start(self) -> None:
@@ -269,6 +270,23 @@ def test_a_session_over_a_folder() -> None:
         same([entry.split(' ')[0] for entry in entries(log)], ['3'] * 6)
 
 
+def test_a_service_that_is_stopped() -> None:
+    for form in ('placed', 'short'):
+        log = kept('service.log')
+        service = Service(log, form, 'submit,tick,stop')
+        try:
+            with session(TWO, folder=service.folder, replies=form, wait=10) as core:
+                same((core.submit('x', 'A', 'B'), core.close(), core.stop(), core.place), (Accepted(0), Refused('C3'), Stopped(), 1))
+            same(service.process.wait(10), 0)
+            service.start()
+            with session(TWO, folder=service.folder, replies=form, wait=10) as core:
+                same((core.place, core.tick(), core.stop()), (1, Clock(1, 0, 0), Stopped()))
+            same(service.process.wait(10), 0)
+        finally:
+            service.kill()
+        same(text_file(log).splitlines()[2:], ['3 submit x A B = accepted 0', '3 tick = clock 1 picked 0 dropped 0'])
+
+
 def test_a_service_that_is_killed_and_comes_again() -> None:
     log = kept('service.log')
     service = Service(log)
@@ -286,6 +304,59 @@ def test_a_service_that_is_killed_and_comes_again() -> None:
     same([entry.split(' = ')[1].split(' ')[1] for entry in entries(log)[:-1]], [str(clock) for clock in range(1, 41)])
     same([reply for reply in replies if not isinstance(reply, Lost)],
          [Clock(clock, 0, 0) for clock, reply in enumerate(replies, 1) if not isinstance(reply, Lost)])
+
+
+ROUNDS = int(os.environ.get('ROUNDS', '3'))    # of kills under batches
+BEGUN = len(b'\nbegin 0123456789abcdef\n')    # what a connection sends first
+PIECE, ORDERS = 4096, 1000
+
+
+def batch(first: int) -> bytes:
+    """The orders from this number on, a line each. A comment lies across each 4096th byte of the connection, and who begins to read there would
+    take what is left of it for `tick`."""
+    text = b''
+    for number in range(first, ORDERS):
+        left = -(BEGUN + len(text)) % PIECE
+        if 1 < left < 40:
+            text += b'#' + b'.' * (left - 1) + b'tick\n'
+        text += b'submit c%04d A B\n' % number
+    return text
+
+
+def send_all(folder: str) -> None:
+    """Sends all orders in batches: where the connection breaks, those from the entry on that the next one tells."""
+    connection = Connection(folder, 20)
+    while connection.entries < ORDERS:
+        try:
+            text = batch(connection.entries)
+            for begin in range(0, len(text), PIECE):
+                connection.send(text[begin:begin + PIECE])
+                time.sleep(0.002)
+            for _ in range(connection.entries, ORDERS):
+                connection.read()
+            break
+        except Broken:
+            connection.open(20)
+    connection.close()
+
+
+def test_batches_over_a_service_that_is_killed() -> None:
+    for number in range(ROUNDS):
+        log = kept('batches.log')
+        service = Service(log)
+        try:
+            client = threading.Thread(target=send_all, args=(service.folder,))
+            client.start()
+            for _ in range(3):
+                time.sleep(random.uniform(0.005, 0.08))
+                service.kill()
+                service.start()
+            client.join(60)
+            same((number, client.is_alive()), (number, False))
+        finally:
+            service.kill()
+        # each order stands once, in order, and nothing else does
+        same([entry.split(' = ')[0] for entry in entries(log)], [f'3 submit c{order:04} A B' for order in range(ORDERS)])
 
 
 def test_nobody_serves() -> None:

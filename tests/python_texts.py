@@ -14,7 +14,7 @@ ROOT = os.path.dirname(os.path.dirname(os.path.abspath(__file__)))
 sys.path.insert(0, os.path.join(ROOT, 'python'))
 sys.dont_write_bytecode = True
 
-from warehouse.replies import (Accepted, Arrived, Clock, Closed, Go, NotAReply, Parked, Refused, Replaced, Rested, Took, Visited,    # noqa: E402
+from warehouse.replies import (Accepted, Arrived, Clock, Closed, Go, NotAReply, Parked, Refused, Replaced, Rested, Stopped, Took, Visited,    # noqa: E402
                                is_entry, reply_of, told_of, unplaced, without_cells)
 from warehouse.texts import (Fault, Order, orders_of, read_arrivals, read_file, read_instance, read_log, read_orders,    # noqa: E402
                              read_transcript)
@@ -102,8 +102,8 @@ def test_replies() -> None:
             ('accepted 3', Accepted(3)), ('took 0 path 0,1 1,1', Took(0, ((0, 1), (1, 1)), 1)), ('took 0 end 6', Took(0, (), 6)),
             ('parked P-1 path 4,4095', Parked('P-1', ((4, 4095),), 0)), ('parked P end 2', Parked('P', (), 2)), ('rested', Rested()),
             ('clock 1000000000 picked 2 dropped 0', Clock(1000000000, 2, 0)), ('arrived 0 17', Arrived(0, 17)), ('replaced 4', Replaced(4)),
-            ('closed', Closed()), ('refused E1 17', Refused('E1', ('17',))), ('refused E5 3', Refused('E5', (3,))), ('refused E6', Refused('E6')),
-            ('refused V1 0 8', Refused('V1', (0, 8)))):
+            ('closed', Closed()), ('stopped', Stopped()), ('refused E1 17', Refused('E1', ('17',))), ('refused E5 3', Refused('E5', (3,))),
+            ('refused E6', Refused('E6')), ('refused V1 0 8', Refused('V1', (0, 8)))):
         same((reply_of(text), str(wanted)), (wanted, text))
     for text in ('', 'accepted', 'accepted x', 'accepted 1 2', 'accepted 01', 'took 0', 'took 0 path', 'took 0 path 1', 'took 0 path 1,x', 'took 0 end',
                  'rested 1', 'clock 1 picked 0', 'clock 1 dropped 0 picked 0', 'refused', 'refused E5 x', 'go 0 1 1,1', 'closed ', 'took 0 path  0,1'):

@@ -1,6 +1,6 @@
 #!/usr/bin/env python3
 """Tests of deploy/: the Debian package is made and has all that it should, its completion, manuals and Python command work, the unit is one that
-systemd takes, and the wrapper of the service serves three clients over pipes and ends with them.
+systemd takes, and its scripts serve three clients over pipes, end with them, and stop beside them.
 
 The program is that of WAREHOUSE, else the one that the gate built. A service under a running systemd is not tried, nor the container file.
 The last line is `N passed, M failed`, and `, K skipped` where a test needs what is not here; status 1 where one failed.
@@ -10,6 +10,7 @@ import os
 import shutil
 import subprocess
 import tempfile
+import threading
 import time
 
 import counting
@@ -130,7 +131,7 @@ def test_unit():
     os.makedirs(units)
     text = read(f'{top}/lib/systemd/system/warehouse@.service')
     with open(f'{units}/warehouse@.service', 'w') as unit:
-        unit.write(text.replace('=/usr/lib/', f'={top}/usr/lib/').replace('Documentation=', '#'))
+        unit.write(text.replace('/usr/lib/warehouse/', f'{top}/usr/lib/warehouse/').replace('Documentation=', '#'))
     done = run('systemd-analyze', 'verify', '--recursive-errors=no', f'{units}/warehouse@.service')
     assert (done.returncode, done.stderr) == (0, ''), done
     done = run('systemd-analyze', 'security', '--offline=true', '--threshold=10', f'{units}/warehouse@.service')
@@ -146,8 +147,9 @@ class Client:
         self.until = time.monotonic() + SECONDS
         self.replies = os.open(f'{folder}/out', os.O_RDONLY | os.O_NONBLOCK)
         self.begun = b''
-        self.greeting = self.line()
+        self.greeting, _, tag = self.line().rpartition(' ')
         self.commands = os.open(f'{folder}/in', os.O_WRONLY | os.O_NONBLOCK)
+        os.write(self.commands, f'begin {tag}\n'.encode())
 
     def line(self):
         while b'\n' not in self.begun:
@@ -213,6 +215,49 @@ def test_service():
         log = read(f'{folders["STATE_DIRECTORY"]}/run.log')
         assert log.splitlines()[-1] == 'end 23', log
         assert read(f'{folders["STATE_DIRECTORY"]}/board').startswith('wboard 1\n')
+    finally:
+        service.kill()
+
+
+def stop(folders, service):
+    """What systemd runs to stop a service."""
+    pid = {'MAINPID': str(service.pid)} if service else {}
+    return run(f'{DEPLOY}/warehouse-stop', env={**os.environ, **folders, **pid, 'WAREHOUSE_PY': f'{ROOT}/tools/py'})
+
+
+def ends(service):
+    """The status of a service that ends by itself, as its parent waits for it, which systemd does too."""
+    ended = []
+    waits = threading.Thread(target=lambda: ended.append(service.wait(SECONDS)))
+    waits.start()
+    return waits, ended
+
+
+def test_service_stops():
+    folders = floor('three')
+    log, lines = f'{folders["STATE_DIRECTORY"]}/run.log', []
+    service = start(folders)
+    try:
+        for life in range(3):
+            fleet, desk = (Client(f'{folders["RUNTIME_DIRECTORY"]}/{it}') for it in ('floor', 'desk'))
+            assert (fleet.greeting, desk.greeting) == (f'entries {2 * life}', f'entries {life}')
+            assert desk.ask('submit order a b') == f'accepted {life}'
+            assert desk.ask('stop') == 'refused C3'
+            assert [fleet.ask('tick'), fleet.ask('tick')] == [f'clock {2 * life + it} picked 0 dropped 0' for it in (1, 2)]
+            waits, ended = ends(service)
+            done = stop(folders, service)
+            assert (done.returncode, done.stderr) == (0, ''), done
+            waits.join()
+            assert ended == [0] and service.communicate() == ('', '')
+            now = read(log).splitlines()
+            assert now[:len(lines)] == lines and len(now) == 2 + 3 * (life + 1), now    # it grows, and has no last line
+            lines = now
+            service = start(folders)
+        # one that has ended is stopped by nothing
+        assert Client(f'{folders["RUNTIME_DIRECTORY"]}/end').ask('close') == 'closed'
+        assert service.wait(SECONDS) == 0
+        assert stop(folders, None).returncode == 0
+        assert read(log).splitlines()[-1] == 'end 10'
     finally:
         service.kill()
 

@@ -127,7 +127,7 @@ def test_a_program_that_is_killed() -> None:
     wanted, said, _ = drive(instance, '--save', log, '--cells', cells)
     same(said, '')
     with open(log) as text, open(cells) as lines:
-        made = over_file(text.read().encode()).decode(), lines.read()
+        made = over_file(text.read().encode()).decode().removesuffix('end 13\n'), lines.read()    # the run is not closed
     for lines, batch in ((0, 1), (1, 1), (3, 1), (5, 1), (2, 7), (4, 7)):
         state, log, cells = file('state', '0'), file('log', ''), file('cells', '')
         program = f'{sys.executable} {file("killer.py", KILLER)} {state} {lines} {PROGRAM} replay'

@@ -21,6 +21,7 @@ sys.path.insert(0, os.path.join(ROOT, 'dev'))
 sys.dont_write_bytecode = True
 import counting             # noqa: E402
 sys.path.insert(0, os.path.join(ROOT, 'tools'))
+import experiments_bound               # noqa: E402
 import experiments_floors as floors    # noqa: E402
 import experiments_late                # noqa: E402
 import experiments_plot                # noqa: E402
@@ -199,6 +200,14 @@ def test_words_that_are_refused() -> None:
 
 
 # -------------------------------------------------------------------------------------------------------- reach
+
+def test_shares_of_the_bound():
+    """Five passable cells: a span of two stops is 11, with homes 16; and one of three stops is 16."""
+    floor = experiments_bound.ends.Floor(ROW)
+    runs = [experiments_bound.bounded(floor, homes, orders, 6) for homes, orders in ((False, [['A', 'B']]), (True, [['A', 'B']]), (False, [['A', 'B', 'A'], ['B', 'A']]))]
+    same([(run.cells, run.agents, run.orders, run.bound) for run in runs], [(5, 1, 1, 2 * 11 * 2), (5, 1, 1, 16), (5, 1, 2, 2 * 16 * 3)])
+    same(experiments_bound.line('x', 'stops', runs), ['x', 'stops', '3', '5', '1', '1', '6', '44', '13.6', '37.5'])
+
 
 def test_orders_are_kept_open_and_ticks_timed() -> None:
     # All between A and A, one step from P: with two open, the first clock hands in two, the next one for the one taken.

@@ -36,9 +36,9 @@ def bounded() -> None:
     resource.setrlimit(resource.RLIMIT_CPU, (SECONDS, SECONDS))
 
 
-def replayed(text: str, limit: bool = True) -> list[str]:
-    done = subprocess.run([PROGRAM, 'replay', '--tail', 'log'], input=text, capture_output=True, text=True,
-                          preexec_fn=bounded if limit else None)
+def replayed(text: str, *options: str) -> list[str]:
+    done = subprocess.run([PROGRAM, 'replay', '--tail', 'log', *options], input=text, capture_output=True, text=True,
+                          preexec_fn=bounded)
     assert done.returncode == 0, (done.returncode, done.stderr)
     return done.stdout.split('\n')
 
@@ -104,20 +104,20 @@ def log_paths(lines: list[str], starts: list[tuple[int, int]]) -> list[list[tupl
     return paths
 
 
-def told(*words: object) -> None:
-    """The last request ends when the plain search says, or is refused where it finds no path."""
+def told(*words: object, slack: int = 0) -> None:
+    """The last request ends when the plain search says, or later by the slack at most, or is refused where it finds no path."""
     text = made(*words)
     rows, named, starts, script = parts(text)
-    lines = replayed(text)
+    lines = replayed(text, '--slack', str(slack))
     cut = lines.index('%%')
     asker = int(script[-1].split()[1])
     paths = log_paths(lines[cut + 1:], starts)
     stops = [named[name] for name in script[-2].split()[2:]]
     wanted = least_end(rows, [path for agent, path in enumerate(paths) if agent != asker], starts[asker], stops)
-    answer = ['refused', 'E6'] if wanted is None else ['took', 'end', str(wanted)]
+    answers = [['refused', 'E6']] if wanted is None else [['took', 'end', str(wanted + late)] for late in range(slack + 1)]
     given = lines[cut - 1].split()
     found = given[:1] + given[2:] if given[0] == 'took' else given    # without the task's number
-    assert found == answer, f'{words}: {lines[cut - 1]!r}, wanted {answer}'
+    assert found in answers, f'{words}: {lines[cut - 1]!r}, wanted {answers}'
 
 
 def bounded_too(*words: object) -> None:
@@ -150,6 +150,19 @@ def test_the_long_way_round() -> None:
     told('ring', 41, 21)
 
 
+def test_the_last_stop_is_shut_on_its_near_sides() -> None:
+    told('sides', 16, 2)
+    told('sides', 20, 5)
+    # from (1, 0) seven times from corner to corner, then to the middle and two steps round who rests beside it
+    lines = replayed(made('sides', 2048, 8))
+    assert lines[lines.index('%%') - 1] == f'took 0 end {2046 + 2047 + 6 * 2 * 2047 + 2 * 1023 + 2}'
+
+
+def test_the_door_is_taken_before_who_comes_is_there() -> None:
+    told('soon', 16, 0)
+    told('soon', 24, 1)
+
+
 def test_many_stops() -> None:
     told('stops', 24, 5, 2)
     told('stops', 24, 8, 1)
@@ -157,6 +170,13 @@ def test_many_stops() -> None:
 
 def test_a_walled_stop_is_told() -> None:
     told('unreachable', 20, 5)
+
+
+def test_a_path_is_late_by_the_slack_at_most() -> None:
+    for words in (('late', 24, 3, 0), ('late', 16, 1, 1), ('hall', 10, 6), ('door', 20, 2), ('ring', 41, 21), ('sides', 20, 5), ('soon', 24, 1),
+                  ('stops', 24, 8, 1), ('beside', 30, 3)):
+        for slack in (1, 4, 40):
+            told(*words, slack=slack)
 
 
 def test_another_ends_beside_the_start() -> None:

@@ -107,7 +107,7 @@ def test_a_log_that_is_not_of_the_instance() -> None:
             (log, SHIFT.replace('D 3 2', 'E 3 2'), 'the instance has no station D'),
             # A lies on the path there too, but where it is passed at 1
             (log, SHIFT.replace('A 1 0', 'A 1 1'), 'at clock 1 it counts 0 picked and 0 dropped, its paths give 1 and 0'),
-            (log[:-7], SHIFT, 'no end line'), ('closed\n', SHIFT, 'no log is in it'), (log, 'type t\n', 'no line `%%`')):
+            (log[:-9], SHIFT, 'the log is cut'), ('closed\n', SHIFT, 'no log is in it'), (log, 'type t\n', 'no line `%%`')):
         is_refused(text, instance, part)
     out, said, status = tool('next_shift.py', os.path.join(ROOT, 'examples', 'deliveries.log'), os.path.join(ROOT, 'examples', 'shelves'))
     same((out, status), ('', 1))
@@ -126,7 +126,8 @@ def replayed(instance: str) -> tuple[str, str]:
 def is_run(instance: str, log: str) -> None:
     joined, said, status = tool('log_input.py', file('instance', instance), file('log', log))
     same((said, status), ('', 0))
-    same(warehouse(joined, 'verify'), f'run {len(log.splitlines()) - 3}\n')
+    ended = log.splitlines()[-1].startswith('end ')
+    same(warehouse(joined, 'verify', '--unended'), f'run {len(log.splitlines()) - 2 - ended}{"" if ended else " unended"}\n')
 
 
 def told(first: int, last: int, picked: int, dropped: int) -> str:

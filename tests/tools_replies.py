@@ -257,7 +257,7 @@ def test_no_tick_is_sent_where_two_would_meet() -> None:
 
 
 def test_a_log_that_is_not_of_the_run() -> None:
-    for log, part in ((log_of(*GOES[:-1]), 'it is not of this run, with 1 tasks and clock 5'), (log_of(*GOES)[:-7], 'it has no end line'),
+    for log, part in ((log_of(*GOES[:-1]), 'it is not of this run, with 1 tasks and clock 5'), (log_of(*GOES)[:-9], 'it is cut'),
                       (log_of(*GOES).replace('picked 1', 'picked 0'), 'at clock 2 it counts 0 picked and 0 dropped'),
                       (log_of(*GOES).replace(' 3,0', ' 3,2'), 'does not come to B')):
         _, said, status = taped(GOES, log)

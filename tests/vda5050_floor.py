@@ -177,7 +177,7 @@ class Floor:
 
     def judge_log(self, number: int, text: str) -> None:
         if number == 1:
-            has(warehouse(self.instance.text.decode() + text, 'verify', *(['--ends', 'homes'] if self.settings.ends == 'homes' else [])), 'run ')
+            has(warehouse(self.instance.text.decode() + text, 'verify', '--unended', *(['--ends', 'homes'] if self.settings.ends == 'homes' else [])), 'run ')
 
     def last(self, topic: str) -> dict:
         return json.loads(next(text for name, text in reversed(self.bus.log) if name.endswith(topic)))

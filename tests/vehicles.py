@@ -136,7 +136,7 @@ def test_a_run_goes_on_with_its_vehicles() -> None:
     # visits that were made are told again
     same(kept(TWO + 'at 1 2\n', file), ('entries 6\nvisited 0 0 0\ngo 1 2 3,2\narrived 1 2\nvisited 1 1 0\n', '', 0))
     # the log has no report
-    same(read_file(file).decode().split('\n')[2:-2], over_file(replay(TWO + SCRIPT, '--tail', 'log')[0].split('%%\n')[1].encode()).decode().split('\n')[2:-2])
+    same(read_file(file).decode().split('\n')[2:-1], over_file(replay(TWO + SCRIPT, '--tail', 'log')[0].split('%%\n')[1].encode()).decode().split('\n')[2:-2])
 
 
 def test_a_report_that_was_cut() -> None:
@@ -202,7 +202,7 @@ def test_the_program_is_killed_and_goes_on() -> None:
         found = late(seed, '--spread', '0.5', '--ahead', '3', '--log', file, '--kills', '6', '--ask', 'number', script=(script,))
         same((found['orders'], found['done'], found['killed']), ('10', '10', '6'))
         log = read_file(file)
-        done = subprocess.run([PROGRAM, 'verify'], input=text[0] + b'%%\n' + text[1] + RULE.encode() + b'%%\n' + log, capture_output=True)
+        done = subprocess.run([PROGRAM, 'verify', '--unended'], input=text[0] + b'%%\n' + text[1] + RULE.encode() + b'%%\n' + log, capture_output=True)
         has(done.stdout.decode(), 'run ')
 
 

@@ -123,7 +123,8 @@ def kept_fault(outcome, whole, file, before):
         demand(kept >= before + len(told) + len(answered), f'{kept} entries, and told were {len(told) + len(answered)}')
         gone_on = whole.run('replay', '--log', file, text=whole.site)
         demand((gone_on.stdout, gone_on.stderr, gone_on.returncode) == (b'entries %d\n' % kept, b'', 0), f'going on: {gone_on}')
-        demand(whole.verify(read_file(file)) == b'run %d\n' % kept, 'the file is no log of a run')
+        verdicts = b'run %d\n' % kept, b'run %d unended\n' % kept    # closed, or not
+        demand(whole.verify(read_file(file), '--unended') in verdicts, 'the file is no log of a run')
     except Wrong as wrong:
         return str(wrong)
     return None

@@ -20,24 +20,24 @@ HEAD = '''# Command line
 
 <!-- Made by tools/cli_page.py from tools/help. Change these, not this page. -->
 
-`./warehouse SUBCOMMAND [options] < input`, from any folder. If the program is missing, or its sources changed since, it is proved and built first; help and `--version` do not wait for that. `tools/look` takes the same arguments and runs the same code, not proved. The input is [sections](FORMATS.md#lines-and-words) separated by lines `%%`. `man -l docs/warehouse.1` shows a manual.
+`./warehouse SUBCOMMAND [options] < input`, from any folder. If the program is missing, or its sources changed since, it is proved and built first; help and `--version` do not wait for that. `tools/look` takes the same arguments and runs the same code, not proved. The input is [sections](FORMATS.md#lines-and-words) separated by lines `%%`.
 '''
 
 NOTES = {
     'check': ('''Prints `formed`, `few parkings HAVE NEED` or `cut A B` ([Modeling](MODELING.md#well-formed-floors)). Everything after the points is ignored. With `--ends homes` agents start at parkings (`refused H1 AGENT`), here and below.''',),
     'replay': (
-        '''Reads commands from standard input, live through a pipe or from a file, and writes one reply for each ([Protocol](PROTOCOL.md)). Replies are written before each read that may wait.''',
-        '''`--log FILE`: the first line printed is `entries N`; each entry is synced before its reply is written ([Operations](OPERATIONS.md#stops-and-restarts)).''',
+        '''Reads commands from standard input, live through a pipe or from a file, and writes one reply for each ([Protocol](PROTOCOL.md)).''',
         '''`--told N` and `--new` need `--log`; `--behind` and `--ahead` need `--vehicles`, and that needs `rule nofollow` in the points (`refused V4`) and is given at each start (`V5`).''',
-        '''`--deliver`: behind the script all is delivered that can be, by requests and ticks of its own ([Formats](FORMATS.md#what-is-delivered-behind-the-script)); not with `--vehicles`.''',
+        '''`--deliver` ([Formats](FORMATS.md#what-is-delivered-behind-the-script)) does not go with `--vehicles`.''',
+        '''`--slack N` ([Performance](PERFORMANCE.md#paths-that-may-be-late)) does not go with `--planner patient`, here and below.''',
         '''`--tail log` writes a line `%%` and the log after the replies, `--tail ledger` a line `%%` and one row for each client. `--slots` and `--bank` bound what planners may keep in memory; they change no reply.''',
     ),
-    'verify': ('''Prints `run N`, N the number of entries, or `bad L`, the first line of the log that no run by these `--ends` has.''',),
+    'verify': ('''Prints `run N`, N the number of entries, `run N unended`, or `bad L`, the first line of the log that no run by these `--ends` has.''',),
     'live': (
-        '''A demonstration that any interleaving of threads is one history: scripts, agents and the clock are threads, and the run ends whatever is open. It prints the log; no client gets a reply.''',
+        '''A demonstration that any interleaving of threads is one history: scripts, agents and the clock are threads, and the run ends whatever is open. It prints the log.''',
     ),
     'serve': (
-        '''Serves programs over named pipes ([Operations](OPERATIONS.md#several-clients)). `--log` and at least one `--client` are needed, and nothing follows the points; client numbers and folders are distinct. At the end it prints the log.''',
+        '''Serves programs over named pipes ([Operations](OPERATIONS.md#several-clients)). `--log` and at least one `--client` are needed, and nothing follows the points. Closed, it prints the log.''',
         '''`--every N`: a worker requests and ticks until the service ends; earlier only where its share or the journal is used, or memory runs out.''',
         '''`--board FILE`: FILE and FILE.new are replaced as a whole, if they are empty or boards; else `refused X6`. `--board-every` needs `--board`.''',
     ),
@@ -58,8 +58,6 @@ A value that begins with a hyphen is joined to its option, as in `--log=-x`. An 
 
 ## Tools
 
-Each is documented by its `--help`.
-
 |To|Run|
 |---|---|
 |join files into one input|`tools/join.py my.map my.points my.orders > my`|
@@ -67,9 +65,7 @@ Each is documented by its `--help`.
 |import an instance of the AAMAS 2017 authors, a MovingAI scenario|`tools/import_mapd.py MAP TASK`, `tools/import_scen.py MAP SCEN --agents 20`|
 |drive an instance to its end|`tools/drive.py my --save run.log`|
 |play a run; see one clock|`tools/play.py my run.log > run.html`, `tools/play.py my run.log --check 137`|
-|compare two runs|`tools/play.py my one.log --beside my two.log > both.html`|
 |watch a floor while it runs|`tools/dashboard.py my run.log`|
-|watch a demo|`tools/py demo`|
 |have figures as CSV|`tools/stats.py my run.log`|
 |make the input of `verify`|`tools/log_input.py my run.log`|
 |begin the next shift|`tools/next_shift.py run.log my > next`|

@@ -27,6 +27,9 @@ HEADS = {'agents': 'Agents', 'speeds': 'Speeds', 'ahead': '`--ahead`',
          'peer_millions': '`dev/peer`', 'floor': 'Floor', 'orders_taken': 'Orders taken', 'ms_mean': 'Mean ms a tick', 'ms_p95': 'p95',
          'ms_most': 'Most', 'ms_first_tick': 'First tick', 'mb_most': 'Most MB', 'clients': 'Clients',
          'median_ms': 'Median ms', 'worst_ms': 'Worst ms', 'peer_median_ms': '`dev/peer`: median', 'peer_worst_ms': 'worst',
+         'peer_seconds': '`dev/peer`: seconds', 'ratio': 'Ratio', 'peer_mb': '`dev/peer`: MB',
+         'expanded': 'Expanded', 'expanded_4': 'with 4', 'most': 'Most', 'most_4': 'with 4', 'service': 'Service',
+         'service_4': 'with 4',
          'memory_line_by_line': 'log in memory, line by line', 'memory_all_in_one_write': 'in one write',
          'disk_line_by_line': 'on a disk, line by line', 'disk_all_in_one_write': 'in one write'}
 
