@@ -59,13 +59,23 @@ fn read_row<'a>(lines: &mut Lines<'a>, width: u16) -> Result<&'a [u8], Fault>
     located(lines, row(line, width))
 }
 
-/// Adds a row's cells.
+/// Writes a row's cells over as many.
+fn write_row(cells: &mut [bool], row: &[u8])
+    requires { length cells.old ≡ length row.now }
+    ensures { cells.new ≡ map lines_of_maps.is_passable row.now }
+{
+    for i in 0..row.len() {
+        cells[i] = is_passable(row[i]);
+    }
+}
+
+/// Adds a row's cells: room for all of them first, since a push looks for room at each.
 fn push_row(walkable: &mut Vec<bool>, row: &[u8]) -> Result<(), AllocError>
     ensures { OnOk result (walkable.new.items ≡ walkable.old.items ++ map lines_of_maps.is_passable row.now) }
 {
-    for letter in row {
-        walkable.push(is_passable(*letter))?;
-    }
+    let count = walkable.len();
+    walkable.resize(count + row.len(), false)?;
+    write_row(&mut walkable[count..], row);
     Ok(())
 }
 
