@@ -80,7 +80,7 @@ same_cell : (a b : Cell) → a.x ≡ b.x → a.y ≡ b.y → a ≡ b
 same_cell a b p q = let e : record { x = a.x; y = a.y } ≡ record { x = b.x; y = b.y } = rw (p, q) refl in e
 
 -- cells are at most one step apart where one is a move from the other
-near_move : (a b : Cell) → apart a b ≤ 1 → IsMove a b
+pub near_move : (a b : Cell) → apart a b ≤ 1 → IsMove a b
 near_move a b near = go (cases_order a.x b.x) (cases_order a.y b.y)
   where
     go : (a.x ≡ b.x) ⊎ ((a.x < b.x) ⊎ (b.x < a.x)) → (a.y ≡ b.y) ⊎ ((a.y < b.y) ⊎ (b.y < a.y)) → IsMove a b

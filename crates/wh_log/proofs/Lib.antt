@@ -20,3 +20,4 @@ pub mod Telling
 pub mod Sources
 pub mod Growing
 pub mod FrontNumbers
+pub mod UsualLaws

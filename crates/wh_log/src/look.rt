@@ -90,7 +90,7 @@ pub fn next<'a>(
     ensures { IfOk result (λ place. Stands version count text.now place) }
 {
     if (count as usize) < MOST_ENTRIES {
-        if let Some((entry, rest)) = usual(text) {
+        if let Some((entry, rest)) = usual(alloc, text) {
             return Ok(Place::Next { entry, rest });
         }
     }

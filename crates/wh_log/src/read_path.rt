@@ -40,7 +40,7 @@ fn cell(word: &[u8]) -> Option<Cell>
 }
 
 /// Whether two cells are the same or beside each other.
-fn is_near(a: Cell, b: Cell) -> bool
+pub fn is_near(a: Cell, b: Cell) -> bool
     ensures { result ≡ nat_le (reading.apart a b) 1 }
 {
     let across = u32::from(a.x.saturating_sub(b.x)) + u32::from(b.x.saturating_sub(a.x));
