@@ -14,10 +14,10 @@ use Rattle.wh_tasks.specs.declared.task.Phase.{Phase}
 use Rattle.wh_tasks.specs.Tasks.{IsTask, IsOpen, visited, phase, stops_left, delivery, load_for}
 use Rattle.wh_tasks.proofs.Loads.{is_open, is_assigned, is_carried, is_done, comes_to, IsUnderway}
 use Rattle.wh_planner.specs.Duties.{Delivers}
-use Rattle.wh_core.specs.States.{State, load_of, arrived, adopted, assigned}
-use Rattle.wh_core.specs.Steps.{Answers, Step, Run, IsDue, IsOwn, IsNextBy, IsHalted, IsBerth, tour, homeward}
+use Rattle.wh_core.specs.States.{State, opened, load_of, arrived, adopted, assigned}
+use Rattle.wh_core.specs.Steps.{Answers, Step, Run, last_clock, IsDue, IsOwn, IsNextBy, IsHalted, IsBerth, tour, homeward}
 use Rattle.wh_core.proofs.Drops.{homeward-some, homeward-all, homeward-end}
-use Rattle.wh_core.specs.Laws.{IsOpening, IsReached, IsReachedOnTheirWays, IsBeginning, IsSound, IsSoundTask, IsOnItsWay, AllOnTheirWays, HasSeats, LoadsAgree}
+use Rattle.wh_core.specs.Laws.{IsOpening, IsReached, IsReachedOnTheirWays, IsBeginning, IsSound, IsSoundTask, IsOnItsWay, AllOnTheirWays, IsBeginningOnTheirWays, HasSeats, LoadsAgree}
 use Rattle.wh_event.specs.declared.entry.Entry.{Entry}
 use Rattle.wh_event.specs.declared.event.Event.{Event}
 use Rattle.wh_event.specs.declared.reply.Reply.{Reply}
@@ -292,6 +292,30 @@ pub opening-reached : (site : Site) (opening : State) (entries : List Entry) (s 
 opening-reached site opening entries s o run =
     let begins = opening-begins site opening o in
     record { reached = record { opening = opening; is_beginning = begins.0; run = run }; on_their_ways = begins.1 }
+
+-- with an opening state a warehouse may begin
+pub opening-may : (site : Site) (opening : State) → IsOpening site opening → IsBeginningOnTheirWays site opening
+opening-may site opening is = (let begins = opening-begins site opening is in record { beginning = begins.0; on_their_ways = begins.1 })
+
+-- where it began with agents at their starts, that is an opening
+pub may-opening : (site : Site) (opening : State) (clock : ℕ) (slots : List ℕ) → IsBeginningOnTheirWays site opening → opening ≡ opened site.layout clock slots → IsOpening site opening
+may-opening site opening clock slots may is =
+    let sound = may.beginning.sound in
+    record {
+      layout = may.beginning.layout;
+      clock = clock;
+      clock_fits = subst (λ (s : State). s.clock ≤ last_clock) is sound.clock_fits;
+      slots = slots;
+      seats = ap (λ (s : State). length s.slots) (sym is) ∙ sound.seats.slots;
+      is_opened = is;
+    }
+
+-- a run from there is what the laws are about
+pub begun-reached : (site : Site) (opening : State) (history : List Entry) (state : State) → IsBeginningOnTheirWays site opening → Run site opening history state → IsReachedOnTheirWays site history state
+begun-reached site opening history state may run = record {
+  reached = record { opening = opening; is_beginning = may.beginning; run = run };
+  on_their_ways = may.on_their_ways;
+}
 
 -- a due agent has no load, where all are on their ways; nor has one with no steps left
 pub ways-unloaded : (site : Site) (s : State) (agent : ℕ) → IsKept site s → AllOnTheirWays site s → IsDue site s agent → load_of s agent ≡ Load.None

@@ -93,6 +93,11 @@ pub record IsOnItsWay (site : Site) (s : State) (agent : ℕ) : Type 0 where
 abbrev pub AllOnTheirWays : Site → State → Type 0
 AllOnTheirWays site s = (agent : ℕ) → agent < length s.paths → IsOnItsWay site s agent
 
+-- a beginning at which all are on their ways
+pub record IsBeginningOnTheirWays (site : Site) (s : State) : Type 0 where
+  pub beginning : IsBeginning site s
+  pub on_their_ways : AllOnTheirWays site s
+
 -- the entries lead from a beginning to the state
 pub record IsReached (site : Site) (entries : List Entry) (s : State) : Type 0 where
   pub opening : State

@@ -6,13 +6,13 @@ ghost use Rattle.wh_points.specs.Points.{IsLayout};
 ghost use Rattle.wh_core.specs.Steps.{last_clock, most_tasks};
 ghost use Rattle.wh_core.specs.Laws.{IsBeginning};
 ghost use Rattle.wh_stand.specs.Parts.{state_of, begun, with_agent, with_task};
-ghost use Rattle.wh_stand.specs.Columns.{state_in};
+ghost use Rattle.wh_state.specs.Columns.{state_in};
 ghost use Rattle.wh_stand.specs.TaskFlaws.{IsInForm, IsFitTask, IsTaskFlaw};
 ghost use Rattle.wh_stand.specs.Flawless.{IsAgentFlaw, IsFitAgent, NoneHasPaths, NoneHasTasks, Told};
 
 use crate::flaw::{Flaw, Refused};
 use crate::motion::path_flaw;
-use crate::parts::StateParts;
+use crate::parts::{add_agent, add_task, no_parts};
 use crate::stations::Stations;
 use crate::work::task_flaw;
 use std::alloc::{AllocError, Global};
@@ -20,6 +20,7 @@ use std::marker::Model;
 use wh_grid::Grid;
 use wh_path::TimedPath;
 use wh_points::Points;
+use wh_state::StateParts;
 use wh_tasks::Task;
 
 /// Takes a state part by part: agent by agent, then task by task, each by its number from 0. A part is refused, by its
@@ -34,7 +35,7 @@ pub struct StateBuilder<'a> {
 
 impl<'a> Model for StateBuilder<'a> {
     ghost use Rattle.wh_stand.specs.Parts.{Built, parts_of};
-    ghost use Rattle.wh_stand.specs.Columns.{state_in};
+    ghost use Rattle.wh_state.specs.Columns.{state_in};
     ghost use Rattle.wh_stand.specs.Building.{IsWell};
 
     ghost Value = { Built };
@@ -69,8 +70,23 @@ impl<'a> StateBuilder<'a> {
             grid,
             stations,
             homes,
-            parts: StateParts::none(alloc, clock, closed),
+            parts: no_parts(alloc, clock, closed),
         })
+    }
+
+    /// Begins again, at this clock of at most 1,000,000,000, and closed or not: no part was taken then.
+    pub fn begin_again(&mut self, alloc: Global, clock: u32, closed: bool)
+        requires clock { clock ≤ last_clock }
+        ensures { self.new ≡ record { site = self.old.site; parts = begun clock closed } }
+    {
+        self.parts = no_parts(alloc, clock, closed);
+    }
+
+    /// How many agents the points have.
+    pub fn all_agents(&self) -> usize
+        ensures { result ≡ length self.now.site.layout.agents }
+    {
+        self.stations.points().agents().len()
     }
 
     /// How many agents were taken: no more than the points have.
@@ -107,7 +123,7 @@ impl<'a> StateBuilder<'a> {
             drop(path);
             return Err(Refused::Flaw(flaw));
         }
-        self.parts.add_agent(slots, path)?;
+        add_agent(&mut self.parts, slots, path)?;
         Ok(())
     }
 
@@ -130,7 +146,7 @@ impl<'a> StateBuilder<'a> {
             drop(task);
             return Err(Refused::Flaw(flaw));
         }
-        self.parts.add_task(task)?;
+        add_task(&mut self.parts, task)?;
         Ok(())
     }
 

@@ -14,4 +14,6 @@ mod work;
 
 pub use builder::StateBuilder;
 pub use flaw::{Flaw, Refused};
-pub use parts::StateParts;
+
+// handed on, for callers: what the items above return
+pub use wh_state::StateParts;

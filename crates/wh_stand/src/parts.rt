@@ -7,79 +7,65 @@ ghost use Rattle.wh_tasks.specs.Tasks.{IsTask, load_for};
 ghost use Rattle.wh_tasks.specs.declared.task.Task.{Task as Job};
 ghost use Rattle.wh_core.specs.Steps.{most_tasks};
 ghost use Rattle.wh_stand.specs.Parts.{parts_of, begun, with_agent, with_task};
-ghost use Rattle.wh_stand.specs.Columns.{state_in, IsTold, AllKnown};
+ghost use Rattle.wh_state.specs.Columns.{state_in};
+ghost use Rattle.wh_stand.specs.Columns.{IsTold, AllKnown};
 ghost use Rattle.wh_stand.specs.TaskFlaws.{HasKnown, IsAlone, IsHeld};
 
 use std::alloc::{AllocError, Global};
 use wh_path::TimedPath;
+use wh_state::StateParts;
 use wh_tasks::{Load, Task};
 
-/// The state of a warehouse, as columns. For each agent, by its number from 0, it has a path from now on, a load, and its
-/// planner's slots.
-#[derive(Drop)]
-pub struct StateParts {
-    /// The clock, in steps of time.
-    pub clock: u32,
-    /// Whether nothing more is accepted.
-    pub closed: bool,
-    /// The path of each agent from now on.
-    pub paths: Vec<TimedPath>,
-    /// What each agent is doing.
-    pub loads: Vec<Load>,
-    /// The slots of each agent's planner.
-    pub slots: Vec<u32>,
-    /// The tasks, by their numbers from 0.
-    pub tasks: Vec<Task>,
+/// No agent yet and no task.
+pub(crate) fn no_parts(alloc: Global, clock: u32, closed: bool) -> StateParts
+    ensures told { IsTold (state_in result) }
+    ensures parts { parts_of (state_in result) ≡ begun clock closed }
+{
+    StateParts {
+        clock,
+        closed,
+        paths: Vec::new(alloc),
+        loads: Vec::new(alloc),
+        slots: Vec::new(alloc),
+        tasks: Vec::new(alloc),
+    }
 }
 
-impl StateParts {
-    /// No agent yet and no task.
-    pub(crate) fn none(alloc: Global, clock: u32, closed: bool) -> StateParts
-        ensures told { IsTold (state_in result) }
-        ensures parts { parts_of (state_in result) ≡ begun clock closed }
-    {
-        StateParts {
-            clock,
-            closed,
-            paths: Vec::new(alloc),
-            loads: Vec::new(alloc),
-            slots: Vec::new(alloc),
-            tasks: Vec::new(alloc),
-        }
-    }
+/// One agent more, which has no task. When out of memory, nothing changes.
+pub(crate) fn add_agent(
+    parts: &mut StateParts,
+    slots: u32,
+    path: TimedPath,
+) -> Result<(), AllocError>
+    requires told { IsTold (state_in parts.old) }
+    requires known { AllKnown (state_in parts.old) }
+    ensures told { IsTold (state_in parts.new) }
+    ensures ok { OnOk result (parts_of (state_in parts.new) ≡ with_agent slots path (parts_of (state_in parts.old))) }
+    ensures err { OnErr result (parts_of (state_in parts.new) ≡ parts_of (state_in parts.old)) }
+{
+    parts.paths.reserve(1)?;
+    parts.loads.reserve(1)?;
+    parts.slots.reserve(1)?;
+    parts.paths.push_reserved(path);
+    parts.loads.push_reserved(Load::None);
+    parts.slots.push_reserved(slots);
+    Ok(())
+}
 
-    /// One agent more, which has no task. When out of memory, nothing changes.
-    pub(crate) fn add_agent(&mut self, slots: u32, path: TimedPath) -> Result<(), AllocError>
-        requires told { IsTold (state_in self.old) }
-        requires known { AllKnown (state_in self.old) }
-        ensures told { IsTold (state_in self.new) }
-        ensures ok { OnOk result (parts_of (state_in self.new) ≡ with_agent slots path (parts_of (state_in self.old))) }
-        ensures err { OnErr result (parts_of (state_in self.new) ≡ parts_of (state_in self.old)) }
-    {
-        self.paths.reserve(1)?;
-        self.loads.reserve(1)?;
-        self.slots.reserve(1)?;
-        self.paths.push_reserved(path);
-        self.loads.push_reserved(Load::None);
-        self.slots.push_reserved(slots);
-        Ok(())
-    }
-
-    /// One task more: whoever holds it does so from now on. When out of memory, nothing changes.
-    pub(crate) fn add_task(&mut self, task: Task) -> Result<(), AllocError>
-        requires told { IsTold (state_in self.old) }
-        requires room { length self.old.tasks.items < most_tasks }
-        requires known { HasKnown self.old.paths.items task }
-        requires alone { IsAlone (parts_of (state_in self.old)) task }
-        ensures told { IsTold (state_in self.new) }
-        ensures ok { OnOk result (parts_of (state_in self.new) ≡ with_task task (parts_of (state_in self.old))) }
-        ensures err { OnErr result (parts_of (state_in self.new) ≡ parts_of (state_in self.old)) }
-    {
-        self.tasks.reserve(1)?;
-        take_on(&mut self.loads, self.tasks.len() as u32, &task);
-        self.tasks.push_reserved(task);
-        Ok(())
-    }
+/// One task more: whoever holds it does so from now on. When out of memory, nothing changes.
+pub(crate) fn add_task(parts: &mut StateParts, task: Task) -> Result<(), AllocError>
+    requires told { IsTold (state_in parts.old) }
+    requires room { length parts.old.tasks.items < most_tasks }
+    requires known { HasKnown parts.old.paths.items task }
+    requires alone { IsAlone (parts_of (state_in parts.old)) task }
+    ensures told { IsTold (state_in parts.new) }
+    ensures ok { OnOk result (parts_of (state_in parts.new) ≡ with_task task (parts_of (state_in parts.old))) }
+    ensures err { OnErr result (parts_of (state_in parts.new) ≡ parts_of (state_in parts.old)) }
+{
+    parts.tasks.reserve(1)?;
+    take_on(&mut parts.loads, parts.tasks.len() as u32, &task);
+    parts.tasks.push_reserved(task);
+    Ok(())
 }
 
 /// Whoever holds the task, of which n is the number, has its load from now on.

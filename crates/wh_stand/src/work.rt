@@ -6,13 +6,14 @@ ghost use Rattle.wh_path.specs.Paths.{cell_at};
 ghost use Rattle.wh_tasks.specs.Tasks.{visited};
 ghost use Rattle.wh_core.specs.Laws.{IsTimed};
 ghost use Rattle.wh_stand.specs.Parts.{parts_of};
-ghost use Rattle.wh_stand.specs.Columns.{state_in, IsTold};
+ghost use Rattle.wh_state.specs.Columns.{state_in};
+ghost use Rattle.wh_stand.specs.Columns.{IsTold};
 ghost use Rattle.wh_stand.specs.TaskFlaws.{HasStations, IsNoStation, IsHeld, IsFitTask, IsDutyFlaw, IsTaskFlaw, IsAlone, IsAway, HasKnown};
 
 use crate::flaw::Flaw;
-use crate::parts::StateParts;
 use crate::stations::Stations;
 use wh_grid::Cell;
+use wh_state::StateParts;
 use wh_tasks::Task;
 
 /// The first stop that is no station, of a task of which a stop is left.

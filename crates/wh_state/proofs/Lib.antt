@@ -6,3 +6,4 @@ pub mod StandingLemmas
 pub mod Foretelling
 pub mod Asking
 pub mod NextStops
+pub mod Given

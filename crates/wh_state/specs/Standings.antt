@@ -6,7 +6,9 @@ use Rattle.wh_tasks.specs.declared.task.Load.{Load}
 use Rattle.wh_tasks.specs.Tasks.{IsTask, visited, load_for}
 use Rattle.wh_tasks.specs.Changes.{IsInTime}
 use Rattle.wh_tasks.specs.Loads.{task_of, Holds}
+use Rattle.wh_points.specs.Points.{Site}
 use Rattle.wh_core.specs.States.{State}
+use Rattle.wh_core.specs.Laws as laws
 
 -- what callers see of the state that is kept: the state, and for how many more tasks it has room
 pub record Standing : Type 0 where
@@ -34,6 +36,12 @@ pub record IsSound (clock : ℕ) (paths : List (List Cell)) (cells : List Cell) 
   pub slots_each : length slots ≡ length paths
   pub tied : AreTied loads tasks
   pub in_time : All (IsInTime clock) tasks
+
+-- a state of some site of at most 256 agents, with which a warehouse may go on there
+pub record IsSoundSomewhere (s : State) : Type 0 where
+  pub site : Site
+  pub few : length site.layout.agents ≤ 256
+  pub sound : laws.IsSound site s
 
 -- the state in which each agent stands at its start and has no load, and there are no tasks
 abbrev pub standing_at : List Cell → ℕ → List ℕ → State

@@ -1,7 +1,7 @@
 //! When each agent is next asked whether it stands at its next stop.
 #![tactic(auto)]
 
-ghost use Rattle.std.specs.Prelude.{◌≡◌, ◌<◌, ◌≤◌, ℕ, false, IfOk, IsTrue, All, length, slice_set, slice_index_or};
+ghost use Rattle.std.specs.Prelude.{◌≡◌, ◌<◌, ◌≤◌, ℕ, false, IfOk, IsTrue, All, length, replicate, slice_set, slice_index_or};
 
 use std::alloc::{AllocError, Global};
 use std::marker::Model;
@@ -35,11 +35,11 @@ fn least(clocks: &[u32]) -> u32
 }
 
 impl Dues {
-    /// Of that many agents, none of which goes to a stop. Fails when out of memory.
-    pub fn never(alloc: Global, agents: usize) -> Result<Self, AllocError>
-        ensures { IfOk result (λ dues. length dues ≡ agents) }
+    /// Of that many agents, each of which is asked at this clock. Fails when out of memory.
+    pub fn all(alloc: Global, agents: usize, clock: u32) -> Result<Self, AllocError>
+        ensures { IfOk result (λ dues. dues ≡ replicate agents clock) }
     {
-        let clocks = vec![in alloc; u32::MAX; agents]?;
+        let clocks = vec![in alloc; clock; agents]?;
         let soonest = least(&clocks);
         Ok(Dues { clocks, soonest })
     }

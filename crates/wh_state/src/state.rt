@@ -7,11 +7,13 @@ ghost use Rattle.wh_tasks.specs.declared.task.Load.{Load as Burden};
 ghost use Rattle.wh_tasks.specs.declared.task.Task.{Task as Job};
 ghost use Rattle.wh_tasks.specs.Tasks.{IsTask, IsOpen};
 ghost use Rattle.wh_core.specs.States.{State, arrived, picked, dropped, submitted, adopted, assigned, moved, reseated, shut};
-ghost use Rattle.wh_state.specs.Standings.{AreTied, Standing, standing_at};
+ghost use Rattle.wh_state.specs.Standings.{AreTied, IsSoundSomewhere, Standing, standing_at};
+ghost use Rattle.wh_state.specs.Columns.{state_in};
 
 use crate::arrivals::{Arrivals, arrive_all, foretell_all};
 use crate::coming::note_due;
 use crate::dues::Dues;
+use crate::parts::StateParts;
 use std::alloc::{AllocError, Global};
 use std::marker::Model;
 use wh_grid::{Cell, Grid};
@@ -77,10 +79,35 @@ impl FleetState {
         }
         let ends = PathEnds::of(alloc, grid.width(), grid.height(), starts)?;
         let tasks = TaskSet::new(alloc, grid.width(), grid.height(), ends)?;
-        let dues = Dues::never(alloc, starts.len())?;
+        let dues = Dues::all(alloc, starts.len(), u32::MAX)?;
         Ok(FleetState {
             clock,
             closed: false,
+            paths,
+            loads,
+            slots,
+            tasks,
+            dues,
+        })
+    }
+
+    /// The state of these parts, which stay as they are: a sound one of at most 256 agents. All agents are asked at the first
+    /// arrivals. It needs memory for copies of the paths and tasks, and for each cell of the grid as an opening does.
+    pub fn of(alloc: Global, grid: &Grid, parts: &StateParts) -> Result<FleetState, AllocError>
+        requires { IsSoundSomewhere (state_in parts.now) }
+        ensures { IfOk result (λ floor. floor.state ≡ state_in parts.now) }
+    {
+        let cells = grid.width() as usize * grid.height() as usize;
+        let paths = Timetable::of(alloc, cells, &parts.paths)?;
+        let loads = Vec::from_slice(alloc, &parts.loads)?;
+        let slots = Vec::from_slice(alloc, &parts.slots)?;
+        let last = ends_of(alloc, &parts.paths)?;
+        let ends = PathEnds::of(alloc, grid.width(), grid.height(), &last)?;
+        let tasks = TaskSet::of(alloc, grid.width(), grid.height(), ends, &parts.tasks)?;
+        let dues = Dues::all(alloc, parts.paths.len(), parts.clock)?;
+        Ok(FleetState {
+            clock: parts.clock,
+            closed: parts.closed,
             paths,
             loads,
             slots,
@@ -304,6 +331,17 @@ impl FleetState {
             agent,
         );
     }
+}
+
+/// Where each path ends.
+fn ends_of(alloc: Global, paths: &[TimedPath]) -> Result<Vec<Cell>, AllocError>
+    ensures { IfOk result (λ cells. cells.items ≡ ends paths.now) }
+{
+    let mut cells = Vec::new(alloc);
+    for path in paths {
+        cells.push(path.end())?;
+    }
+    Ok(cells)
 }
 
 /// An agent goes by a path from now on, and ends where that ends.

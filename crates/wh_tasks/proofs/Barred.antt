@@ -57,6 +57,33 @@ bars-submitted tasks ends bars clear clear' client stops clock v are some none p
       ];
     }
 
+-- one task more has an agent, and none is put among those that are clear
+pub bars-begun : (tasks : List Task) (ends : List Cell) (bars : List (Option Cell)) (clear : List ℕ) (task : Task) → AreBars tasks ends bars clear → task.agent ≢ None →
+    AreBars (tasks ++ task ∷ []) ends (bars ++ None ∷ []) clear
+bars-begun tasks ends bars clear task are begun =
+    let each = are.each in
+    let old : (n : ℕ) (u : Task) → IsTask tasks n u → bar_of (bars ++ None ∷ []) n ≡ bar_of bars n = λ n u there.
+    get-snoc-old bars None None n (rw each (slice_get_within tasks n u there)) in
+    let last : (u : Task) → u ≡ task → IsOpen u → ⊥ = λ u same is_open. begun (subst IsOpen same is_open) in
+    record {
+      each = length-snoc bars None ∙ ap (λ k. suc k) each ∙ sym (length-snoc tasks task);
+      barred = λ n u bar there is_open is. elim (snoc-cases tasks task n u there) [
+        | inl was ↦ are.barred n u bar was is_open (sym (old n u was) ∙ is)
+        | inr new ↦ absurd (last u new.1 is_open)
+      ];
+      clear_stops = λ n u there is_open is. elim (snoc-cases tasks task n u there) [
+        | inl was ↦ are.clear_stops n u was is_open (sym (old n u was) ∙ is)
+        | inr new ↦ absurd (last u new.1 is_open)
+      ];
+      clear_listed = λ n u there is_open is. elim (snoc-cases tasks task n u there) [
+        | inl was ↦ are.clear_listed n u was is_open (sym (old n u was) ∙ is)
+        | inr new ↦ absurd (last u new.1 is_open)
+      ];
+      clear_only = λ n has.
+          let one = are.clear_only n has in
+          (one.0, there-append tasks (task ∷ []) n one.0 one.1, one.2, old n one.0 one.1 ∙ one.3);
+    }
+
 -- One task is not open any more, and not among those that are clear.
 pub bars-assigned : (tasks : List Task) (ends : List Cell) (bars : List (Option Cell)) (clear clear' : List ℕ) (n agent : ℕ) (task : Task) → AreBars tasks ends bars clear →
     IsTask tasks n task → ((m : ℕ) → Contains clear' m ↔ (Contains clear m × (m ≢ n))) →

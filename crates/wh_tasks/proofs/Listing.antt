@@ -78,6 +78,26 @@ listed-submitted tasks firsts stops client cells clock are eight =
       ];
     }
 
+-- one task more has an agent, and no stop comes
+pub listed-begun : (tasks : List Task) (firsts : List ℕ) (stops : List Stop) (task : Task) (first : ℕ) → AreListed tasks firsts stops → task.agent ≢ None →
+    AreListed (tasks ++ task ∷ []) (firsts ++ first ∷ []) stops
+listed-begun tasks firsts stops task first are begun =
+    let firsts' = firsts ++ first ∷ [] in
+    let each = are.each in
+    let old : (n : ℕ) (u : Task) → IsTask tasks n u → get_or firsts' n 0 ≡ get_or firsts n 0 = λ n u there.
+    get-snoc-old firsts first 0 n (let h = slice_get_within tasks n u there in omega (arith, h, each)) in
+    record {
+      each = length-snoc firsts first ∙ ap (λ k. suc k) each ∙ sym (length-snoc tasks task);
+      few = let c = length-snoc tasks task in let d = are.few in omega (arith, c, d);
+      there = λ n u i there is_open lt. elim (snoc-cases tasks task n u there) [
+        | inl was ↦ rw (old n u was) (are.there n u i was is_open lt)
+        | inr now ↦ absurd (begun (subst IsOpen now.1 is_open))
+      ];
+      only = λ k n cell stands.
+          let one = are.only k n cell stands in
+          (one.0, there-append tasks (task ∷ []) n one.0 one.1, one.2, one.3, one.4 ∙ ap (λ f. f + one.3) (sym (old n one.0 one.1)), one.5, one.6);
+    }
+
 -- a number is in a range, or before it, or after it
 range-cases : (k first count : ℕ) → ((first ≤ k) × (k < first + count)) ⊎ ((k < first) ⊎ (first + count ≤ k))
 range-cases k first count = grind arith

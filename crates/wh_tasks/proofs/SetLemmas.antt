@@ -2,6 +2,7 @@
 use Rattle.std.proofs.Common.{◌≡◌, ℕ, ◌+◌, ◌<◌, ◌≤◌, ◌⊎◌, List, [], ◌∷◌, ◌++◌, length, map, get_or, suc, ap, sym, ◌∙◌, arith, refl, subst}
 use Rattle.std.specs.Prelude.{◌≢◌, ◌↔◌, Option, Some, None, IfSome, IfNone, All, Contains}
 use Rattle.std.proofs.lemmas.Option.{slice_get_within, get_or_from_slice_get}
+use Rattle.std.proofs.lemmas.List.{nil_from_length}
 use Rattle.std.proofs.lemmas.List.Elements.{All-push, All-get_or}
 use Rattle.wh_grid.specs.declared.cell.Cell.{Cell}
 use Rattle.wh_tasks.specs.declared.task.Task.{Task}
@@ -9,14 +10,15 @@ use Rattle.wh_tasks.specs.declared.task.Phase.{Phase}
 use Rattle.wh_tasks.specs.declared.task.Counts.{Counts}
 use Rattle.wh_tasks.specs.declared.cell_lists.Stop.{Stop}
 use Rattle.wh_tasks.specs.Tasks.{IsOpen, IsTask, visited, phase, phase_of}
-use Rattle.wh_tasks.specs.Changes.{changed_at, fresh, assigned, visited_once, visit_of, counted_submit, counted_assign, counted_visit, CanCount, IsUnderway, IsInTime, IsOrderly}
+use Rattle.wh_tasks.specs.Changes.{changed_at, fresh, assigned, visited_once, visit_of, counted_more, counted_assign, counted_visit, CanCount, IsUnderway, IsInTime, IsOrderly}
 use Rattle.wh_tasks.specs.CellLists.{listed, AreTakenOut}
 use Rattle.wh_tasks.specs.NumberSets.{Members}
+use Rattle.wh_tasks.specs.Bars.{AreBars}
 use Rattle.wh_tasks.specs.Sets.{IsIndexed}
 use Rattle.wh_tasks.proofs.Edits.{length-changed_at, All-changed_at, length-snoc}
-use Rattle.wh_tasks.proofs.Counting.{Moves, count-moved, counts-submitted, counts-assigned, counts-visited, passes-visited, underway-left}
-use Rattle.wh_tasks.proofs.Listing.{listed-submitted, listed-assigned, listed-kept}
-use Rattle.wh_tasks.proofs.Barred.{bars-submitted, bars-assigned, bars-kept}
+use Rattle.wh_tasks.proofs.Counting.{Moves, count-moved, counts-more, counts-assigned, counts-visited, passes-visited, underway-left}
+use Rattle.wh_tasks.proofs.Listing.{listed-submitted, listed-begun, listed-assigned, listed-kept}
+use Rattle.wh_tasks.proofs.Barred.{bars-submitted, bars-begun, bars-assigned, bars-kept}
 use Rattle.wh_tasks.proofs.Orders.{orderly-fresh, orderly-assigned, orderly-visited}
 
 -- the task of a number is orderly
@@ -49,15 +51,34 @@ pub indexed-submitted : (tasks : List Task) (counts : Counts) (ends : List Cell)
     IsIndexed tasks counts ends listed_stops firsts bars clear → 2 ≤ length stops → length stops ≤ 8 → length tasks < 1000000 →
     IfSome bar (λ cell. Contains stops cell × Contains ends cell) → IfNone bar (All (λ cell. ¬ Contains ends cell) stops) →
     ((m : ℕ) → Contains clear'.members m ↔ (Contains clear.members m ⊎ ((bar ≡ None) × (m ≡ length tasks)))) → clear'.bound ≡ clear.bound + 1 →
-    IsIndexed (tasks ++ fresh client stops clock ∷ []) (counted_submit counts) ends (listed_stops ++ map (listed (length tasks)) stops) (firsts ++ length listed_stops ∷ []) (bars ++ bar ∷ []) clear'
+    IsIndexed (tasks ++ fresh client stops clock ∷ []) (counted_more Phase.Open counts) ends (listed_stops ++ map (listed (length tasks)) stops) (firsts ++ length listed_stops ∷ []) (bars ++ bar ∷ []) clear'
 indexed-submitted tasks counts ends listed_stops firsts bars clear clear' client stops clock bar is two eight few some none put bound = record {
   few = rw (length-snoc tasks (fresh client stops clock)) few;
   orderly = All-push IsOrderly tasks (fresh client stops clock) is.orderly (orderly-fresh client stops clock two eight);
-  counts_are = ap counted_submit is.counts_are ∙ sym (counts-submitted tasks (fresh client stops clock) refl);
+  counts_are = ap (counted_more Phase.Open) is.counts_are ∙ sym (counts-more tasks (fresh client stops clock) Phase.Open refl);
   stops_are = listed-submitted tasks firsts listed_stops client stops clock is.stops_are eight;
   bars_are = bars-submitted tasks ends bars clear.members clear'.members client stops clock bar is.bars_are some none put;
   bound_is = let a = is.bound_is in let b = length-snoc tasks (fresh client stops clock) in omega (arith, a, b, bound);
 }
+
+-- one task more, which an agent has
+pub indexed-begun : (tasks : List Task) (counts : Counts) (ends : List Cell) (stops : List Stop) (firsts : List ℕ) (bars : List (Option Cell)) (clear clear' : Members) (task : Task) (first : ℕ) →
+    IsIndexed tasks counts ends stops firsts bars clear → IsOrderly task → task.agent ≢ None → length tasks < 1000000 → clear'.members ≡ clear.members → clear'.bound ≡ clear.bound + 1 →
+    IsIndexed (tasks ++ task ∷ []) (counted_more (phase task) counts) ends stops (firsts ++ first ∷ []) (bars ++ None ∷ []) clear'
+indexed-begun tasks counts ends stops firsts bars clear clear' task first is orderly begun few same bound = record {
+  few = rw (length-snoc tasks task) few;
+  orderly = All-push IsOrderly tasks task is.orderly orderly;
+  counts_are = ap (counted_more (phase task)) is.counts_are ∙ sym (counts-more tasks task (phase task) refl);
+  stops_are = listed-begun tasks firsts stops task first is.stops_are begun;
+  bars_are = subst (λ members. AreBars (tasks ++ task ∷ []) ends (bars ++ None ∷ []) members) (sym same) (bars-begun tasks ends bars clear.members task is.bars_are begun);
+  bound_is = let a = is.bound_is in let b = length-snoc tasks task in omega (arith, a, b, bound);
+}
+
+-- an open task is as it was submitted
+pub fresh-is : (task : Task) → IsOrderly task → IsOpen task → fresh task.client task.stops task.submitted ≡ task
+fresh-is task orderly is_open =
+    let none : task.visits ≡ [] = nil_from_length task.visits (orderly.unvisited is_open) in
+    λ i. record { client = task.client; stops = task.stops; submitted = task.submitted; agent = sym is_open i; visits = sym none i }
 
 -- one task is given to an agent
 pub indexed-assigned : (tasks : List Task) (counts : Counts) (ends : List Cell) (old new : List Stop) (firsts : List ℕ) (bars : List (Option Cell)) (clear clear' : Members) (n agent : ℕ) (task : Task) →

@@ -75,9 +75,12 @@ counts_of tasks = record {
   done = count_in Phase.Done tasks;
 }
 
--- the counts after a task was submitted, after one was assigned, and after a visit
-abbrev pub counted_submit : Counts → Counts
-counted_submit counts = record counts { open_tasks = counts.open_tasks + 1 }
+-- the counts with one task more in a phase, after a task was assigned, and after a visit
+abbrev pub counted_more : Phase → Counts → Counts
+counted_more Phase.Open counts = record counts { open_tasks = counts.open_tasks + 1 }
+counted_more Phase.Assigned counts = record counts { assigned = counts.assigned + 1 }
+counted_more Phase.Carried counts = record counts { carried = counts.carried + 1 }
+counted_more Phase.Done counts = record counts { done = counts.done + 1 }
 
 abbrev pub counted_assign : Counts → Counts
 counted_assign counts = record counts { open_tasks = counts.open_tasks - 1; assigned = counts.assigned + 1 }

@@ -82,6 +82,17 @@ impl Visits {
         self.clocks.as_slice()
     }
 
+    /// The same clocks.
+    pub(crate) fn copy(&self) -> Visits
+        ensures { result ≡ self.now }
+    {
+        let mut clocks = ArrayVec::new();
+        for clock in self.clocks.as_slice() {
+            clocks.push(*clock);
+        }
+        Visits { clocks }
+    }
+
     /// A further visit at this clock. It takes no memory.
     pub fn push(&mut self, clock: u32)
         requires { length self.old < 8 }
@@ -163,6 +174,19 @@ impl Task {
     ghost use Rattle.wh_tasks.specs.Tasks.{phase, visited, stops_left, pickup, delivery, load_for};
     ghost use Rattle.wh_tasks.specs.Changes.{visited_once, visit_of, IsInTime};
     ghost use Rattle.wh_tasks.specs.declared.task.Phase.{Phase as Stage};
+
+    /// The same task. It takes no memory.
+    pub fn copy(&self) -> Task
+        ensures { result ≡ self.now }
+    {
+        Task {
+            client: self.client.copy(),
+            stops: Places::of(self.stops.as_slice()),
+            submitted: self.submitted,
+            agent: self.agent,
+            visits: self.visits.copy(),
+        }
+    }
 
     /// How far it has come.
     pub fn phase(&self) -> Phase
@@ -292,7 +316,7 @@ fn count_here(here: Cell, stops: &[Cell]) -> usize
 }
 
 impl Counts {
-    ghost use Rattle.wh_tasks.specs.Changes.{counted_submit, counted_assign, counted_visit, AreFew, CanCount};
+    ghost use Rattle.wh_tasks.specs.Changes.{counted_more, counted_assign, counted_visit, AreFew, CanCount};
 
     /// No task.
     pub(crate) fn none() -> Counts
@@ -306,12 +330,17 @@ impl Counts {
         }
     }
 
-    /// A task was submitted.
-    pub(crate) fn submit(&mut self)
+    /// A task in this phase was added.
+    pub(crate) fn add(&mut self, phase: Phase)
         requires { AreFew self.old }
-        ensures { self.new ≡ counted_submit self.old }
+        ensures { self.new ≡ counted_more phase self.old }
     {
-        self.open_tasks += 1;
+        match phase {
+            Phase::Open => self.open_tasks += 1,
+            Phase::Assigned => self.assigned += 1,
+            Phase::Carried => self.carried += 1,
+            Phase::Done => self.done += 1,
+        }
     }
 
     /// An open task was assigned.

@@ -27,14 +27,14 @@ use wh_text::Name;
 /// path ends, its bar, and which of the open tasks have no bar.
 #[derive(Drop)]
 pub struct TaskSet {
-    tasks: Vec<Task>,
-    counts: Counts,
+    pub(crate) tasks: Vec<Task>,
+    pub(crate) counts: Counts,
     ends: PathEnds,
     stops: CellLists,
-    firsts: Vec<u32>,
-    bars: Vec<Option<Cell>>,
-    clear: NumberSet,
-    is_reserved: bool,
+    pub(crate) firsts: Vec<u32>,
+    pub(crate) bars: Vec<Option<Cell>>,
+    pub(crate) clear: NumberSet,
+    pub(crate) is_reserved: bool,
 }
 
 impl Model for TaskSet {
@@ -225,7 +225,7 @@ impl TaskSet {
             agent: None,
             visits: Visits::none(),
         });
-        self.counts.submit();
+        self.counts.add(Phase::Open);
         self.is_reserved = false;
         n
     }

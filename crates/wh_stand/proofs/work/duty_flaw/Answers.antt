@@ -4,7 +4,7 @@ use Rattle.wh_path.specs.Paths.{at, place_of}
 use Rattle.wh_tasks.specs.Tasks.{stops_left}
 use Rattle.wh_tasks.specs.Arrivals.{stops_here}
 use Rattle.wh_tasks.proofs.Visiting.{stops_here-at}
-use Rattle.wh_stand.specs.Columns.{state_in}
+use Rattle.wh_state.specs.Columns.{state_in}
 use Rattle.wh_stand.proofs.Holding.{phase-held}
 use Rattle.wh_stand.proofs.Times.{path-read}
 use Rattle.wh_stand.proofs.Telling.{told-size, duty-second, duty-alone, held-same}

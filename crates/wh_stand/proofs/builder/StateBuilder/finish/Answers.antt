@@ -2,7 +2,7 @@ use Rattle.std.proofs.Common.{◌≡◌, List, ℕ, length, ap, subst, arith}
 use Rattle.wh_points.specs.Points.{Site}
 use Rattle.wh_core.specs.Laws.{IsBeginning}
 use Rattle.wh_stand.specs.Parts.{Built}
-use Rattle.wh_stand.specs.Columns.{state_in}
+use Rattle.wh_state.specs.Columns.{state_in}
 use Rattle.wh_stand.proofs.Built.{well-beginning}
 use Rattle.wh_stand.proofs.builder.StateBuilder.finish.Goals as goal
 
