@@ -13,16 +13,17 @@ use Rattle.wh_planner.specs.Duties.{IsLawful, Delivers, ParksAt}
 use Rattle.wh_core.specs.States.{State, opened, arrived, adopted, assigned, moved, picked, dropped}
 use Rattle.wh_core.specs.Steps.{Step, Run, Answers, IsDue, last_clock, tour}
 use Rattle.wh_core.specs.Ordinary.{IsNext, IsAllowed}
-use Rattle.wh_core.specs.Laws.{IsReached, IsReachedOnTheirWays, IsBeginning, AllOnTheirWays, IsOpening}
+use Rattle.wh_core.specs.Laws.{IsReached, IsReachedOnTheirWays, IsBeginning, AllOnTheirWays, IsOpening, IsBeginningOnTheirWays}
 use Rattle.wh_event.specs.declared.entry.Entry.{Entry}
 use Rattle.wh_event.specs.declared.event.Event.{Event}
 use Rattle.wh_event.specs.declared.reply.Reply.{Reply}
 use Rattle.wh_core.proofs.StepKinds.{run-join}
-use Rattle.wh_core.proofs.Sound.{opening-reached, sound-reached, beginning-reached, ways-reached, ways-unloaded, kept-of}
+use Rattle.wh_core.proofs.Sound.{opening-may, begun-reached, sound-reached, beginning-reached, ways-reached, ways-unloaded, kept-of}
 use Rattle.wh_core.proofs.Ways.{none_is_refused_a_path}
 use Rattle.wh_event.specs.declared.reply.Refusal.{Refusal}
 use Rattle.wh_points.specs.Formed.{IsFormed}
 use Rattle.std.proofs.lemmas.List.Elements.{Contains-push}
+use Rattle.wh_state.specs.Standings.{IsSoundSomewhere}
 use Rattle.wh_book.specs.declared.draft.Change.{Change}
 use Rattle.wh_book.specs.Settings.{IsPlaced}
 use Rattle.wh_book.specs.OnTheirWays as ways
@@ -32,7 +33,7 @@ use Rattle.wh_book.specs.Drafts.{Seen, IsKept, Drafts, Changes, CanChange, AllSe
 
 -- what a book keeps is what the laws are about
 pub kept-ways : (site : Site) (opening : State) (history : List Entry) (state : State) → IsKept site opening history state → IsReachedOnTheirWays site history state
-kept-ways site opening history state kept = opening-reached site opening history state kept.is_opening kept.run
+kept-ways site opening history state kept = begun-reached site opening history state kept.begins kept.run
 
 pub kept-reached : (site : Site) (opening : State) (history : List Entry) (state : State) → IsKept site opening history state → IsReached site history state
 kept-reached site opening history state kept = (kept-ways site opening history state kept).reached
@@ -44,21 +45,28 @@ kept-begins site opening history state kept = (
   ways-reached site history state (kept-ways site opening history state kept),
 )
 
+pub opening-at : (site : Site) (clock : ℕ) (slots : List ℕ) → IsLayout site.grid site.layout → clock ≤ last_clock → length slots ≡ length site.layout.agents →
+    IsOpening site (opened site.layout clock slots)
+opening-at site clock slots layout fits seats = record { layout = layout; clock = clock; clock_fits = fits; slots = slots; seats = seats; is_opened = refl }
+
 -- a book with no entry is kept
 pub kept-opened : (site : Site) (clock : ℕ) (slots first : List ℕ) (history : List Entry) (state : State) → IsLayout site.grid site.layout →
     clock ≤ last_clock → length slots ≡ length site.layout.agents → first ≡ slots → history ≡ [] → state ≡ opened site.layout clock slots →
     IsKept site (opened site.layout clock first) history state
 kept-opened site clock slots first history state layout fits seats same none stands = record {
-  is_opening = record {
-    layout = layout;
-    clock = clock;
-    clock_fits = fits;
-    slots = first;
-    seats = ap length same ∙ seats;
-    is_opened = refl;
-  };
+  begins = opening-may site (opened site.layout clock first) (opening-at site clock first layout fits (ap length same ∙ seats));
   run = subst (λ (entries : List Entry). Run site (opened site.layout clock first) entries state) (sym none) (stands ∙ ap (opened site.layout clock) (sym same));
 }
+
+pub kept-begun : (site : Site) (opening : State) (history : List Entry) (state : State) → IsBeginningOnTheirWays site opening → history ≡ [] → state ≡ opening → IsKept site opening history state
+kept-begun site opening history state may none stands = record {
+  begins = may;
+  run = subst (λ (entries : List Entry). Run site opening entries state) (sym none) stands;
+}
+
+-- its state is one that may be kept
+pub sound-somewhere : (site : Site) (s : State) → IsBeginningOnTheirWays site s → length site.layout.agents ≤ 256 → IsSoundSomewhere s
+sound-somewhere site s begins few = record { site = site; few = few; sound = begins.beginning.sound }
 
 -- a run goes on by one step
 pub run-more : (site : Site) (old : State) (entries : List Entry) (mid : State) (entry : Entry) (new : State) →
@@ -182,7 +190,7 @@ tick-drafts book caller clock first last not_closed early clock_is first_is last
 pub kept-more : (site : Site) (opening : State) (history : List Entry) (state : State) (entry : Entry) (new : State) → IsKept site opening history state →
     Step site state entry new → IsKept site opening (history ++ entry ∷ []) new
 kept-more site opening history state entry new kept step = record {
-  is_opening = kept.is_opening;
+  begins = kept.begins;
   run = run-more site opening history state entry new kept.run step;
 }
 
@@ -209,9 +217,9 @@ all-right P [] ys all = all
 all-right P (x ∷ xs) ys all = all-right P xs ys (λ k d lt. all (suc k) d (let l : suc k < length (x ∷ (xs ++ ys)) = omega arith in l))
 
 -- nor any entry of a run that goes on from there
-pub run-served : (site : Site) (opening : State) (history : List Entry) (state : State) (added : List Entry) (new : State) → IsOpening site opening →
+pub run-served : (site : Site) (opening : State) (history : List Entry) (state : State) (added : List Entry) (new : State) → IsBeginningOnTheirWays site opening →
     Run site opening history state → Run site state added new → IsFormed site → AllServed added
-run-served site opening history state added new is_opening run more formed =
+run-served site opening history state added new may run more formed =
     let joined = run-join site opening history state added new run more in
-    let all = none_is_refused_a_path site (history ++ added) new formed (opening-reached site opening (history ++ added) new is_opening joined) in
+    let all = none_is_refused_a_path site (history ++ added) new formed (begun-reached site opening (history ++ added) new may joined) in
     all-right (λ (entry : Entry). entry.reply ≢ Reply.Refused Refusal.NoPath) history added all

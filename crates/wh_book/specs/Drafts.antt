@@ -6,12 +6,12 @@ use Rattle.wh_tasks.specs.Tasks.{IsTask, IsOpen}
 use Rattle.wh_core.specs.States.{State, arrived, submitted, adopted, assigned, moved, reseated, shut, picked, dropped}
 use Rattle.wh_core.specs.Steps.{Step, Run, IsDeliveryCell, most_tasks, last_clock}
 use Rattle.wh_grid.specs.declared.cell.Cell.{Cell}
-use Rattle.wh_core.specs.Laws.{IsOpening}
 use Rattle.wh_event.specs.declared.entry.Entry.{Entry}
 use Rattle.wh_event.specs.declared.event.Event.{Event}
 use Rattle.wh_event.specs.declared.reply.Reply.{Reply}
 use Rattle.wh_event.specs.declared.reply.Refusal.{Refusal}
 use Rattle.wh_state.specs.Standings.{Standing}
+use Rattle.wh_core.specs.Laws.{IsBeginningOnTheirWays}
 use Rattle.wh_book.specs.declared.draft.Change.{Change}
 use Rattle.wh_book.specs.declared.draft.Draft.{Draft}
 
@@ -48,9 +48,9 @@ pub record Seen : Type 0 where
   pub entry_room : ℕ
   pub task_room : ℕ
 
--- what a book keeps: the history is a run from the opening state to the state
+-- what a book keeps: with the opening state it may begin, and the history is a run from there to the state
 pub record IsKept (site : Site) (opening : State) (history : List Entry) (state : State) : Type 0 where
-  pub is_opening : IsOpening site opening
+  pub begins : IsBeginningOnTheirWays site opening
   pub run : Run site opening history state
 
 -- the book tells what it told, except for its room

@@ -10,7 +10,9 @@ ghost use Rattle.wh_planner.specs.Duties.{IsLawful, Delivers, ParksAt};
 ghost use Rattle.wh_core.specs.States.{State, opened, arrived, moved};
 ghost use Rattle.wh_core.specs.Steps.{Step, Run, IsDue, IsIdleIn, last_clock, tour};
 ghost use Rattle.wh_core.specs.Ordinary.{IsNext, NoneIsNext, IsAllowed};
-ghost use Rattle.wh_core.specs.Laws.{IsOpening};
+ghost use Rattle.wh_core.specs.Laws.{IsOpening, IsBeginningOnTheirWays};
+ghost use Rattle.wh_state.specs.Columns.{state_in};
+ghost use Rattle.wh_book.specs.Openings.{opening_of};
 ghost use Rattle.wh_event.specs.declared.event.Event.{Event as Asked};
 ghost use Rattle.wh_grid.specs.declared.cell.Cell.{Cell as Place};
 ghost use Rattle.wh_event.specs.declared.reply.Reply.{Reply as Answer};
@@ -23,6 +25,7 @@ ghost use Rattle.wh_book.specs.Drafts.{Seen, IsSame, IsReady, Drafts, Changes, C
 use crate::choice::{nearest, rests_at_once};
 use crate::draft::{Change, Draft};
 use crate::idle::ticks_until_idle;
+use crate::opening::Opening;
 use crate::parking::free_points;
 use crate::setting::{Fault, Setting};
 use crate::tour::tour_of;
@@ -34,24 +37,23 @@ use wh_event::{Entry, Event, KeptStops, Refusal, Reply, Spare, Stops};
 use wh_field::LazyField;
 use wh_grid::Cell;
 use wh_path::TimedPath;
-use wh_state::{Arrivals, FleetState};
+use wh_state::{Arrivals, FleetState, StateParts};
 use wh_tasks::{Load, TaskSet};
 use wh_text::Name;
 use wh_timetable::Timetable;
 
-/// The state, the history that led to it, and what the opening state was made of.
+/// The state, the history that led to it, and with what it began.
 #[derive(Drop)]
 pub struct Book {
     setting: Setting,
-    first_clock: u32,
-    first_slots: Vec<u32>,
+    first: Opening,
     floor: FleetState,
     history: Vec<Entry>,
 }
 
 impl Model for Book {
     ghost use Rattle.std.specs.Prelude.{◌-◌, vec_capacity, vec_len};
-    ghost use Rattle.wh_core.specs.States.{opened};
+    ghost use Rattle.wh_book.specs.Openings.{opening_of};
     ghost use Rattle.wh_grid.specs.declared.cell.Cell.{Cell as Place};
     ghost use Rattle.wh_book.specs.Settings.{IsStop, faulty};
     ghost use Rattle.wh_book.specs.Drafts.{Seen, IsKept};
@@ -60,14 +62,14 @@ impl Model for Book {
 
     ghost view = { λ b. record {
       site = b.setting;
-      opening = opened b.setting.layout b.first_clock b.first_slots.items;
+      opening = opening_of b.setting.layout b.first;
       state = b.floor.state;
       history = b.history.items;
       entry_room = vec_capacity b.history - vec_len b.history;
       task_room = b.floor.room;
     } };
 
-    ghost invariant = { λ b. IsKept b.setting (opened b.setting.layout b.first_clock b.first_slots.items) b.history.items b.floor.state };
+    ghost invariant = { λ b. IsKept b.setting (opening_of b.setting.layout b.first) b.history.items b.floor.state };
 }
 
 impl Book {
@@ -82,6 +84,7 @@ impl Book {
         requires seats { length slots.items ≡ length setting.layout.agents }
         ensures site { IfOk result (λ book. book.site ≡ setting) }
         ensures opening { IfOk result (λ book. book.opening ≡ opened setting.layout clock slots.items) }
+        ensures opens { IfOk result (λ book. IsOpening book.site book.opening) }
         ensures state { IfOk result (λ book. book.state ≡ book.opening) }
         ensures history { IfOk result (λ book. book.history ≡ []) }
     {
@@ -91,33 +94,46 @@ impl Book {
         let floor = FleetState::open(alloc, setting.grid(), clock, starts.as_slice(), slots)?;
         Ok(Book {
             setting,
-            first_clock: clock,
-            first_slots,
+            first: Opening::Starts {
+                clock,
+                slots: first_slots,
+            },
             floor,
             history: Vec::new(alloc),
         })
     }
 
-    /// The book of a history that was told elsewhere, which is a run from the opening of this clock and these slots to the
-    /// state. It takes no memory and always succeeds.
-    pub fn resume(
-        setting: Setting,
-        first_clock: u32,
-        first_slots: Vec<u32>,
-        floor: FleetState,
-        history: Vec<Entry>,
-    ) -> Book
-        requires opening { IsOpening setting (opened setting.layout first_clock first_slots.items) }
-        requires run { Run setting (opened setting.layout first_clock first_slots.items) history.items floor.state }
+    /// The book with no entry that begins with the state of these parts.
+    pub fn begin(alloc: Global, setting: Setting, parts: StateParts) -> Result<Book, AllocError>
+        requires { IsBeginningOnTheirWays setting (state_in parts) }
+        ensures site { IfOk result (λ book. book.site ≡ setting) }
+        ensures opening { IfOk result (λ book. book.opening ≡ state_in parts) }
+        ensures state { IfOk result (λ book. book.state ≡ book.opening) }
+        ensures history { IfOk result (λ book. book.history ≡ []) }
+    {
+        let _agents = setting.agents();
+        let floor = FleetState::of(alloc, setting.grid(), &parts)?;
+        Ok(Book {
+            setting,
+            first: Opening::State(parts),
+            floor,
+            history: Vec::new(alloc),
+        })
+    }
+
+    /// The book of a history that was told elsewhere, which is a run from the opening to the state. It takes no memory and
+    /// always succeeds.
+    pub fn resume(setting: Setting, first: Opening, floor: FleetState, history: Vec<Entry>) -> Book
+        requires opening { IsBeginningOnTheirWays setting (opening_of setting.layout first) }
+        requires run { Run setting (opening_of setting.layout first) history.items floor.state }
         ensures site { result.site ≡ setting }
-        ensures opening { result.opening ≡ opened setting.layout first_clock first_slots.items }
+        ensures opening { result.opening ≡ opening_of setting.layout first }
         ensures state { result.state ≡ floor.state }
         ensures history { result.history ≡ history.items }
     {
         Book {
             setting,
-            first_clock,
-            first_slots,
+            first,
             floor,
             history,
         }
@@ -133,7 +149,9 @@ impl Book {
     /// All entries so far: a run from the opening state to the state.
     pub fn history(&self) -> &[Entry]
         ensures value { result.now ≡ self.now.history }
-        ensures opening { IsOpening self.now.site self.now.opening }
+        ensures opening { IsBeginningOnTheirWays self.now.site self.now.opening }
+        // Where the agents stood at their starts, that is an opening.
+        ensures opened { (clock : ℕ) (slots : List ℕ) → self.now.opening ≡ opened self.now.site.layout clock slots → IsOpening self.now.site self.now.opening }
         ensures run { Run self.now.site self.now.opening self.now.history self.now.state }
         ensures served { IsFormed self.now.site → AllServed self.now.history }
     {
@@ -201,14 +219,14 @@ impl Book {
     pub fn first_clock(&self) -> u32
         ensures { result ≡ self.now.opening.clock }
     {
-        self.first_clock
+        self.first.clock()
     }
 
     /// The slots of the agents' planners in the opening state.
     pub fn first_slots(&self) -> &[u32]
         ensures { result.now ≡ self.now.opening.slots }
     {
-        self.first_slots.as_slice()
+        self.first.slots()
     }
 
     /// Makes room for one entry.

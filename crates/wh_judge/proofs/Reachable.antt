@@ -6,10 +6,10 @@ use Rattle.wh_points.specs.Points.{Site, IsLayout}
 use Rattle.wh_tasks.specs.declared.task.Load.{Load}
 use Rattle.wh_core.specs.States.{State, opened}
 use Rattle.wh_core.specs.Steps.{Step, IsDue, last_clock}
-use Rattle.wh_core.specs.Laws.{IsOpening}
+use Rattle.wh_core.specs.Laws.{IsOpening, IsBeginningOnTheirWays}
 use Rattle.wh_event.specs.declared.entry.Entry.{Entry}
 use Rattle.wh_core.proofs.StepKinds.{run-join}
-use Rattle.wh_core.proofs.Sound.{opening-reached, beginning-reached, kept-reached, ways-reached, sound-reached, ways-unloaded}
+use Rattle.wh_core.proofs.Sound.{opening-reached, begun-reached, beginning-reached, kept-reached, ways-reached, sound-reached, ways-unloaded}
 use Rattle.wh_book.specs.OnTheirWays.{Answers}
 use Rattle.wh_book.proofs.OnTheirWays.{steps_on_their_ways}
 use Rattle.wh_judge.specs.Judged.{IsReachable}
@@ -45,6 +45,9 @@ reached-opening site clock slots layout fits seats =
     let opening : IsOpening site (opened site.layout clock slots) =
     record { layout = layout; clock = clock; clock_fits = fits; slots = slots; seats = seats; is_opened = refl } in
     ([], opening-reached site (opened site.layout clock slots) [] (opened site.layout clock slots) opening refl)
+
+pub reached-begun : (site : Site) (s : State) → IsBeginningOnTheirWays site s → IsReachable site s
+reached-begun site s may = ([], begun-reached site s [] s may refl)
 
 -- in such a state the answers where all are on their ways are the steps
 pub step-plain : (site : Site) (old : State) (entry : Entry) (new : State) → IsReachable site old → Answers site old entry.reply entry.event new → Step site old entry new

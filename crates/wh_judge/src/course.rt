@@ -2,7 +2,7 @@
 #![tactic(auto)]
 
 ghost use Rattle.std.specs.Prelude.{◌≡◌, ℕ, ◌+◌, ◌<◌, ◌≤◌, ◌^◌, ◌↔◌, ⊤, IsTrue, length, All};
-ghost use Rattle.wh_path.specs.Paths.{at, others, IsWalk, IsFree};
+ghost use Rattle.wh_path.specs.Paths.{at, horizon, last_index, others, IsWalk, IsFree};
 ghost use Rattle.wh_planner.specs.Duties.{Delivers, IsLawful};
 ghost use Rattle.wh_judge.specs.Courses.{GoesPast};
 
@@ -97,6 +97,16 @@ fn free_of_others(nofollow: bool, paths: &Timetable, agent: usize, path: &TimedP
     }
 }
 
+/// Whether the path takes no longer than the others may still move, and then so many steps. The others are looked at only where it
+/// takes more steps than that.
+fn is_soon(list: &[TimedPath], agent: usize, steps: u64, path: &TimedPath) -> bool
+    requires known { agent < length list.now }
+    requires few { steps < 2 ^ 62 }
+    ensures { IsTrue result ↔ (last_index path.now ≤ horizon (others list.now agent) + steps) }
+{
+    path.remaining() <= steps || path.remaining() <= last_to_rest(list, agent) + steps
+}
+
 /// Whether the agent may adopt the path, whatever its duty of `legs` legs asks of it. The cheap questions come first.
 pub fn is_course(
     grid: &Grid,
@@ -111,12 +121,11 @@ pub fn is_course(
     ensures { IsTrue result ↔ IsLawful grid.now nofollow paths.now agent legs (λ _. ⊤) path.now }
 {
     let list = paths.paths();
-    let bound = last_to_rest(list, agent) + legs * grid.cells() as u64;
     let starts = path.at(0).is(list[agent].at(0));
     if !starts {
         return false;
     }
-    if path.remaining() > bound {
+    if !is_soon(list, agent, legs * grid.cells() as u64, path) {
         return false;
     }
     if !walks(grid, path) {

@@ -5,6 +5,8 @@ ghost use Rattle.std.specs.Prelude.{◌≡◌, ◌≤◌, true, false, IsTrue, I
 ghost use Rattle.wh_points.specs.Points.{IsLayout};
 ghost use Rattle.wh_core.specs.States.{State, opened};
 ghost use Rattle.wh_core.specs.Steps.{Step, last_clock};
+ghost use Rattle.wh_book.specs.Columns.{state_in};
+ghost use Rattle.wh_core.specs.Laws.{IsBeginningOnTheirWays};
 ghost use Rattle.wh_judge.specs.Judged.{Decides, IsReachable, IsStep};
 
 use crate::instance::Instance;
@@ -14,7 +16,7 @@ use crate::requests::{park, rest, take};
 use crate::submitting::accept;
 use std::alloc::{AllocError, Global};
 use std::marker::Model;
-use wh_book::FleetState;
+use wh_book::{FleetState, StateParts};
 use wh_event::{Entry, Event, Reply};
 use wh_field::LazyField;
 use wh_grid::Cell;
@@ -120,6 +122,27 @@ impl<'a> Judge<'a> {
         let grid = instance.grid();
         let near = LazyField::from(alloc, grid, Cell { x: 0, y: 0 })?;
         let floor = opening(alloc, &instance, clock, slots)?;
+        Ok(Judge {
+            instance,
+            floor,
+            near,
+        })
+    }
+
+    /// The warehouse that begins with the state of these parts, which stay as they are, before any entry. Fails when out of
+    /// memory.
+    pub fn begin(
+        alloc: Global,
+        instance: Instance<'a>,
+        parts: &StateParts,
+    ) -> Result<Judge<'a>, AllocError>
+        requires { IsBeginningOnTheirWays instance (state_in parts.now) }
+        ensures { IfOk result (λ judge. judge ≡ record { site = instance.entry; state = state_in parts.now }) }
+    {
+        let _agents = instance.agents();
+        let grid = instance.grid();
+        let near = LazyField::from(alloc, grid, Cell { x: 0, y: 0 })?;
+        let floor = FleetState::of(alloc, grid, parts)?;
         Ok(Judge {
             instance,
             floor,

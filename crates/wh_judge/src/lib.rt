@@ -25,4 +25,4 @@ pub use judge::Judge;
 pub use verifier::{Verified, VerifiedFront, verify, verify_over, verify_unended};
 
 // handed on, for callers: what the items below take, return and speak of
-pub use wh_book::{Book, FleetState, Setting};
+pub use wh_book::{Book, FleetState, Opening, Setting, StateParts};

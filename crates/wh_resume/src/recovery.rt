@@ -8,7 +8,7 @@ ghost use Rattle.wh_resume.specs.Resuming.{TellsFrom, TellsOther};
 use crate::fronts::is_front;
 use crate::keeper::{Keeper, Parts};
 use std::alloc::Global;
-use wh_judge::{Book, Instance, Setting};
+use wh_judge::{Book, Instance, Opening, Setting};
 use wh_log::{Front, NoMemory, Source, SourceFault, Version, follow_front};
 use wh_words::whole_line;
 
@@ -97,7 +97,11 @@ pub fn recover<S: Source>(
                 floor,
                 history,
             } = keeper.into_parts();
-            let book = Book::resume(setting, first_clock, first_slots, floor, history);
+            let first = Opening::Starts {
+                clock: first_clock,
+                slots: first_slots,
+            };
+            let book = Book::resume(setting, first, floor, history);
             Ok(Recovery::Resumed(Resumed {
                 version,
                 book,

@@ -17,9 +17,9 @@ use Rattle.wh_tasks.specs.Choice.{IsAtMost, IsNearest}
 use Rattle.wh_core.specs.States.{State, load_of}
 use Rattle.wh_core.specs.Steps.{Answers, Run, IsDue, IsNext, IsNextBy, NoneIsNext, IsDeliveryCell, MakesWay, other_ends}
 use Rattle.wh_core.specs.Ordinary as plain
-use Rattle.wh_core.specs.Laws.{IsOpening, AllOnTheirWays}
+use Rattle.wh_core.specs.Laws.{AllOnTheirWays, IsBeginningOnTheirWays}
 use Rattle.wh_core.proofs.Work.{IsKept}
-use Rattle.wh_core.proofs.Sound.{opening-reached, kept-reached, ways-reached, ways-unloaded, none-halted}
+use Rattle.wh_core.proofs.Sound.{begun-reached, kept-reached, ways-reached, ways-unloaded, none-halted}
 use Rattle.wh_core.proofs.Ways.{end-berth}
 use Rattle.wh_event.specs.declared.entry.Entry.{Entry}
 use Rattle.wh_event.specs.declared.event.Event.{Event}
@@ -170,17 +170,17 @@ among-none site s asked count none agent is = elim (among-with asked count agent
 
 -- in nobody's way
 
--- what a run from an opening gives: a due agent has no load
-pub run-unloaded : (site : Site) (opening : State) (history : List Entry) (s : State) → IsOpening site opening → Run site opening history s → AreUnloaded site s
+-- what a run of a book gives: a due agent has no load
+pub run-unloaded : (site : Site) (opening : State) (history : List Entry) (s : State) → IsBeginningOnTheirWays site opening → Run site opening history s → AreUnloaded site s
 run-unloaded site opening history s is run agent due =
-    let r = opening-reached site opening history s is run in
+    let r = begun-reached site opening history s is run in
     ways-unloaded site s agent (kept-reached site history s r.reached) (ways-reached site history s r) due
 
 -- it is told to rest where no open task is delivered at the end of its path, or paths go on home
-pub run-rests : (site : Site) (opening : State) (history : List Entry) (s : State) (agent : ℕ) → IsOpening site opening → Run site opening history s →
+pub run-rests : (site : Site) (opening : State) (history : List Entry) (s : State) (agent : ℕ) → IsBeginningOnTheirWays site opening → Run site opening history s →
     (site.homes ≡ false → ¬ IsDeliveryCell s (end_of s.paths agent)) → NoneIsNext s agent → IsDue site s agent → Answers site s Reply.Rested (Event.Request agent) s
 run-rests site opening history s agent is run away none due =
-    let r = opening-reached site opening history s is run in
+    let r = begun-reached site opening history s is run in
     let kept = kept-reached site history s r.reached in
     let ways = ways-reached site history s r in (
       due,

@@ -4,6 +4,7 @@ ghost use Rattle.std.specs.Prelude.{◌≡◌, ◌≤◌, ℕ, List, [], false, 
 ghost use Rattle.wh_points.specs.Points.{IsLayout};
 ghost use Rattle.wh_core.specs.States.{opened};
 ghost use Rattle.wh_core.specs.Steps.{last_clock};
+ghost use Rattle.wh_core.specs.Laws.{IsOpening};
 ghost use Rattle.wh_token.specs.Fleet.{IsTied, AllFit, RefusesToOpen, RefusesToResume};
 
 use crate::roster::{OpenFault, ResumeFault, fields_over, first_foreign, outfit, slots_of};
@@ -31,6 +32,7 @@ impl<P: Plans> Warehouse<P> {
         requires start { start ≤ last_clock }
         ensures site { IfOk result (λ w. w.book.site ≡ record { grid = grid.value; layout = points; homes = false }) }
         ensures opening { IfOk result (λ w. ((slots : List ℕ) × (w.book.opening ≡ opened points start slots) × (w.book.state ≡ w.book.opening))) }
+        ensures opens { IfOk result (λ w. IsOpening w.book.site w.book.opening) }
         ensures history { IfOk result (λ w. w.book.history ≡ []) }
         ensures planners { IfOk result (λ w. w.planners ≡ planners.items) }
         ensures tied { IfOk result (λ w. IsTied P.fits_map P.slot_count grid.value w.planners w.book.state.slots) }
@@ -49,6 +51,7 @@ impl<P: Plans> Warehouse<P> {
         requires start { start ≤ last_clock }
         ensures site { IfOk result (λ w. w.book.site ≡ setting) }
         ensures opening { IfOk result (λ w. ((slots : List ℕ) × (w.book.opening ≡ opened setting.layout start slots) × (w.book.state ≡ w.book.opening))) }
+        ensures opens { IfOk result (λ w. IsOpening w.book.site w.book.opening) }
         ensures history { IfOk result (λ w. w.book.history ≡ []) }
         ensures planners { IfOk result (λ w. w.planners ≡ planners.items) }
         ensures tied { IfOk result (λ w. IsTied P.fits_map P.slot_count setting.grid w.planners w.book.state.slots) }
@@ -82,6 +85,7 @@ impl<P: Plans> Warehouse<P> {
         requires fit { AllFit P.fits_map setting.grid planners.items }
         ensures site { IfOk result (λ w. w.book.site ≡ setting) }
         ensures opening { IfOk result (λ w. ((slots : List ℕ) × (w.book.opening ≡ opened setting.layout start slots) × (w.book.state ≡ w.book.opening))) }
+        ensures opens { IfOk result (λ w. IsOpening w.book.site w.book.opening) }
         ensures history { IfOk result (λ w. w.book.history ≡ []) }
         ensures planners { IfOk result (λ w. w.planners ≡ planners.items) }
         ensures tied { IfOk result (λ w. IsTied P.fits_map P.slot_count setting.grid w.planners w.book.state.slots) }

@@ -1,11 +1,12 @@
 //! What can be read of a warehouse.
 
-ghost use Rattle.std.specs.Prelude.{◌≡◌, ◌<◌, ◌≤◌, Some, length, slice_get, IfOk};
+ghost use Rattle.std.specs.Prelude.{◌≡◌, ℕ, ◌<◌, ◌≤◌, List, Some, length, slice_get, IfOk};
 ghost use Rattle.wh_points.specs.Formed.{IsFormed};
 ghost use Rattle.wh_path.specs.Paths.{place_of, steps_left};
 ghost use Rattle.wh_tasks.specs.Tasks.{IsTask};
 ghost use Rattle.wh_ledger.specs.Ledgers.{rows_of};
-ghost use Rattle.wh_core.specs.Laws.{IsOpening};
+ghost use Rattle.wh_core.specs.States.{opened};
+ghost use Rattle.wh_core.specs.Laws.{IsOpening, IsBeginningOnTheirWays};
 ghost use Rattle.wh_core.specs.Steps.{Run, last_clock};
 ghost use Rattle.wh_book.specs.Drafts.{AllServed};
 ghost use Rattle.wh_token.specs.Fleet.{IsTied};
@@ -101,7 +102,9 @@ impl<P: Plans> Warehouse<P> {
     /// for lack of a path.
     pub fn history(&self) -> &[Entry]
         ensures value { result.now ≡ self.now.book.history }
-        ensures opening { IsOpening self.now.book.site self.now.book.opening }
+        ensures opening { IsBeginningOnTheirWays self.now.book.site self.now.book.opening }
+        // Where the agents stood at their starts, that is an opening.
+        ensures opened { (clock : ℕ) (slots : List ℕ) → self.now.book.opening ≡ opened self.now.book.site.layout clock slots → IsOpening self.now.book.site self.now.book.opening }
         ensures run { Run self.now.book.site self.now.book.opening self.now.book.history self.now.book.state }
         ensures served { IsFormed self.now.book.site → AllServed self.now.book.history }
     {

@@ -16,9 +16,9 @@ returns c =
         starts_here = sym c.at.ensures ∙ c.is-starts.ensures.0 c.if-not-starts.false ∙ c.at-2.ensures ∙ ap (λ (p : List Cell). at p 0) own;
         free = c.free_of_others.ensures.0 free;
         bounded =
-            let value = c.last_to_rest.ensures.value ∙ ap (λ (ps : List (List Cell)). horizon (others ps agent)) told in
+            let value = ap (λ (ps : List (List Cell)). horizon (others ps agent)) told in
             let cells = ap (λ n. c.args.legs * n) c.cells.ensures.value in
-            let least = c.if-remaining-bound.false in
+            let soon = c.is_soon.ensures.0 c.if-not-is_soon.false in
             omega arith;
         serves = tt;
       },
