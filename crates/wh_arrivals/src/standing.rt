@@ -2,6 +2,7 @@
 
 ghost use Rattle.std.specs.Prelude.{◌≡◌, ◌≢◌, ◌+◌, ◌<◌, ◌≤◌, ◌^◌, ℕ, true, OnOk, IfOk, IfErr, length};
 ghost use Rattle.std.specs.List.{AllPairs};
+ghost use Rattle.wh_core.specs.Laws.{IsOpening};
 ghost use Rattle.wh_drive.specs.Drives.{Drive, MayTick, ticked};
 ghost use Rattle.wh_order.specs.Orders.{Represents};
 ghost use Rattle.wh_order.specs.Bringing.{StandBy, GoesOn, IsTooEarly};
@@ -59,6 +60,7 @@ pub fn stand(
     ahead: u64,
     steps: &[u64],
 ) -> Result<VisitOrder, StandFault>
+    requires opening { IsOpening book.now.site book.now.opening }
     requires some { 1 ≤ ahead }
     requires all { length steps.now ≡ length book.now.state.paths }
     ensures ok { IfOk result (Stand book.now ahead steps.now) }

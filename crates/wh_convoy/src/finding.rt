@@ -2,6 +2,7 @@
 #![tactic(auto)]
 
 ghost use Rattle.std.specs.Prelude.{◌≡◌, ◌-◌, ◌<◌, ◌≤◌, ℕ, IfErr, IfNone, IfOk, IfSome, false, length, slice_index, true};
+ghost use Rattle.wh_core.specs.Laws.{IsOpening};
 ghost use Rattle.wh_dispatch.specs.SettingOut.{SomeInStep};
 ghost use Rattle.wh_convoy.specs.Beginning.{IsBeginning};
 ghost use Rattle.wh_convoy.specs.Standing.{IsDriven, IsWhole, StandsBy, IsWhyNotStood};
@@ -89,6 +90,7 @@ fn steps_so_far(book: &Book) -> u64
 /// cells ahead from now on. A text with no whole line is taken for that of a file that was not begun only where it is a beginning of one.
 /// Nothing changes.
 pub fn find_stand(alloc: Global, book: &Book, ahead: u64, text: &[u8]) -> Result<Stood, StoodFault>
+    requires opening { IsOpening book.now.site book.now.opening }
     requires some { 1 ≤ ahead }
     ensures ok { IfOk result (StandsBy book.now ahead text.now) }
     ensures stand { IfOk result (λ stood. SomeInStep book.now stood.order) }

@@ -15,7 +15,7 @@ use Rattle.wh_core.specs.States.{State}
 use Rattle.wh_core.specs.Steps.{Answers, Step, Run, IsDue}
 use Rattle.wh_core.specs.Laws.{IsReachedOnTheirWays}
 use Rattle.wh_core.proofs.StepKinds.{run-join}
-use Rattle.wh_core.proofs.Sound.{opening-reached}
+use Rattle.wh_core.proofs.Sound.{begun-reached}
 use Rattle.wh_event.specs.declared.event.Event.{Event}
 use Rattle.wh_event.specs.declared.reply.Refusal.{Refusal}
 use Rattle.wh_event.specs.declared.reply.Reply.{Reply}
@@ -334,5 +334,5 @@ IsBegun book = IsKept book.site book.opening book.history book.state
 pub reached : (caller : ℕ) (book now : Seen) (added : List Entry) → IsBegun book → GoesOn caller book added now →
     IsReachedOnTheirWays book.site (book.history ++ added) now.state
 reached caller book now added kept goes =
-    opening-reached book.site book.opening (book.history ++ added) now.state kept.is_opening
+    begun-reached book.site book.opening (book.history ++ added) now.state kept.begins
     (run-join book.site book.opening book.history book.state added now.state kept.run goes.run)

@@ -7,6 +7,7 @@ ghost use Rattle.wh_tasks.specs.declared.task.Task.{Task as Job};
 ghost use Rattle.wh_tasks.specs.declared.task.Phase.{Phase as Stage};
 ghost use Rattle.wh_tasks.specs.Tasks.{IsTask, IsOpen, phase};
 ghost use Rattle.wh_core.specs.Steps.{last_clock};
+ghost use Rattle.wh_core.specs.Laws.{IsOpening};
 ghost use Rattle.wh_event.specs.declared.event.Event.{Event as Asked};
 ghost use Rattle.wh_event.specs.declared.entry.Entry.{Entry as Line};
 ghost use Rattle.wh_progress.specs.Progress.{span, open_tasks, left_to_do, HaveAtMost, AreOfTwoPlaces, StandsStill, IsHeld, AllDone};
@@ -185,16 +186,16 @@ pub fn deliver_all<P: Plans>(
     ensures done { IfOk result (λ _. warehouse.old.book.site.homes ≡ false → 0 < length warehouse.old.book.site.layout.agents → AreOfTwoPlaces warehouse.old.book.state → AllDone warehouse.new.book.state) }
     ensures within { IfOk result (λ ticks. (stops : ℕ) → IsFormed warehouse.old.book.site → HaveAtMost stops warehouse.old.book.state
         → ticks ≤ left_to_do warehouse.old.book.site stops warehouse.old.book.state) }
-    ensures bounded { IfOk result (λ ticks. warehouse.old.book.site.homes ≡ false → (stops : ℕ) → IsFormed warehouse.old.book.site → HaveAtMost stops warehouse.old.book.state
+    ensures bounded { IfOk result (λ ticks. warehouse.old.book.site.homes ≡ false → IsOpening warehouse.old.book.site warehouse.old.book.opening → (stops : ℕ) → IsFormed warehouse.old.book.site → HaveAtMost stops warehouse.old.book.state
         → ticks ≤ 2 * span warehouse.old.book.site stops * (length warehouse.old.book.site.layout.agents + open_tasks warehouse.old.book.state)) }
     ensures why { IfErr result (λ fault. IsWhy warehouse.new.book.site fault warehouse.new.book.state) }
     ensures formed { IfErr result (λ fault. fault ≡ BrokenOff.Stuck → ¬ IsFormed warehouse.old.book.site) }
     ensures late_within { IfErr result (λ fault. fault ≡ BrokenOff.ClockFull → (stops : ℕ) → IsFormed warehouse.old.book.site → HaveAtMost stops warehouse.old.book.state
         → last_clock ≤ warehouse.old.book.state.clock + left_to_do warehouse.old.book.site stops warehouse.old.book.state) }
-    ensures late { IfErr result (λ fault. fault ≡ BrokenOff.ClockFull → warehouse.old.book.site.homes ≡ false → (stops : ℕ) → IsFormed warehouse.old.book.site → HaveAtMost stops warehouse.old.book.state
+    ensures late { IfErr result (λ fault. fault ≡ BrokenOff.ClockFull → warehouse.old.book.site.homes ≡ false → IsOpening warehouse.old.book.site warehouse.old.book.opening → (stops : ℕ) → IsFormed warehouse.old.book.site → HaveAtMost stops warehouse.old.book.state
         → last_clock ≤ warehouse.old.book.state.clock + 2 * span warehouse.old.book.site stops * (length warehouse.old.book.site.layout.agents + open_tasks warehouse.old.book.state)) }
 {
-    // Called for what its contract says: the history is a run from an opening.
+    // Called for what its contract says: the history is a run from where the book began.
     let _run = warehouse.history();
     for ticks in 0..LAST_CLOCK {
         if warehouse.closed() {

@@ -7,7 +7,7 @@ ghost use Rattle.wh_points.specs.Formed.{IsFormed};
 ghost use Rattle.wh_event.specs.declared.event.Command.{Command as Asked};
 ghost use Rattle.wh_event.specs.declared.reply.Reply.{Reply as Answered};
 ghost use Rattle.wh_event.specs.declared.reply.Refusal.{Refusal as Reason};
-ghost use Rattle.wh_core.specs.Laws.{IsOpening};
+ghost use Rattle.wh_core.specs.Laws.{IsBeginningOnTheirWays};
 ghost use Rattle.wh_core.specs.Steps.{Run};
 ghost use Rattle.wh_token.specs.Fleet.{TellsFor, replaced_agent};
 ghost use Rattle.wh_board.specs.Boards.{IsBoardOf};
@@ -317,7 +317,7 @@ impl<N: DeskName, H: Wait + Drop, P: Plans> Desk<N, H, P> {
     pub fn finish(self, passes: Vec<Pass<N>>) -> Result<History<P>, Stale>
         requires { InOrder N.callers passes.items }
         ensures origin { IfOk result (λ r. origin_of r.warehouse.book ≡ N.origin) }
-        ensures opening { IfOk result (λ _. IsOpening N.origin.site N.origin.opening) }
+        ensures opening { IfOk result (λ _. IsBeginningOnTheirWays N.origin.site N.origin.opening) }
         ensures run { IfOk result (λ r. Run N.origin.site N.origin.opening r.warehouse.book.history r.warehouse.book.state) }
         ensures callers { IfOk result (λ r. All (λ entry. entry.caller < N.callers) r.warehouse.book.history) }
         ensures lists { IfOk result (λ r. All (λ p. p.list ≡ entries_of r.warehouse.book.history p.caller) passes.items) }

@@ -7,7 +7,7 @@ ghost use Rattle.wh_points.specs.Formed.{IsFormed};
 ghost use Rattle.wh_event.specs.declared.event.Command.{Command as Asked};
 ghost use Rattle.wh_event.specs.declared.reply.Reply.{Reply as Answered};
 ghost use Rattle.wh_event.specs.declared.reply.Refusal.{Refusal as Reason};
-ghost use Rattle.wh_core.specs.Laws.{IsOpening};
+ghost use Rattle.wh_core.specs.Laws.{IsBeginningOnTheirWays};
 ghost use Rattle.wh_core.specs.Steps.{Run};
 ghost use Rattle.wh_token.specs.Asking.{AllWouldRest, IsNextToAsk, MayBeAsked};
 ghost use Rattle.wh_token.specs.Fleet.{IsTied, StaySeated, TellsFor, replaced_agent};
@@ -206,11 +206,11 @@ impl<N: DeskName, H: Wait + Drop, P: Plans> Journal<N, H, P> {
         Ok(Met { length })
     }
 
-    /// What it leaves. All its entries are of the callers, and there are no more of them than cells. The run is from an
-    /// opening state, and on a well-formed instance none of its requests is refused for lack of a path.
+    /// What it leaves. All its entries are of the callers, and there are no more of them than cells. The run is from a
+    /// beginning, and on a well-formed instance none of its requests is refused for lack of a path.
     pub fn into_history(self) -> History<P>
         ensures origin { origin_of result.warehouse.book ≡ N.origin }
-        ensures opening { IsOpening N.origin.site N.origin.opening }
+        ensures opening { IsBeginningOnTheirWays N.origin.site N.origin.opening }
         ensures run { Run N.origin.site N.origin.opening result.warehouse.book.history result.warehouse.book.state }
         ensures served { NoneWantsPath N.origin result.warehouse.book.history }
         ensures history { result.warehouse.book.history ≡ self.history }

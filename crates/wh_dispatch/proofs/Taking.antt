@@ -22,8 +22,8 @@ use Rattle.wh_event.specs.declared.entry.Entry.{Entry}
 use Rattle.wh_event.specs.declared.reply.Reply.{Reply}
 use Rattle.wh_core.specs.States.{State}
 use Rattle.wh_core.specs.Steps.{Answers, IsNextBy, Step, Run}
-use Rattle.wh_core.specs.Laws.{IsOpening}
-use Rattle.wh_core.proofs.Sound.{beginning-reached, opening-reached, ways-reached}
+use Rattle.wh_core.specs.Laws.{IsBeginningOnTheirWays}
+use Rattle.wh_core.proofs.Sound.{begun-reached, beginning-reached, ways-reached}
 use Rattle.wh_core.proofs.Later.{AllLater, later-run, all_later-same}
 use Rattle.wh_core.proofs.Lists.{slice_get-set_same, map-at, map_from}
 use Rattle.wh_core.proofs.Work.{set-from, added-from}
@@ -227,13 +227,13 @@ last_split (x ∷ []) h = ([], x, refl)
 last_split (x ∷ y ∷ xs) h = (let r = last_split (y ∷ xs) (omega arith) in (x ∷ r.0, r.1, ap (λ zs. x ∷ zs) r.2))
 
 -- a task that was taken by the last entry stands
-pub taken_stands : (site : Site) (old : State) (history : List Entry) (new : State) (p : Pending) → IsOpening site old → Run site old history new → 0 < length history →
+pub taken_stands : (site : Site) (old : State) (history : List Entry) (new : State) (p : Pending) → IsBeginningOnTheirWays site old → Run site old history new → 0 < length history →
     ((front : List Entry) (entry : Entry) → history ≡ front ++ entry ∷ [] → Some p ≡ taken_in entry.reply entry.event) → p.task < length new.tasks
-taken_stands site old history new p opening run some is =
+taken_stands site old history new p begins run some is =
     let at = last_split history some in
     let entry = at.1 in
     let step = run_last site old at.0 entry new (subst (λ (es : List Entry). Run site old es new) at.2 run) in
-    let reached = opening-reached site old at.0 step.0 opening step.1 in
+    let reached = begun-reached site old at.0 step.0 begins step.1 in
     let free = unloaded site step.0 (beginning-reached site at.0 step.0 reached.reached) (ways-reached site at.0 step.0 reached) in
     let t : Takes step.0.tasks new.tasks (with_stops new.tasks (Some p)) =
     subst (λ (o : Option Pending). Takes step.0.tasks new.tasks (with_stops new.tasks o)) (sym (is at.0 entry at.2)) (takes_by site step.0 entry.reply entry.event new free step.2) in

@@ -2,6 +2,7 @@
 
 ghost use Rattle.std.specs.Prelude.{◌≡◌, ◌≢◌, ℕ, ◌+◌, ◌^◌, ◌<◌, ◌≤◌, ◌++◌, ◌∷◌, [], List, Option, OnOk, OnErr, IfOk, IfErr, IfSome, IfNone, Bool, cond, length, true, false, Contains};
 ghost use Rattle.std.specs.Io.KnownBytes.{Appends};
+ghost use Rattle.wh_core.specs.Laws.{IsOpening};
 ghost use Rattle.wh_lines.specs.Output.{WritesFront};
 ghost use Rattle.wh_event.specs.declared.entry.Entry.{Entry as Line};
 ghost use Rattle.wh_replay.specs.Answers.{text_of};
@@ -180,6 +181,7 @@ impl Vehicles {
         ahead: u64,
     ) -> Result<Vehicles, AllocError>
         requires opening { warehouse.now.book.history ≡ [] }
+        requires opened { IsOpening warehouse.now.book.site warehouse.now.book.opening }
         requires some { 1 ≤ ahead }
         ensures manned { IfOk result (λ v. IsManned warehouse.now.book v (opened warehouse.now.book.site.layout.nofollow ahead (places warehouse.now.book.state))) }
         ensures bound { IfOk result (λ v. v.bound ≡ behind) }

@@ -5,7 +5,7 @@ ghost use Rattle.std.specs.Arc.{arc_value};
 ghost use Rattle.wh_claims.specs.Bank.{Belongs};
 ghost use Rattle.wh_claims.specs.Claim.{claim_amount};
 ghost use Rattle.wh_points.specs.Formed.{IsFormed};
-ghost use Rattle.wh_core.specs.Laws.{IsOpening};
+ghost use Rattle.wh_core.specs.Laws.{IsBeginningOnTheirWays};
 ghost use Rattle.wh_core.specs.Steps.{Run};
 ghost use Rattle.wh_book.specs.Drafts.{AllServed};
 
@@ -233,7 +233,7 @@ fn warehouse_after<R: Print, P: Planner, F: Fn(Parts) -> Result<P, AllocError>>(
     make: &F,
 ) -> Result<Warehouse<P>, Halt>
     requires callable { F.IsAlwaysCallable make.now }
-    ensures opening { IfOk result (λ w. IsOpening w.book.site w.book.opening) }
+    ensures opening { IfOk result (λ w. IsBeginningOnTheirWays w.book.site w.book.opening) }
     ensures run { IfOk result (λ w. Run w.book.site w.book.opening w.book.history w.book.state) }
     ensures served { IfOk result (λ w. IsFormed w.book.site → AllServed w.book.history) }
 {

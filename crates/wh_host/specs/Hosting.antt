@@ -3,7 +3,7 @@ use Rattle.std.specs.Prelude.{◌≡◌, ◌<◌, ◌≤◌, ℕ, Bool, List, le
 use mathlib.Core.List.{IsPrefix}
 use Rattle.wh_grid.specs.Grids.{Floor}
 use Rattle.wh_event.specs.declared.entry.Entry.{Entry}
-use Rattle.wh_core.specs.Laws.{IsOpening}
+use Rattle.wh_core.specs.Laws.{IsBeginningOnTheirWays}
 use Rattle.wh_core.specs.States.{State}
 use Rattle.wh_core.specs.Steps.{Run}
 use Rattle.wh_desk.specs.Pasts.{Origin}
@@ -32,13 +32,13 @@ pub record AllServed {C : Type 0} (serves : C → Received → Received → ℕ 
       slice_get clients i ≡ Some client → slice_get passes i ≡ Some had → slice_get connections i ≡ Some times →
       ServedBy serves history i client had times
 
--- What clients, and the agents' worker behind them if there is one, leave of a desk with n cells: one run from an opening, by
+-- What clients, and the agents' worker behind them if there is one, leave of a desk with n cells: one run from where it began, by
 -- a given number of callers alone. On a well-formed instance no request in it is refused for lack of a path. Each client was served by what
 -- is its caller's in the history, and told it by the texts that its receipts have there.
 pub record Leaves {R W X : Type 0} (fits : X → Floor → Bool) (count : X → ℕ) (text : List Entry → ℕ × Entry → List ℕ) (remaining : R → Option (List ℕ)) (contents : W → Option (List ℕ))
     (origin : Origin) (cells callers : ℕ) (clients : List (Client X)) (passes : List Received) (pace : Option Pacing)
     (history : List Entry) (state : State) (connections : List ℕ) (worker : Option WorkerEnd) : Type 0 where
-  pub opening : IsOpening origin.site origin.opening
+  pub opening : IsBeginningOnTheirWays origin.site origin.opening
   pub run : Run origin.site origin.opening history state
   pub by_callers : All (λ entry. entry.caller < callers) history
   pub granted : NoneWantsPath origin history

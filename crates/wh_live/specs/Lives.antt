@@ -4,7 +4,7 @@ use Rattle.wh_words.specs.Lines.{text_of}
 use Rattle.wh_grid.specs.Grids.{Floor}
 use Rattle.wh_points.specs.Points.{Site}
 use Rattle.wh_event.specs.declared.entry.Entry.{Entry}
-use Rattle.wh_core.specs.Laws.{IsOpening}
+use Rattle.wh_core.specs.Laws.{IsBeginningOnTheirWays}
 use Rattle.wh_core.specs.States.{State, opened}
 use Rattle.wh_core.specs.Steps.{Run}
 use Rattle.wh_crew.specs.Fleet.{IsTied}
@@ -17,13 +17,13 @@ use Rattle.wh_crew.specs.Calls.{AllEmpty, InOrder, NoneWantsPath}
 use Rattle.wh_crew.specs.Work.{AllWorked, MissedWithCause}
 use Rattle.wh_crew.specs.declared.worker.Missed.{Missed}
 
--- The history is one run from there, an opening state, by its callers alone, the first of whom are these workers. Each had
+-- The history is one run from there, where it may begin, by its callers alone, the first of whom are these workers. Each had
 -- nothing before, and what a worker did are its commands, in order, without as many as it missed: where one was missed since
 -- the journal was full, the history has exactly as many entries as positions, and else one was missed for lack of memory alone. On
 -- a well-formed site no request is refused for lack of a path.
 pub record WorkedFrom {X : Type 0} (fits : X → Floor → Bool) (count : X → ℕ) (origin : Origin) (works : List (Work X)) (callers journal : ℕ)
     (history : List Entry) (state : State) : Type 0 where
-  pub is_opening : IsOpening origin.site origin.opening
+  pub begins : IsBeginningOnTheirWays origin.site origin.opening
   pub run : Run origin.site origin.opening history state
   pub served : NoneWantsPath origin history
   pub within : length history ≤ journal

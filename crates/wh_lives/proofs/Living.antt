@@ -10,7 +10,8 @@ use Rattle.wh_lines.proofs.Written.{front_after, front_all}
 use Rattle.wh_grid.specs.Grids.{Floor}
 use Rattle.wh_points.specs.Points.{Site}
 use Rattle.wh_event.specs.declared.entry.Entry.{Entry}
-use Rattle.wh_core.specs.Laws.{IsOpening}
+use Rattle.wh_core.specs.Laws.{IsBeginningOnTheirWays}
+use Rattle.wh_continue.proofs.Opened.{start_opening}
 use Rattle.wh_core.specs.States.{State, opened}
 use Rattle.wh_core.specs.Steps.{Run}
 use Rattle.wh_log.specs.Logs.{Content}
@@ -261,12 +262,12 @@ start_of site slots file here start s same = subst (λ (f : Option (List ℕ)). 
     told None is = tt
     told (Some held) is = inl (site, slots, subst (λ (t : List ℕ). StartsIn site slots t start) is s.starts)
 
-pub sound_of : (site : Site) (slots : List ℕ) (file : Option (List ℕ)) (start : Start) → StartsByFile site slots file start → IsOpening start.book.site start.book.opening
+pub sound_of : (site : Site) (slots : List ℕ) (file : Option (List ℕ)) (start : Start) → StartsByFile site slots file start → IsBeginningOnTheirWays start.book.site start.book.opening
     → Run start.book.site start.book.opening start.book.history start.book.state → IsRunOn site start.book
-sound_of site slots file start s is_opening run =
+sound_of site slots file start s begins run =
     let at = start_site site slots s.text start.version start.book start.bytes s.starts in
     record {
       site_is = at;
-      is_opening = subst (λ (x : Site). IsOpening x start.book.opening) at is_opening;
+      is_opening = start_opening site slots s.text start s.starts (subst (λ (x : Site). IsBeginningOnTheirWays x start.book.opening) at begins);
       run = subst (λ (x : Site). Run x start.book.opening start.book.history start.book.state) at run;
     }

@@ -7,7 +7,7 @@ use Rattle.wh_points.specs.Points.{Site}
 use Rattle.wh_points.specs.Formed.{IsFormed}
 use Rattle.wh_core.specs.States.{State}
 use Rattle.wh_core.specs.Steps.{Run}
-use Rattle.wh_core.specs.Laws.{IsOpening}
+use Rattle.wh_core.specs.Laws.{IsBeginningOnTheirWays}
 use Rattle.wh_book.specs.Drafts.{Seen, AllServed}
 use Rattle.wh_book.proofs.Kept.{run-served}
 use Rattle.wh_token.specs.Runs.{Ran, RunsOne, entries_of}
@@ -162,10 +162,10 @@ tells_outcome text place clock (Some entry) added had has result before after is
 
 pub gives_one : {X : Type 0} (fits : X → Floor → Bool) (count : X → ℕ) (asker : Asker) (place clock : ℕ) (command : Command) (old : Seen) (spares : List X) (new : Seen) (rest : List X) (added : Bool)
     → place ≡ length old.history → clock ≡ old.state.clock
-    → IsOpening old.site old.opening → Run old.site old.opening old.history old.state
+    → IsBeginningOnTheirWays old.site old.opening → Run old.site old.opening old.history old.state
     → (one : RunsOne fits count asker.caller command added old spares new rest)
     → Gives fits count asker.caller (command ∷ []) (answers (told_text asker.form) (Ok (Some command))) old spares new rest (reply_to (told_text asker.form) place clock one.outcome ∷ [])
-gives_one fits count asker place clock command old spares new rest added here now is_opening before one =
+gives_one fits count asker place clock command old spares new rest added here now begins before one =
     let ran : Ran fits count old.site asker.caller (command ∷ []) (one.outcome ∷ []) old.state spares new.state rest = (new.state, rest, one.moves, (refl, refl)) in
     let run = ran-run fits count old.site asker.caller (command ∷ []) (one.outcome ∷ []) old.state spares new.state rest ran in
     record {
@@ -175,7 +175,7 @@ gives_one fits count asker place clock command old spares new rest added here no
       ran = ran;
       history = one.history;
       run = run;
-      served = λ formed. run-served old.site old.opening old.history old.state (entries_of (one.outcome ∷ [])) new.state is_opening before run formed;
+      served = λ formed. run-served old.site old.opening old.history old.state (entries_of (one.outcome ∷ [])) new.state begins before run formed;
       site = one.stays.site;
       opening = one.stays.opening;
     }

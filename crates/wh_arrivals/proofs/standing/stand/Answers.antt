@@ -15,7 +15,7 @@ pub open-requires-clause-differ : goal.open-requires-clause-differ
 open-requires-clause-differ c =
     let book = c.args.book.now in
     let site = c.setting-2.ensures in
-    subst (λ (row : List Cell). AllPairs (λ a b. a ≢ b) row) (sym (c.as_slice-2.ensures.value ∙ c.in_ok-starts.ensures ∙ ap (λ (s : Site). starts s.layout) site)) (differ-opening book c.history-history.ensures.opening)
+    subst (λ (row : List Cell). AllPairs (λ a b. a ≢ b) row) (sym (c.as_slice-2.ensures.value ∙ c.in_ok-starts.ensures ∙ ap (λ (s : Site). starts s.layout) site)) (differ-opening book c.requires.opening)
 
 pub loop-entry-init : goal.loop-entry-init
 loop-entry-init c =
@@ -23,7 +23,7 @@ loop-entry-init c =
     let cells = c.in_ok-starts.starts.items in
     let at_start = c.as_slice.ensures.value in
     subst (λ (es : List Entry). Walked book c.args.ahead c.args.steps.now [] es c.in_ok-paths.paths.items c.in_ok-order.order) (sym c.history-history.ensures.value)
-    (walked-start book c.args.ahead c.args.steps.now cells c.in_ok-paths.paths.items c.in_ok-order.order c.history-history.ensures.opening c.history-history.ensures.run c.requires.all
+    (walked-start book c.args.ahead c.args.steps.now cells c.in_ok-paths.paths.items c.in_ok-order.order c.requires.opening c.history-history.ensures.run c.requires.all
     (c.in_ok-starts.ensures ∙ ap (λ (s : Site). starts s.layout) c.setting-2.ensures)
     (c.in_ok-paths.ensures ∙ ap (map (λ (cell : Cell). cell ∷ [])) at_start)
     (λ rule. subst (λ (row : List Cell). Represents c.in_ok-order.order (opened rule c.args.ahead row)) c.as_slice-2.ensures.value (c.in_ok-order.ensures.represents rule)))
@@ -37,7 +37,7 @@ go_on-requires-clause-fits c =
     let w = walked-at c.args.book.now c.args.ahead c.args.steps.now h k entry c.loop-entry.paths.items c.loop-entry.order lt c.entry-item.is c.loop-entry.invariant in
     let row = c.as_slice-then-is_tick-2.result.now in
     let ready = due c.args.book.now c.args.ahead c.args.steps.now (take k h) entry (drop (k + 1) h) c.loop-entry.paths.items c.follow.new.paths.items row c.loop-entry.order
-    c.history-history.ensures.opening c.requires.some w c.in_ok-follow.ensures (sym c.is_tick.ensures ∙ c.if-is_tick.true)
+    c.requires.opening c.requires.some w c.in_ok-follow.ensures (sym c.is_tick.ensures ∙ c.if-is_tick.true)
     (c.as_slice-then-is_tick-2.ensures.value ∙ c.in_ok-write_row.ensures ∙ ap (map (λ (path : List Cell). at path 0)) c.as_slice-then-is_tick.ensures.value) in
     ready.fits
 
@@ -50,7 +50,7 @@ go_on-requires-clause-all c =
     let w = walked-at c.args.book.now c.args.ahead c.args.steps.now h k entry c.loop-entry.paths.items c.loop-entry.order lt c.entry-item.is c.loop-entry.invariant in
     let row = c.as_slice-then-is_tick-2.result.now in
     let ready = due c.args.book.now c.args.ahead c.args.steps.now (take k h) entry (drop (k + 1) h) c.loop-entry.paths.items c.follow.new.paths.items row c.loop-entry.order
-    c.history-history.ensures.opening c.requires.some w c.in_ok-follow.ensures (sym c.is_tick.ensures ∙ c.if-is_tick.true)
+    c.requires.opening c.requires.some w c.in_ok-follow.ensures (sym c.is_tick.ensures ∙ c.if-is_tick.true)
     (c.as_slice-then-is_tick-2.ensures.value ∙ c.in_ok-write_row.ensures ∙ ap (map (λ (path : List Cell). at path 0)) c.as_slice-then-is_tick.ensures.value) in
     ready.all
 
@@ -63,7 +63,7 @@ go_on-requires-clause-differ c =
     let w = walked-at c.args.book.now c.args.ahead c.args.steps.now h k entry c.loop-entry.paths.items c.loop-entry.order lt c.entry-item.is c.loop-entry.invariant in
     let row = c.as_slice-then-is_tick-2.result.now in
     let ready = due c.args.book.now c.args.ahead c.args.steps.now (take k h) entry (drop (k + 1) h) c.loop-entry.paths.items c.follow.new.paths.items row c.loop-entry.order
-    c.history-history.ensures.opening c.requires.some w c.in_ok-follow.ensures (sym c.is_tick.ensures ∙ c.if-is_tick.true)
+    c.requires.opening c.requires.some w c.in_ok-follow.ensures (sym c.is_tick.ensures ∙ c.if-is_tick.true)
     (c.as_slice-then-is_tick-2.ensures.value ∙ c.in_ok-write_row.ensures ∙ ap (map (λ (path : List Cell). at path 0)) c.as_slice-then-is_tick.ensures.value) in
     ready.may.differ
 
@@ -77,7 +77,7 @@ returns-in_err-go_on-clause-err c =
     let w = walked-at c.args.book.now c.args.ahead c.args.steps.now h k entry c.loop-entry.paths.items c.loop-entry.order lt c.entry-item.is c.loop-entry.invariant in
     let row = c.as_slice-then-is_tick-2.result.now in
     let ready = due c.args.book.now c.args.ahead c.args.steps.now (take k h) entry (drop (k + 1) h) c.loop-entry.paths.items c.follow.new.paths.items row c.loop-entry.order
-    c.history-history.ensures.opening c.requires.some w c.in_ok-follow.ensures (sym c.is_tick.ensures ∙ c.if-is_tick.true)
+    c.requires.opening c.requires.some w c.in_ok-follow.ensures (sym c.is_tick.ensures ∙ c.if-is_tick.true)
     (c.as_slice-then-is_tick-2.ensures.value ∙ c.in_ok-write_row.ensures ∙ ap (map (λ (path : List Cell). at path 0)) c.as_slice-then-is_tick.ensures.value) in
     let book = c.args.book.now in
     rw came.1 (tells-fault book c.args.ahead c.args.steps.now came.0 (λ agent is rule.
@@ -99,7 +99,7 @@ loop-entry-preserved c =
       | then-is_tick+in_ok-write_row+in_ok-go_on b ↦
           let row = b.as_slice-then-is_tick-2.result.now in
           let ready = due book c.args.ahead steps (take k h) entry (drop (k + 1) h) c.loop-entry.paths.items paths row c.loop-entry.order
-          c.history-history.ensures.opening c.requires.some w c.in_ok-follow.ensures (sym c.is_tick.ensures ∙ b.if-is_tick.true)
+          c.requires.opening c.requires.some w c.in_ok-follow.ensures (sym c.is_tick.ensures ∙ b.if-is_tick.true)
           (b.as_slice-then-is_tick-2.ensures.value ∙ b.in_ok-write_row.ensures ∙ ap (map (λ (path : List Cell). at path 0)) b.as_slice-then-is_tick.ensures.value) in
           let then = b.go_on.new.order in
           subst (λ (o : Order). Walked book c.args.ahead steps (take k h ++ entry ∷ []) (drop (k + 1) h) paths o) (sym b.order-is)
@@ -114,5 +114,5 @@ pub returns-clause-ok : goal.returns-clause-ok
 returns-clause-ok c =
     let book = c.args.book.now in
     let steps = c.args.steps.now in
-    walked-all book c.args.ahead steps c.loop-entry.paths.items c.loop-entry.order c.history-history.ensures.opening c.history-history.ensures.run c.requires.some
+    walked-all book c.args.ahead steps c.loop-entry.paths.items c.loop-entry.order c.requires.opening c.history-history.ensures.run c.requires.some
     (walked-end book c.args.ahead steps c.history-history.result.now c.loop-entry.entry-index c.loop-entry.paths.items c.loop-entry.order c.history-history.ensures.value c.loop-entry-test.false c.loop-entry.invariant)

@@ -10,7 +10,7 @@ use Rattle.wh_delivery.proofs.deliver.deliver_all.Goals as goal
 pub loop-ticks-init : goal.loop-ticks-init
 loop-ticks-init g c = record {
   begun = record {
-    is_opening = c.history-run.ensures.opening;
+    begins = c.history-run.ensures.opening;
     run = c.history-run.ensures.run;
   };
   delivering = delivering-none c.args.caller c.args.warehouse.now.book;

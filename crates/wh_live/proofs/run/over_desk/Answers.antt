@@ -9,7 +9,7 @@ returns-in-Ok-clause-ok g c =
     let done = c.in-Ok.ensures in
     let many = sym c.requires.callers in
     record {
-      is_opening = done.opening;
+      begins = done.opening;
       run = done.run;
       served = done.served;
       within = done.within;
